@@ -68,7 +68,8 @@ module _ {X : Type 0} where
   any_got test [] e = absurd (true≢false (sym e))
   any_got test (x ∷ xs) e = by (test x) refl (λ t. any_got test xs t)
     where
-      by : (b : Bool) → test x ≡ b → (list_any test xs ≡ true → (place : ℕ) × (y : X) × (slice_get xs place ≡ Some y) × (test y ≡ true)) → (place : ℕ) × (y : X) × (slice_get (x ∷ xs) place ≡ Some y) × (test y ≡ true)
+      by : (b : Bool) → test x ≡ b → (list_any test xs ≡ true → (place : ℕ) × (y : X) × (slice_get xs place ≡ Some y) × (test y ≡ true))
+          → (place : ℕ) × (y : X) × (slice_get (x ∷ xs) place ≡ Some y) × (test y ≡ true)
       by true is more = (zero, x, refl, is)
       by false is more = (let r = more (sym (ap (λ b. b || list_any test xs) is) ∙ e) in (suc r.0, r.1, r.2, r.3))
 
@@ -105,7 +106,9 @@ module _ {X : Type 0} (test : X → Bool) where
   Found xs = (place : ℕ) × (x : X) × (slice_get xs place ≡ Some x) × (test x ≡ true)
 
   abbrev pub FoundTwo : List X → Type 0
-  FoundTwo xs = (first : ℕ) × (x : X) × (second : ℕ) × (y : X) × (first < second) × (slice_get xs first ≡ Some x) × (test x ≡ true) × (slice_get xs second ≡ Some y) × (test y ≡ true)
+  FoundTwo xs =
+      (first : ℕ) × (x : X) × (second : ℕ) × (y : X) × (first < second) × (slice_get xs first ≡ Some x) × (test x ≡ true)
+      × (slice_get xs second ≡ Some y) × (test y ≡ true)
 
   pub one_found : (xs : List X) → 0 < counted xs → Found xs
   one_found [] h = absurd (omega (arith, h))
@@ -132,9 +135,11 @@ module _ {X : Type 0} (test : X → Bool) where
   pub found_one : (xs : List X) (place : ℕ) (x : X) → slice_get xs place ≡ Some x → test x ≡ true → 0 < counted xs
   found_one [] place x e is = absurd (none-some x e)
   found_one (y ∷ xs) zero x e is = subst (λ b. 0 < (cond b (1 + counted xs) (counted xs))) (sym (ap test (some_same y x e) ∙ is)) (omega arith)
-  found_one (y ∷ xs) (suc place) x e is = (let rest = found_one xs place x e is in let more = count_more (test y) (counted xs) in omega (arith, rest, more))
+  found_one (y ∷ xs) (suc place) x e is =
+      (let rest = found_one xs place x e is in let more = count_more (test y) (counted xs) in omega (arith, rest, more))
 
-  pub found_two : (xs : List X) (first : ℕ) (x : X) (second : ℕ) (y : X) → first < second → slice_get xs first ≡ Some x → test x ≡ true → slice_get xs second ≡ Some y → test y ≡ true → 1 < counted xs
+  pub found_two : (xs : List X) (first : ℕ) (x : X) (second : ℕ) (y : X) → first < second → slice_get xs first ≡ Some x → test x ≡ true
+      → slice_get xs second ≡ Some y → test y ≡ true → 1 < counted xs
   found_two [] first x second y less e is f js = absurd (none-some x e)
   found_two (z ∷ xs) first x zero y less e is f js = absurd (omega (arith, less))
   found_two (z ∷ xs) zero x (suc second) y less e is f js =

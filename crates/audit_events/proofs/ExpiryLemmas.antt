@@ -24,12 +24,15 @@ extended_rest clock holdtime None = refl
 extended_rest clock holdtime (Some Never) = refl
 extended_rest clock holdtime (Some (At moment)) = elim (cases_Bool (nat_lt clock moment)) [
   | inl is ↦ ap (λ (o : Option Expiry). remaining clock (extended clock holdtime o)) (sym (ap (λ b. cond b (Some (At moment)) None) is))
-  | inr ended ↦ ended_so ended ∙ ap (λ (o : Option Expiry). remaining clock (extended clock holdtime o)) (sym (ap (λ b. cond b (Some (At moment)) None) ended))
+  | inr ended ↦ ended_so ended ∙ ap (λ (o : Option Expiry). remaining clock (extended clock holdtime o))
+      (sym (ap (λ b. cond b (Some (At moment)) None) ended))
 ]
   where
-    until : (expiry : Expiry) → (held_until clock holdtime ≡ expiry) → nat_lt clock moment ≡ false → Alike clock (extended clock holdtime (Some (At moment))) (extended clock holdtime None)
+    until : (expiry : Expiry) → (held_until clock holdtime ≡ expiry) → nat_lt clock moment ≡ false
+        → Alike clock (extended clock holdtime (Some (At moment))) (extended clock holdtime None)
     until Never is ended =
-        let first : extended clock holdtime (Some (At moment)) ≡ Some Never = ap (λ (e : Expiry). cond (is_after (later (At moment) e) clock) (Some (later (At moment) e)) (Some (At moment))) is in
+        let first : extended clock holdtime (Some (At moment)) ≡ Some Never =
+        ap (λ (e : Expiry). cond (is_after (later (At moment) e) clock) (Some (later (At moment) e)) (Some (At moment))) is in
         let second : extended clock holdtime None ≡ Some Never = ap (λ (e : Expiry). cond (is_after e clock) (Some e) None) is in
         ap (remaining clock) (first ∙ sym second)
     until (At other) is ended = elim (cases_Bool (nat_lt clock other)) [
@@ -40,14 +43,16 @@ extended_rest clock holdtime (Some (At moment)) = elim (cases_Bool (nat_lt clock
           let first : extended clock holdtime (Some (At moment)) ≡ Some (At other) =
           ap (λ (e : Expiry). cond (is_after (later (At moment) e) clock) (Some (later (At moment) e)) (Some (At moment))) is
           ∙ (ap (λ m. cond (nat_lt clock m) (Some (At m)) (Some (At moment))) one ∙ ap (λ b. cond b (Some (At other)) (Some (At moment))) more) in
-          let second : extended clock holdtime None ≡ Some (At other) = ap (λ (e : Expiry). cond (is_after e clock) (Some e) None) is ∙ ap (λ b. cond b (Some (At other)) None) more in
+          let second : extended clock holdtime None ≡ Some (At other) =
+          ap (λ (e : Expiry). cond (is_after e clock) (Some e) None) is ∙ ap (λ b. cond b (Some (At other)) None) more in
           ap (remaining clock) (first ∙ sym second)
       | inr less ↦
           let none : nat_lt clock (max moment other) ≡ false = grind (arith, nat_tests, ended, less) in
           let first : extended clock holdtime (Some (At moment)) ≡ Some (At moment) =
           ap (λ (e : Expiry). cond (is_after (later (At moment) e) clock) (Some (later (At moment) e)) (Some (At moment))) is
           ∙ ap (λ b. cond b (Some (At (max moment other))) (Some (At moment))) none in
-          let second : extended clock holdtime None ≡ None = ap (λ (e : Expiry). cond (is_after e clock) (Some e) None) is ∙ ap (λ b. cond b (Some (At other)) None) less in
+          let second : extended clock holdtime None ≡ None =
+          ap (λ (e : Expiry). cond (is_after e clock) (Some e) None) is ∙ ap (λ b. cond b (Some (At other)) None) less in
           ap (remaining clock) first ∙ (ap (λ b. cond b (Some (At moment)) None) ended ∙ ap (remaining clock) (sym second))
     ]
 
@@ -60,15 +65,18 @@ remaining_twice clock old = elim (cases_Bool (counts clock old)) [
   | inr isnt ↦ ap (remaining clock) (ap (λ b. cond b old None) isnt) ∙ sym (ap (λ b. cond b old None) isnt)
 ]
 
-joined_rest : (mention : Mention) (clock holdtime : ℕ) (old : Option Expiry) → Alike clock (joined_after mention clock holdtime old) (joined_after mention clock holdtime (remaining clock old))
+joined_rest : (mention : Mention) (clock holdtime : ℕ) (old : Option Expiry)
+    → Alike clock (joined_after mention clock holdtime old) (joined_after mention clock holdtime (remaining clock old))
 joined_rest mention clock holdtime old = by mention.pruned mention.joined
   where
-    by : (p j : Bool) → Alike clock (cond p None (cond j (extended clock holdtime old) old)) (cond p None (cond j (extended clock holdtime (remaining clock old)) (remaining clock old)))
+    by : (p j : Bool) → Alike clock (cond p None (cond j (extended clock holdtime old) old))
+        (cond p None (cond j (extended clock holdtime (remaining clock old)) (remaining clock old)))
     by true j = refl
     by false true = extended_rest clock holdtime old
     by false false = sym (remaining_twice clock old)
 
-rpt_rest : (mention : Mention) (clock holdtime : ℕ) (old : Option Expiry) → Alike clock (rpt_after mention clock holdtime old) (rpt_after mention clock holdtime (remaining clock old))
+rpt_rest : (mention : Mention) (clock holdtime : ℕ) (old : Option Expiry)
+    → Alike clock (rpt_after mention clock holdtime old) (rpt_after mention clock holdtime (remaining clock old))
 rpt_rest mention clock holdtime old = by mention.pruned mention.joined (mention.shared && not mention.pruned)
   where
     by : (p j s : Bool) → Alike clock (cond p (extended clock holdtime (cond j None (cond s None old))) (cond j None (cond s None old)))
@@ -80,7 +88,8 @@ rpt_rest mention clock holdtime old = by mention.pruned mention.joined (mention.
     by false false true = refl
     by false false false = sym (remaining_twice clock old)
 
-given_rest : (entry : JoinEntry) (mention : Mention) (clock holdtime : ℕ) (old : Option Expiry) → Alike clock (expiry_after entry mention clock holdtime old) (expiry_after entry mention clock holdtime (remaining clock old))
+given_rest : (entry : JoinEntry) (mention : Mention) (clock holdtime : ℕ) (old : Option Expiry)
+    → Alike clock (expiry_after entry mention clock holdtime old) (expiry_after entry mention clock holdtime (remaining clock old))
 given_rest (entries.Rpt source group) mention clock holdtime old = rpt_rest mention clock holdtime old
 given_rest (entries.Star group) mention clock holdtime old = joined_rest mention clock holdtime old
 given_rest (entries.Source source group) mention clock holdtime old = joined_rest mention clock holdtime old
@@ -90,7 +99,8 @@ pub given_alike : (entry : JoinEntry) (mention : Mention) (clock holdtime : ℕ)
     Alike clock (expiry_after entry mention clock holdtime a) (expiry_after entry mention clock holdtime b)
 given_alike entry mention clock holdtime a b same =
     given_rest entry mention clock holdtime a
-    ∙ (ap (λ (o : Option Expiry). remaining clock (expiry_after entry mention clock holdtime o)) same ∙ sym (given_rest entry mention clock holdtime b))
+    ∙ (ap (λ (o : Option Expiry). remaining clock (expiry_after entry mention clock holdtime o)) same
+    ∙ sym (given_rest entry mention clock holdtime b))
 
 -- What a run of the timers leaves is alike.
 pub timers_alike : (clock : ℕ) (a b : Option Expiry) → Alike clock a b → Alike clock a (remaining clock b)

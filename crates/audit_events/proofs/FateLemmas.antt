@@ -58,7 +58,8 @@ above N number (timed ∷ events) = by (is_marked N timed) (lower number (marked
     by false h = h
 
 -- a marked event that comes later is not of that number
-pub later_head : (N : List ℕ) (number : ℕ) (timed : Timed) (events : List Timed) (marked : List Marked) → marked_places N (number + 1) events ≡ places_of marked →
+pub later_head : (N : List ℕ) (number : ℕ) (timed : Timed) (events : List Timed) (marked : List Marked)
+    → marked_places N (number + 1) events ≡ places_of marked →
     (fate_at number timed marked ≡ unmarked timed) × (left_after number marked ≡ marked)
 later_head N number timed events [] e = (refl, refl)
 later_head N number timed events (mark ∷ more) e =
@@ -66,13 +67,17 @@ later_head N number timed events (mark ∷ more) e =
     let apart : (mark.place == number) ≡ false = ne_eqb mark.place number (λ (same : mark.place ≡ number). omega (arith, same, low)) in
     (ap (λ b. cond b mark.fate (unmarked timed)) apart, ap (λ b. cond b more (mark ∷ more)) apart)
 
-pub first_place : (number : ℕ) (rest : List ℕ) (marked : List Marked) → number ∷ rest ≡ places_of marked → (mark : Marked) × (more : List Marked) × (marked ≡ mark ∷ more) × (mark.place ≡ number) × (rest ≡ places_of more)
+pub first_place : (number : ℕ) (rest : List ℕ) (marked : List Marked) → number ∷ rest ≡ places_of marked
+    → (mark : Marked) × (more : List Marked) × (marked ≡ mark ∷ more) × (mark.place ≡ number) × (rest ≡ places_of more)
 first_place number rest [] e = absurd cc
-first_place number rest (mark ∷ more) e = (mark, more, refl, (let same : number ≡ mark.place = cc in sym same), (let same : rest ≡ places_of more = cc in same))
+first_place number rest (mark ∷ more) e =
+    (mark, more, refl, (let same : number ≡ mark.place = cc in sym same), (let same : rest ≡ places_of more = cc in same))
 
-pub first_line : (fate : Fate) (rest : List Fate) (all : List ReportLine) → map fate_of all ≡ fate ∷ rest → (line : ReportLine) × (more : List ReportLine) × (all ≡ line ∷ more) × (fate ≡ fate_of line) × (map fate_of more ≡ rest)
+pub first_line : (fate : Fate) (rest : List Fate) (all : List ReportLine) → map fate_of all ≡ fate ∷ rest
+    → (line : ReportLine) × (more : List ReportLine) × (all ≡ line ∷ more) × (fate ≡ fate_of line) × (map fate_of more ≡ rest)
 first_line fate rest [] e = absurd cc
-first_line fate rest (line ∷ more) e = (line, more, refl, (let same : fate_of line ≡ fate = cc in sym same), (let same : map fate_of more ≡ rest = cc in same))
+first_line fate rest (line ∷ more) e =
+    (line, more, refl, (let same : fate_of line ≡ fate = cc in sym same), (let same : map fate_of more ≡ rest = cc in same))
 
 pub fate_there : (N : List ℕ) (number : ℕ) (events : List Timed) (all : List ReportLine) (marked : List Marked) → Zipped N number events all marked →
     (place : ℕ) (timed : Timed) → slice_get events place ≡ Some timed → FateThere N timed (fates_from number events marked) place
@@ -80,9 +85,11 @@ fate_there N number [] all marked zipped place timed e = absurd (none-some timed
 fate_there N number (first ∷ events) all marked zipped place timed e = elim (cases_Bool (is_marked N first)) [
   | inl is ↦
       let head = first_place number (marked_places N (number + 1) events) marked (sym (placed_by N number first events true is) ∙ zipped.places) in
-      let line = first_line head.0.fate (map (λ (mark : Marked). mark.fate) head.1) all (zipped.fates ∙ ap (map (λ (mark : Marked). mark.fate)) head.2) in
+      let line =
+      first_line head.0.fate (map (λ (mark : Marked). mark.fate) head.1) all (zipped.fates ∙ ap (map (λ (mark : Marked). mark.fate)) head.2) in
       let both = and_both (marks first line.0) (mark_each (filter (is_marked N) events) line.1)
-      (sym (ap (λ l. mark_each l (line.0 ∷ line.1)) (filtered N first events true is)) ∙ (ap (mark_each (filter (is_marked N) (first ∷ events))) (sym line.2) ∙ zipped.each)) in
+      (sym (ap (λ l. mark_each l (line.0 ∷ line.1)) (filtered N first events true is))
+      ∙ (ap (mark_each (filter (is_marked N) (first ∷ events))) (sym line.2) ∙ zipped.each)) in
       let here : (head.0.place == number) ≡ true = eq-eqb head.0.place number head.3 in
       let fate : fate_at number first marked ≡ head.0.fate = ap (fate_at number first) head.2 ∙ ap (λ b. cond b head.0.fate (unmarked first)) here in
       let left : left_after number marked ≡ head.1 = ap (left_after number) head.2 ∙ ap (λ b. cond b head.1 (head.0 ∷ head.1)) here in
@@ -98,12 +105,20 @@ fate_there N number (first ∷ events) all marked zipped place timed e = elim (c
       }) next timed)
 ]
   where
-    at_place : {own : Fate} {rest : List Marked} → fate_at number first marked ≡ own → left_after number marked ≡ rest → FateOf N first (fate_at number first marked) →
-        ((next : ℕ) → slice_get events next ≡ Some timed → FateThere N timed (fates_from (number + 1) events rest) next) → FateThere N timed (fates_from number (first ∷ events) marked) place
+    at_place : {own : Fate} {rest : List Marked} → fate_at number first marked ≡ own → left_after number marked ≡ rest
+        → FateOf N first (fate_at number first marked) →
+        ((next : ℕ) → slice_get events next ≡ Some timed → FateThere N timed (fates_from (number + 1) events rest) next)
+        → FateThere N timed (fates_from number (first ∷ events) marked) place
     at_place fate left of more = by place e
       where
         by : (k : ℕ) → slice_get (first ∷ events) k ≡ Some timed → FateThere N timed (fates_from number (first ∷ events) marked) k
-        by zero same = record { fate = fate_at number first marked; at = refl; of = subst (λ (t : Timed). FateOf N t (fate_at number first marked)) (some_same first timed same) of }
+        by zero same =
+            record {
+              fate = fate_at number first marked;
+              at = refl;
+              of =
+                  subst (λ (t : Timed). FateOf N t (fate_at number first marked)) (some_same first timed same) of;
+            }
         by (suc next) later = (
             let r = more next later in
             record { fate = r.fate; at = ap (λ l. slice_get (fates_from (number + 1) events l) next) left ∙ r.at; of = r.of })
@@ -118,29 +133,36 @@ above_lines N bound (timed ∷ events) rises = by (is_malformed timed.event && i
     lower [] h = tt
     lower (line ∷ all) h = (let more = h.0 in let low = rises.0 in omega (arith, more, low), lower all h.1)
 
-    by : (b : Bool) → AllByRecursion (λ line. timed.line < line) (unnamed N events) → AllByRecursion (λ line. bound < line) (cond b (timed.line ∷ []) [] ++ unnamed N events)
+    by : (b : Bool) → AllByRecursion (λ line. timed.line < line) (unnamed N events)
+        → AllByRecursion (λ line. bound < line) (cond b (timed.line ∷ []) [] ++ unnamed N events)
     by true h = (rises.0, lower (unnamed N events) h)
     by false h = lower (unnamed N events) h
 
 none_at : (line : ℕ) (all : List ℕ) → AllByRecursion (λ own. line < own) all → list_any (λ own. own == line) all ≡ false
 none_at line [] h = refl
-none_at line (own ∷ all) h = or_from (own == line) (list_any (λ l. l == line) all) (ne_eqb own line (λ (same : own ≡ line). (let more = h.0 in omega (arith, same, more)))) (none_at line all h.1)
+none_at line (own ∷ all) h =
+    or_from (own == line) (list_any (λ l. l == line) all) (ne_eqb own line (λ (same : own ≡ line). (let more = h.0 in omega (arith, same, more))))
+    (none_at line all h.1)
 
-pub got_above : (bound : ℕ) (events : List Timed) → Rises bound events → (place : ℕ) (timed : Timed) → slice_get events place ≡ Some timed → bound < timed.line
+pub got_above : (bound : ℕ) (events : List Timed) → Rises bound events → (place : ℕ) (timed : Timed) → slice_get events place ≡ Some timed
+    → bound < timed.line
 got_above bound [] rises place timed e = absurd (none-some timed e)
 got_above bound (first ∷ events) rises zero timed e = subst (λ (t : Timed). bound < t.line) (some_same first timed e) rises.0
-got_above bound (first ∷ events) rises (suc place) timed e = (let low = rises.0 in let more = got_above first.line events rises.1 place timed e in omega (arith, low, more))
+got_above bound (first ∷ events) rises (suc place) timed e =
+    (let low = rises.0 in let more = got_above first.line events rises.1 place timed e in omega (arith, low, more))
 
 -- An event's line is one of those that are malformed and not named exactly where the event itself is.
 unnamed_at : (N : List ℕ) (bound : ℕ) (events : List Timed) → Rises bound events → (place : ℕ) (timed : Timed) → slice_get events place ≡ Some timed →
     list_any (λ line. line == timed.line) (unnamed N events) ≡ (is_malformed timed.event && is_accepted N timed)
 unnamed_at N bound [] rises place timed e = absurd (none-some timed e)
 unnamed_at N bound (first ∷ events) rises zero timed e =
-    subst (λ (t : Timed). list_any (λ line. line == t.line) (unnamed N (first ∷ events)) ≡ (is_malformed t.event && is_accepted N t)) (some_same first timed e)
+    subst (λ (t : Timed). list_any (λ line. line == t.line) (unnamed N (first ∷ events)) ≡ (is_malformed t.event && is_accepted N t))
+    (some_same first timed e)
     (list_any-append (λ line. line == first.line) (cond (is_malformed first.event && is_accepted N first) (first.line ∷ []) []) (unnamed N events)
     ∙ by (is_malformed first.event && is_accepted N first))
   where
-    by : (b : Bool) → (list_any (λ line. line == first.line) (cond b (first.line ∷ []) []) || list_any (λ line. line == first.line) (unnamed N events)) ≡ b
+    by : (b : Bool) → (list_any (λ line. line == first.line) (cond b (first.line ∷ []) [])
+        || list_any (λ line. line == first.line) (unnamed N events)) ≡ b
     by true = (λ i. (eq-eqb first.line first.line refl i || false) || list_any (λ line. line == first.line) (unnamed N events))
     by false = none_at first.line (unnamed N events) (above_lines N first.line events rises.1)
 unnamed_at N bound (first ∷ events) rises (suc place) timed e =
@@ -149,7 +171,9 @@ unnamed_at N bound (first ∷ events) rises (suc place) timed e =
     ∙ unnamed_at N first.line events rises.1 place timed e)
   where
     by : (b : Bool) → list_any (λ line. line == timed.line) (cond b (first.line ∷ []) []) ≡ false
-    by true = or_from (first.line == timed.line) false (ne_eqb first.line timed.line (λ (same : first.line ≡ timed.line). (let less = got_above first.line events rises.1 place timed e in omega (arith, same, less)))) refl
+    by true =
+        or_from (first.line == timed.line) false (ne_eqb first.line timed.line
+        (λ (same : first.line ≡ timed.line). (let less = got_above first.line events rises.1 place timed e in omega (arith, same, less)))) refl
     by false = refl
 
 -- An event counts as refused where it is named, or malformed.
@@ -157,7 +181,8 @@ counted : (all : List ReportLine) (events : List Timed) → Rises 0 events → (
     is_accepted (refused_by events all) timed ≡ not (is_named (named all) timed || is_malformed timed.event)
 counted all events rises place timed e =
     ap not (list_any-append (λ line. line == timed.line) (named all) (unnamed (named all) events)
-    ∙ (ap (λ b. is_named (named all) timed || b) (unnamed_at (named all) 0 events rises place timed e) ∙ by (is_named (named all) timed) (is_malformed timed.event)))
+    ∙ (ap (λ b. is_named (named all) timed || b) (unnamed_at (named all) 0 events rises place timed e)
+    ∙ by (is_named (named all) timed) (is_malformed timed.event)))
   where
     by : (n m : Bool) → (n || (m && not n)) ≡ (n || m)
     by true m = refl
@@ -176,12 +201,14 @@ record Refusable (events : List Timed) (line : ℕ) : Type 0 where
 later_refusable : (first : Timed) (events : List Timed) (line : ℕ) → Refusable events line → Refusable (first ∷ events) line
 later_refusable first events line r = record { place = suc r.place; timed = r.timed; at = r.at; of_line = r.of_line; is = r.is }
 
-refusable_by : (timed : Timed) (marker : ReportLine) (line : ℕ) → marks timed marker ≡ true → list_any (λ own. own == line) (refused_line marker) ≡ true →
+refusable_by : (timed : Timed) (marker : ReportLine) (line : ℕ) → marks timed marker ≡ true
+    → list_any (λ own. own == line) (refused_line marker) ≡ true →
     (timed.line ≡ line) × (is_refusable timed.event ≡ true)
 refusable_by timed (lines.Refused refused reason) line is has =
     let both = and_both (refused == timed.line) (is_refusable timed.event) is in
     let own : refused ≡ timed.line = eqb-true refused timed.line both.0 in
-    let same : refused ≡ line = (elim (or_cases (refused == line) false has) [ inl t ↦ eqb-true refused line t | inr f ↦ absurd (true≢false (sym f)) ]) in
+    let same : refused ≡ line =
+    (elim (or_cases (refused == line) false has) [ inl t ↦ eqb-true refused line t | inr f ↦ absurd (true≢false (sym f)) ]) in
     (sym own ∙ same, both.1)
 refusable_by timed (lines.State bytes copies buffers due unready) line is has = absurd (true≢false (sym has))
 refusable_by timed (lines.Out number iface bytes) line is has = absurd (true≢false (sym has))
@@ -197,26 +224,35 @@ named_refusable N [] [] line e has = absurd (true≢false (sym has))
 named_refusable N [] (marker ∷ all) line e has = absurd (true≢false (sym e))
 named_refusable N (first ∷ events) [] line e has = absurd (true≢false (sym has))
 named_refusable N (first ∷ events) (marker ∷ all) line e has = elim (cases_Bool (is_marked N first)) [
-  | inr isnt ↦ later_refusable first events line (named_refusable N events (marker ∷ all) line (sym (ap (λ l. mark_each l (marker ∷ all)) (filtered N first events false isnt)) ∙ e) has)
+  | inr isnt ↦ later_refusable first events line
+      (named_refusable N events (marker ∷ all) line (sym (ap (λ l. mark_each l (marker ∷ all)) (filtered N first events false isnt)) ∙ e) has)
   | inl is ↦
-      let both = and_both (marks first marker) (mark_each (filter (is_marked N) events) all) (sym (ap (λ l. mark_each l (marker ∷ all)) (filtered N first events true is)) ∙ e) in
-      elim (or_cases (list_any (λ own. own == line) (refused_line marker)) (list_any (λ own. own == line) (named all)) (sym (list_any-append (λ own. own == line) (refused_line marker) (named all)) ∙ has)) [
-        | inl here ↦ (let r = refusable_by first marker line both.0 here in record { place = zero; timed = first; at = refl; of_line = r.0; is = r.1 })
+      let both =
+      and_both (marks first marker) (mark_each (filter (is_marked N) events) all)
+      (sym (ap (λ l. mark_each l (marker ∷ all)) (filtered N first events true is)) ∙ e) in
+      elim (or_cases (list_any (λ own. own == line) (refused_line marker)) (list_any (λ own. own == line) (named all))
+      (sym (list_any-append (λ own. own == line) (refused_line marker) (named all)) ∙ has)) [
+        | inl here ↦ (let r = refusable_by first marker line both.0 here in
+            record { place = zero; timed = first; at = refl; of_line = r.0; is = r.1 })
         | inr there ↦ later_refusable first events line (named_refusable N events all line both.1 there)
       ]
 ]
 
 -- Events of one line are one event.
-one_line : (bound : ℕ) (events : List Timed) → Rises bound events → (i j : ℕ) (a b : Timed) → slice_get events i ≡ Some a → slice_get events j ≡ Some b → a.line ≡ b.line → a ≡ b
+one_line : (bound : ℕ) (events : List Timed) → Rises bound events → (i j : ℕ) (a b : Timed) → slice_get events i ≡ Some a
+    → slice_get events j ≡ Some b → a.line ≡ b.line → a ≡ b
 one_line bound [] rises i j a b e f same = absurd (none-some a e)
 one_line bound (first ∷ events) rises zero zero a b e f same = sym (some_same first a e) ∙ some_same first b f
 one_line bound (first ∷ events) rises zero (suc j) a b e f same =
-    (let less = got_above first.line events rises.1 j b f in let own = ap (λ (t : Timed). t.line) (some_same first a e) in absurd (omega (arith, less, own, same)))
+    (let less = got_above first.line events rises.1 j b f in let own = ap (λ (t : Timed). t.line) (some_same first a e) in
+    absurd (omega (arith, less, own, same)))
 one_line bound (first ∷ events) rises (suc i) zero a b e f same =
-    (let less = got_above first.line events rises.1 i a e in let own = ap (λ (t : Timed). t.line) (some_same first b f) in absurd (omega (arith, less, own, same)))
+    (let less = got_above first.line events rises.1 i a e in let own = ap (λ (t : Timed). t.line) (some_same first b f) in
+    absurd (omega (arith, less, own, same)))
 one_line bound (first ∷ events) rises (suc i) (suc j) a b e f same = one_line first.line events rises.1 i j a b e f same
 
-refusable_here : (events : List Timed) (all : List ReportLine) → Rises 0 events → fit events all ≡ true → (place : ℕ) (timed : Timed) → slice_get events place ≡ Some timed →
+refusable_here : (events : List Timed) (all : List ReportLine) → Rises 0 events → fit events all ≡ true → (place : ℕ) (timed : Timed)
+    → slice_get events place ≡ Some timed →
     is_named (named all) timed ≡ true → is_refusable timed.event ≡ true
 refusable_here events all rises fits place timed e is =
     let r = named_refusable (named all) events all timed.line fits is in
@@ -270,7 +306,8 @@ fate_says N timed fate refusable (ByMarker (lines.State bytes copies buffers due
     ap is_refused e ∙ (not_refused bytes copies buffers due unready ∙ sym (λ i. unnamed i || is_malformed (state i)))
 fate_says N timed fate refusable (ByMarker (lines.Refused line reason) is m e) =
     let can = (and_both (line == timed.line) (is_refusable timed.event) m).1 in
-    let other : is_state timed.event ≡ false = false_from_ne_true (is_state timed.event) (λ t. true≢false (sym can ∙ ap is_refusable (state_only timed.event t))) in
+    let other : is_state timed.event ≡ false =
+    false_from_ne_true (is_state timed.event) (λ t. true≢false (sym can ∙ ap is_refusable (state_only timed.event t))) in
     let named_so : is_named N timed ≡ true = sym (ap (λ b. b || is_named N timed) other) ∙ is in
     ap is_refused e ∙ ap (λ b. b || is_malformed timed.event) (sym named_so)
 fate_says N timed fate refusable (ByMarker (lines.Out number iface bytes) is m e) = absurd (true≢false (sym m))
@@ -294,11 +331,14 @@ event_judged script report marked rises are place timed e =
     let same = named_markers report.lines in
     let each : mark_each (filter (is_marked N) script.events) (markers report.lines) ≡ true =
     ap (λ (l : List ℕ). mark_each (filter (is_marked l) script.events) (markers report.lines)) (sym same) ∙ are.judged.fitting in
-    let there = fate_there N 0 script.events (markers report.lines) marked (record { places = are.places; each = each; fates = are.fates }) place timed e in
+    let there =
+    fate_there N 0 script.events (markers report.lines) marked (record { places = are.places; each = each; fates = are.fates }) place timed e in
     record { there = there; refused = by there.fate (fate_says N timed there.fate refusable there.of) }
   where
     refusable : is_named (named (values report.lines)) timed ≡ true → is_refusable timed.event ≡ true
-    refusable is = refusable_here script.events (markers report.lines) rises are.judged.fitting place timed e (ap (λ (l : List ℕ). is_named l timed) (named_markers report.lines) ∙ is)
+    refusable is =
+        refusable_here script.events (markers report.lines) rises are.judged.fitting place timed e
+        (ap (λ (l : List ℕ). is_named l timed) (named_markers report.lines) ∙ is)
 
     twice : (b : Bool) → not (not b) ≡ b
     twice true = refl

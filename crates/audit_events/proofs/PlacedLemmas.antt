@@ -37,25 +37,35 @@ abbrev pub then_placed : ReportLine → List ReportLine → Option Found → Opt
 then_placed line more None = None
 then_placed line more (Some here) = option_map (with_mark (mark_at line here.place)) (placed (here.place + 1) here.rest more)
 
-pub placed_as : (number : ℕ) (events : List Timed) (line : ReportLine) (more : List ReportLine) → placed number events (line ∷ more) ≡ then_placed line more (found line number events)
+pub placed_as : (number : ℕ) (events : List Timed) (line : ReportLine) (more : List ReportLine)
+    → placed number events (line ∷ more) ≡ then_placed line more (found line number events)
 placed_as number events line more = by (found line number events)
   where
-    by : (o : Option Found) → elim o [ None ↦ None | Some here ↦ option_map (with_mark (mark_at line here.place)) (placed (here.place + 1) here.rest more) ] ≡ then_placed line more o
+    by : (o : Option Found) → elim o [
+      | None ↦ None
+      | Some here ↦
+          option_map (with_mark (mark_at line here.place)) (placed (here.place + 1) here.rest more)
+    ] ≡ then_placed line more o
     by None = refl
     by (Some here) = refl
 
 placed_here : (number : ℕ) (timed : Timed) (events : List Timed) (line : ReportLine) (more : List ReportLine) → marks timed line ≡ true →
     placed number (timed ∷ events) (line ∷ more) ≡ option_map (with_mark (mark_at line number)) (placed (number + 1) events more)
-placed_here number timed events line more is = placed_as number (timed ∷ events) line more ∙ ap (then_placed line more) (found_here line number timed events is)
+placed_here number timed events line more is =
+    placed_as number (timed ∷ events) line more ∙ ap (then_placed line more) (found_here line number timed events is)
 
-placed_later : (number : ℕ) (timed : Timed) (events : List Timed) (line : ReportLine) (more : List ReportLine) → marks timed line ≡ false → is_state timed.event ≡ false →
+placed_later : (number : ℕ) (timed : Timed) (events : List Timed) (line : ReportLine) (more : List ReportLine) → marks timed line ≡ false
+    → is_state timed.event ≡ false →
     placed number (timed ∷ events) (line ∷ more) ≡ placed (number + 1) events (line ∷ more)
 placed_later number timed events line more is state =
-    placed_as number (timed ∷ events) line more ∙ (ap (then_placed line more) (found_later line number timed events is state) ∙ sym (placed_as (number + 1) events line more))
+    placed_as number (timed ∷ events) line more ∙
+    (ap (then_placed line more) (found_later line number timed events is state) ∙ sym (placed_as (number + 1) events line more))
 
-placed_none : (number : ℕ) (timed : Timed) (events : List Timed) (line : ReportLine) (more : List ReportLine) → marks timed line ≡ false → is_state timed.event ≡ true →
+placed_none : (number : ℕ) (timed : Timed) (events : List Timed) (line : ReportLine) (more : List ReportLine) → marks timed line ≡ false
+    → is_state timed.event ≡ true →
     placed number (timed ∷ events) (line ∷ more) ≡ None
-placed_none number timed events line more is state = placed_as number (timed ∷ events) line more ∙ ap (then_placed line more) (found_none line number timed events is state)
+placed_none number timed events line more is state =
+    placed_as number (timed ∷ events) line more ∙ ap (then_placed line more) (found_none line number timed events is state)
 
 -- what is placed with a marker in front was placed without it
 pub record Rest (mark : Marked) (o : Option Placed) (whole : Placed) : Type 0 where
@@ -70,9 +80,11 @@ rest_of mark (Some rest) whole e = record { rest = rest; is = refl; same = some_
 -- the three ways of an event with a marker
 data Way (number : ℕ) (timed : Timed) (events : List Timed) (line : ReportLine) (more : List ReportLine) (p : Placed) : Type 0 where
   Here : marks timed line ≡ true → Rest (mark_at line number) (placed (number + 1) events more) p → Way number timed events line more p
-  Later : marks timed line ≡ false → is_state timed.event ≡ false → placed (number + 1) events (line ∷ more) ≡ Some p → Way number timed events line more p
+  Later : marks timed line ≡ false → is_state timed.event ≡ false → placed (number + 1) events (line ∷ more) ≡ Some p
+      → Way number timed events line more p
 
-way_of : (number : ℕ) (timed : Timed) (events : List Timed) (line : ReportLine) (more : List ReportLine) (p : Placed) → placed number (timed ∷ events) (line ∷ more) ≡ Some p → Way number timed events line more p
+way_of : (number : ℕ) (timed : Timed) (events : List Timed) (line : ReportLine) (more : List ReportLine) (p : Placed)
+    → placed number (timed ∷ events) (line ∷ more) ≡ Some p → Way number timed events line more p
 way_of number timed events line more p e = elim (cases_Bool (marks timed line)) [
   | inl is ↦ Here is (rest_of (mark_at line number) (placed (number + 1) events more) p (sym (placed_here number timed events line more is) ∙ e))
   | inr isnt ↦ elim (cases_Bool (is_state timed.event)) [
@@ -127,7 +139,9 @@ complete N number events more [] within e = record {
 complete N number [] more (line ∷ all) within e = absurd (true≢false (sym e))
 complete N number (timed ∷ events) more (line ∷ all) within e = elim (cases_Bool (is_marked N timed)) [
   | inl is ↦
-      let both = and_both (marks timed line) (mark_each (filter (is_marked N) events) all) (sym (ap (λ l. mark_each l (line ∷ all)) (filtered N timed events true is)) ∙ e) in
+      let both =
+      and_both (marks timed line) (mark_each (filter (is_marked N) events) all)
+      (sym (ap (λ l. mark_each l (line ∷ all)) (filtered N timed events true is)) ∙ e) in
       let r = complete N (number + 1) events more all (within_right (refused_line line) (named all) N within) both.1 in
       record {
         placed_is = with_mark (mark_at line number) r.placed_is;
@@ -142,7 +156,8 @@ complete N number (timed ∷ events) more (line ∷ all) within e = elim (cases_
         | inl t ↦ absurd (both_no (is_marked N timed) (marked_by timed line N t (within_left (refused_line line) (named all) N within)) isnt)
         | inr f ↦ f
       ] in
-      let r = complete N (number + 1) events more (line ∷ all) within (sym (ap (λ l. mark_each l (line ∷ all)) (filtered N timed events false isnt)) ∙ e) in
+      let r = complete N (number + 1) events more (line ∷ all) within
+      (sym (ap (λ l. mark_each l (line ∷ all)) (filtered N timed events false isnt)) ∙ e) in
       record {
         placed_is = r.placed_is;
         is = placed_later number timed (events ++ more) line all unmarked no.0 ∙ r.is;
@@ -178,7 +193,8 @@ named_above bound number [] (line ∷ all) p rises e = absurd (nothing_placed nu
 named_above bound number (timed ∷ events) (line ∷ all) p rises e = elim (way_of number timed events line all p e) [
   | Here is rest ↦ all-append (λ own. bound < own) (refused_line line) (named all) (refused_at timed line is (λ own. bound < own) rises.0)
       (weaker bound timed.line rises.0 (named all) (named_above timed.line (number + 1) events all rest.rest rises.1 rest.is))
-  | Later isnt state rest ↦ weaker bound timed.line rises.0 (named (line ∷ all)) (named_above timed.line (number + 1) events (line ∷ all) p rises.1 rest)
+  | Later isnt state rest ↦ weaker bound timed.line rises.0 (named (line ∷ all))
+      (named_above timed.line (number + 1) events (line ∷ all) p rises.1 rest)
 ]
 
 above_not_named : (line : ℕ) (all : List ℕ) → AllByRecursion (λ own. line < own) all → list_any (λ own. own == line) all ≡ true → ⊥
@@ -192,7 +208,8 @@ above_not_named line (own ∷ all) h e = elim (or_cases (own == line) (list_any 
 abbrev Covers : ℕ → List ℕ → List ReportLine → Type 0
 Covers bound N all = (line : ℕ) → bound < line → list_any (λ own. own == line) N ≡ true → list_any (λ own. own == line) (named all) ≡ true
 
-covers_more : (bound : ℕ) (timed : Timed) (N : List ℕ) (line : ReportLine) (all : List ReportLine) → bound < timed.line → marks timed line ≡ true → Covers bound N (line ∷ all) → Covers timed.line N all
+covers_more : (bound : ℕ) (timed : Timed) (N : List ℕ) (line : ReportLine) (all : List ReportLine) → bound < timed.line → marks timed line ≡ true
+    → Covers bound N (line ∷ all) → Covers timed.line N all
 covers_more bound timed N line all less is covers own above has =
     elim (or_cases (list_any (λ l. l == own) (refused_line line)) (list_any (λ l. l == own) (named all))
     (sym (list_any-append (λ l. l == own) (refused_line line) (named all)) ∙ covers own (omega (arith, less, above)) has)) [
@@ -215,13 +232,15 @@ pub placed_by : (N : List ℕ) (number : ℕ) (timed : Timed) (events : List Tim
     marked_places N number (timed ∷ events) ≡ cond b (number ∷ marked_places N (number + 1) events) (marked_places N (number + 1) events)
 placed_by N number timed events b is = ap (λ c. cond c (number ∷ marked_places N (number + 1) events) (marked_places N (number + 1) events)) is
 
-fits_skipped : (N : List ℕ) (number : ℕ) (timed : Timed) (events : List Timed) (all : List ReportLine) (p : Placed) → is_marked N timed ≡ false → Fits N (number + 1) events all p → Fits N number (timed ∷ events) all p
+fits_skipped : (N : List ℕ) (number : ℕ) (timed : Timed) (events : List Timed) (all : List ReportLine) (p : Placed) → is_marked N timed ≡ false
+    → Fits N (number + 1) events all p → Fits N number (timed ∷ events) all p
 fits_skipped N number timed events all p isnt r = record {
   each = ap (λ l. mark_each l all) (filtered N timed events false isnt) ∙ r.each;
   places = placed_by N number timed events false isnt ∙ r.places;
 }
 
-pub sound : (N : List ℕ) (bound number : ℕ) (events : List Timed) (all : List ReportLine) (p : Placed) → Rises bound events → Covers bound N all → Within (named all) N →
+pub sound : (N : List ℕ) (bound number : ℕ) (events : List Timed) (all : List ReportLine) (p : Placed) → Rises bound events → Covers bound N all
+    → Within (named all) N →
     placed number events all ≡ Some p → has_state p.rest ≡ false → Fits N number events all p
 sound N bound number [] [] p rises covers within e stateless =
     let same = some_same (record { marked = []; next = number; rest = [] }) p e in
@@ -235,7 +254,8 @@ sound N bound number (timed ∷ events) [] p rises covers within e stateless =
       | inl t ↦ absurd (true≢false (sym (covers timed.line rises.0 t)))
       | inr f ↦ f
     ] in
-    let r = sound N timed.line (number + 1) events [] (record { marked = []; next = number + 1; rest = events }) rises.1 (λ line above has. covers line (let low = rises.0 in omega (arith, low, above)) has) within refl state.1 in
+    let r = sound N timed.line (number + 1) events [] (record { marked = []; next = number + 1; rest = events }) rises.1
+    (λ line above has. covers line (let low = rises.0 in omega (arith, low, above)) has) within refl state.1 in
     fits_skipped N number timed events [] p (or_from (is_state timed.event) (is_named N timed) state.0 unnamed)
     (record { each = r.each; places = r.places ∙ ap (λ (q : Placed). places_of q.marked) same })
   where
@@ -244,25 +264,30 @@ sound N bound number (timed ∷ events) [] p rises covers within e stateless =
     neither false b h = (refl, h)
 sound N bound number (timed ∷ events) (line ∷ all) p rises covers within e stateless = elim (way_of number timed events line all p e) [
   | Here is rest ↦
-      let r = sound N timed.line (number + 1) events all rest.rest rises.1 (covers_more bound timed N line all rises.0 is covers) (within_right (refused_line line) (named all) N within) rest.is
+      let r = sound N timed.line (number + 1) events all rest.rest rises.1 (covers_more bound timed N line all rises.0 is covers)
+      (within_right (refused_line line) (named all) N within) rest.is
       (ap (λ (q : Placed). has_state q.rest) rest.same ∙ stateless) in
       let marked = marked_by timed line N is (within_left (refused_line line) (named all) N within) in
       record {
-        each = ap (λ l. mark_each l (line ∷ all)) (filtered N timed events true marked) ∙ and_true (marks timed line) (mark_each (filter (is_marked N) events) all) is r.each;
+        each = ap (λ l. mark_each l (line ∷ all)) (filtered N timed events true marked)
+            ∙ and_true (marks timed line) (mark_each (filter (is_marked N) events) all) is r.each;
         places = placed_by N number timed events true marked ∙ (ap (λ l. number ∷ l) r.places ∙ ap (λ (q : Placed). places_of q.marked) rest.same);
       }
   | Later isnt state rest ↦
       let unnamed : is_named N timed ≡ false = elim (cases_Bool (is_named N timed)) [
-        | inl t ↦ absurd (above_not_named timed.line (named (line ∷ all)) (named_above timed.line (number + 1) events (line ∷ all) p rises.1 rest) (covers timed.line rises.0 t))
+        | inl t ↦ absurd (above_not_named timed.line (named (line ∷ all)) (named_above timed.line (number + 1) events (line ∷ all) p rises.1 rest)
+            (covers timed.line rises.0 t))
         | inr f ↦ f
       ] in
       fits_skipped N number timed events (line ∷ all) p (or_from (is_state timed.event) (is_named N timed) state unnamed)
-      (sound N timed.line (number + 1) events (line ∷ all) p rises.1 (λ own above has. covers own (let low = rises.0 in omega (arith, low, above)) has) within rest stateless)
+      (sound N timed.line (number + 1) events (line ∷ all) p rises.1
+      (λ own above has. covers own (let low = rises.0 in omega (arith, low, above)) has) within rest stateless)
 ]
 
 -- ---- the four laws of a forward search
 
-pub placed_fits : (events : List Timed) (all : List ReportLine) (p : Placed) → Rises 0 events → placed 0 events all ≡ Some p → has_state p.rest ≡ false →
+pub placed_fits : (events : List Timed) (all : List ReportLine) (p : Placed) → Rises 0 events → placed 0 events all ≡ Some p
+    → has_state p.rest ≡ false →
     (fit events all ≡ true) × (marked_places (named all) 0 events ≡ places_of p.marked)
 placed_fits events all p rises e stateless =
     let r = sound (named all) 0 0 events all p rises (λ line above has. has) (λ line has. has) e stateless in
@@ -303,7 +328,14 @@ record Used (number : ℕ) (events : List Timed) (all : List ReportLine) (p : Pl
 used : (number : ℕ) (events : List Timed) (all : List ReportLine) (p : Placed) → placed number events all ≡ Some p → Used number events all p
 used number events [] p e =
     let same = some_same (record { marked = []; next = number; rest = events }) p e in
-    record { front = []; whole = sym (ap (λ (q : Placed). q.rest) same); own = record { marked = []; next = number; rest = [] }; is = refl; ends = refl }
+    record {
+      front = [];
+      whole = sym (ap (λ (q : Placed). q.rest) same);
+      own = record { marked = []; next = number; rest = [] };
+      is = refl;
+      ends =
+          refl;
+    }
 used number [] (line ∷ all) p e = absurd (nothing_placed number line all p e)
 used number (timed ∷ events) (line ∷ all) p e = elim (way_of number timed events line all p e) [
   | Here is rest ↦
@@ -330,7 +362,8 @@ rises_front : (bound : ℕ) (front more : List Timed) → Rises bound (front ++ 
 rises_front bound [] more h = tt
 rises_front bound (timed ∷ front) more h = (h.0, rises_front timed.line front more h.1)
 
-pub placed_begins : (events : List Timed) (all : List ReportLine) (p : Placed) → Rises 0 events → placed 0 events all ≡ Some p → begin events all ≡ true
+pub placed_begins : (events : List Timed) (all : List ReportLine) (p : Placed) → Rises 0 events → placed 0 events all ≡ Some p
+    → begin events all ≡ true
 placed_begins events all p rises e =
     let r = used 0 events all p e in
     let fitting = (placed_fits r.front all r.own (rises_front 0 r.front p.rest (subst (Rises 0) (sym r.whole) rises)) r.is (ap has_state r.ends)).0 in
@@ -346,11 +379,13 @@ abbrev pub placed_from : Option Placed → List ReportLine → Option Placed
 placed_from None more = None
 placed_from (Some p) more = option_map (onto p.marked) (placed p.next p.rest more)
 
-with_both : (mark : Marked) (p : Placed) (o : Option Placed) → option_map (with_mark mark) (option_map (onto p.marked) o) ≡ option_map (onto (mark ∷ p.marked)) o
+with_both : (mark : Marked) (p : Placed) (o : Option Placed)
+    → option_map (with_mark mark) (option_map (onto p.marked) o) ≡ option_map (onto (mark ∷ p.marked)) o
 with_both mark p None = refl
 with_both mark p (Some q) = refl
 
-with_from : (mark : Marked) (more : List ReportLine) (o : Option Placed) → option_map (with_mark mark) (placed_from o more) ≡ placed_from (option_map (with_mark mark) o) more
+with_from : (mark : Marked) (more : List ReportLine) (o : Option Placed)
+    → option_map (with_mark mark) (placed_from o more) ≡ placed_from (option_map (with_mark mark) o) more
 with_from mark more None = refl
 with_from mark more (Some p) = with_both mark p (placed p.next p.rest more)
 
@@ -358,13 +393,18 @@ onto_nothing : (o : Option Placed) → o ≡ option_map (onto []) o
 onto_nothing None = refl
 onto_nothing (Some p) = refl
 
-pub placed_append : (number : ℕ) (events : List Timed) (first more : List ReportLine) → placed number events (first ++ more) ≡ placed_from (placed number events first) more
+pub placed_append : (number : ℕ) (events : List Timed) (first more : List ReportLine)
+    → placed number events (first ++ more) ≡ placed_from (placed number events first) more
 placed_append number events [] more = onto_nothing (placed number events more)
 placed_append number events (line ∷ first) more =
     placed_as number events line (first ++ more)
-    ∙ (by (found line number events) (λ here. placed_append (here.place + 1) here.rest first more) ∙ ap (λ o. placed_from o more) (sym (placed_as number events line first)))
+    ∙ (by (found line number events) (λ here. placed_append (here.place + 1) here.rest first more)
+    ∙ ap (λ o. placed_from o more) (sym (placed_as number events line first)))
   where
-    by : (o : Option Found) → ((here : Found) → placed (here.place + 1) here.rest (first ++ more) ≡ placed_from (placed (here.place + 1) here.rest first) more) →
+    by : (o : Option Found) → ((here : Found) → placed (here.place + 1) here.rest (first ++ more)
+        ≡ placed_from (placed (here.place + 1) here.rest first) more) →
         then_placed line (first ++ more) o ≡ placed_from (then_placed line first o) more
     by None later = refl
-    by (Some here) later = ap (option_map (with_mark (mark_at line here.place))) (later here) ∙ with_from (mark_at line here.place) more (placed (here.place + 1) here.rest first)
+    by (Some here) later =
+        ap (option_map (with_mark (mark_at line here.place))) (later here)
+        ∙ with_from (mark_at line here.place) more (placed (here.place + 1) here.rest first)

@@ -49,67 +49,88 @@ vpn_alike a b c h =
 -- ---- interfaces that pass two tests
 
 filter_where : (first : IfaceId → Iface → Bool) (second : IfaceId → Bool) (both : IfaceId → Iface → Bool) (number : ℕ) (all : List Iface) →
-    ((offset : ℕ) (iface : Iface) (id : IfaceId) → slice_get all offset ≡ Some iface → id.0 ≡ number + offset → (first id iface && second id) ≡ both id iface) →
+    ((offset : ℕ) (iface : Iface) (id : IfaceId) → slice_get all offset ≡ Some iface → id.0 ≡ number + offset
+    → (first id iface && second id) ≡ both id iface) →
     filter second (ifaces_where first number all) ≡ ifaces_where both number all
 filter_where first second both number [] each = refl
 filter_where first second both number (iface ∷ more) each =
     by (filter_where first second both (number + 1) more (λ offset own id at sum. each (suc offset) own id at (omega (arith, sum))))
     (first (record { 0 = number }) iface) (each zero iface (record { 0 = number }) refl (omega arith))
   where
-    kept : filter second (ifaces_where first (number + 1) more) ≡ ifaces_where both (number + 1) more → (b : Bool) → second (record { 0 = number }) ≡ b → b ≡ both (record { 0 = number }) iface →
+    kept : filter second (ifaces_where first (number + 1) more) ≡ ifaces_where both (number + 1) more → (b : Bool)
+        → second (record { 0 = number }) ≡ b → b ≡ both (record { 0 = number }) iface →
         filter second (record { 0 = number } ∷ ifaces_where first (number + 1) more)
-        ≡ (cond (both (record { 0 = number }) iface) (record { 0 = number } ∷ ifaces_where both (number + 1) more) (ifaces_where both (number + 1) more))
+        ≡ (cond (both (record { 0 = number }) iface) (record { 0 = number } ∷ ifaces_where both (number + 1) more)
+        (ifaces_where both (number + 1) more))
     kept rest b is same =
-        ap (λ (c : Bool). cond c (record { 0 = number } ∷ filter second (ifaces_where first (number + 1) more)) (filter second (ifaces_where first (number + 1) more))) (is ∙ same)
+        ap (λ (c : Bool). cond c (record { 0 = number } ∷ filter second (ifaces_where first (number + 1) more))
+        (filter second (ifaces_where first (number + 1) more))) (is ∙ same)
         ∙ ap (λ (l : List IfaceId). cond (both (record { 0 = number }) iface) (record { 0 = number } ∷ l) l) rest
 
-    by : filter second (ifaces_where first (number + 1) more) ≡ ifaces_where both (number + 1) more → (f : Bool) → (f && second (record { 0 = number })) ≡ both (record { 0 = number }) iface →
+    by : filter second (ifaces_where first (number + 1) more) ≡ ifaces_where both (number + 1) more → (f : Bool)
+        → (f && second (record { 0 = number })) ≡ both (record { 0 = number }) iface →
         filter second (cond f (record { 0 = number } ∷ ifaces_where first (number + 1) more) (ifaces_where first (number + 1) more))
-        ≡ (cond (both (record { 0 = number }) iface) (record { 0 = number } ∷ ifaces_where both (number + 1) more) (ifaces_where both (number + 1) more))
+        ≡ (cond (both (record { 0 = number }) iface) (record { 0 = number } ∷ ifaces_where both (number + 1) more)
+        (ifaces_where both (number + 1) more))
     by rest true same = kept rest (second (record { 0 = number })) refl same
-    by rest false same = rest ∙ ap (λ (c : Bool). cond c (record { 0 = number } ∷ ifaces_where both (number + 1) more) (ifaces_where both (number + 1) more)) same
+    by rest false same =
+        rest ∙ ap (λ (c : Bool). cond c (record { 0 = number } ∷ ifaces_where both (number + 1) more) (ifaces_where both (number + 1) more)) same
 
 -- ---- the table of VPNs
 
-vpns_at : (scenario : Scenario) (number : ℕ) (all : List Vrf) (place : ℕ) → place < length all → slice_get (vpns_from scenario number all) place ≡ Some (vpn_of scenario (record { 0 = number + place }))
+vpns_at : (scenario : Scenario) (number : ℕ) (all : List Vrf) (place : ℕ) → place < length all
+    → slice_get (vpns_from scenario number all) place ≡ Some (vpn_of scenario (record { 0 = number + place }))
 vpns_at scenario number [] place less = absurd (omega (arith, less))
-vpns_at scenario number (vrf ∷ more) zero less = ap (λ n. Some (vpn_of scenario (record { 0 = n }))) (let same : number ≡ number + 0 = omega arith in same)
+vpns_at scenario number (vrf ∷ more) zero less =
+    ap (λ n. Some (vpn_of scenario (record { 0 = n }))) (let same : number ≡ number + 0 = omega arith in same)
 vpns_at scenario number (vrf ∷ more) (suc place) less =
-    vpns_at scenario (number + 1) more place (omega (arith, less)) ∙ ap (λ n. Some (vpn_of scenario (record { 0 = n }))) (let same : number + 1 + place ≡ number + suc place = omega arith in same)
+    vpns_at scenario (number + 1) more place (omega (arith, less))
+    ∙ ap (λ n. Some (vpn_of scenario (record { 0 = n }))) (let same : number + 1 + place ≡ number + suc place = omega arith in same)
 
 -- The VPN of the VRF of a site is in the table.
-vpn_there : (scenario : Scenario) → Rules scenario → (site : SiteId) (vrf : VrfId) → vrf_of_site scenario site ≡ Some vrf → slice_get (vpns_of scenario) vrf.0 ≡ Some (vpn_of scenario vrf)
+vpn_there : (scenario : Scenario) → Rules scenario → (site : SiteId) (vrf : VrfId) → vrf_of_site scenario site ≡ Some vrf
+    → slice_get (vpns_of scenario) vrf.0 ≡ Some (vpn_of scenario vrf)
 vpn_there scenario rules site vrf e = by (find (is_of_site site) scenario.ifaces) refl e
   where
-    by : (o : Option Iface) → find (is_of_site site) scenario.ifaces ≡ o → option_map (λ (iface : Iface). iface.vrf) o ≡ Some vrf → slice_get (vpns_of scenario) vrf.0 ≡ Some (vpn_of scenario vrf)
+    by : (o : Option Iface) → find (is_of_site site) scenario.ifaces ≡ o → option_map (λ (iface : Iface). iface.vrf) o ≡ Some vrf
+        → slice_get (vpns_of scenario) vrf.0 ≡ Some (vpn_of scenario vrf)
     by None is same = absurd (none-some vrf same)
     by (Some iface) is same =
         let p = passes-from_find (is_of_site site) scenario.ifaces iface is in
         let own : iface.vrf ≡ vrf = some_same iface.vrf vrf same in
-        let less : vrf.0 < length scenario.vrfs = subst (λ (v : VrfId). v.0 < length scenario.vrfs) own (iface_rules_at scenario rules p.0 iface p.1).vrf in
-        vpns_at scenario 0 scenario.vrfs vrf.0 less ∙ ap (λ (n : ℕ). Some (vpn_of scenario (record { 0 = n }))) (let plain : 0 + vrf.0 ≡ vrf.0 = omega arith in plain)
+        let less : vrf.0 < length scenario.vrfs =
+        subst (λ (v : VrfId). v.0 < length scenario.vrfs) own (iface_rules_at scenario rules p.0 iface p.1).vrf in
+        vpns_at scenario 0 scenario.vrfs vrf.0 less
+        ∙ ap (λ (n : ℕ). Some (vpn_of scenario (record { 0 = n }))) (let plain : 0 + vrf.0 ≡ vrf.0 = omega arith in plain)
 
 -- ---- receivers
 
 module _ (past : Past) (kept : Kept) (follows : Follows past kept) where
-  active_now : (vrf : VrfId) (flow : Flow) → is_active_now past.scenario kept (members past.scenario vrf) flow ≡ is_active past vrf flow.source flow.group
+  active_now : (vrf : VrfId) (flow : Flow) → is_active_now past.scenario kept (members past.scenario vrf) flow
+      ≡ is_active past vrf flow.source flow.group
   active_now vrf flow = (λ i. list_any (λ (iface : IfaceId). follows.noted iface flow.source flow.group i) (members past.scenario vrf))
 
-  active_there : (vrf : VrfId) (flow : Flow) (own : Iface) (id : IfaceId) → slice_get past.scenario.ifaces id.0 ≡ Some own → same_vpn past.scenario vrf own.vrf ≡ true →
+  active_there : (vrf : VrfId) (flow : Flow) (own : Iface) (id : IfaceId) → slice_get past.scenario.ifaces id.0 ≡ Some own
+      → same_vpn past.scenario vrf own.vrf ≡ true →
       is_active_now past.scenario kept (members past.scenario vrf) flow ≡ is_active_at past id flow.source flow.group
   active_there vrf flow own id at is =
       active_now vrf flow
       ∙ ((λ i. list_any (λ (iface : IfaceId). is_noted past iface flow.source flow.group)
-      (ifaces_where (λ number iface. vpn_alike (targets_of past.scenario vrf) (targets_of past.scenario own.vrf) (targets_of past.scenario iface.vrf) is i) 0 past.scenario.ifaces))
+      (ifaces_where (λ number iface. vpn_alike (targets_of past.scenario vrf) (targets_of past.scenario own.vrf) (targets_of past.scenario iface.vrf)
+      is i) 0 past.scenario.ifaces))
       ∙ ap (λ (o : Option Iface). elim o [ None ↦ false | Some found ↦ is_active past found.vrf flow.source flow.group ]) (sym at))
 
-  asked_there : (vrf : VrfId) (flow : Flow) (own : Iface) (id : IfaceId) → slice_get past.scenario.ifaces id.0 ≡ Some own → same_vpn past.scenario vrf own.vrf ≡ true →
+  asked_there : (vrf : VrfId) (flow : Flow) (own : Iface) (id : IfaceId) → slice_get past.scenario.ifaces id.0 ≡ Some own
+      → same_vpn past.scenario vrf own.vrf ≡ true →
       asks_now past.scenario kept flow (is_active_now past.scenario kept (members past.scenario vrf) flow) id ≡ asks past id flow.source flow.group
   asked_there vrf flow own id at is =
-      asks_same past kept follows id flow.source flow.group (is_active_now past.scenario kept (members past.scenario vrf) flow) (active_there vrf flow own id at is)
+      asks_same past kept follows id flow.source flow.group (is_active_now past.scenario kept (members past.scenario vrf) flow)
+      (active_there vrf flow own id at is)
 
-  received_there : (vrf : VrfId) (flow : Flow) (offset : ℕ) (own : Iface) (id : IfaceId) → slice_get past.scenario.ifaces offset ≡ Some own → id.0 ≡ 0 + offset →
-      (same_vpn past.scenario vrf own.vrf && receives_now past.scenario kept flow (is_active_now past.scenario kept (members past.scenario vrf) flow) id)
+  received_there : (vrf : VrfId) (flow : Flow) (offset : ℕ) (own : Iface) (id : IfaceId) → slice_get past.scenario.ifaces offset ≡ Some own
+      → id.0 ≡ 0 + offset →
+      (same_vpn past.scenario vrf own.vrf && receives_now past.scenario kept flow (is_active_now past.scenario kept (members past.scenario vrf) flow)
+      id)
       ≡ receives past vrf flow.site flow.source flow.group id own
   received_there vrf flow offset own id at sum = by (same_vpn past.scenario vrf own.vrf) refl
     where
@@ -123,25 +144,35 @@ module _ (past : Past) (kept : Kept) (follows : Follows past kept) where
       by true is =
           ap (λ (o : Option Iface). elim o [
             | None ↦ false
-            | Some found ↦ not (is_of_site flow.site found) && asks_now past.scenario kept flow (is_active_now past.scenario kept (members past.scenario vrf) flow) id
+            | Some found ↦ not (is_of_site flow.site found)
+                && asks_now past.scenario kept flow (is_active_now past.scenario kept (members past.scenario vrf) flow) id
           ]) here
           ∙ ap (λ b. not (is_of_site flow.site own) && b) (asked_there vrf flow own id here is)
 
   -- The receivers of the flow, as the events so far have them.
-  pub receivers_same : Rules past.scenario → (vpns : List Vpn) → vpns ≡ vpns_of past.scenario → (flow : Flow) → receivers_now past.scenario kept vpns flow ≡ receivers past flow.site flow.source flow.group
+  pub receivers_same : Rules past.scenario → (vpns : List Vpn) → vpns ≡ vpns_of past.scenario → (flow : Flow)
+      → receivers_now past.scenario kept vpns flow ≡ receivers past flow.site flow.source flow.group
   receivers_same rules vpns table flow = by (vrf_of_site past.scenario flow.site) refl
     where
-      all_of : (vrf : VrfId) → filter (receives_now past.scenario kept flow (is_active_now past.scenario kept (members past.scenario vrf) flow)) (members past.scenario vrf)
+      all_of : (vrf : VrfId) → filter (receives_now past.scenario kept flow (is_active_now past.scenario kept (members past.scenario vrf) flow))
+          (members past.scenario vrf)
           ≡ ifaces_where (receives past vrf flow.site flow.source flow.group) 0 past.scenario.ifaces
       all_of vrf =
-          filter_where (λ number iface. same_vpn past.scenario vrf iface.vrf) (receives_now past.scenario kept flow (is_active_now past.scenario kept (members past.scenario vrf) flow))
-          (receives past vrf flow.site flow.source flow.group) 0 past.scenario.ifaces (λ offset own id at sum. received_there vrf flow offset own id at sum)
+          filter_where (λ number iface. same_vpn past.scenario vrf iface.vrf)
+          (receives_now past.scenario kept flow (is_active_now past.scenario kept (members past.scenario vrf) flow))
+          (receives past vrf flow.site flow.source flow.group) 0 past.scenario.ifaces
+          (λ offset own id at sum. received_there vrf flow offset own id at sum)
 
       by : (o : Option VrfId) → vrf_of_site past.scenario flow.site ≡ o →
-          ◌≡◌ {A = List IfaceId} (elim o [ None ↦ [] | Some vrf ↦ elim (slice_get vpns vrf.0) [ None ↦ [] | Some vpn ↦ receivers_in past.scenario kept vpn flow ] ])
+          ◌≡◌ {A = List IfaceId} (elim o [
+            | None ↦ []
+            | Some vrf ↦
+                elim (slice_get vpns vrf.0) [ None ↦ [] | Some vpn ↦ receivers_in past.scenario kept vpn flow ]
+          ])
           (elim o [
             | None ↦ []
-            | Some vrf ↦ cond (is_home past.scenario vrf flow.source flow.site) (ifaces_where (receives past vrf flow.site flow.source flow.group) 0 past.scenario.ifaces) []
+            | Some vrf ↦ cond (is_home past.scenario vrf flow.source flow.site)
+                (ifaces_where (receives past vrf flow.site flow.source flow.group) 0 past.scenario.ifaces) []
           ])
       by None e = refl
       by (Some vrf) e =

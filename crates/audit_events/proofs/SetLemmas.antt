@@ -36,7 +36,8 @@ module _ (message : JoinPrune) (clock now : ℕ) (since : IfaceEntry → ℕ) wh
   with_set before named at = cond (list_any (is_at at) named) (Some (set_for before at)) (before at)
 
   -- the entry itself is set once
-  set_here : (before : IfaceEntry → Option Held) (named : List IfaceEntry) (x : IfaceEntry) → is_set_at now (before x) ≡ false → (o : Option Held) → o ≡ with_set before named x →
+  set_here : (before : IfaceEntry → Option Held) (named : List IfaceEntry) (x : IfaceEntry) → is_set_at now (before x) ≡ false → (o : Option Held)
+      → o ≡ with_set before named x →
       set_once message clock now (since x) x o ≡ Some (set_for before x)
   set_here before named x fresh o e = elim (cases_Bool (list_any (is_at x) named)) [
     | inl is ↦
@@ -46,22 +47,33 @@ module _ (message : JoinPrune) (clock now : ℕ) (since : IfaceEntry → ℕ) wh
     | inr isnt ↦
         let same : o ≡ before x = e ∙ ap (λ b. cond b (Some (set_for before x)) (before x)) isnt in
         let unset : is_set_at now o ≡ false = ap (is_set_at now) same ∙ fresh in
-        ap (λ b. cond b o (Some (set_by message clock now (since x) x o))) unset ∙ ap (λ (held : Option Held). Some (set_by message clock now (since x) x held)) same
+        ap (λ b. cond b o (Some (set_by message clock now (since x) x o))) unset
+        ∙ ap (λ (held : Option Held). Some (set_by message clock now (since x) x held)) same
   ]
 
   pub set_more : (before cur new : IfaceEntry → Option Held) (named more : List IfaceEntry) (x at : IfaceEntry) (own : ℕ) → own ≡ since x →
-      more ≡ named ++ x ∷ [] → ((other : IfaceEntry) → is_set_at now (before other) ≡ false) → ((other : IfaceEntry) → cur other ≡ with_set before named other) →
+      more ≡ named ++ x ∷ [] → ((other : IfaceEntry) → is_set_at now (before other) ≡ false)
+      → ((other : IfaceEntry) → cur other ≡ with_set before named other) →
       new at ≡ cond (is_at at x) (set_once message clock now own x (cur x)) (cur at) → new at ≡ with_set before more at
   set_more before cur new named more x at own same whole fresh held given =
-      let e : new at ≡ cond (is_at at x) (set_once message clock now (since x) x (cur x)) (cur at) = given ∙ ap (λ s. cond (is_at at x) (set_once message clock now s x (cur x)) (cur at)) same in elim (cases_Bool (is_at at x)) [
+      let e : new at ≡ cond (is_at at x) (set_once message clock now (since x) x (cur x)) (cur at) =
+      given ∙ ap (λ s. cond (is_at at x) (set_once message clock now s x (cur x)) (cur at)) same in elim (cases_Bool (is_at at x)) [
         | inl is ↦
             let one : at ≡ x = at-equal at x is in
-            let now_set : new at ≡ Some (set_for before x) = e ∙ (ap (λ b. cond b (set_once message clock now (since x) x (cur x)) (cur at)) is ∙ set_here before named x (fresh x) (cur x) (held x)) in
-            let among : list_any (is_at at) more ≡ true = ap (list_any (is_at at)) whole ∙ (any_one_more at x named ∙ (ap (λ b. list_any (is_at at) named || b) is ∙ or_yes (list_any (is_at at) named))) in
-            now_set ∙ (ap (λ (y : IfaceEntry). Some (set_for before y)) (sym one) ∙ sym (ap (λ b. cond b (Some (set_for before at)) (before at)) among))
+            let now_set : new at ≡ Some (set_for before x) =
+            e ∙ (ap (λ b. cond b (set_once message clock now (since x) x (cur x)) (cur at)) is
+            ∙ set_here before named x (fresh x) (cur x) (held x)) in
+            let among : list_any (is_at at) more ≡ true =
+            ap (list_any (is_at at)) whole ∙ (any_one_more at x named
+            ∙ (ap (λ b. list_any (is_at at) named || b) is ∙ or_yes (list_any (is_at at) named))) in
+            now_set ∙ (ap (λ (y : IfaceEntry). Some (set_for before y)) (sym one)
+            ∙ sym (ap (λ b. cond b (Some (set_for before at)) (before at)) among))
         | inr isnt ↦
-            let among : list_any (is_at at) more ≡ list_any (is_at at) named = ap (list_any (is_at at)) whole ∙ (any_one_more at x named ∙ (ap (λ b. list_any (is_at at) named || b) isnt ∙ or_no (list_any (is_at at) named))) in
-            e ∙ (ap (λ b. cond b (set_once message clock now (since x) x (cur x)) (cur at)) isnt ∙ (held at ∙ sym (ap (λ b. cond b (Some (set_for before at)) (before at)) among)))
+            let among : list_any (is_at at) more ≡ list_any (is_at at) named =
+            ap (list_any (is_at at)) whole ∙ (any_one_more at x named
+            ∙ (ap (λ b. list_any (is_at at) named || b) isnt ∙ or_no (list_any (is_at at) named))) in
+            e ∙ (ap (λ b. cond b (set_once message clock now (since x) x (cur x)) (cur at)) isnt
+            ∙ (held at ∙ sym (ap (λ b. cond b (Some (set_for before at)) (before at)) among)))
       ]
 
 -- ---- joins (*,G)
@@ -70,18 +82,25 @@ module _ (message : JoinPrune) (now : ℕ) where
   abbrev pub with_shared : (IfaceEntry → Option ℕ) → List IfaceEntry → IfaceEntry → Option ℕ
   with_shared before named at = cond (list_any (is_at at) named && joins_shared message at) (Some now) (before at)
 
-  pub share_more : (before cur new : IfaceEntry → Option ℕ) (named more : List IfaceEntry) (x at : IfaceEntry) → more ≡ named ++ x ∷ [] → cur at ≡ with_shared before named at →
+  pub share_more : (before cur new : IfaceEntry → Option ℕ) (named more : List IfaceEntry) (x at : IfaceEntry) → more ≡ named ++ x ∷ []
+      → cur at ≡ with_shared before named at →
       new at ≡ cond (is_at at x && joins_shared message x) (Some now) (cur at) → new at ≡ with_shared before more at
   share_more before cur new named more x at whole held e = elim (cases_Bool (is_at at x)) [
     | inl is ↦
         let one : at ≡ x = at-equal at x is in
-        let among : list_any (is_at at) more ≡ true = ap (list_any (is_at at)) whole ∙ (any_one_more at x named ∙ (ap (λ b. list_any (is_at at) named || b) is ∙ or_yes (list_any (is_at at) named))) in
+        let among : list_any (is_at at) more ≡ true =
+        ap (list_any (is_at at)) whole ∙ (any_one_more at x named
+        ∙ (ap (λ b. list_any (is_at at) named || b) is ∙ or_yes (list_any (is_at at) named))) in
         e ∙ (ap (λ b. cond (b && joins_shared message x) (Some now) (cur at)) is
         ∙ (ap (λ (y : IfaceEntry). cond (joins_shared message y) (Some now) (cur at)) (sym one)
-        ∙ (by (joins_shared message at) (list_any (is_at at) named) held ∙ sym (ap (λ b. cond (b && joins_shared message at) (Some now) (before at)) among))))
+        ∙ (by (joins_shared message at) (list_any (is_at at) named) held
+        ∙ sym (ap (λ b. cond (b && joins_shared message at) (Some now) (before at)) among))))
     | inr isnt ↦
-        let among : list_any (is_at at) more ≡ list_any (is_at at) named = ap (list_any (is_at at)) whole ∙ (any_one_more at x named ∙ (ap (λ b. list_any (is_at at) named || b) isnt ∙ or_no (list_any (is_at at) named))) in
-        e ∙ (ap (λ b. cond (b && joins_shared message x) (Some now) (cur at)) isnt ∙ (held ∙ sym (ap (λ b. cond (b && joins_shared message at) (Some now) (before at)) among)))
+        let among : list_any (is_at at) more ≡ list_any (is_at at) named =
+        ap (list_any (is_at at)) whole ∙ (any_one_more at x named
+        ∙ (ap (λ b. list_any (is_at at) named || b) isnt ∙ or_no (list_any (is_at at) named))) in
+        e ∙ (ap (λ b. cond (b && joins_shared message x) (Some now) (cur at)) isnt
+        ∙ (held ∙ sym (ap (λ b. cond (b && joins_shared message at) (Some now) (before at)) among)))
   ]
     where
       by : (j b : Bool) → cur at ≡ cond (b && j) (Some now) (before at) → cond j (Some now) (cur at) ≡ cond j (Some now) (before at)
@@ -91,7 +110,8 @@ module _ (message : JoinPrune) (now : ℕ) where
 
 -- ---- one entry
 
-pub set_one_new : (message : JoinPrune) (clock now since : ℕ) (at other : IfaceEntry) (o : Option Held) (held : Held) (before new : IfaceEntry → Option Held) →
+pub set_one_new : (message : JoinPrune) (clock now since : ℕ) (at other : IfaceEntry) (o : Option Held) (held : Held)
+    (before new : IfaceEntry → Option Held) →
     is_set_at now o ≡ false → held ≡ set_by message clock now since at o → new other ≡ cond (is_at at other) (Some held) (before other) →
     new other ≡ cond (is_at other at) (set_once message clock now since at o) (before other)
 set_one_new message clock now since at other o held before new unset same e =
@@ -100,7 +120,8 @@ set_one_new message clock now since at other o held before new unset same e =
     one : Some held ≡ set_once message clock now since at o
     one = ap (λ (h : Held). Some h) same ∙ sym (ap (λ b. cond b o (Some (set_by message clock now since at o))) unset)
 
-pub set_one_same : (message : JoinPrune) (clock now since : ℕ) (at other : IfaceEntry) (before : IfaceEntry → Option Held) → is_set_at now (before at) ≡ true →
+pub set_one_same : (message : JoinPrune) (clock now since : ℕ) (at other : IfaceEntry) (before : IfaceEntry → Option Held)
+    → is_set_at now (before at) ≡ true →
     before other ≡ cond (is_at other at) (set_once message clock now since at (before at)) (before other)
 set_one_same message clock now since at other before set = elim (cases_Bool (is_at other at)) [
   | inl is ↦

@@ -43,15 +43,19 @@ take_next [] n x e = absurd (none-some x e)
 take_next (y ∷ ys) zero x e = (λ i. some_same y x e i ∷ [])
 take_next (y ∷ ys) (suc n) x e = (λ i. y ∷ take_next ys n x e i)
 
-ticks_next : (all : List Timed) (n : ℕ) (timed : Timed) → slice_get all n ≡ Some timed → ticks_in (take (suc n) all) ≡ ticks_in (take n all) + ticks_of timed.event
+ticks_next : (all : List Timed) (n : ℕ) (timed : Timed) → slice_get all n ≡ Some timed
+    → ticks_in (take (suc n) all) ≡ ticks_in (take n all) + ticks_of timed.event
 ticks_next [] n timed e = absurd (none-some timed e)
 ticks_next (first ∷ more) zero timed e =
-    ap (λ (t : Timed). ticks_of t.event + 0) (some_same first timed e) ∙ (let same : ticks_of timed.event + 0 ≡ 0 + ticks_of timed.event = omega arith in same)
+    ap (λ (t : Timed). ticks_of t.event + 0) (some_same first timed e)
+    ∙ (let same : ticks_of timed.event + 0 ≡ 0 + ticks_of timed.event = omega arith in same)
 ticks_next (first ∷ more) (suc n) timed e =
     ap (λ k. ticks_of first.event + k) (ticks_next more n timed e)
-    ∙ (let same : ticks_of first.event + (ticks_in (take n more) + ticks_of timed.event) ≡ ticks_of first.event + ticks_in (take n more) + ticks_of timed.event = omega arith in same)
+    ∙ (let same : ticks_of first.event + (ticks_in (take n more) + ticks_of timed.event)
+    ≡ ticks_of first.event + ticks_in (take n more) + ticks_of timed.event = omega arith in same)
 
-opened_next : (before : Bool) (all : List Timed) (fates : List Fate) (n : ℕ) (timed : Timed) (fate : Fate) → slice_get all n ≡ Some timed → slice_get fates n ≡ Some fate →
+opened_next : (before : Bool) (all : List Timed) (fates : List Fate) (n : ℕ) (timed : Timed) (fate : Fate) → slice_get all n ≡ Some timed
+    → slice_get fates n ≡ Some fate →
     opened before (take (suc n) all) (take (suc n) fates) ≡ opens_after (opened before (take n all) (take n fates)) timed fate
 opened_next before [] fates n timed fate e f = absurd (none-some timed e)
 opened_next before (first ∷ all) [] n timed fate e f = absurd (none-some fate f)
@@ -62,7 +66,8 @@ pub map_append : {X Y : Type 0} (f : X → Y) (xs ys : List X) → map f (xs ++ 
 map_append f [] ys = refl
 map_append f (x ∷ xs) ys = (λ i. f x ∷ map_append f xs ys i)
 
-closing_at : (all : List Timed) (fates : List Fate) (n : ℕ) (timed : Timed) (fate : Fate) → slice_get all n ≡ Some timed → slice_get fates n ≡ Some fate →
+closing_at : (all : List Timed) (fates : List Fate) (n : ℕ) (timed : Timed) (fate : Fate) → slice_get all n ≡ Some timed
+    → slice_get fates n ≡ Some fate →
     slice_get (closings all fates) n ≡ Some (closes (drop n all) (drop n fates))
 closing_at [] fates n timed fate e f = absurd (none-some timed e)
 closing_at (first ∷ all) [] n timed fate e f = absurd (none-some fate f)
@@ -75,7 +80,8 @@ record Moved (event : Event) (old new : Kept) : Type 0 where
   clock : new.clock ≡ old.clock + ticks_of event
   now : new.now ≡ old.now + 1
 
-given_on : (scenario : Scenario) (o : Option Given) (old new : Kept) → TakesGiven scenario o old new → (new.clock ≡ old.clock + 0) × (new.now ≡ old.now + 1)
+given_on : (scenario : Scenario) (o : Option Given) (old new : Kept) → TakesGiven scenario o old new
+    → (new.clock ≡ old.clock + 0) × (new.now ≡ old.now + 1)
 given_on scenario None old new goes = (goes.clock, goes.now)
 given_on scenario (Some given) old new takes = ((let e = takes.clock in omega (arith, e)), takes.now)
 
@@ -84,9 +90,12 @@ steps_on scenario (events.Tick count) old new steps = record { clock = steps.clo
 steps_on scenario (events.Restart node) old new steps = record { clock = steps.clock; now = steps.now }
 steps_on scenario (events.Active iface source group) old new steps = record { clock = (let e = steps.clock in omega (arith, e)); now = steps.now }
 steps_on scenario (events.Idle iface source group) old new steps = record { clock = (let e = steps.clock in omega (arith, e)); now = steps.now }
-steps_on scenario (events.Join iface entry) old new steps = (let r = given_on scenario (message_of scenario (events.Join iface entry)) old new steps in record { clock = r.0; now = r.1 })
-steps_on scenario (events.Prune iface entry) old new steps = (let r = given_on scenario (message_of scenario (events.Prune iface entry)) old new steps in record { clock = r.0; now = r.1 })
-steps_on scenario (events.Pim iface bytes) old new steps = (let r = given_on scenario (message_of scenario (events.Pim iface bytes)) old new steps in record { clock = r.0; now = r.1 })
+steps_on scenario (events.Join iface entry) old new steps =
+    (let r = given_on scenario (message_of scenario (events.Join iface entry)) old new steps in record { clock = r.0; now = r.1 })
+steps_on scenario (events.Prune iface entry) old new steps =
+    (let r = given_on scenario (message_of scenario (events.Prune iface entry)) old new steps in record { clock = r.0; now = r.1 })
+steps_on scenario (events.Pim iface bytes) old new steps =
+    (let r = given_on scenario (message_of scenario (events.Pim iface bytes)) old new steps in record { clock = r.0; now = r.1 })
 steps_on scenario other old new steps = record { clock = steps.clock; now = steps.now }
 
 -- ---- one event
@@ -103,15 +112,18 @@ module _ (case : Case) (is : IsCase case) (number : ℕ) (timed : Timed) (at : s
   number_small : number < 200000
   number_small = (let less = slice_get_within (events_of case) number timed at in let few = is.rules.few in omega (arith, less, few))
 
-  pub fate_is : (fate : Fate) → slice_get case.fates number ≡ Some fate → (slice_get (fates_of case) number ≡ Some fate) × (is_refused fate ≡ not (is_accepted refused timed))
+  pub fate_is : (fate : Fate) → slice_get case.fates number ≡ Some fate
+      → (slice_get (fates_of case) number ≡ Some fate) × (is_refused fate ≡ not (is_accepted refused timed))
   fate_is fate e =
       let t = fate_there in
       let there : slice_get (fates_of case) number ≡ Some fate = ap (λ (l : List Fate). slice_get l number) (sym is.fates) ∙ e in
       (there, ap is_refused (some_same fate t.0 (sym there ∙ t.1)) ∙ t.2)
 
-  pub opens_next : (fate : Fate) → slice_get (fates_of case) number ≡ Some fate → is_open case (number + 1) ≡ opens_after (is_open case number) timed fate
+  pub opens_next : (fate : Fate) → slice_get (fates_of case) number ≡ Some fate
+      → is_open case (number + 1) ≡ opens_after (is_open case number) timed fate
   opens_next fate e =
-      ap (λ n. opened false (take n (events_of case)) (take n (fates_of case))) (next_is number) ∙ opened_next false (events_of case) (fates_of case) number timed fate at e
+      ap (λ n. opened false (take n (events_of case)) (take n (fates_of case))) (next_is number)
+      ∙ opened_next false (events_of case) (fates_of case) number timed fate at e
 
   pub past_next : past_of case (number + 1) ≡ one_more (past_of case number) timed
   past_next =
@@ -130,7 +142,8 @@ module _ (case : Case) (is : IsCase case) (number : ℕ) (timed : Timed) (at : s
   pub refused_sents : is_accepted refused timed ≡ false → sents_before case (number + 1) ≡ sents_before case number ++ []
   refused_sents isnt = sents_next ∙ ap (λ b. sents_before case number ++ map (sent_of case) (cond b (sent_by number timed.event) [])) isnt
 
-  accepted_sents : is_accepted refused timed ≡ true → sents_before case (number + 1) ≡ sents_before case number ++ map (sent_of case) (sent_by number timed.event)
+  accepted_sents : is_accepted refused timed ≡ true
+      → sents_before case (number + 1) ≡ sents_before case number ++ map (sent_of case) (sent_by number timed.event)
   accepted_sents holds = sents_next ∙ ap (λ b. sents_before case number ++ map (sent_of case) (cond b (sent_by number timed.event) [])) holds
 
   pub quiet_sents : is_accepted refused timed ≡ true → flow_of timed.event ≡ None → sents_before case (number + 1) ≡ sents_before case number ++ []
@@ -141,37 +154,45 @@ module _ (case : Case) (is : IsCase case) (number : ℕ) (timed : Timed) (at : s
       by (events.Packet site octets) e = absurd (none-some _ (sym e))
       by other e = refl
 
-  windowed_is : (closing : Bool) → slice_get case.closings number ≡ Some closing → closing ≡ closes (drop number (events_of case)) (drop number (fates_of case))
+  windowed_is : (closing : Bool) → slice_get case.closings number ≡ Some closing
+      → closing ≡ closes (drop number (events_of case)) (drop number (fates_of case))
   windowed_is closing e =
       let t = fate_there in
       some_same closing (closes (drop number (events_of case)) (drop number (fates_of case)))
       (sym e ∙ (ap (λ (l : List Bool). slice_get l number) is.closings ∙ closing_at (events_of case) (fates_of case) number timed t.0 at t.1))
 
-  pub flow_sents : (walk : Walk) → IsWalked case number walk → is_accepted refused timed ≡ true → (flow : Flow) → flow_of timed.event ≡ Some flow → (closing : Bool) → slice_get case.closings number ≡ Some closing →
+  pub flow_sents : (walk : Walk) → IsWalked case number walk → is_accepted refused timed ≡ true → (flow : Flow) → flow_of timed.event ≡ Some flow
+      → (closing : Bool) → slice_get case.closings number ≡ Some closing →
       sents_before case (number + 1) ≡ sents_before case number ++ sent_now case (kept_of walk.joined) (walk.is_open && closing) number flow ∷ []
   flow_sents walk walked holds flow e closing c = accepted_sents holds ∙ ap (λ (l : List Sent). sents_before case number ++ l) (by timed.event e)
     where
-      noted : (datagram : Datagram) → datagram.event ≡ number → datagram.site ≡ flow.site → datagram.source ≡ flow.source → datagram.group ≡ flow.group →
+      noted : (datagram : Datagram) → datagram.event ≡ number → datagram.site ≡ flow.site → datagram.source ≡ flow.source
+          → datagram.group ≡ flow.group →
           sent_of case datagram ≡ sent_now case (kept_of walk.joined) (walk.is_open && closing) number flow
       noted datagram event site source group =
           (λ i. sent_of case (record { event = event i; site = site i; source = source i; group = group i; octets = datagram.octets }))
           ∙ (λ i. record {
             event = number;
             site = flow.site;
-            asked = cond (sym walked.opened i && sym (windowed_is closing c) i) (Some (sym (receivers_same (past_of case number) (kept_of walk.joined) walked.follows is.rules.scenario case.vpns is.vpns flow) i)) None;
+            asked = cond (sym walked.opened i && sym (windowed_is closing c) i)
+                (Some (sym (receivers_same (past_of case number) (kept_of walk.joined) walked.follows is.rules.scenario case.vpns is.vpns flow) i))
+                None;
           })
 
-      by : (event : Event) → flow_of event ≡ Some flow → map (sent_of case) (sent_by number event) ≡ sent_now case (kept_of walk.joined) (walk.is_open && closing) number flow ∷ []
+      by : (event : Event) → flow_of event ≡ Some flow
+          → map (sent_of case) (sent_by number event) ≡ sent_now case (kept_of walk.joined) (walk.is_open && closing) number flow ∷ []
       by (events.Send site source group payload) same =
           let own : Flow = record { site = site; source = source; group = group } in
           let one : own ≡ flow = some_same own flow same in
           let datagram : Datagram = record { event = number; site = site; source = source; group = group; octets = packet source group payload } in
-          ap (λ (s : Sent). s ∷ []) (noted datagram refl (ap (λ (f : Flow). f.site) one) (ap (λ (f : Flow). f.source) one) (ap (λ (f : Flow). f.group) one))
+          ap (λ (s : Sent). s ∷ []) (noted datagram refl (ap (λ (f : Flow). f.site) one) (ap (λ (f : Flow). f.source) one)
+          (ap (λ (f : Flow). f.group) one))
       by (events.Packet site octets) same =
           let own : Flow = record { site = site; source = source_in octets; group = group_in octets } in
           let one : own ≡ flow = some_same own flow same in
           let datagram : Datagram = record { event = number; site = site; source = source_in octets; group = group_in octets; octets = octets } in
-          ap (λ (s : Sent). s ∷ []) (noted datagram refl (ap (λ (f : Flow). f.site) one) (ap (λ (f : Flow). f.source) one) (ap (λ (f : Flow). f.group) one))
+          ap (λ (s : Sent). s ∷ []) (noted datagram refl (ap (λ (f : Flow). f.site) one) (ap (λ (f : Flow). f.source) one)
+          (ap (λ (f : Flow). f.group) one))
       by other same = absurd (none-some flow same)
 
   closing_got : slice_get case.closings number ≡ Some (closes (drop number (events_of case)) (drop number (fates_of case)))
@@ -183,12 +204,15 @@ module _ (case : Case) (is : IsCase case) (number : ℕ) (timed : Timed) (at : s
   closing_is closing e =
       closing_got ∙ ap (λ (b : Bool). Some b) (sym (e ∙ ap (λ (o : Option Bool). elim o [ None ↦ false | Some b ↦ b ]) closing_got))
 
-  pub one_sent : (walk : Walk) → IsWalked case number walk → is_accepted refused timed ≡ true → (flow : Flow) → flow_of timed.event ≡ Some flow → (closing windowed : Bool) →
-      closing ≡ closing_in case.closings number → windowed ≡ (walk.is_open && closing) → (sent : Sent) → sent ≡ sent_now case (kept_of walk.joined) windowed number flow →
+  pub one_sent : (walk : Walk) → IsWalked case number walk → is_accepted refused timed ≡ true → (flow : Flow) → flow_of timed.event ≡ Some flow
+      → (closing windowed : Bool) →
+      closing ≡ closing_in case.closings number → windowed ≡ (walk.is_open && closing) → (sent : Sent)
+      → sent ≡ sent_now case (kept_of walk.joined) windowed number flow →
       sents_before case (number + 1) ≡ sents_before case number ++ sent ∷ []
   one_sent walk walked holds flow e closing windowed c w sent same =
       flow_sents walk walked holds flow e closing (closing_is closing c)
-      ∙ (ap (λ b. sents_before case number ++ sent_now case (kept_of walk.joined) b number flow ∷ []) (sym w) ∙ ap (λ (s : Sent). sents_before case number ++ s ∷ []) (sym same))
+      ∙ (ap (λ b. sents_before case number ++ sent_now case (kept_of walk.joined) b number flow ∷ []) (sym w)
+      ∙ ap (λ (s : Sent). sents_before case number ++ s ∷ []) (sym same))
 
   pub fate_got : (fate : Fate) → fate ≡ fate_in case.fates number → slice_get case.fates number ≡ Some fate
   fate_got fate e =
@@ -214,14 +238,17 @@ module _ (case : Case) (is : IsCase case) (number : ℕ) (timed : Timed) (at : s
   pub is_known : IsEventOf (scenario_of case) timed.event
   is_known = each_got (λ (t : Timed). IsEventOf (scenario_of case) t.event) (events_of case) number timed is.rules.events at
 
-  pub stepped : (old : Walk) (new : Joined) → IsWalked case number old → is_accepted refused timed ≡ true → Steps (scenario_of case) timed.event (kept_of old.joined) (kept_of new) →
+  pub stepped : (old : Walk) (new : Joined) → IsWalked case number old → is_accepted refused timed ≡ true
+      → Steps (scenario_of case) timed.event (kept_of old.joined) (kept_of new) →
       IsStepped case number (record old { joined = new })
   stepped old new walked holds steps =
       let on = steps_on (scenario_of case) timed.event (kept_of old.joined) (kept_of new) steps in
       let next = ticks_next (events_of case) number timed at in
       let one = ap (λ n. ticks_in (take n (events_of case))) (next_is number) in
       record {
-        follows = subst (λ (past : Past). Follows past (kept_of new)) (sym past_next) (steps_follow (past_of case number) timed (kept_of old.joined) (kept_of new) is_known holds walked.follows steps);
+        follows =
+            subst (λ (past : Past). Follows past (kept_of new)) (sym past_next)
+            (steps_follow (past_of case number) timed (kept_of old.joined) (kept_of new) is_known holds walked.follows steps);
         clock = (let clock = on.clock in let before = walked.clock in omega (arith, clock, before, next, one));
         count = (let now = on.now in let before = walked.count in omega (arith, now, before));
         opened = walked.opened;
@@ -232,13 +259,16 @@ module _ (case : Case) (is : IsCase case) (number : ℕ) (timed : Timed) (at : s
       let next = ticks_next (events_of case) number timed at in
       let one = ap (λ n. ticks_in (take n (events_of case))) (next_is number) in
       record {
-        follows = subst (λ (past : Past). Follows past (kept_of old.joined)) (sym past_next) (refused_follows (past_of case number) timed (kept_of old.joined) isnt walked.follows);
+        follows =
+            subst (λ (past : Past). Follows past (kept_of old.joined)) (sym past_next)
+            (refused_follows (past_of case number) timed (kept_of old.joined) isnt walked.follows);
         clock = (let before = walked.clock in omega (arith, before, next, one));
         count = (let before = walked.count in omega (arith, before));
         opened = walked.opened;
       }
 
-  pub walked_next : (walk : Walk) → IsStepped case number walk → (fate : Fate) → slice_get (fates_of case) number ≡ Some fate → (now : Bool) → now ≡ opens_after walk.is_open timed fate →
+  pub walked_next : (walk : Walk) → IsStepped case number walk → (fate : Fate) → slice_get (fates_of case) number ≡ Some fate → (now : Bool)
+      → now ≡ opens_after walk.is_open timed fate →
       IsWalked case (number + 1) (record walk { is_open = now })
   walked_next walk stepped fate e now same = record {
     follows = stepped.follows;
@@ -248,7 +278,8 @@ module _ (case : Case) (is : IsCase case) (number : ℕ) (timed : Timed) (at : s
   }
 
   -- an event that was accepted
-  pub is_taken : (fate : Fate) (b : Bool) → slice_get case.fates number ≡ Some fate → b ≡ is_refused fate → b ≡ false → is_accepted refused timed ≡ true
+  pub is_taken : (fate : Fate) (b : Bool) → slice_get case.fates number ≡ Some fate → b ≡ is_refused fate → b ≡ false
+      → is_accepted refused timed ≡ true
   is_taken fate b e same isnt = by (is_accepted refused timed) (sym (fate_is fate e).1 ∙ (sym same ∙ isnt))
     where
       by : (holds : Bool) → not holds ≡ false → holds ≡ true
@@ -256,17 +287,20 @@ module _ (case : Case) (is : IsCase case) (number : ℕ) (timed : Timed) (at : s
       by false f = absurd (true≢false f)
 
   -- an event that was refused
-  pub is_left : (fate : Fate) (b : Bool) → slice_get case.fates number ≡ Some fate → b ≡ is_refused fate → b ≡ true → is_accepted refused timed ≡ false
+  pub is_left : (fate : Fate) (b : Bool) → slice_get case.fates number ≡ Some fate → b ≡ is_refused fate → b ≡ true
+      → is_accepted refused timed ≡ false
   is_left fate b e same is_so = by (is_accepted refused timed) (sym (fate_is fate e).1 ∙ (sym same ∙ is_so))
     where
       by : (holds : Bool) → not holds ≡ true → holds ≡ false
       by true f = absurd (true≢false (sym f))
       by false f = refl
 
-  pub refused_none : (fate : Fate) (b : Bool) → slice_get case.fates number ≡ Some fate → b ≡ is_refused fate → b ≡ true → sents_before case (number + 1) ≡ sents_before case number ++ []
+  pub refused_none : (fate : Fate) (b : Bool) → slice_get case.fates number ≡ Some fate → b ≡ is_refused fate → b ≡ true
+      → sents_before case (number + 1) ≡ sents_before case number ++ []
   refused_none fate b e same is_so = refused_sents (is_left fate b e same is_so)
 
-  pub refused_walked : (old : Walk) (fate : Fate) (b now : Bool) → IsWalked case number old → slice_get case.fates number ≡ Some fate → b ≡ is_refused fate → b ≡ true →
+  pub refused_walked : (old : Walk) (fate : Fate) (b now : Bool) → IsWalked case number old → slice_get case.fates number ≡ Some fate
+      → b ≡ is_refused fate → b ≡ true →
       now ≡ opens_after old.is_open timed fate → IsWalked case (number + 1) (record old { is_open = now })
   refused_walked old fate b now walked e same is_so opens =
       walked_next old (unstepped old walked (is_left fate b e same is_so)) fate (fate_is fate e).0 now opens
@@ -277,7 +311,8 @@ module _ (case : Case) (is : IsCase case) (number : ℕ) (timed : Timed) (at : s
 
 -- ---- before the first event, and after the last
 
-pub first_walked : (case : Case) (walk : Walk) → IsEmpty (length (scenario_of case).nodes) (kept_of walk.joined) → walk.is_open ≡ false → IsWalked case 0 walk
+pub first_walked : (case : Case) (walk : Walk) → IsEmpty (length (scenario_of case).nodes) (kept_of walk.joined) → walk.is_open ≡ false
+    → IsWalked case 0 walk
 first_walked case walk empty closed = record {
   follows = empty_follows (past_of case 0) (kept_of walk.joined) refl empty;
   clock = (let e = empty.clock in let same : walk.joined.clock ≡ 0 = e in omega (arith, same));
@@ -287,4 +322,5 @@ first_walked case walk empty closed = record {
 
 pub all_sent : (case : Case) (count : ℕ) → count ≡ length (events_of case) → sents_before case count ≡ sents_of case
 all_sent case count same =
-    ap (λ (l : List Timed). map (sent_of case) (datagrams (audited_of case).refused 0 l)) (ap (λ n. take n (events_of case)) same ∙ take_whole (events_of case))
+    ap (λ (l : List Timed). map (sent_of case) (datagrams (audited_of case).refused 0 l))
+    (ap (λ n. take n (events_of case)) same ∙ take_whole (events_of case))

@@ -42,7 +42,8 @@ record RestAt (line : ReportLine) (number : ℕ) (events : List Timed) (here : F
   place : here.place ≡ number + passed
   rest : here.rest ≡ drop (suc passed) events
 
-found_rest : (line : ReportLine) (number : ℕ) (events : List Timed) (here : Found) → found line number events ≡ Some here → RestAt line number events here
+found_rest : (line : ReportLine) (number : ℕ) (events : List Timed) (here : Found) → found line number events ≡ Some here
+    → RestAt line number events here
 found_rest line number [] here e = absurd (none-some here e)
 found_rest line number (timed ∷ events) here e = by (marks timed line) (is_state timed.event) e (found_rest line (number + 1) events here)
   where
@@ -50,16 +51,28 @@ found_rest line number (timed ∷ events) here e = by (marks timed line) (is_sta
         (found line (number + 1) events ≡ Some here → RestAt line (number + 1) events here) → RestAt line number (timed ∷ events) here
     by true s same later =
         let own = some_same (record { place = number; rest = events }) here same in
-        record { passed = 0; place = (let e = ap (λ (f : Found). f.place) own in let sum : here.place ≡ number + 0 = omega (arith, e) in sum); rest = sym (ap (λ (f : Found). f.rest) own) }
+        record {
+          passed = 0;
+          place = (let e = ap (λ (f : Found). f.place) own in let sum : here.place ≡ number + 0 = omega (arith, e) in sum);
+          rest =
+              sym (ap (λ (f : Found). f.rest) own);
+        }
     by false true same later = absurd (none-some here same)
     by false false same later =
         let r = later same in
-        record { passed = suc r.passed; place = (let e = r.place in let sum : here.place ≡ number + suc r.passed = omega (arith, e) in sum); rest = r.rest }
+        record {
+          passed = suc r.passed;
+          place = (let e = r.place in let sum : here.place ≡ number + suc r.passed = omega (arith, e) in sum);
+          rest =
+              r.rest;
+        }
 
-rest_after : (line : ReportLine) (number : ℕ) (events : List Timed) (here : Found) → found line number (drop number events) ≡ Some here → here.rest ≡ drop (here.place + 1) events
+rest_after : (line : ReportLine) (number : ℕ) (events : List Timed) (here : Found) → found line number (drop number events) ≡ Some here
+    → here.rest ≡ drop (here.place + 1) events
 rest_after line number events here e =
     let r = found_rest line number (drop number events) here e in
-    r.rest ∙ (drop_drop events (suc r.passed) number ∙ ap (λ n. drop n events) (let at = r.place in let same : number + suc r.passed ≡ here.place + 1 = omega (arith, at) in same))
+    r.rest ∙ (drop_drop events (suc r.passed) number
+    ∙ ap (λ n. drop n events) (let at = r.place in let same : number + suc r.passed ≡ here.place + 1 = omega (arith, at) in same))
 
 -- what a place was found by
 record FoundAt (line : ReportLine) (number : ℕ) (events : List Timed) (place : ℕ) : Type 0 where
@@ -67,7 +80,8 @@ record FoundAt (line : ReportLine) (number : ℕ) (events : List Timed) (place :
   is : found line number (drop number events) ≡ Some here
   same : here.place ≡ place
 
-found_by : (o : Option Found) (place : ℕ) → option_map (λ (here : Found). here.place) o ≡ Some place → (here : Found) × (o ≡ Some here) × (here.place ≡ place)
+found_by : (o : Option Found) (place : ℕ) → option_map (λ (here : Found). here.place) o ≡ Some place
+    → (here : Found) × (o ≡ Some here) × (here.place ≡ place)
 found_by None place e = absurd (none-some place e)
 found_by (Some here) place e = (here, refl, some_same here.place place e)
 
@@ -76,17 +90,21 @@ not_found None e = refl
 not_found (Some here) e = absurd (none-some here.place (sym e))
 
 module _ (script : Script) (report : ReportLines) (count : ℕ) (marked : List Marked) (next : ℕ) (way : IsOnWay script report count marked next) where
-  unhalted_more : (numbered : Numbered) → slice_get report.lines count ≡ Some numbered → is_halt numbered.value ≡ false → list_any is_halt (values (take (count + 1) report.lines)) ≡ false
+  unhalted_more : (numbered : Numbered) → slice_get report.lines count ≡ Some numbered → is_halt numbered.value ≡ false
+      → list_any is_halt (values (take (count + 1) report.lines)) ≡ false
   unhalted_more numbered at isnt =
       ap (λ n. list_any is_halt (values (take n report.lines))) (let same : count + 1 ≡ suc count = omega arith in same)
-      ∙ (ap (list_any is_halt) (one_value report.lines count numbered at) ∙ any_more is_halt (values (take count report.lines)) numbered.value way.unhalted isnt)
+      ∙ (ap (list_any is_halt) (one_value report.lines count numbered at)
+      ∙ any_more is_halt (values (take count report.lines)) numbered.value way.unhalted isnt)
 
   markers_more : (numbered : Numbered) → slice_get report.lines count ≡ Some numbered → (b : Bool) → is_marker numbered.value ≡ b →
       markers (take (count + 1) report.lines) ≡ markers (take count report.lines) ++ cond b (numbered.value ∷ []) []
   markers_more numbered at b is =
-      ap (λ n. markers (take n report.lines)) (let same : count + 1 ≡ suc count = omega arith in same) ∙ one_marker report.lines count numbered at b is
+      ap (λ n. markers (take n report.lines)) (let same : count + 1 ≡ suc count = omega arith in same)
+      ∙ one_marker report.lines count numbered at b is
 
-  pub marker_way : (numbered : Numbered) (place : ℕ) → slice_get report.lines count ≡ Some numbered → is_halt numbered.value ≡ false → is_marker numbered.value ≡ true →
+  pub marker_way : (numbered : Numbered) (place : ℕ) → slice_get report.lines count ≡ Some numbered → is_halt numbered.value ≡ false
+      → is_marker numbered.value ≡ true →
       Some place ≡ option_map (λ (here : Found). here.place) (found numbered.value next (drop next script.events)) → place < length script.events →
       IsOnWay script report (count + 1) (marked ++ mark_at numbered.value place ∷ []) (place + 1)
   marker_way numbered place at isnt is e low =
@@ -99,11 +117,17 @@ module _ (script : Script) (report : ReportLines) (count : ℕ) (marked : List M
             ∙ (placed_append 0 script.events (markers (take count report.lines)) (numbered.value ∷ [])
             ∙ (ap (λ o. placed_from o (numbered.value ∷ [])) way.placed_so
             ∙ (ap (option_map (onto marked)) (placed_as next (drop next script.events) numbered.value [] ∙ ap (then_placed numbered.value []) here.1)
-            ∙ (λ i. Some (record { marked = marked ++ mark_at numbered.value (here.2 i) ∷ []; next = here.2 i + 1; rest = (rest ∙ ap (λ n. drop (n + 1) script.events) here.2) i })))));
+            ∙ (λ i. Some (record {
+              marked = marked ++ mark_at numbered.value (here.2 i) ∷ [];
+              next = here.2 i + 1;
+              rest =
+                  (rest ∙ ap (λ n. drop (n + 1) script.events) here.2) i;
+            })))));
         within = omega (arith, low);
       }
 
-  pub other_way : (numbered : Numbered) → slice_get report.lines count ≡ Some numbered → is_halt numbered.value ≡ false → is_marker numbered.value ≡ false →
+  pub other_way : (numbered : Numbered) → slice_get report.lines count ≡ Some numbered → is_halt numbered.value ≡ false
+      → is_marker numbered.value ≡ false →
       IsOnWay script report (count + 1) marked next
   other_way numbered at isnt is = record {
     unhalted = unhalted_more numbered at isnt;
@@ -119,8 +143,10 @@ module _ (script : Script) (report : ReportLines) (count : ℕ) (marked : List M
   clean = record { unhalted = way.unhalted; found_so = record { marked = marked; next = next; rest = drop next script.events }; is = way.placed_so }
 
 -- all lines are passed
-pub whole_way : (script : Script) (report : ReportLines) (count : ℕ) (marked : List Marked) (next : ℕ) → IsOnWay script report count marked next → count ≡ length report.lines →
-    (list_any is_halt (values report.lines) ≡ false) × (placed 0 script.events (markers report.lines) ≡ Some (record { marked = marked; next = next; rest = drop next script.events }))
+pub whole_way : (script : Script) (report : ReportLines) (count : ℕ) (marked : List Marked) (next : ℕ) → IsOnWay script report count marked next
+    → count ≡ length report.lines →
+    (list_any is_halt (values report.lines) ≡ false)
+    × (placed 0 script.events (markers report.lines) ≡ Some (record { marked = marked; next = next; rest = drop next script.events }))
 whole_way script report count marked next way all =
     let whole : take count report.lines ≡ report.lines = ap (λ n. take n report.lines) all ∙ take_whole report.lines in
     (ap (λ l. list_any is_halt (values l)) (sym whole) ∙ way.unhalted, ap (λ l. placed 0 script.events (markers l)) (sym whole) ∙ way.placed_so)

@@ -28,7 +28,8 @@ outs_are number iface (given ∷ all) =
     ∙ step_count (is_out_at number iface given.value) (counted (says_at number iface) all)
 
 -- what such a line is
-out_of : (number : ℕ) (iface : IfaceId) (value : ReportLine) → is_out_at number iface value ≡ true → (bytes : List ℕ) × (value ≡ lines.Out number iface bytes)
+out_of : (number : ℕ) (iface : IfaceId) (value : ReportLine) → is_out_at number iface value ≡ true
+    → (bytes : List ℕ) × (value ≡ lines.Out number iface bytes)
 out_of number iface (lines.Out own_number own_iface bytes) e =
     let both = and_both (own_number == number) (own_iface.0 == iface.0) e in
     let numbers : own_number ≡ number = eqb-true own_number number both.0 in
@@ -44,7 +45,8 @@ out_of number iface (lines.Land from to label own) e = absurd (true≢false (sym
 
 -- ---- datagrams
 
-pub still_named : (refused : List ℕ) (events : List Timed) (count place : ℕ) (datagram : Datagram) → slice_get (datagrams refused 0 (take count events)) place ≡ Some datagram → slice_get (datagrams refused 0 events) place ≡ Some datagram
+pub still_named : (refused : List ℕ) (events : List Timed) (count place : ℕ) (datagram : Datagram)
+    → slice_get (datagrams refused 0 (take count events)) place ≡ Some datagram → slice_get (datagrams refused 0 events) place ≡ Some datagram
 still_named refused events count place datagram e =
     let r = front_of events count in
     ap (λ l. slice_get (datagrams refused 0 l) place) (sym r.1)
@@ -56,9 +58,12 @@ at_place [] place less = absurd (omega (arith, less))
 at_place (x ∷ xs) zero less = (x, refl)
 at_place (x ∷ xs) (suc place) less = at_place xs place (omega (arith, less))
 
-its_event : (refused : List ℕ) (events : List Timed) (place : ℕ) (datagram : Datagram) → slice_get (datagrams refused 0 events) place ≡ Some datagram → (timed : Timed) × (slice_get events datagram.event ≡ Some timed)
+its_event : (refused : List ℕ) (events : List Timed) (place : ℕ) (datagram : Datagram) → slice_get (datagrams refused 0 events) place ≡ Some datagram
+    → (timed : Timed) × (slice_get events datagram.event ≡ Some timed)
 its_event refused events place datagram e =
-    let within = each_got (λ (d : Datagram). (0 ≤ d.event) × (d.event < length events)) (datagrams refused 0 events) place datagram (datagrams_within refused events 0 0 (length events) (omega arith) (omega arith)) e in
+    let within =
+    each_got (λ (d : Datagram). (0 ≤ d.event) × (d.event < length events)) (datagrams refused 0 events) place datagram
+    (datagrams_within refused events 0 0 (length events) (omega arith) (omega arith)) e in
     at_place events datagram.event within.1
 
 -- ---- both ways
@@ -66,7 +71,8 @@ its_event refused events place datagram e =
 module _ (a : Audited) where
   module _ (no_datagram : (line : ℕ) → HasNoDatagram a line → ⊥) where
     -- an `out` line names the datagram of its number
-    abbrev line_of : (place number : ℕ) (iface : IfaceId) (given : Given) → slice_get a.lines place ≡ Some given → says_at number iface given ≡ true → OutLine a given.line
+    abbrev line_of : (place number : ℕ) (iface : IfaceId) (given : Given) → slice_get a.lines place ≡ Some given → says_at number iface given ≡ true
+        → OutLine a given.line
     line_of place number iface given at is = record {
       place = place;
       event = given.event;
@@ -76,15 +82,18 @@ module _ (a : Audited) where
       at = at ∙ (λ i. Some (record { line = given.line; event = given.event; value = (out_of number iface given.value is).1 i }));
     }
 
-    names_it : (place number : ℕ) (iface : IfaceId) (datagram : Datagram) (given : Given) → slice_get (datagrams a.refused 0 a.events) number ≡ Some datagram
+    names_it : (place number : ℕ) (iface : IfaceId) (datagram : Datagram) (given : Given)
+        → slice_get (datagrams a.refused 0 a.events) number ≡ Some datagram
         → slice_get a.lines place ≡ Some given → says_at (suc number) iface given ≡ true → named_before a given.event (suc number) ≡ Some datagram
     names_it place number iface datagram given accepted at is = by (slice_get (datagrams a.refused 0 (take given.event a.events)) number) refl
       where
-        by : (o : Option Datagram) → slice_get (datagrams a.refused 0 (take given.event a.events)) number ≡ o → named_before a given.event (suc number) ≡ Some datagram
+        by : (o : Option Datagram) → slice_get (datagrams a.refused 0 (take given.event a.events)) number ≡ o
+            → named_before a given.event (suc number) ≡ Some datagram
         by None e = absurd (no_datagram given.line (line_of place (suc number) iface given at is, e))
         by (Some other) e = e ∙ sym (still_named a.refused a.events given.event number other e) ∙ accepted
 
-    abbrev of_line : (place number : ℕ) (iface : IfaceId) (datagram : Datagram) (given : Given) → slice_get (datagrams a.refused 0 a.events) number ≡ Some datagram
+    abbrev of_line : (place number : ℕ) (iface : IfaceId) (datagram : Datagram) (given : Given)
+        → slice_get (datagrams a.refused 0 a.events) number ≡ Some datagram
         → slice_get a.lines place ≡ Some given → says_at (suc number) iface given ≡ true → OutOf a given.line
     of_line place number iface datagram given accepted at is = record {
       out = line_of place (suc number) iface given at is;
@@ -92,9 +101,12 @@ module _ (a : Audited) where
       names = names_it place number iface datagram given accepted at is;
     }
 
-    module _ (no_again : (line : ℕ) → IsAgain a line → ⊥) (no_other : (line : ℕ) → IsNotAsked a line → ⊥) (none_missing : (line : ℕ) → IsMissing a line → ⊥) where
-      counts : (place : ℕ) (datagram : Datagram) → slice_get (datagrams a.refused 0 a.events) place ≡ Some datagram → InWindow a datagram → (iface : IfaceId)
-          → (b : Bool) → is_receiver a datagram iface ≡ b → (count : ℕ) → counted (says_at (suc place) iface) a.lines ≡ count → outs_at (cut a) (place + 1) iface ≡ count → count ≡ cond b 1 0
+    module _ (no_again : (line : ℕ) → IsAgain a line → ⊥) (no_other : (line : ℕ) → IsNotAsked a line → ⊥)
+        (none_missing : (line : ℕ) → IsMissing a line → ⊥) where
+      counts : (place : ℕ) (datagram : Datagram) → slice_get (datagrams a.refused 0 a.events) place ≡ Some datagram → InWindow a datagram
+          → (iface : IfaceId)
+          → (b : Bool) → is_receiver a datagram iface ≡ b → (count : ℕ) → counted (says_at (suc place) iface) a.lines ≡ count
+          → outs_at (cut a) (place + 1) iface ≡ count → count ≡ cond b 1 0
       counts place datagram accepted window iface false asked zero e outs = refl
       counts place datagram accepted window iface false asked (suc count) e outs =
           let some : 0 < counted (says_at (suc place) iface) a.lines = omega (arith, e) in
@@ -118,21 +130,29 @@ module _ (a : Audited) where
       counts place datagram accepted window iface true asked (suc (suc count)) e outs =
           let some : 1 < counted (says_at (suc place) iface) a.lines = omega (arith, e) in
           let r = two_found (says_at (suc place) iface) a.lines some in
-          absurd (no_again r.3.line (of_line r.2 place iface datagram r.3 accepted r.7 r.8, window, record { earlier = r.0; before = r.4; given = r.1; at = r.5; says = r.6 }))
+          absurd (no_again r.3.line (
+            of_line r.2 place iface datagram r.3 accepted r.7 r.8,
+            window,
+            record { earlier = r.0; before = r.4; given = r.1; at = r.5; says = r.6 },
+          ))
 
       pub once_there : Once a.scenario a.events a.refused (cut a)
       once_there first last window place datagram accepted low high iface =
           let next : place + 1 ≡ suc place = omega arith in
-          let outs : outs_at (cut a) (place + 1) iface ≡ counted (says_at (suc place) iface) a.lines = ap (λ n. outs_at (cut a) n iface) next ∙ outs_are (suc place) iface a.lines in
-          outs ∙ counts place datagram accepted (first, last, window, low, high) iface (is_receiver a datagram iface) refl (counted (says_at (suc place) iface) a.lines) refl outs
+          let outs : outs_at (cut a) (place + 1) iface ≡ counted (says_at (suc place) iface) a.lines =
+          ap (λ n. outs_at (cut a) n iface) next ∙ outs_are (suc place) iface a.lines in
+          outs ∙ counts place datagram accepted (first, last, window, low, high) iface (is_receiver a datagram iface) refl
+          (counted (says_at (suc place) iface) a.lines) refl outs
 
   module _ (once : Once a.scenario a.events a.refused (cut a)) where
     -- an `out` line of a datagram of a window is one of as many as the receivers ask for
-    counts_back : (place : ℕ) (datagram : Datagram) → slice_get (datagrams a.refused 0 a.events) place ≡ Some datagram → InWindow a datagram → (iface : IfaceId)
+    counts_back : (place : ℕ) (datagram : Datagram) → slice_get (datagrams a.refused 0 a.events) place ≡ Some datagram → InWindow a datagram
+        → (iface : IfaceId)
         → counted (says_at (suc place) iface) a.lines ≡ cond (is_receiver a datagram iface) 1 0
     counts_back place datagram accepted window iface =
         let next : suc place ≡ place + 1 = omega arith in
-        sym (outs_are (suc place) iface a.lines) ∙ ap (λ n. outs_at (cut a) n iface) next ∙ once window.0 window.1 window.2 place datagram accepted window.3 window.4 iface
+        sym (outs_are (suc place) iface a.lines) ∙ ap (λ n. outs_at (cut a) n iface) next
+        ∙ once window.0 window.1 window.2 place datagram accepted window.3 window.4 iface
 
     at_most_one : (b : Bool) → cond b 1 0 ≤ 1
     at_most_one true = omega arith
@@ -146,7 +166,8 @@ module _ (a : Audited) where
       itself : says_at of.out.number of.out.iface own ≡ true
       itself = (λ i. eq-eqb of.out.number of.out.number refl i && eq-eqb of.out.iface.0 of.out.iface.0 refl i)
 
-      number_is : (n : ℕ) → named_before a of.out.event n ≡ Some of.datagram → (place : ℕ) × (n ≡ suc place) × (slice_get (datagrams a.refused 0 a.events) place ≡ Some of.datagram)
+      number_is : (n : ℕ) → named_before a of.out.event n ≡ Some of.datagram
+          → (place : ℕ) × (n ≡ suc place) × (slice_get (datagrams a.refused 0 a.events) place ≡ Some of.datagram)
       number_is zero e = absurd (none-some of.datagram e)
       number_is (suc place) e = (place, refl, still_named a.refused a.events of.out.event place of.datagram e)
 
@@ -157,7 +178,9 @@ module _ (a : Audited) where
 
     pub none_again : (line : ℕ) → IsAgain a line → ⊥
     none_again line (of, window, earlier) =
-        let two = found_two (says_at of.out.number of.out.iface) a.lines earlier.earlier earlier.given of.out.place (own line of) earlier.before earlier.at earlier.says of.out.at (itself line of) in
+        let two =
+        found_two (says_at of.out.number of.out.iface) a.lines earlier.earlier earlier.given of.out.place (own line of) earlier.before earlier.at
+        earlier.says of.out.at (itself line of) in
         let here = counts_here line of window in
         let most = at_most_one (is_receiver a of.datagram of.out.iface) in
         omega (arith, two, here, most)
@@ -171,7 +194,8 @@ module _ (a : Audited) where
     pub not_missing : (line : ℕ) → IsMissing a line → ⊥
     not_missing line missing =
         let w = missing.in_window in
-        let one : outs_at (cut a) (missing.place + 1) missing.iface ≡ 1 = once w.0 w.1 w.2 missing.place missing.datagram missing.accepted w.3 w.4 missing.iface ∙ ap (λ (b : Bool). cond b 1 0) missing.asked in
+        let one : outs_at (cut a) (missing.place + 1) missing.iface ≡ 1 =
+        once w.0 w.1 w.2 missing.place missing.datagram missing.accepted w.3 w.4 missing.iface ∙ ap (λ (b : Bool). cond b 1 0) missing.asked in
         let none = missing.none in
         let both : 0 ≡ 1 = sym none ∙ one in
         omega (arith, both)

@@ -58,11 +58,13 @@ each_has_entry : (report : List Entry) → AllByRecursion (HasEntry report) (lin
 each_has_entry [] = tt
 each_has_entry (entry ∷ report) =
     each_append (HasEntry (entry ∷ report)) entry.lines (lines_of report)
-    (each_weaker (Contains entry.lines) (HasEntry (entry ∷ report)) (λ value h. record { entry = entry; reported = here entry entry report refl; has = h }) entry.lines (each_in entry.lines))
+    (each_weaker (Contains entry.lines) (HasEntry (entry ∷ report))
+    (λ value h. record { entry = entry; reported = here entry entry report refl; has = h }) entry.lines (each_in entry.lines))
     (each_weaker (HasEntry report) (HasEntry (entry ∷ report)) (later_entry entry report) (lines_of report) (each_has_entry report))
 
 in_whole : (mine rest : List Entry) (given : Given) → Origin rest given → Origin (mine ++ rest) given
-in_whole mine rest given o = record { entry = o.entry; reported = in_back mine rest o.entry o.reported; has = o.has; early = o.early; marker = o.marker }
+in_whole mine rest given o =
+    record { entry = o.entry; reported = in_back mine rest o.entry o.reported; has = o.has; early = o.early; marker = o.marker }
 
 -- ---- numbered lines in two
 
@@ -91,9 +93,12 @@ in_two (line ∷ all) (value ∷ first) more e =
 
 from_there : (number : ℕ) (own : List ℕ) (all : List Timed) → AllByRecursion (λ (place : ℕ). number ≤ place) (marked_places own number all)
 from_there number own [] = tt
-from_there number own (timed ∷ all) = by (is_marked own timed) (each_weaker (λ (place : ℕ). number + 1 ≤ place) (λ (place : ℕ). number ≤ place) (λ place le. omega (arith, le)) (marked_places own (number + 1) all) (from_there (number + 1) own all))
+from_there number own (timed ∷ all) =
+    by (is_marked own timed) (each_weaker (λ (place : ℕ). number + 1 ≤ place) (λ (place : ℕ). number ≤ place) (λ place le. omega (arith, le))
+    (marked_places own (number + 1) all) (from_there (number + 1) own all))
   where
-    by : (b : Bool) → AllByRecursion (λ (place : ℕ). number ≤ place) (marked_places own (number + 1) all) → AllByRecursion (λ (place : ℕ). number ≤ place) (cond b (number ∷ marked_places own (number + 1) all) (marked_places own (number + 1) all))
+    by : (b : Bool) → AllByRecursion (λ (place : ℕ). number ≤ place) (marked_places own (number + 1) all)
+        → AllByRecursion (λ (place : ℕ). number ≤ place) (cond b (number ∷ marked_places own (number + 1) all) (marked_places own (number + 1) all))
     by true h = (omega arith, h)
     by false h = h
 
@@ -109,51 +114,83 @@ module _ (end : ℕ) where
   unmarked Q places [] back ordinary each rest = rest
   unmarked Q places (line ∷ front) back ordinary each rest = (
     each.0 line.line,
-    ap_back (λ (b : Bool). AllByRecursion Q (give end (places_after b places) (front ++ back))) ordinary.0.marker (unmarked Q places front back ordinary.1 each.1 rest),
+    ap_back (λ (b : Bool). AllByRecursion Q (give end (places_after b places) (front ++ back))) ordinary.0.marker
+        (unmarked Q places front back ordinary.1 each.1 rest),
   )
     where
       ap_back : (P : Bool → Type 0) → is_marker line.value ≡ false → P false → P (is_marker line.value)
       ap_back P e h = subst P (sym e) h
 
-  pub given_of : (own : List ℕ) (number : ℕ) (all : List Timed) (report : List Entry) (numbered : List Numbered) → number + length all ≡ end → Shaped own number all report → values numbered ≡ lines_of report
+  pub given_of : (own : List ℕ) (number : ℕ) (all : List Timed) (report : List Entry) (numbered : List Numbered) → number + length all ≡ end
+      → Shaped own number all report → values numbered ≡ lines_of report
       → AllByRecursion (Origin report) (give end (marked_places own number all) numbered)
   given_of own number [] report [] at_end shaped e = tt
   given_of own number [] report (line ∷ numbered) at_end shaped e = absurd (nil_cons line.value (values numbered) (sym (e ∙ ap lines_of shaped)))
   given_of own number (timed ∷ all) report numbered at_end (mine, rest, whole, turn, later) e =
       let two = in_two numbered (lines_of mine) (lines_of rest) (e ∙ ap lines_of whole ∙ lines_both mine rest) in
       let after = given_of own (number + 1) all rest two.back (omega (arith, at_end)) later two.is_back in
-      let there = each_weaker (Origin rest) (Origin (mine ++ rest)) (in_whole mine rest) (give end (marked_places own (number + 1) all) two.back) after in
+      let there =
+      each_weaker (Origin rest) (Origin (mine ++ rest)) (in_whole mine rest) (give end (marked_places own (number + 1) all) two.back) after in
       subst (λ (l : List Entry). AllByRecursion (Origin l) (give end (marked_places own number (timed ∷ all)) numbered)) (sym whole)
-      (subst (λ (l : List Numbered). AllByRecursion (Origin (mine ++ rest)) (give end (marked_places own number (timed ∷ all)) l)) (sym two.whole) (by (lines_of mine) refl turn.head two.front two.is_front two.back there))
+      (subst (λ (l : List Numbered). AllByRecursion (Origin (mine ++ rest)) (give end (marked_places own number (timed ∷ all)) l)) (sym two.whole)
+      (by (lines_of mine) refl turn.head two.front two.is_front two.back there))
     where
-      mine_has : (value : ReportLine) → HasEntry mine value → (entry : Entry) × Contains mine entry × Contains entry.lines value × (entry.event ≡ number)
+      mine_has : (value : ReportLine) → HasEntry mine value
+          → (entry : Entry) × Contains mine entry × Contains entry.lines value × (entry.event ≡ number)
       mine_has value h = (h.entry, h.reported, h.has, contained (λ (entry : Entry). entry.event ≡ number) mine h.entry turn.of_event h.reported)
 
-      from_mine : (event line : ℕ) (value : ReportLine) → HasEntry mine value → number ≤ event → (is_marker value ≡ true → number ≡ event) → Origin (mine ++ rest) (record { line = line; event = event; value = value })
-      from_mine event line value h le same = (let r = mine_has value h in record { entry = r.0; reported = in_front mine rest r.0 r.1; has = r.2; early = (let at = r.3 in omega (arith, at, le)); marker = λ is. r.3 ∙ same is })
+      from_mine : (event line : ℕ) (value : ReportLine) → HasEntry mine value → number ≤ event → (is_marker value ≡ true → number ≡ event)
+          → Origin (mine ++ rest) (record { line = line; event = event; value = value })
+      from_mine event line value h le same =
+          (let r = mine_has value h in
+          record {
+            entry = r.0;
+            reported = in_front mine rest r.0 r.1;
+            has = r.2;
+            early = (let at = r.3 in omega (arith, at, le));
+            marker =
+                λ is. r.3 ∙ same is;
+          })
 
-      by : (first : List ReportLine) → lines_of mine ≡ first → Head own timed first → (front : List Numbered) → values front ≡ first → (back : List Numbered)
+      by : (first : List ReportLine) → lines_of mine ≡ first → Head own timed first → (front : List Numbered) → values front ≡ first
+          → (back : List Numbered)
           → AllByRecursion (Origin (mine ++ rest)) (give end (marked_places own (number + 1) all) back)
           → AllByRecursion (Origin (mine ++ rest)) (give end (marked_places own number (timed ∷ all)) (front ++ back))
       by first lines (Marked marker only is fits marked) [] values_are back there = absurd (nil_cons marker [] (values_are ∙ only))
-      by first lines (Marked marker only is fits marked) (one ∷ two ∷ front) values_are back there = absurd (nil_cons two.value (values front) (sym (cons_parts one.value marker (two.value ∷ values front) [] (values_are ∙ only)).1))
+      by first lines (Marked marker only is fits marked) (one ∷ two ∷ front) values_are back there =
+          absurd (nil_cons two.value (values front) (sym (cons_parts one.value marker (two.value ∷ values front) [] (values_are ∙ only)).1))
       by first lines (Marked marker only is fits marked) (one ∷ []) values_are back there =
           let same : one.value ≡ marker = (cons_parts one.value marker [] [] (values_are ∙ only)).0 in
           let has : HasEntry mine marker = (subst (AllByRecursion (HasEntry mine)) (lines ∙ only) (each_has_entry mine)).0 in
           subst
-          (λ (b : Bool). Origin (mine ++ rest) (record { line = one.line; event = next_of end (cond b (number ∷ marked_places own (number + 1) all) (marked_places own (number + 1) all)); value = one.value })
-          × AllByRecursion (Origin (mine ++ rest)) (give end (places_after (is_marker one.value) (cond b (number ∷ marked_places own (number + 1) all) (marked_places own (number + 1) all))) back)) (sym marked) (
+          (λ (b : Bool). Origin (mine ++ rest) (record {
+            line = one.line;
+            event =
+                next_of end (cond b (number ∷ marked_places own (number + 1) all) (marked_places own (number + 1) all));
+            value = one.value;
+          })
+          × AllByRecursion (Origin (mine ++ rest)) (give end
+          (places_after (is_marker one.value) (cond b (number ∷ marked_places own (number + 1) all) (marked_places own (number + 1) all))) back))
+          (sym marked) (
             from_mine number one.line one.value (subst (HasEntry mine) (sym same) has) (omega arith) (λ t. refl),
-            subst (λ (b : Bool). AllByRecursion (Origin (mine ++ rest)) (give end (places_after b (number ∷ marked_places own (number + 1) all)) back)) (sym (ap is_marker same ∙ is)) there,
+            subst (λ (b : Bool). AllByRecursion (Origin (mine ++ rest))
+                (give end (places_after b (number ∷ marked_places own (number + 1) all)) back)) (sym (ap is_marker same ∙ is)) there,
           )
       by first lines (Unmarked marked ordinary) front values_are back there =
           let le : number ≤ end = (let at = at_end in omega (arith, at)) in
           let low : number ≤ next_of end (marked_places own (number + 1) all) =
           next_there number end (marked_places own (number + 1) all) le
-          (each_weaker (λ (place : ℕ). number + 1 ≤ place) (λ (place : ℕ). number ≤ place) (λ place more. omega (arith, more)) (marked_places own (number + 1) all) (from_there (number + 1) own all)) in
+          (each_weaker (λ (place : ℕ). number + 1 ≤ place) (λ (place : ℕ). number ≤ place) (λ place more. omega (arith, more))
+          (marked_places own (number + 1) all) (from_there (number + 1) own all)) in
           let plain : AllByRecursion IsOrdinary (values front) = subst (AllByRecursion IsOrdinary) (sym values_are) ordinary in
-          let has : AllByRecursion (HasEntry mine) (values front) = subst (AllByRecursion (HasEntry mine)) (lines ∙ sym values_are) (each_has_entry mine) in
-          subst (λ (b : Bool). AllByRecursion (Origin (mine ++ rest)) (give end (cond b (number ∷ marked_places own (number + 1) all) (marked_places own (number + 1) all)) (front ++ back))) (sym marked)
+          let has : AllByRecursion (HasEntry mine) (values front) =
+          subst (AllByRecursion (HasEntry mine)) (lines ∙ sym values_are) (each_has_entry mine) in
+          subst (λ (b : Bool). AllByRecursion (Origin (mine ++ rest))
+          (give end (cond b (number ∷ marked_places own (number + 1) all) (marked_places own (number + 1) all)) (front ++ back))) (sym marked)
           (unmarked (Origin (mine ++ rest)) (marked_places own (number + 1) all) front back plain
-          (each_weaker (λ (value : ReportLine). IsOrdinary value × HasEntry mine value) (λ (value : ReportLine). (line : ℕ) → Origin (mine ++ rest) (record { line = line; event = next_of end (marked_places own (number + 1) all); value = value }))
-          (λ value both line. from_mine (next_of end (marked_places own (number + 1) all)) line value both.1 low (λ t. absurd (both_no (is_marker value) t both.0.marker))) (values front) (both_each IsOrdinary (HasEntry mine) (values front) plain has)) there)
+          (each_weaker (λ (value : ReportLine). IsOrdinary value × HasEntry mine value)
+          (λ (value : ReportLine). (line : ℕ) → Origin (mine ++ rest)
+          (record { line = line; event = next_of end (marked_places own (number + 1) all); value = value }))
+          (λ value both line. from_mine (next_of end (marked_places own (number + 1) all)) line value both.1 low
+          (λ t. absurd (both_no (is_marker value) t both.0.marker))) (values front)
+          (both_each IsOrdinary (HasEntry mine) (values front) plain has)) there)

@@ -19,54 +19,58 @@ use Rattle.audit_defs.specs.Offences.{named_before}
 abbrev zeros : ReportLine
 zeros = lines.State 0 0 0 0 0
 
-module _ (iface : IfaceId) (entry : JoinEntry) (site : SiteId) (source group : Addr) (payload bytes : List ℕ) (reason : Refusal) (scenario : Scenario) where
-  -- join, state, send, drain, state
-  abbrev row : List Timed
-  row =
-      record { line = 8; event = event.Join iface entry } ∷ record { line = 9; event = event.State } ∷ record { line = 10; event = event.Send site source group payload } ∷ record { line = 11; event = event.Drain }
-      ∷ record { line = 12; event = event.State } ∷ []
+module _ (iface : IfaceId) (entry : JoinEntry) (site : SiteId) (source group : Addr) (payload bytes : List ℕ) (reason : Refusal) (scenario : Scenario)
+  where
+    -- join, state, send, drain, state
+    abbrev row : List Timed
+    row =
+        record { line = 8; event = event.Join iface entry } ∷ record { line = 9; event = event.State }
+        ∷ record { line = 10; event = event.Send site source group payload } ∷ record { line = 11; event = event.Drain }
+        ∷ record { line = 12; event = event.State } ∷ []
 
-  abbrev report : List Numbered
-  report = record { line = 14; value = zeros } ∷ record { line = 15; value = lines.Out 1 iface bytes } ∷ record { line = 16; value = zeros } ∷ []
+    abbrev report : List Numbered
+    report = record { line = 14; value = zeros } ∷ record { line = 15; value = lines.Out 1 iface bytes } ∷ record { line = 16; value = zeros } ∷ []
 
-  row_fits : fit row (markers report) ≡ true
-  row_fits = refl
+    row_fits : fit row (markers report) ≡ true
+    row_fits = refl
 
-  row_given : give 5 (marked_places (named (values report)) 0 row) report ≡ record { line = 14; event = 1; value = zeros } ∷ record { line = 15; event = 4; value = lines.Out 1 iface bytes } ∷ record { line = 16; event = 4; value = zeros } ∷ []
-  row_given = refl
+    row_given : give 5 (marked_places (named (values report)) 0 row) report ≡ record { line = 14; event = 1; value = zeros }
+        ∷ record { line = 15; event = 4; value = lines.Out 1 iface bytes } ∷ record { line = 16; event = 4; value = zeros } ∷ []
+    row_given = refl
 
-  row_refused : refused_by row (values report) ≡ []
-  row_refused = refl
+    row_refused : refused_by row (values report) ≡ []
+    row_refused = refl
 
-  -- the `out` line names the datagram of `send`; ahead of the first marker it would name none
-  row_names : named_before (record { scenario = scenario; events = row; refused = []; lines = [] }) 4 1 ≡ Some (record { event = 2; site = site; source = source; group = group; octets = packet source group payload })
-  row_names = refl
+    -- the `out` line names the datagram of `send`; ahead of the first marker it would name none
+    row_names : named_before (record { scenario = scenario; events = row; refused = []; lines = [] }) 4 1
+        ≡ Some (record { event = 2; site = site; source = source; group = group; octets = packet source group payload })
+    row_names = refl
 
-  row_early : named_before (record { scenario = scenario; events = row; refused = []; lines = [] }) 1 1 ≡ None
-  row_early = refl
+    row_early : named_before (record { scenario = scenario; events = row; refused = []; lines = [] }) 1 1 ≡ None
+    row_early = refl
 
-  -- one `state` line too few, and one too many
-  few_begin : begin row (zeros ∷ []) ≡ true
-  few_begin = refl
+    -- one `state` line too few, and one too many
+    few_begin : begin row (zeros ∷ []) ≡ true
+    few_begin = refl
 
-  few_misfit : fit row (zeros ∷ []) ≡ false
-  few_misfit = refl
+    few_misfit : fit row (zeros ∷ []) ≡ false
+    few_misfit = refl
 
-  many_misfit : begin row (zeros ∷ zeros ∷ zeros ∷ []) ≡ false
-  many_misfit = refl
+    many_misfit : begin row (zeros ∷ zeros ∷ zeros ∷ []) ≡ false
+    many_misfit = refl
 
-  -- `send` was refused; `drain` cannot be; nor can what is named come after the second `state` line
-  refused_fits : fit row (zeros ∷ lines.Refused 10 reason ∷ zeros ∷ []) ≡ true
-  refused_fits = refl
+    -- `send` was refused; `drain` cannot be; nor can what is named come after the second `state` line
+    refused_fits : fit row (zeros ∷ lines.Refused 10 reason ∷ zeros ∷ []) ≡ true
+    refused_fits = refl
 
-  drain_misfits : begin row (zeros ∷ lines.Refused 11 reason ∷ []) ≡ false
-  drain_misfits = refl
+    drain_misfits : begin row (zeros ∷ lines.Refused 11 reason ∷ []) ≡ false
+    drain_misfits = refl
 
-  late_misfits : begin row (zeros ∷ zeros ∷ lines.Refused 10 reason ∷ []) ≡ false
-  late_misfits = refl
+    late_misfits : begin row (zeros ∷ zeros ∷ lines.Refused 10 reason ∷ []) ≡ false
+    late_misfits = refl
 
-  twice_misfits : begin row (zeros ∷ lines.Refused 10 reason ∷ lines.Refused 10 reason ∷ []) ≡ false
-  twice_misfits = refl
+    twice_misfits : begin row (zeros ∷ lines.Refused 10 reason ∷ lines.Refused 10 reason ∷ []) ≡ false
+    twice_misfits = refl
 
-  pub all_rows : fit row (markers report) ≡ true
-  all_rows = row_fits
+    pub all_rows : fit row (markers report) ≡ true
+    all_rows = row_fits

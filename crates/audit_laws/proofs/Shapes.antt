@@ -47,7 +47,8 @@ pub record IsOrdinary (line : ReportLine) : Type 0 where
 
 -- The lines of an event: its marker alone, or lines that are none where it has none.
 pub data Head (own : List ℕ) (timed : Timed) (all : List ReportLine) : Type 0 where
-  Marked : (marker : ReportLine) → all ≡ marker ∷ [] → is_marker marker ≡ true → marks timed marker ≡ true → is_marked own timed ≡ true → Head own timed all
+  Marked : (marker : ReportLine) → all ≡ marker ∷ [] → is_marker marker ≡ true → marks timed marker ≡ true → is_marked own timed ≡ true
+      → Head own timed all
   Unmarked : is_marked own timed ≡ false → AllByRecursion IsOrdinary all → Head own timed all
 
 -- the entries of an event
@@ -59,7 +60,8 @@ pub record Turn (own : List ℕ) (number : ℕ) (timed : Timed) (mine : List Ent
 -- The entries are those of the events, one after another.
 abbrev pub Shaped : List ℕ → ℕ → List Timed → List Entry → Type 0
 Shaped own number [] report = report ≡ []
-Shaped own number (timed ∷ more) report = (mine : List Entry) × (rest : List Entry) × (report ≡ mine ++ rest) × Turn own number timed mine × Shaped own (number + 1) more rest
+Shaped own number (timed ∷ more) report =
+    (mine : List Entry) × (rest : List Entry) × (report ≡ mine ++ rest) × Turn own number timed mine × Shaped own (number + 1) more rest
 
 -- ---- lines
 
@@ -114,27 +116,34 @@ pub lines_both : (first more : List Entry) → lines_of (first ++ more) ≡ line
 lines_both first more = flat_map-append (λ (entry : Entry). entry.lines) first more
 
 module _ (own : List ℕ) where
-  pub marks_all : (number : ℕ) (all : List Timed) (report : List Entry) → Shaped own number all report → mark_each (filter (is_marked own) all) (filter is_marker (lines_of report)) ≡ true
+  pub marks_all : (number : ℕ) (all : List Timed) (report : List Entry) → Shaped own number all report
+      → mark_each (filter (is_marked own) all) (filter is_marker (lines_of report)) ≡ true
   marks_all number [] report e = ap (λ (l : List Entry). mark_each [] (filter is_marker (lines_of l))) e
   marks_all number (timed ∷ all) report (mine, rest, whole, turn, later) =
       ap (λ (l : List Entry). mark_each (filter (is_marked own) (timed ∷ all)) (filter is_marker (lines_of l))) whole
-      ∙ ap (λ (l : List ReportLine). mark_each (filter (is_marked own) (timed ∷ all)) l) (ap (filter is_marker) (lines_both mine rest) ∙ filter-append is_marker (lines_of mine) (lines_of rest))
+      ∙ ap (λ (l : List ReportLine). mark_each (filter (is_marked own) (timed ∷ all)) l)
+      (ap (filter is_marker) (lines_both mine rest) ∙ filter-append is_marker (lines_of mine) (lines_of rest))
       ∙ by (lines_of mine) turn.head (marks_all (number + 1) all rest later)
     where
       by : (first : List ReportLine) → Head own timed first → mark_each (filter (is_marked own) all) (filter is_marker (lines_of rest)) ≡ true
           → mark_each (filter (is_marked own) (timed ∷ all)) (filter is_marker first ++ filter is_marker (lines_of rest)) ≡ true
       by first (Marked marker only is fits marked) later =
-          ap (λ b. mark_each (cond b (timed ∷ filter (is_marked own) all) (filter (is_marked own) all)) (filter is_marker first ++ filter is_marker (lines_of rest))) marked
-          ∙ ap (λ (l : List ReportLine). mark_each (timed ∷ filter (is_marked own) all) (l ++ filter is_marker (lines_of rest))) (ap (filter is_marker) only ∙ ap (λ b. cond b (marker ∷ []) []) is)
+          ap (λ b. mark_each (cond b (timed ∷ filter (is_marked own) all) (filter (is_marked own) all))
+          (filter is_marker first ++ filter is_marker (lines_of rest))) marked
+          ∙ ap (λ (l : List ReportLine). mark_each (timed ∷ filter (is_marked own) all) (l ++ filter is_marker (lines_of rest)))
+          (ap (filter is_marker) only ∙ ap (λ b. cond b (marker ∷ []) []) is)
           ∙ and_true (marks timed marker) (mark_each (filter (is_marked own) all) (filter is_marker (lines_of rest))) fits later
       by first (Unmarked marked ordinary) later =
-          ap (λ b. mark_each (cond b (timed ∷ filter (is_marked own) all) (filter (is_marked own) all)) (filter is_marker first ++ filter is_marker (lines_of rest))) marked
-          ∙ ap (λ (l : List ReportLine). mark_each (filter (is_marked own) all) (l ++ filter is_marker (lines_of rest))) (ordinary_markers first ordinary) ∙ later
+          ap (λ b. mark_each (cond b (timed ∷ filter (is_marked own) all) (filter (is_marked own) all))
+          (filter is_marker first ++ filter is_marker (lines_of rest))) marked
+          ∙ ap (λ (l : List ReportLine). mark_each (filter (is_marked own) all) (l ++ filter is_marker (lines_of rest)))
+          (ordinary_markers first ordinary) ∙ later
 
   pub no_halts : (number : ℕ) (all : List Timed) (report : List Entry) → Shaped own number all report → list_any is_halt (lines_of report) ≡ false
   no_halts number [] report e = ap (λ (l : List Entry). list_any is_halt (lines_of l)) e
   no_halts number (timed ∷ all) report (mine, rest, whole, turn, later) =
-      ap (λ (l : List Entry). list_any is_halt (lines_of l)) whole ∙ ap (list_any is_halt) (lines_both mine rest) ∙ list_any-append is_halt (lines_of mine) (lines_of rest)
+      ap (λ (l : List Entry). list_any is_halt (lines_of l)) whole ∙ ap (list_any is_halt) (lines_both mine rest)
+      ∙ list_any-append is_halt (lines_of mine) (lines_of rest)
       ∙ (λ i. by (lines_of mine) turn.head i || no_halts (number + 1) all rest later i)
     where
       by : (first : List ReportLine) → Head own timed first → list_any is_halt first ≡ false
@@ -143,12 +152,14 @@ module _ (own : List ℕ) where
 
   pub none_unnamed : (number : ℕ) (all : List Timed) (report : List Entry) → Shaped own number all report → unnamed own all ≡ []
   none_unnamed number [] report e = refl
-  none_unnamed number (timed ∷ all) report (mine, rest, whole, turn, later) = (λ i. cond (turn.formed i) (timed.line ∷ []) [] ++ none_unnamed (number + 1) all rest later i)
+  none_unnamed number (timed ∷ all) report (mine, rest, whole, turn, later) =
+      (λ i. cond (turn.formed i) (timed.line ∷ []) [] ++ none_unnamed (number + 1) all rest later i)
 
   -- ---- plain reports
 
   plain_head : (timed : Timed) (all : List ReportLine) → Head own timed all → Head own timed (filter is_plain all)
-  plain_head timed all (Marked marker only is fits marked) = Marked marker (ap (filter is_plain) only ∙ ap (λ b. cond b (marker ∷ []) []) (marker_is_plain marker is)) is fits marked
+  plain_head timed all (Marked marker only is fits marked) =
+      Marked marker (ap (filter is_plain) only ∙ ap (λ b. cond b (marker ∷ []) []) (marker_is_plain marker is)) is fits marked
   plain_head timed all (Unmarked marked ordinary) = Unmarked marked (each_filter IsOrdinary is_plain all ordinary)
 
   pub plain_shaped : (number : ℕ) (all : List Timed) (report : List Entry) → Shaped own number all report → Shaped own number all (plain report)
@@ -198,12 +209,14 @@ or_first None p e = absurd (true≢false (sym e))
 or_first (Some reason) p e = refl
 
 malformed_refused : (world : World) (event : Event) → is_malformed event ≡ true → accepts (refusal world event) ≡ false
-malformed_refused world (events.Pim iface octets) e = or_first (octets_refusal octets) (message_refusal world (message_of (scenario_of world) (events.Pim iface octets))) e
+malformed_refused world (events.Pim iface octets) e =
+    or_first (octets_refusal octets) (message_refusal world (message_of (scenario_of world) (events.Pim iface octets))) e
 malformed_refused world (events.Packet site octets) e = or_first (packet_fault octets) (refused_if (are_links_full world) refusals.Full) e
 malformed_refused world other e = absurd (true≢false (sym e))
 
 -- a `state` event gives its line
-state_lines : (world : World) (event : Event) (acts : List Happened) (next : World) → is_state event ≡ true → done world event ≡ Done acts next → lines_in acts ≡ state_line world ∷ []
+state_lines : (world : World) (event : Event) (acts : List Happened) (next : World) → is_state event ≡ true → done world event ≡ Done acts next
+    → lines_in acts ≡ state_line world ∷ []
 state_lines world events.State acts next is e =
     let one : List Happened = record { act = Some Tell; lines = state_line world ∷ [] } ∷ [] in
     let told : Done one world ≡ Done acts next = e in
@@ -217,7 +230,8 @@ own_lines number [] = refl
 own_lines number (happened ∷ more) = ap (λ (l : List ReportLine). happened.lines ++ l) (own_lines number more)
 
 module _ (own : List ℕ) where
-  formed_by : (world : World) (timed : Timed) → is_accepted own timed ≡ accepts (refusal world timed.event) → (is_malformed timed.event && is_accepted own timed) ≡ false
+  formed_by : (world : World) (timed : Timed) → is_accepted own timed ≡ accepts (refusal world timed.event)
+      → (is_malformed timed.event && is_accepted own timed) ≡ false
   formed_by world timed tells = by (is_malformed timed.event) refl
     where
       by : (b : Bool) → is_malformed timed.event ≡ b → (is_malformed timed.event && is_accepted own timed) ≡ false
@@ -231,34 +245,47 @@ module _ (own : List ℕ) where
       not_not true = refl
       not_not false = refl
 
-  head_by : (world : World) (timed : Timed) (acts : List Happened) (next : World) → is_accepted own timed ≡ accepts (refusal world timed.event) → outcome world timed ≡ Done acts next → Head own timed (lines_in acts)
+  head_by : (world : World) (timed : Timed) (acts : List Happened) (next : World) → is_accepted own timed ≡ accepts (refusal world timed.event)
+      → outcome world timed ≡ Done acts next → Head own timed (lines_in acts)
   head_by world timed acts next tells is = by (refusal world timed.event) refl tells is
     where
-      done_by : (b : Bool) → is_state timed.event ≡ b → is_accepted own timed ≡ true → done world timed.event ≡ Done acts next → Head own timed (lines_in acts)
+      done_by : (b : Bool) → is_state timed.event ≡ b → is_accepted own timed ≡ true → done world timed.event ≡ Done acts next
+          → Head own timed (lines_in acts)
       done_by false other accepted e =
-          Unmarked (λ i. other i || named_by timed true accepted i) (quiet_each (lines_in acts) (done_says_nothing world timed.event acts next other e))
-      done_by true state accepted e = (let r = state_lines world timed.event acts next state e in Marked (state_line world) r refl state (or_left (is_state timed.event) (is_named own timed) state))
+          Unmarked (λ i. other i || named_by timed true accepted i)
+          (quiet_each (lines_in acts) (done_says_nothing world timed.event acts next other e))
+      done_by true state accepted e =
+          (let r = state_lines world timed.event acts next state e in
+          Marked (state_line world) r refl state (or_left (is_state timed.event) (is_named own timed) state))
 
       by : (o : Option Refusal) → refusal world timed.event ≡ o → is_accepted own timed ≡ accepts o
-          → (elim o [ None ↦ done world timed.event | Some reason ↦ Done (record { act = None; lines = lines.Refused timed.line reason ∷ [] } ∷ []) world ]) ≡ Done acts next → Head own timed (lines_in acts)
+          → (elim o [
+            | None ↦ done world timed.event
+            | Some reason ↦
+                Done (record { act = None; lines = lines.Refused timed.line reason ∷ [] } ∷ []) world
+          ]) ≡ Done acts next
+          → Head own timed (lines_in acts)
       by None why tells e = done_by (is_state timed.event) refl tells e
       by (Some reason) why tells e =
           let first : List Happened = record { act = None; lines = lines.Refused timed.line reason ∷ [] } ∷ [] in
           let same : first ≡ acts = cc in
           Marked (lines.Refused timed.line reason) (ap lines_in (sym same)) refl
-          (and_true (timed.line == timed.line) (is_refusable timed.event) (eq-eqb timed.line timed.line refl) (refusable world timed.event reason why))
+          (and_true (timed.line == timed.line) (is_refusable timed.event) (eq-eqb timed.line timed.line refl)
+          (refusable world timed.event reason why))
           (or_right (is_state timed.event) (is_named own timed) (named_by timed false tells))
 
   own_entries : (number : ℕ) (acts : List Happened) → AllByRecursion (λ (entry : Entry). entry.event ≡ number) (report_of (traced number acts))
   own_entries number [] = tt
   own_entries number (happened ∷ more) = (refl, own_entries number more)
 
-  pub run_shaped : (all : List Timed) (old : World) (number : ℕ) (trace : List Traced) (new : World) → TellsAccepted own old all → Runs old number all trace new → Shaped own number all (report_of trace)
+  pub run_shaped : (all : List Timed) (old : World) (number : ℕ) (trace : List Traced) (new : World) → TellsAccepted own old all
+      → Runs old number all trace new → Shaped own number all (report_of trace)
   run_shaped [] old number trace new tells run = ap report_of run.0
   run_shaped (timed ∷ all) old number trace new tells run = (
     report_of (traced number run.0),
     report_of run.2,
-    ap report_of run.4 ∙ map-append {A = Traced} {B = Entry} (λ step. record { event = step.event; lines = step.happened.lines }) (traced number run.0) run.2,
+    ap report_of run.4 ∙ map-append {A = Traced} {B = Entry} (λ step. record { event = step.event; lines = step.happened.lines })
+        (traced number run.0) run.2,
     record {
       of_event = own_entries number run.0;
       head = subst (Head own timed) (sym (own_lines number run.0)) (head_by old timed run.0 run.1 tells.0 run.3);

@@ -38,7 +38,8 @@ spaces_placed column (octet ∷ more) h =
     let parts = and_parts (is_space octet) (list_all is_space more) h in
     ap (placed column) (slice_split-cons_yes is_space octet more parts.0) ∙ spaces_placed (column + 1) more parts.1
 
-behind_word : (column : ℕ) (rest : List ℕ) → list_all is_space rest ≡ true → placed column (slice_split is_space (codes "report" ++ rest)) ≡ report_at column
+behind_word : (column : ℕ) (rest : List ℕ) → list_all is_space rest ≡ true
+    → placed column (slice_split is_space (codes "report" ++ rest)) ≡ report_at column
 behind_word column [] h = refl
 behind_word column (octet ∷ more) h =
     let parts = and_parts (is_space octet) (list_all is_space more) h in
@@ -81,18 +82,21 @@ unfolding is_blank
 mark_not_blank [] h = absurd cc
 mark_not_blank (octet ∷ more) h = by (octet == 35) (list_all is_space (octet ∷ more)) refl refl
   where
-    by : (comment spaces : Bool) → (octet == 35) ≡ comment → list_all is_space (octet ∷ more) ≡ spaces → ((octet == 35) || list_all is_space (octet ∷ more)) ≡ false
+    by : (comment spaces : Bool) → (octet == 35) ≡ comment → list_all is_space (octet ∷ more) ≡ spaces
+        → ((octet == 35) || list_all is_space (octet ∷ more)) ≡ false
     by true spaces a b = (let no = comment_no_mark octet more a in absurd cc)
     by false true a b = (let no = spaces_no_mark (octet ∷ more) b in absurd cc)
     by false false a b = rw (a, b) refl
 
 -- ---- no line
 
-no_event : (draft : Drafted) (row : Row) (column : ℕ) → event_line draft row (record { column = column; text = codes "report" }) [] ≡ fault row.number column reasons.Word
+no_event : (draft : Drafted) (row : Row) (column : ℕ)
+    → event_line draft row (record { column = column; text = codes "report" }) [] ≡ fault row.number column reasons.Word
 unfolding event_line event_word
 no_event draft row column = refl
 
-no_scenario : (draft : Drafted) (row : Row) (column : ℕ) → scenario_line draft row (record { column = column; text = codes "report" }) [] ≡ fault row.number column reasons.Word
+no_scenario : (draft : Drafted) (row : Row) (column : ℕ)
+    → scenario_line draft row (record { column = column; text = codes "report" }) [] ≡ fault row.number column reasons.Word
 unfolding scenario_line scenario_word
 no_scenario draft row column = refl
 
@@ -100,12 +104,14 @@ no_words : (draft : Drafted) (row : Row) (column : ℕ) → words_line draft row
 unfolding words_line
 no_words draft row column = by draft.begun
   where
-    by : (begun : Bool) → cond begun (event_line draft row (record { column = column; text = codes "report" }) []) (scenario_line draft row (record { column = column; text = codes "report" }) []) ≡ fault row.number column reasons.Word
+    by : (begun : Bool) → cond begun (event_line draft row (record { column = column; text = codes "report" }) [])
+        (scenario_line draft row (record { column = column; text = codes "report" }) []) ≡ fault row.number column reasons.Word
     by true = no_event draft row column
     by false = no_scenario draft row column
 
 -- whatever is tried first
-no_line : (blank long : Bool) (outside : Option ℕ) (first : TextFault) (other : ℕ → TextFault) (words : List Placed) (next : List Placed → Result Line TextFault) (wrong : TextFault) (said : Line) → blank ≡ false → next words ≡ Err wrong →
+no_line : (blank long : Bool) (outside : Option ℕ) (first : TextFault) (other : ℕ → TextFault) (words : List Placed)
+    (next : List Placed → Result Line TextFault) (wrong : TextFault) (said : Line) → blank ≡ false → next words ≡ Err wrong →
     (cond blank (Ok []) (cond long (Err first) (elim outside [ Some place ↦ Err (other place) | None ↦ Ok words ])) >>= next) ≡ Ok said → ⊥
 no_line true long outside first other words next wrong said b w e = absurd cc
 no_line false true outside first other words next wrong said b w e = absurd cc
@@ -116,15 +122,19 @@ pub mark_no_line : (draft : Drafted) (number : ℕ) (line : List ℕ) (said : Li
 unfolding line_of words_in words_of
 mark_no_line draft number line said h e =
     let word = mark_placed 1 line h in
-    no_line (is_blank line) (nat_lt 4096 (length line)) (position is_outside line) _ (λ place. record { line = number; column = place + 1; reason = reasons.Byte }) (words_of line) (words_line draft (row_of number line)) _ said
+    no_line (is_blank line) (nat_lt 4096 (length line)) (position is_outside line) _
+    (λ place. record { line = number; column = place + 1; reason = reasons.Byte }) (words_of line) (words_line draft (row_of number line)) _ said
     (mark_not_blank line h) (ap (words_line draft (row_of number line)) word.1 ∙ no_words draft (row_of number line) word.0) e
 
 -- Lines that say something have no line `report` among them.
-pub said_unmarked : (draft : Drafted) (number : ℕ) (all : List (List ℕ)) (script : Script) → script_from draft number all ≡ Ok script → list_any is_mark all ≡ false
+pub said_unmarked : (draft : Drafted) (number : ℕ) (all : List (List ℕ)) (script : Script) → script_from draft number all ≡ Ok script
+    → list_any is_mark all ≡ false
 said_unmarked draft number [] script e = refl
-said_unmarked draft number (line ∷ more) script e = by (line_of draft number line) refl e (λ said. said_unmarked (added draft number said) (number + 1) more script) (is_mark line) refl
+said_unmarked draft number (line ∷ more) script e =
+    by (line_of draft number line) refl e (λ said. said_unmarked (added draft number said) (number + 1) more script) (is_mark line) refl
   where
-    by : (r : Result Line TextFault) → line_of draft number line ≡ r → (r >>= λ said. script_from (added draft number said) (number + 1) more) ≡ Ok script
+    by : (r : Result Line TextFault) → line_of draft number line ≡ r
+        → (r >>= λ said. script_from (added draft number said) (number + 1) more) ≡ Ok script
         → ((said : Line) → script_from (added draft number said) (number + 1) more ≡ Ok script → list_any is_mark more ≡ false)
         → (mark : Bool) → is_mark line ≡ mark → (is_mark line || list_any is_mark more) ≡ false
     by (Err wrong) is e again mark m = absurd cc

@@ -19,7 +19,9 @@ use Rattle.audit_text.specs.Reading.{IsReadReport}
 
 -- ---- line by line
 
-written_more : (scenario : Scenario) (first number : ℕ) (front : List (List ℕ)) (octets : List ℕ) (read : List Numbered) (one : Numbered) → AreWritten scenario first front read → number ≡ first + length front → one.line ≡ number → IsWritten scenario octets one.value → AreWritten scenario first (front ++ octets ∷ []) (read ++ one ∷ [])
+written_more : (scenario : Scenario) (first number : ℕ) (front : List (List ℕ)) (octets : List ℕ) (read : List Numbered) (one : Numbered)
+    → AreWritten scenario first front read → number ≡ first + length front → one.line ≡ number → IsWritten scenario octets one.value
+    → AreWritten scenario first (front ++ octets ∷ []) (read ++ one ∷ [])
 written_more scenario first number [] octets [] one h at line is = (omega (arith, at, line), is, tt)
 written_more scenario first number [] octets (other ∷ more) one h at line is = absurd h
 written_more scenario first number (text ∷ front) octets [] one h at line is = absurd h
@@ -37,7 +39,9 @@ pub so_far_start : (scenario : Scenario) (first : ℕ) (all : List (List ℕ)) �
 so_far_start scenario first all = record { front = []; whole = refl; written = tt; at = omega arith }
 
 -- One line more.
-pub so_far_more : (scenario : Scenario) (first number : ℕ) (all here rest : List (List ℕ)) (octets : List ℕ) (read : List Numbered) (one : Numbered) → IsSoFar scenario first number all here read → here ≡ octets ∷ rest → one.line ≡ number → IsWritten scenario octets one.value → IsSoFar scenario first (number + 1) all rest (read ++ one ∷ [])
+pub so_far_more : (scenario : Scenario) (first number : ℕ) (all here rest : List (List ℕ)) (octets : List ℕ) (read : List Numbered) (one : Numbered)
+    → IsSoFar scenario first number all here read → here ≡ octets ∷ rest → one.line ≡ number → IsWritten scenario octets one.value
+    → IsSoFar scenario first (number + 1) all rest (read ++ one ∷ [])
 so_far_more scenario first number all here rest octets read one h next line is = record {
   front = h.front ++ octets ∷ [];
   whole = h.whole ∙ ap (λ (l : List (List ℕ)). h.front ++ l) next ∙ sym (append_assoc h.front (octets ∷ []) rest);
@@ -46,7 +50,8 @@ so_far_more scenario first number all here rest octets read one h next line is =
 }
 
 -- One that is none.
-pub so_far_stray : (scenario : Scenario) (first number : ℕ) (all here rest : List (List ℕ)) (octets : List ℕ) (read : List Numbered) → IsSoFar scenario first number all here read → here ≡ octets ∷ rest → IsNoLine scenario octets → IsStray scenario first all number
+pub so_far_stray : (scenario : Scenario) (first number : ℕ) (all here rest : List (List ℕ)) (octets : List ℕ) (read : List Numbered)
+    → IsSoFar scenario first number all here read → here ≡ octets ∷ rest → IsNoLine scenario octets → IsStray scenario first all number
 so_far_stray scenario first number all here rest octets read h next none = record {
   front = h.front;
   octets = octets;
@@ -59,7 +64,8 @@ so_far_stray scenario first number all here rest octets read h next none = recor
 }
 
 -- No line is left.
-pub so_far_all : (scenario : Scenario) (first number : ℕ) (all here : List (List ℕ)) (read : List Numbered) → IsSoFar scenario first number all here read → here ≡ [] → AreWritten scenario first all read × (number ≡ first + length all)
+pub so_far_all : (scenario : Scenario) (first number : ℕ) (all here : List (List ℕ)) (read : List Numbered)
+    → IsSoFar scenario first number all here read → here ≡ [] → AreWritten scenario first all read × (number ≡ first + length all)
 so_far_all scenario first number all here read h none =
     let whole : all ≡ h.front = h.whole ∙ ap (λ (l : List (List ℕ)). h.front ++ l) none ∙ append-nil h.front in
     (subst (λ (l : List (List ℕ)). AreWritten scenario first l read) (sym whole) h.written, omega (arith, h.at, ap length whole))
@@ -67,7 +73,9 @@ so_far_all scenario first number all here read h none =
 -- ---- a text by its parts
 
 -- The part before the line `report` is a script, and the part behind it a report.
-pub parts_say : (text front behind : List ℕ) (number : ℕ) (script : Script) (report : ReportLines) → length text ≤ 16777216 → AreParts text front behind number → script_of front ≡ Ok script → AreWritten script.scenario (number + 1) (lines behind) report.lines → report.end ≡ number + 1 + length (lines behind) → Says text script report
+pub parts_say : (text front behind : List ℕ) (number : ℕ) (script : Script) (report : ReportLines) → length text ≤ 16777216
+    → AreParts text front behind number → script_of front ≡ Ok script → AreWritten script.scenario (number + 1) (lines behind) report.lines
+    → report.end ≡ number + 1 + length (lines behind) → Says text script report
 parts_say text front behind number script report short parts said written end =
     let at : number + 1 ≡ length (lines front) + 2 = omega (arith, parts.at) in
     record {
@@ -80,11 +88,14 @@ parts_say text front behind number script report short parts said written end =
       end = omega (arith, end, at);
     }
 
-pub script_faulty : (text front behind : List ℕ) (number : ℕ) (fault : TextFault) → length text ≤ 16777216 → AreParts text front behind number → script_of front ≡ Err fault → HasFault text fault
+pub script_faulty : (text front behind : List ℕ) (number : ℕ) (fault : TextFault) → length text ≤ 16777216 → AreParts text front behind number
+    → script_of front ≡ Err fault → HasFault text fault
 script_faulty text front behind number fault short parts said =
     OfScript short (lines front) (lines behind) parts.cut (sym (short_text front (omega (arith, parts.short, short))) ∙ said)
 
-pub report_faulty : (text front behind : List ℕ) (number : ℕ) (script : Script) (fault : TextFault) → length text ≤ 16777216 → AreParts text front behind number → script_of front ≡ Ok script → IsStray script.scenario (number + 1) (lines behind) fault.line → fault ≡ fault_of fault.line reasons.Report → HasFault text fault
+pub report_faulty : (text front behind : List ℕ) (number : ℕ) (script : Script) (fault : TextFault) → length text ≤ 16777216
+    → AreParts text front behind number → script_of front ≡ Ok script → IsStray script.scenario (number + 1) (lines behind) fault.line
+    → fault ≡ fault_of fault.line reasons.Report → HasFault text fault
 report_faulty text front behind number script fault short parts said stray is =
     let at : number + 1 ≡ length (lines front) + 2 = omega (arith, parts.at) in
     OfReport short (lines front) (lines behind) parts.cut script (sym (short_text front (omega (arith, parts.short, short))) ∙ said)
@@ -92,10 +103,14 @@ report_faulty text front behind number script fault short parts said stray is =
 
 -- ---- what stops the reading
 
-pub script_stops : (text front behind : List ℕ) (number : ℕ) (stop : ReadFault) → length text ≤ 16777216 → AreParts text front behind number → Fails {Y = Script} stop (script_of front) → IsRead text (Err stop)
+pub script_stops : (text front behind : List ℕ) (number : ℕ) (stop : ReadFault) → length text ≤ 16777216 → AreParts text front behind number
+    → Fails {Y = Script} stop (script_of front) → IsRead text (Err stop)
 script_stops text front behind number (faults.Text fault) short parts said = script_faulty text front behind number fault short parts said
 script_stops text front behind number faults.NoMemory short parts said = tt
 
-pub report_stops : (text front behind : List ℕ) (number : ℕ) (script : Script) (stop : ReadFault) → length text ≤ 16777216 → AreParts text front behind number → script_of front ≡ Ok script → IsReadReport script.scenario (number + 1) (lines behind) (Err stop) → IsRead text (Err stop)
-report_stops text front behind number script (faults.Text fault) short parts said read = report_faulty text front behind number script fault short parts said read.0 read.1
+pub report_stops : (text front behind : List ℕ) (number : ℕ) (script : Script) (stop : ReadFault) → length text ≤ 16777216
+    → AreParts text front behind number → script_of front ≡ Ok script → IsReadReport script.scenario (number + 1) (lines behind) (Err stop)
+    → IsRead text (Err stop)
+report_stops text front behind number script (faults.Text fault) short parts said read =
+    report_faulty text front behind number script fault short parts said read.0 read.1
 report_stops text front behind number script faults.NoMemory short parts said read = tt

@@ -49,7 +49,8 @@ use Rattle.audit_text.proofs.SaysLemmas.{front_rules}
 abbrev is_inner : ℕ → Bool
 is_inner octet = not (octet == 10) && not (octet == 13)
 
-weaker : (p : ℕ → Bool) → ((octet : ℕ) → p octet ≡ true → is_inner octet ≡ true) → (octets : List ℕ) → list_all p octets ≡ true → list_all is_inner octets ≡ true
+weaker : (p : ℕ → Bool) → ((octet : ℕ) → p octet ≡ true → is_inner octet ≡ true) → (octets : List ℕ) → list_all p octets ≡ true
+    → list_all is_inner octets ≡ true
 weaker p inner [] h = refl
 weaker p inner (octet ∷ more) h =
     let parts = and_parts (p octet) (list_all p more) h in
@@ -97,7 +98,8 @@ node_inner scenario kept node = Plain (by (slice_get scenario.nodes node.0) refl
 iface_inner : (scenario : Scenario) → Rules scenario → (iface : IfaceId) → Inner (iface_name scenario iface)
 iface_inner scenario kept iface = Plain (by (slice_get scenario.ifaces iface.0) refl)
   where
-    by : (found : Option Iface) → slice_get scenario.ifaces iface.0 ≡ found → list_all is_inner (elim found [ None ↦ [] | Some own ↦ own.name ]) ≡ true
+    by : (found : Option Iface) → slice_get scenario.ifaces iface.0 ≡ found
+        → list_all is_inner (elim found [ None ↦ [] | Some own ↦ own.name ]) ≡ true
     by None at = refl
     by (Some own) at = name_inner own.name (kept.names.formed (things.Iface iface) own.name (rw at refl))
 
@@ -163,25 +165,35 @@ row {octets} (Plain h) = record { octets = octets; is = refl; inner = h }
 -- Each line is a row.
 line_row : (scenario : Scenario) → Rules scenario → (line : ReportLine) → HasTypeBounds line → IsRow (line_text scenario line)
 line_row scenario kept (told.Out number iface bytes) h =
-    row (then_inner (then_space (then_inner (then_space (then_inner (literal (codes "out ") refl) (number_inner number h.0))) (iface_inner scenario kept iface))) (hex_inner bytes))
+    row (then_inner (then_space (then_inner (then_space (then_inner (literal (codes "out ") refl) (number_inner number h.0)))
+    (iface_inner scenario kept iface))) (hex_inner bytes))
 line_row scenario kept (told.Refused line reason) h =
     row (then_inner (then_space (then_inner (literal (codes "refused ") refl) (number_inner line (omega (arith, h.0))))) (refusal_inner reason h.1))
 line_row scenario kept (told.State bytes copies buffers due unready) h =
-    row (then_inner (then_space (then_inner (then_space (then_inner (then_space (then_inner (then_space (then_inner (literal (codes "state ") refl) (number_inner bytes h.0))) (number_inner copies h.1))) (number_inner buffers h.2))) (number_inner due h.3))) (number_inner unready h.4))
+    row (then_inner (then_space (then_inner (then_space
+    (then_inner (then_space (then_inner (then_space (then_inner (literal (codes "state ") refl) (number_inner bytes h.0)))
+    (number_inner copies h.1))) (number_inner buffers h.2))) (number_inner due h.3))) (number_inner unready h.4))
 line_row scenario kept (told.Halt line node) h =
-    row (then_inner (then_inner (then_inner (literal (codes "halt ") refl) (number_inner line (omega (arith, h)))) (literal (codes " label ") refl)) (node_inner scenario kept node))
+    row (then_inner (then_inner (then_inner (literal (codes "halt ") refl) (number_inner line (omega (arith, h)))) (literal (codes " label ") refl))
+    (node_inner scenario kept node))
 line_row scenario kept (told.Put kind from to bytes) h =
-    row (then_inner (then_space (then_inner (then_space (then_inner (literal (codes "put ") refl) (kind_inner kind))) (ends_inner scenario kept from to))) (hex_inner bytes))
+    row (then_inner (then_space (then_inner (then_space (then_inner (literal (codes "put ") refl) (kind_inner kind)))
+    (ends_inner scenario kept from to))) (hex_inner bytes))
 line_row scenario kept (told.Take kind from to bytes) h =
-    row (then_inner (then_space (then_inner (then_space (then_inner (literal (codes "take ") refl) (kind_inner kind))) (ends_inner scenario kept from to))) (hex_inner bytes))
+    row (then_inner (then_space (then_inner (then_space (then_inner (literal (codes "take ") refl) (kind_inner kind)))
+    (ends_inner scenario kept from to))) (hex_inner bytes))
 line_row scenario kept (told.Hop from to label ttl number) h =
-    row (then_inner (then_space (then_inner (then_space (then_inner (then_space (then_inner (literal (codes "hop ") refl) (ends_inner scenario kept from to))) (number_inner label (omega (arith, h.0))))) (number_inner ttl (omega (arith, h.1))))) (number_inner number h.2))
+    row (then_inner (then_space (then_inner (then_space
+    (then_inner (then_space (then_inner (literal (codes "hop ") refl) (ends_inner scenario kept from to)))
+    (number_inner label (omega (arith, h.0))))) (number_inner ttl (omega (arith, h.1))))) (number_inner number h.2))
 line_row scenario kept (told.Land from to label number) h =
-    row (then_inner (then_space (then_inner (then_space (then_inner (literal (codes "land ") refl) (ends_inner scenario kept from to))) (number_inner label (omega (arith, h.0))))) (number_inner number h.1))
+    row (then_inner (then_space (then_inner (then_space (then_inner (literal (codes "land ") refl) (ends_inner scenario kept from to)))
+    (number_inner label (omega (arith, h.0))))) (number_inner number h.1))
 
 -- ---- lines behind one another
 
-none_of : (other : ℕ) → ((octet : ℕ) → is_inner octet ≡ true → (octet == other) ≡ false) → (octets : List ℕ) → list_all is_inner octets ≡ true → All (λ octet. (octet == other) ≡ false) octets
+none_of : (other : ℕ) → ((octet : ℕ) → is_inner octet ≡ true → (octet == other) ≡ false) → (octets : List ℕ) → list_all is_inner octets ≡ true
+    → All (λ octet. (octet == other) ≡ false) octets
 none_of other none [] h = All-nil (λ octet. (octet == other) ≡ false)
 none_of other none (octet ∷ more) h =
     let parts = and_parts (is_inner octet) (list_all is_inner more) h in
@@ -201,7 +213,8 @@ row_first octets rest h = first_line octets rest (none_of 10 no_feed octets h) �
 
 -- ---- a text that ends with a line feed
 
-parts_append : (front : List ℕ) (parts more : List (List ℕ)) (octet : ℕ) → 0 < length parts → onto_first octet (parts ++ more) ≡ onto_first octet parts ++ more
+parts_append : (front : List ℕ) (parts more : List (List ℕ)) (octet : ℕ) → 0 < length parts
+    → onto_first octet (parts ++ more) ≡ onto_first octet parts ++ more
 parts_append front [] more octet h = absurd (omega arith)
 parts_append front (part ∷ parts) more octet h = refl
 
@@ -216,11 +229,15 @@ split_append (octet ∷ front) rest = by (is_feed octet) (split_append front res
         → cond b ([] ∷ slice_split is_feed (front ++ 10 ∷ rest)) (onto_first octet (slice_split is_feed (front ++ 10 ∷ rest)))
         ≡ cond b ([] ∷ slice_split is_feed front) (onto_first octet (slice_split is_feed front)) ++ slice_split is_feed rest
     by true e = ap (λ (l : List (List ℕ)). [] ∷ l) e
-    by false e = ap (onto_first octet) e ∙ parts_append front (slice_split is_feed front) (slice_split is_feed rest) octet (omega (arith, length-slice_split is_feed front))
+    by false e =
+        ap (onto_first octet) e ∙ parts_append front (slice_split is_feed front) (slice_split is_feed rest) octet
+        (omega (arith, length-slice_split is_feed front))
 
 ended_parts : (parts more : List (List ℕ)) → 0 < length more → lines_of_parts (parts ++ more) ≡ map strip_carriage_return parts ++ lines_of_parts more
 ended_parts [] more h = refl
-ended_parts (part ∷ parts) more h = step (parts ++ more) (omega (arith, length-append parts more, h)) ∙ ap (λ (l : List (List ℕ)). strip_carriage_return part ∷ l) (ended_parts parts more h)
+ended_parts (part ∷ parts) more h =
+    step (parts ++ more) (omega (arith, length-append parts more, h))
+    ∙ ap (λ (l : List (List ℕ)). strip_carriage_return part ∷ l) (ended_parts parts more h)
   where
     step : (rest : List (List ℕ)) → 0 < length rest → lines_of_parts (part ∷ rest) ≡ strip_carriage_return part ∷ lines_of_parts rest
     step [] s = absurd (omega arith)
@@ -232,7 +249,9 @@ ended_lines front rest =
     whole rest ∙ ap (λ (l : List (List ℕ)). l ++ lines rest) (sym (whole [] ∙ append-nil (map strip_carriage_return (slice_split is_feed front))))
   where
     whole : (more : List ℕ) → lines (front ++ 10 ∷ more) ≡ map strip_carriage_return (slice_split is_feed front) ++ lines more
-    whole more = ap lines_of_parts (split_append front more) ∙ ended_parts (slice_split is_feed front) (slice_split is_feed more) (omega (arith, length-slice_split is_feed more))
+    whole more =
+        ap lines_of_parts (split_append front more)
+        ∙ ended_parts (slice_split is_feed front) (slice_split is_feed more) (omega (arith, length-slice_split is_feed more))
 
 -- ---- the report
 
@@ -244,7 +263,8 @@ values_numbered : (number : ℕ) (all : List ReportLine) → map (λ (one : Numb
 values_numbered number [] = refl
 values_numbered number (line ∷ more) = ap (λ (l : List ReportLine). line ∷ l) (values_numbered (number + 1) more)
 
-report_read : (scenario : Scenario) → Rules scenario → (number : ℕ) (all : List ReportLine) → AllByRecursion (IsKnown scenario) all → AreWritten scenario number (lines (flat_map (line_text scenario) all)) (numbered_from number all)
+report_read : (scenario : Scenario) → Rules scenario → (number : ℕ) (all : List ReportLine) → AllByRecursion (IsKnown scenario) all
+    → AreWritten scenario number (lines (flat_map (line_text scenario) all)) (numbered_from number all)
 report_read scenario kept number [] known = tt
 report_read scenario kept number (line ∷ more) known =
     let own = line_row scenario kept line known.0.1 in
@@ -255,16 +275,19 @@ report_read scenario kept number (line ∷ more) known =
     (refl, record { names = known.0.0; bounds = known.0.1; text = own.is }, report_read scenario kept (number + 1) more known.1)
 
 -- A script that ends with a line feed, the line `report`, and lines of a report behind it are the text of an audit.
-pub report_said : (front : List ℕ) (script : Script) (all : List ReportLine) → script_of (front ++ 10 ∷ []) ≡ Ok script → AllByRecursion (IsKnown script.scenario) all →
+pub report_said : (front : List ℕ) (script : Script) (all : List ReportLine) → script_of (front ++ 10 ∷ []) ≡ Ok script
+    → AllByRecursion (IsKnown script.scenario) all →
     length (with_report script.scenario (front ++ 10 ∷ []) all) ≤ 16777216 →
     (report : ReportLines) × Says (with_report script.scenario (front ++ 10 ∷ []) all) script report × (values report.lines ≡ all)
 report_said front script all said known short =
     let text : List ℕ = front ++ 10 ∷ [] in
     let body : List ℕ = flat_map (line_text script.scenario) all in
     let rows : List (List ℕ) = lines text in
-    let own : script_from empty_draft 1 rows ≡ Ok script = sym (short_text text (omega (arith, short, length-append text (codes "report\n"), length-append (text ++ codes "report\n") body))) ∙ said in
+    let own : script_from empty_draft 1 rows ≡ Ok script =
+    sym (short_text text (omega (arith, short, length-append text (codes "report\n"), length-append (text ++ codes "report\n") body))) ∙ said in
     let is : lines (text ++ codes "report\n" ++ body) ≡ rows ++ codes "report" ∷ lines body =
-    ap lines (append_assoc text (codes "report\n") body) ∙ ap lines (append_assoc front (10 ∷ []) (codes "report\n" ++ body)) ∙ ended_lines front (codes "report\n" ++ body)
+    ap lines (append_assoc text (codes "report\n") body) ∙ ap lines (append_assoc front (10 ∷ []) (codes "report\n" ++ body))
+    ∙ ended_lines front (codes "report\n" ++ body)
     ∙ ap (λ (l : List (List ℕ)). rows ++ l) (row_first (codes "report") body refl) in
     let number : ℕ = length rows + 2 in (
       record { lines = numbered_from number all; end = number + length (lines body) },

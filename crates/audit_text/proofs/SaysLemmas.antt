@@ -31,9 +31,13 @@ heads : {A : Type 0} (x y : A) (xs ys : List A) → x ∷ xs ≡ y ∷ ys → (x
 heads x y xs ys h = (cc, cc)
 
 no_mark : (line : List ℕ) (front : List (List ℕ)) (mark : List ℕ) → is_mark mark ≡ true → list_any is_mark (line ∷ front) ≡ false → mark ≡ line → ⊥
-no_mark line front mark is none same = (let n = neither (is_mark line) (list_any is_mark front) none in let e : is_mark mark ≡ is_mark line = ap is_mark same in let f = n.0 in absurd cc)
+no_mark line front mark is none same =
+    (let n = neither (is_mark line) (list_any is_mark front) none in let e : is_mark mark ≡ is_mark line = ap is_mark same in let f = n.0 in
+    absurd cc)
 
-cut_same : (front behind other_front other_behind : List (List ℕ)) (mark other : List ℕ) → is_mark mark ≡ true → is_mark other ≡ true → list_any is_mark front ≡ false → list_any is_mark other_front ≡ false → front ++ mark ∷ behind ≡ other_front ++ other ∷ other_behind → (front ≡ other_front) × (behind ≡ other_behind)
+cut_same : (front behind other_front other_behind : List (List ℕ)) (mark other : List ℕ) → is_mark mark ≡ true → is_mark other ≡ true
+    → list_any is_mark front ≡ false → list_any is_mark other_front ≡ false → front ++ mark ∷ behind ≡ other_front ++ other ∷ other_behind
+    → (front ≡ other_front) × (behind ≡ other_behind)
 cut_same [] behind [] other_behind mark other is other_is none other_none h = (refl, (heads mark other behind other_behind h).1)
 cut_same [] behind (line ∷ other_front) other_behind mark other is other_is none other_none h =
     absurd (no_mark line other_front mark is other_none (heads mark line behind (other_front ++ other ∷ other_behind) h).0)
@@ -41,18 +45,23 @@ cut_same (line ∷ front) behind [] other_behind mark other is other_is none oth
     absurd (no_mark line front other other_is none (sym (heads line other (front ++ mark ∷ behind) other_behind h).0))
 cut_same (line ∷ front) behind (next ∷ other_front) other_behind mark other is other_is none other_none h =
     let parts = heads line next (front ++ mark ∷ behind) (other_front ++ other ∷ other_behind) h in
-    let again = cut_same front behind other_front other_behind mark other is other_is (neither (is_mark line) (list_any is_mark front) none).1 (neither (is_mark next) (list_any is_mark other_front) other_none).1 parts.1 in
+    let again =
+    cut_same front behind other_front other_behind mark other is other_is (neither (is_mark line) (list_any is_mark front) none).1
+    (neither (is_mark next) (list_any is_mark other_front) other_none).1 parts.1 in
     ((λ i. parts.0 i ∷ again.0 i), again.1)
 
-pub cut_once : (all front behind other_front other_behind : List (List ℕ)) → AreCut all front behind → AreCut all other_front other_behind → (front ≡ other_front) × (behind ≡ other_behind)
+pub cut_once : (all front behind other_front other_behind : List (List ℕ)) → AreCut all front behind → AreCut all other_front other_behind
+    → (front ≡ other_front) × (behind ≡ other_behind)
 cut_once all front behind other_front other_behind h k =
     cut_same front behind other_front other_behind h.mark k.mark h.is k.is h.first k.first (sym h.whole ∙ k.whole)
 
 -- Where lines are cut, one of them is the line `report`.
 pub cut_marked : (all front behind : List (List ℕ)) → AreCut all front behind → list_any is_mark all ≡ false → ⊥
 cut_marked all front behind h none =
-    (let some : (list_any is_mark front || (is_mark h.mark || list_any is_mark behind)) ≡ false = sym (ap (list_any is_mark) h.whole ∙ list_any-append is_mark front (h.mark ∷ behind)) ∙ none in
-    let n = neither (is_mark h.mark) (list_any is_mark behind) (neither (list_any is_mark front) (is_mark h.mark || list_any is_mark behind) some).1 in
+    (let some : (list_any is_mark front || (is_mark h.mark || list_any is_mark behind)) ≡ false =
+    sym (ap (list_any is_mark) h.whole ∙ list_any-append is_mark front (h.mark ∷ behind)) ∙ none in
+    let n = neither (is_mark h.mark) (list_any is_mark behind) (neither (list_any is_mark front) (is_mark h.mark || list_any is_mark behind) some).1
+    in
     let is = h.is in let no = n.0 in absurd cc)
 
 -- ---- the script
@@ -64,24 +73,32 @@ pub one_said : (x y : Script) → said x ≡ said y → x ≡ y
 one_said x y e = cc
 
 -- at the end of a text
-end_rules : (draft : Drafted) (number : ℕ) (script : Script) → Holds draft number → (begun : Bool) → draft.begun ≡ begun → cond begun (said (script_at draft number)) (fault number 1 reasons.Events) ≡ said script → ScriptRules script × (script.end ≡ number)
-end_rules draft number script holds true begun e =
-    (subst ScriptRules (one_said (script_at draft number) script e) (script_rules draft number holds begun), sym (ap (λ (s : Script). s.end) (one_said (script_at draft number) script e)))
+end_rules : (draft : Drafted) (number : ℕ) (script : Script) → Holds draft number → (begun : Bool) → draft.begun ≡ begun
+    → cond begun (said (script_at draft number)) (fault number 1 reasons.Events) ≡ said script → ScriptRules script × (script.end ≡ number)
+end_rules draft number script holds true begun e = (
+  subst ScriptRules (one_said (script_at draft number) script e) (script_rules draft number holds begun),
+  sym (ap (λ (s : Script). s.end) (one_said (script_at draft number) script e)),
+)
 end_rules draft number script holds false begun e = absurd cc
 
 -- What lines say meets the rules, and ends behind them.
-lines_rules : (draft : Drafted) (number : ℕ) (rows : List (List ℕ)) (script : Script) → Holds draft number → script_from draft number rows ≡ said script → ScriptRules script × (script.end ≡ number + length rows)
+lines_rules : (draft : Drafted) (number : ℕ) (rows : List (List ℕ)) (script : Script) → Holds draft number
+    → script_from draft number rows ≡ said script → ScriptRules script × (script.end ≡ number + length rows)
 lines_rules draft number [] script holds e = let r = end_rules draft number script holds draft.begun refl e in (r.0, omega (arith, r.1))
 lines_rules draft number (octets ∷ more) script holds e =
-    by (line_of draft number octets) refl (λ line is rest. lines_rules (added draft number line) (number + 1) more script (line_holds draft number octets line holds is) rest) e
+    by (line_of draft number octets) refl (λ line is rest. lines_rules (added draft number line) (number + 1) more script
+    (line_holds draft number octets line holds is) rest) e
   where
     by : (r : Result Line TextFault) → line_of draft number octets ≡ r
-        → ((line : Line) → line_of draft number octets ≡ Ok line → script_from (added draft number line) (number + 1) more ≡ said script → ScriptRules script × (script.end ≡ number + 1 + length more))
-        → (r >>= λ line. script_from (added draft number line) (number + 1) more) ≡ said script → ScriptRules script × (script.end ≡ number + length (octets ∷ more))
+        → ((line : Line) → line_of draft number octets ≡ Ok line → script_from (added draft number line) (number + 1) more ≡ said script
+        → ScriptRules script × (script.end ≡ number + 1 + length more))
+        → (r >>= λ line. script_from (added draft number line) (number + 1) more) ≡ said script
+        → ScriptRules script × (script.end ≡ number + length (octets ∷ more))
     by (Ok line) is next rest = let r = next line is rest in (r.0, omega (arith, r.1))
     by (Err first) is next rest = absurd cc
 
-pub front_rules : (front : List (List ℕ)) (script : Script) → script_from empty_draft 1 front ≡ said script → ScriptRules script × (script.end ≡ 1 + length front)
+pub front_rules : (front : List (List ℕ)) (script : Script) → script_from empty_draft 1 front ≡ said script
+    → ScriptRules script × (script.end ≡ 1 + length front)
 front_rules front script e = lines_rules empty_draft 1 front script empty_holds e
 
 -- ---- the lines of a report
@@ -90,24 +107,29 @@ one_line : (x y : ReportLine) → Some x ≡ Some y → x ≡ y
 one_line x y e = cc
 
 -- Octets are one line of a report at most.
-pub written_once : (scenario : Scenario) (octets : List ℕ) (line other : ReportLine) → Rules scenario → IsWritten scenario octets line → IsWritten scenario octets other → line ≡ other
+pub written_once : (scenario : Scenario) (octets : List ℕ) (line other : ReportLine) → Rules scenario → IsWritten scenario octets line
+    → IsWritten scenario octets other → line ≡ other
 written_once scenario octets line other rules h k =
-    one_line line other (sym (line_back scenario rules octets line h.names h.bounds h.text) ∙ line_back scenario rules octets other k.names k.bounds k.text)
+    one_line line other (sym (line_back scenario rules octets line h.names h.bounds h.text)
+    ∙ line_back scenario rules octets other k.names k.bounds k.text)
 
 one_numbered : (one other : Numbered) (number : ℕ) → one.line ≡ number → other.line ≡ number → one.value ≡ other.value → one ≡ other
 one_numbered one other number a b c = λ i. record { line = (a ∙ sym b) i; value = c i }
 
-pub lines_once : (scenario : Scenario) (number : ℕ) (all : List (List ℕ)) (read other : List Numbered) → Rules scenario → AreWritten scenario number all read → AreWritten scenario number all other → read ≡ other
+pub lines_once : (scenario : Scenario) (number : ℕ) (all : List (List ℕ)) (read other : List Numbered) → Rules scenario
+    → AreWritten scenario number all read → AreWritten scenario number all other → read ≡ other
 lines_once scenario number [] [] [] rules h k = refl
 lines_once scenario number [] [] (two ∷ more) rules h k = absurd k
 lines_once scenario number [] (one ∷ read) other rules h k = absurd h
 lines_once scenario number (octets ∷ rest) [] other rules h k = absurd h
 lines_once scenario number (octets ∷ rest) (one ∷ read) [] rules h k = absurd k
 lines_once scenario number (octets ∷ rest) (one ∷ read) (two ∷ other) rules h k =
-    λ i. one_numbered one two number h.0 k.0 (written_once scenario octets one.value two.value rules h.1 k.1) i ∷ lines_once scenario (number + 1) rest read other rules h.2 k.2 i
+    λ i. one_numbered one two number h.0 k.0 (written_once scenario octets one.value two.value rules h.1 k.1) i
+    ∷ lines_once scenario (number + 1) rest read other rules h.2 k.2 i
 
 -- Lines of a report have none among them that is no such line.
-none_stray : (scenario : Scenario) (number : ℕ) (front rest : List (List ℕ)) (octets : List ℕ) (read : List Numbered) → AreWritten scenario number (front ++ octets ∷ rest) read → ((line : ReportLine) → IsWritten scenario octets line → ⊥) → ⊥
+none_stray : (scenario : Scenario) (number : ℕ) (front rest : List (List ℕ)) (octets : List ℕ) (read : List Numbered)
+    → AreWritten scenario number (front ++ octets ∷ rest) read → ((line : ReportLine) → IsWritten scenario octets line → ⊥) → ⊥
 none_stray scenario number [] rest octets [] h none = h
 none_stray scenario number [] rest octets (one ∷ read) h none = none one.value h.1
 none_stray scenario number (line ∷ front) rest octets [] h none = h
@@ -119,7 +141,8 @@ one_report : (x y : ReportLines) → x.lines ≡ y.lines → x.end ≡ y.end →
 one_report x y a b = λ i. record { lines = a i; end = b i }
 
 -- A text says one script and one report.
-pub said_once : (text : List ℕ) (script other : Script) (report second : ReportLines) → Says text script report → Says text other second → (script ≡ other) × (report ≡ second)
+pub said_once : (text : List ℕ) (script other : Script) (report second : ReportLines) → Says text script report → Says text other second
+    → (script ≡ other) × (report ≡ second)
 said_once text script other report second h k =
     let cut = cut_once (lines text) h.front h.behind k.front k.behind h.cut k.cut in
     let same : script ≡ other = one_said script other (sym h.scripted ∙ ap (script_from empty_draft 1) cut.0 ∙ k.scripted) in
@@ -127,10 +150,14 @@ said_once text script other report second h k =
     let first : AreWritten script.scenario (length h.front + 2) h.behind second.lines =
     subst (λ (s : Script). AreWritten s.scenario (length h.front + 2) h.behind second.lines) (sym same)
     (subst (λ (l : List (List ℕ)). AreWritten other.scenario (length l + 2) h.behind second.lines) (sym cut.0)
-    (subst (λ (l : List (List ℕ)). AreWritten other.scenario (length k.front + 2) l second.lines) (sym cut.1) k.reported)) in
-    (same, one_report report second (lines_once script.scenario (length h.front + 2) h.behind report.lines second.lines rules h.reported first) (omega (arith, h.end, k.end, ap length cut.0, ap length cut.1)))
+    (subst (λ (l : List (List ℕ)). AreWritten other.scenario (length k.front + 2) l second.lines) (sym cut.1) k.reported)) in (
+      same,
+      one_report report second (lines_once script.scenario (length h.front + 2) h.behind report.lines second.lines rules h.reported first)
+          (omega (arith, h.end, k.end, ap length cut.0, ap length cut.1)),
+    )
 
-stray_at : (scenario : Scenario) (number line : ℕ) (all : List (List ℕ)) (read : List Numbered) → AreWritten scenario number all read → IsStray scenario number all line → ⊥
+stray_at : (scenario : Scenario) (number line : ℕ) (all : List (List ℕ)) (read : List Numbered) → AreWritten scenario number all read
+    → IsStray scenario number all line → ⊥
 stray_at scenario number line all read h s =
     none_stray scenario number s.front s.rest s.octets read (subst (λ (l : List (List ℕ)). AreWritten scenario number l read) s.whole h) s.none
 

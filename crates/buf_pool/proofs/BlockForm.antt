@@ -69,7 +69,8 @@ module _ (E : BlockOf) where
 
   pub block_row_laws : RowLaws B
   block_row_laws d b o = beside_shr_laws ((Struct (shape owning)).shr_at (d.ptr, (d.alloc, tt)) b o) (lent_at R d.ptr d.value)
-      (Struct-row_laws (shape owning) (ptr_row_laws, (E.al.laws.shr_laws, tt)) (d.ptr, (d.alloc, tt)) b o) (lent_at_shr_laws R E.laws.shr_laws d.ptr d.value)
+      (Struct-row_laws (shape owning) (ptr_row_laws, (E.al.laws.shr_laws, tt)) (d.ptr, (d.alloc, tt)) b o)
+      (lent_at_shr_laws R E.laws.shr_laws d.ptr d.value)
 
   abbrev pub block_ty : Ty
   block_ty = ty_struct owning.name (tcons ty_ptr (tcons (α E.al) tnil))

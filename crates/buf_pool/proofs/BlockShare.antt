@@ -49,8 +49,10 @@ written v = spell_fn ((v, a_type ∷ a_type ∷ [], fields (tcons ty_ptr (tcons 
   ty_params = a_type ∷ a_type ∷ [];
   givens = 2;
   params = 1;
-  locals = local (ty_ref (named 0) mut (ty_param 0)) value_local ∷ local (ty_ref (named 0) mut (at_both v)) value_local ∷ local (ty_ref erased mut (ty_param 0)) value_local ∷ local ty_ptr value_local ∷ [];
-  body = seq (block (seq (assign (place 3 []) (rv_opd (copy (place 1 (deref (at_both v) ∷ field 0 ∷ []))))) (assign (place 2 []) (addr_of (place 3 (deref (ty_param 0) ∷ []))))))
+  locals = local (ty_ref (named 0) mut (ty_param 0)) value_local ∷ local (ty_ref (named 0) mut (at_both v)) value_local
+      ∷ local (ty_ref erased mut (ty_param 0)) value_local ∷ local ty_ptr value_local ∷ [];
+  body = seq (block (seq (assign (place 3 []) (rv_opd (copy (place 1 (deref (at_both v) ∷ field 0 ∷ [])))))
+      (assign (place 2 []) (addr_of (place 3 (deref (ty_param 0) ∷ []))))))
       (seq (assign (place 0 []) (rv_opd (copy (place 2 [])))) return);
 })
 
@@ -59,13 +61,29 @@ module _ (E : BlockOf) where
   fn' = inst_fn (args E) (written (owning E).name)
 
   abbrev pub ended : Ended
-  ended = record { signature = record { lifetimes = 1; outlives = []; params = RefMutOf (0 ∷ []) tt (plain (λ _. B E)) (λ _. tt) ∷ []; result = RefMutOf (0 ∷ []) tt (plain (λ _. R E)) (λ _. tt) }; kept = (no, tt) }
+  ended = record {
+    signature =
+        record {
+          lifetimes = 1;
+          outlives = [];
+          params = RefMutOf (0 ∷ []) tt (plain (λ _. B E)) (λ _. tt) ∷ [];
+          result =
+              RefMutOf (0 ∷ []) tt (plain (λ _. R E)) (λ _. tt);
+        };
+    kept = (no, tt);
+  }
 
   abbrev stayed : Stays ended.signature.params ended.kept
   stayed = (stay_dropped (mut_ref_to (0 ∷ []) tt (plain (λ _. B E))) no, tt)
 
   abbrev pub spec : {M : Type 1} {𝓤 : Ura M} (𝓛 : Logic 𝓤) → Clauses 𝓤 ended
-  spec {𝓤 = 𝓤} 𝓛 κs a = record { ghost = Unit {0}; requires = λ _. emp 𝓤; ensures = λ _ r _. sep 𝓤 (sem 𝓛 (follows (B E) (R E) a.0.ghost_name r.ghost_name (with_value a.0.now))) (fact 𝓤 (r.now ≡ a.0.now.value)) }
+  spec {𝓤 = 𝓤} 𝓛 κs a =
+      record {
+        ghost = Unit {0};
+        requires = λ _. emp 𝓤;
+        ensures =
+            λ _ r _. sep 𝓤 (sem 𝓛 (follows (B E) (R E) a.0.ghost_name r.ghost_name (with_value a.0.now))) (fact 𝓤 (r.now ≡ a.0.now.value));
+      }
 
 module _ (E : BlockOf) {M : Type 1} {𝓤 : Ura M} (𝓛 : Logic 𝓤) (κ : Lft) (q : Share) (rb ro : ℕ) (γ : GName) (h : D E) where
   open 𝓛 use {H, A}
@@ -79,9 +97,11 @@ module _ (E : BlockOf) {M : Type 1} {𝓤 : Ura M} (𝓛 : Logic 𝓤) (κ : Lft
   module _ (b o : ℕ) (hv : Val) where
     -- all of the block but its value
     abbrev Rest : Fml
-    Rest = fsep (fsep (token E.al h.alloc (bare (τ E)) (block_ptr b o)) (handle E h.alloc hv)) (cell_at full_share (B E).mir (word E hv b o ∷ []) rb ro)
+    Rest = fsep (fsep (token E.al h.alloc (bare (τ E)) (block_ptr b o)) (handle E h.alloc hv))
+        (cell_at full_share (B E).mir (word E hv b o ∷ []) rb ro)
 
-    back : h.ptr ≡ block_ptr b o → (w : X E) → ent 𝓤 (sep 𝓤 (sem 𝓛 ((mem (R E)).own_at w b o)) (sem 𝓛 Rest)) (sem 𝓛 ((mem (B E)).own_at (with_value h w) rb ro))
+    back : h.ptr ≡ block_ptr b o → (w : X E) → ent 𝓤 (sep 𝓤 (sem 𝓛 ((mem (R E)).own_at w b o)) (sem 𝓛 Rest))
+        (sem 𝓛 ((mem (B E)).own_at (with_value h w) rb ro))
     unfolding part_of
     back at_b w =
         qed 𝓛 (‵ (part_at (R E) full_share w b o) ∷ ‵ Rest ∷ []) ∵ move ! (1 ∷ []) $ fsplit ! $ fsplit ! $ move ! (3 ∷ []) $
@@ -89,16 +109,21 @@ module _ (E : BlockOf) {M : Type 1} {𝓤 : Ura M} (𝓛 : Logic 𝓤) (κ : Lft
         fpack ! (List Val) (λ us. fsep (cell_at full_share (B E).mir us rb ro) ((B E).own_val (with_value h w) us)) (word E hv b o ∷ []) $ done !
 
     exits : (γ' : GName)
-        → ent 𝓤 (sep 𝓤 (sem 𝓛 ((MutRef (named 0) κ (R E)).own_val (record { ref_ptr = (b, o); ghost_name = γ'; now = h.value }) (vptr b o ∷ []))) (sep 𝓤 (A.lft κ q) (sem 𝓛 (follows (B E) (R E) γ γ' (with_value h))))) (Post (vptr b o))
+        → ent 𝓤 (sep 𝓤 (sem 𝓛 ((MutRef (named 0) κ (R E)).own_val (record { ref_ptr = (b, o); ghost_name = γ'; now = h.value }) (vptr b o ∷ [])))
+        (sep 𝓤 (A.lft κ q) (sem 𝓛 (follows (B E) (R E) γ γ' (with_value h))))) (Post (vptr b o))
     exits γ' =
-        qed 𝓛 (‵ ((MutRef (named 0) κ (R E)).own_val (record { ref_ptr = (b, o); ghost_name = γ'; now = h.value }) (vptr b o ∷ [])) ∷ ‵ (flft κ q) ∷ ‵ (follows (B E) (R E) γ γ' (with_value h)) ∷ []) ∵
-        suffices ! _ (ends_at 𝓛 (ended E) (stayed E) (spec E 𝓛) bound (vptr b o) (record { ref_ptr = (b, o); ghost_name = γ'; now = h.value }) (tt, tt) (tt, tt)) $
+        qed 𝓛 (‵ ((MutRef (named 0) κ (R E)).own_val (record { ref_ptr = (b, o); ghost_name = γ'; now = h.value }) (vptr b o ∷ [])) ∷ ‵ (flft κ q)
+        ∷ ‵ (follows (B E) (R E) γ γ' (with_value h)) ∷ []) ∵
+        suffices ! _ (ends_at 𝓛 (ended E) (stayed E) (spec E 𝓛) bound (vptr b o) (record { ref_ptr = (b, o); ghost_name = γ'; now = h.value })
+        (tt, tt) (tt, tt)) $
         nothing ! $ nothing ! $ fjoin ! $ join ! $ nothing ! $ move ! (2 ∷ 0 ∷ []) $ join ! $ join ! $ frame ! $ says ! refl $ done !
 
   module _ (C : Calls 𝓤 H) (Λ : Loops 𝓤 H) where
-    walk : ent 𝓤 (on_entry 𝓛 (ended E).signature (κ, tt) (q, tt) (record { ref_ptr = (rb, ro); ghost_name = γ; now = h }, tt) (vptr rb ro ∷ [], tt)) (WpFn 𝓤 H C Λ (fn' E) (vptr rb ro ∷ []) Post)
+    walk : ent 𝓤 (on_entry 𝓛 (ended E).signature (κ, tt) (q, tt) (record { ref_ptr = (rb, ro); ghost_name = γ; now = h }, tt) (vptr rb ro ∷ [], tt))
+        (WpFn 𝓤 H C Λ (fn' E) (vptr rb ro ∷ []) Post)
     walk =
-        qed 𝓛 ((‵ (flft κ q) ⊛ ‵ ftrue) ∷ ‵ (owns (MutRef (named 0) κ (B E) ∷ []) (record { ref_ptr = (rb, ro); ghost_name = γ; now = h }, tt) (vptr rb ro ∷ [], tt)) ∷ []) ∵
+        qed 𝓛 ((‵ (flft κ q) ⊛ ‵ ftrue) ∷ ‵ (owns (MutRef (named 0) κ (B E) ∷ []) (record { ref_ptr = (rb, ro); ghost_name = γ; now = h }, tt)
+        (vptr rb ro ∷ [], tt)) ∷ []) ∵
         enter ! C Λ (fn' E) (vptr rb ro ∷ []) _ $
         alloc_all ! (λ l. pass_all ! refl ((tt, tt), tt) $
         let En : Env 𝓤 H = env (fn' E).locals l in
@@ -110,14 +135,17 @@ module _ (E : BlockOf) {M : Type 1} {𝓤 : Ura M} (𝓛 : Logic 𝓤) (κ : Lft
         exec ! C Λ En (after 1 (fn' E).body) (at_ret En Post) $
         sets ! (of_opd ! (get ! refl)) refl (tt, tt) $
         move ! (1 ∷ 2 ∷ []) $ fjoin ! $ move ! (2 ∷ 3 ∷ 4 ∷ 1 ∷ 0 ∷ []) $ group ! 5 $
-        use1 𝓛 (later (some (λ (γ' : GName). raw (Part 𝓛 (B E) (R E) (with_value h) (named 0) κ q rb ro b o γ (sem 𝓛 (Rest b o hv)) (back b o hv at_b) h.value γ'))))
-        (lends_Part 𝓛 (B E) (R E) (with_value h) (named 0) κ q rb ro b o γ (sem 𝓛 (Rest b o hv)) (back b o hv at_b) ((B E).coded.code h) ((B E).coded.code h) h.value) $ await ! tt $ pick ! (λ γ'.
+        use1 𝓛 (later (some (λ (γ' : GName). raw (Part 𝓛 (B E) (R E) (with_value h) (named 0) κ q rb ro b o γ (sem 𝓛 (Rest b o hv)) (back b o hv at_b)
+        h.value γ'))))
+        (lends_Part 𝓛 (B E) (R E) (with_value h) (named 0) κ q rb ro b o γ (sem 𝓛 (Rest b o hv)) (back b o hv at_b) ((B E).coded.code h)
+        ((B E).coded.code h) h.value) $ await ! tt $ pick ! (λ γ'.
         returns ! (look_at ! 0 refl) $ free_all ! refl $
         keep ! (0 ∷ []) $ by ! (exits b o hv γ'))))
 
 pub meets : (E : BlockOf) {M : Type 1} {𝓤 : Ura M} (𝓛 : Logic 𝓤) (𝓣 : Tables 𝓤 𝓛.H)
     → Meets 𝓛 (ended E).signature (WpFn 𝓤 𝓛.H 𝓣.C 𝓣.Λ (fn' E)) (closing 𝓛 (ended E) (spec E 𝓛))
 meets E {𝓤 = 𝓤} 𝓛 𝓣 =
-    walk_Meets 𝓛 (ended E) (stayed E) (Goes-spent_ref 𝓛 1 (0 ∷ []) tt (plain (λ _. B E)), tt) (spec E 𝓛) (WpFn 𝓤 𝓛.H 𝓣.C 𝓣.Λ (fn' E)) (WpFn-mono 𝓤 𝓛.H 𝓛.laws 𝓣 (fn' E))
+    walk_Meets 𝓛 (ended E) (stayed E) (Goes-spent_ref 𝓛 1 (0 ∷ []) tt (plain (λ _. B E)), tt) (spec E 𝓛) (WpFn 𝓤 𝓛.H 𝓣.C 𝓣.Λ (fn' E))
+    (WpFn-mono 𝓤 𝓛.H 𝓛.laws 𝓣 (fn' E))
     (walked 𝓛 (ended E) (stayed E) (spec E 𝓛) (WpFn 𝓤 𝓛.H 𝓣.C 𝓣.Λ (fn' E)) (λ κs. (mut_vals, tt)) (λ κs. (mut_Tells (named 0) κs.0 (B E), tt))
     (λ κs qs bounds a g are. via 𝓤 _ (fst∗ 𝓤 _ (emp 𝓤)) (walk E 𝓛 κs.0 qs.0 a.0.ref_ptr.0 a.0.ref_ptr.1 a.0.ghost_name a.0.now 𝓣.C 𝓣.Λ)))

@@ -30,17 +30,22 @@ use mir.Raw.{raw as bare}
 module _ (E : BlockOf) {M : Type 1} {𝓤 : Ura M} (𝓛 : Logic 𝓤) where
   open 𝓛 use {H}
 
-  pub el_out : (x : X E) (b o : ℕ) → ent 𝓤 (sem 𝓛 (part_at (R E) full_share x b o)) (ex 𝓤 (λ (v : Val). guard 𝓤 (Good E v) (sep 𝓤 (H.at full_share (τ E) b o v) (sem 𝓛 (own E x (v ∷ []))))))
+  pub el_out : (x : X E) (b o : ℕ) → ent 𝓤 (sem 𝓛 (part_at (R E) full_share x b o))
+      (ex 𝓤 (λ (v : Val). guard 𝓤 (Good E v) (sep 𝓤 (H.at full_share (τ E) b o v) (sem 𝓛 (own E x (v ∷ []))))))
   el_out x b o = qed 𝓛 (‵ (part_at (R E) full_share x b o) ∷ []) ∵
-      use1 𝓛 (some (λ (v : Val). ‵ (fat full_share (τ E) b o v) ⊛ ‵ (own E x (v ∷ [])))) (part_out 𝓛 (R E) refl full_share x b o) $ pick ! (λ v. split ! $ move ! (1 ∷ []) $
+      use1 𝓛 (some (λ (v : Val). ‵ (fat full_share (τ E) b o v) ⊛ ‵ (own E x (v ∷ [])))) (part_out 𝓛 (R E) refl full_share x b o) $ pick !
+      (λ v. split ! $ move ! (1 ∷ []) $
       peeks ! (R E) (Is (R E)) (shows 𝓛 (R E)) x (v ∷ []) (λ p.
-      show ! (λ (w : Val). guard 𝓤 (Good E w) (sep 𝓤 (H.at full_share (τ E) b o w) (sem 𝓛 (own E x (w ∷ []))))) v $ check ! ((lawful E 𝓛).typed x (v ∷ []) p).0 $ move ! (1 ∷ 0 ∷ []) $ done !))
+      show ! (λ (w : Val). guard 𝓤 (Good E w) (sep 𝓤 (H.at full_share (τ E) b o w) (sem 𝓛 (own E x (w ∷ []))))) v $ check !
+      ((lawful E 𝓛).typed x (v ∷ []) p).0 $ move ! (1 ∷ 0 ∷ []) $ done !))
 
-  pub el_in : (x : X E) (b o : ℕ) (v : Val) → ent 𝓤 (sep 𝓤 (H.at full_share (τ E) b o v) (sem 𝓛 (own E x (v ∷ [])))) (sem 𝓛 (part_at (R E) full_share x b o))
+  pub el_in : (x : X E) (b o : ℕ) (v : Val) → ent 𝓤 (sep 𝓤 (H.at full_share (τ E) b o v) (sem 𝓛 (own E x (v ∷ []))))
+      (sem 𝓛 (part_at (R E) full_share x b o))
   el_in x b o v = part_in 𝓛 (R E) refl full_share x b o v
 
 module _ (E : BlockOf) {M : Type 1} {𝓤 : Ura M} {𝓛 : Logic 𝓤} {K : Type 0} {Γ : List (Item 𝓤)} {G : Goal 𝓤 𝓛.H} where
-  pub el_tells : K → (x : X E) (vs : List Val) → ((v : Val) → vs ≡ v ∷ [] → Good E v → Seq K 𝓛 (‵ (own E x (v ∷ [])) ∷ Γ) G) → Seq K 𝓛 (‵ (own E x vs) ∷ Γ) G
+  pub el_tells : K → (x : X E) (vs : List Val) → ((v : Val) → vs ≡ v ∷ [] → Good E v → Seq K 𝓛 (‵ (own E x (v ∷ [])) ∷ Γ) G)
+      → Seq K 𝓛 (‵ (own E x vs) ∷ Γ) G
   el_tells = handle_tells (record { row = E.row; laws = E.laws; g = record { dealloc_token = λ a σ p. ftrue }; d = E.al.d; drops = E.al.drops })
 
   pub block_out : K → (d : D E) (vs : List Val)
@@ -48,22 +53,31 @@ module _ (E : BlockOf) {M : Type 1} {𝓤 : Ura M} {𝓛 : Logic 𝓤} {K : Type
       → Seq K 𝓛 (‵ (part_at (R E) full_share d.value b o) ∷ ‵ (token E.al d.alloc (bare (τ E)) (block_ptr b o)) ∷ ‵ (handle E d.alloc hv) ∷ Γ) G)
       → Seq K 𝓛 (‵ ((B E).own_val d vs) ∷ Γ) G
   block_out t d vs k =
-      fsplit t $ fpick t (λ vss. fsplit t $ feq_l t (λ ev. fsplit t $ feq_l t (λ ep. fsplit t $ handle_tells E.al t d.alloc vss.1.0 (λ hv ea fa. move t (1 ∷ []) $ drop t $ move t (1 ∷ []) $
-      in_a_block t d.ptr (λ p. block_owns (token E.al d.alloc) (R E) p d.value) (fst∗ 𝓤 (never 𝓤) (sem 𝓛 (token E.al d.alloc (bare (τ E)) null_ptr))) (λ b o e. fsplit t $ k b o hv e
+      fsplit t $ fpick t (λ vss. fsplit t $ feq_l t
+      (λ ev. fsplit t $ feq_l t (λ ep. fsplit t $ handle_tells E.al t d.alloc vss.1.0 (λ hv ea fa. move t (1 ∷ []) $ drop t $ move t (1 ∷ []) $
+      in_a_block t d.ptr (λ p. block_owns (token E.al d.alloc) (R E) p d.value) (fst∗ 𝓤 (never 𝓤) (sem 𝓛 (token E.al d.alloc (bare (τ E)) null_ptr)))
+      (λ b o e. fsplit t $ k b o hv e
       (subst (λ (p : Ptr). vs ≡ vstruct (of_list (ptr_val p ∷ hv ∷ [])) ∷ []) e
-      (subst (λ (ws : List Val). vs ≡ vstruct (of_list (ptr_val d.ptr ∷ (ws ++ []))) ∷ []) ea (subst (λ (ps : List Val). vs ≡ vstruct (of_list (ps ++ (vss.1.0 ++ []))) ∷ []) ep ev))) fa)))))
+      (subst (λ (ws : List Val). vs ≡ vstruct (of_list (ptr_val d.ptr ∷ (ws ++ []))) ∷ []) ea
+      (subst (λ (ps : List Val). vs ≡ vstruct (of_list (ps ++ (vss.1.0 ++ []))) ∷ []) ep ev))) fa)))))
 
   pub block_in : K → {hv : Val} (d : D E) (b o : ℕ) (x : X E) → d.ptr ≡ block_ptr b o → d.value ≡ x
-      → Step K 𝓛 (‵ ((B E).own_val d (word E hv b o ∷ [])) ∷ Γ) G (‵ (part_at (R E) full_share x b o) ∷ ‵ (token E.al d.alloc (bare (τ E)) (block_ptr b o)) ∷ ‵ (handle E d.alloc hv) ∷ Γ) G
+      → Step K 𝓛 (‵ ((B E).own_val d (word E hv b o ∷ [])) ∷ Γ) G
+      (‵ (part_at (R E) full_share x b o) ∷ ‵ (token E.al d.alloc (bare (τ E)) (block_ptr b o)) ∷ ‵ (handle E d.alloc hv) ∷ Γ) G
   block_in t {hv} d b o x e f = step (λ s.
-      fjoin t $ rewrite t 0 (λ (y : X E). ‵ (block_owns (token E.al d.alloc) (R E) (block_ptr b o) y)) (sym f) refl $ rewrite t 0 (λ (p : Ptr). ‵ (block_owns (token E.al d.alloc) (R E) p d.value)) (sym e) refl $
-      nothing t $ move t (2 ∷ 0 ∷ []) $ fjoin t $ feq_i t (List Val) (vptr b o ∷ []) (ptr_val d.ptr ∷ []) (ap (λ (p : Ptr). ptr_val p ∷ []) (sym e)) $ fjoin t $
+      fjoin t $ rewrite t 0 (λ (y : X E). ‵ (block_owns (token E.al d.alloc) (R E) (block_ptr b o) y)) (sym f) refl $ rewrite t 0
+      (λ (p : Ptr). ‵ (block_owns (token E.al d.alloc) (R E) p d.value)) (sym e) refl $
+      nothing t $ move t (2 ∷ 0 ∷ []) $ fjoin t $ feq_i t (List Val) (vptr b o ∷ []) (ptr_val d.ptr ∷ []) (ap (λ (p : Ptr). ptr_val p ∷ []) (sym e)) $
+      fjoin t $
       feq_i t (List Val) (word E hv b o ∷ []) (word E hv b o ∷ []) refl $ fjoin t $
-      fpack t (Valss (RawPtr ∷ P E ∷ [])) (within (shape (owning E)) (d.ptr, (d.alloc, tt)) (word E hv b o ∷ [])) (vptr b o ∷ [], (hv ∷ [], tt)) $ fjoin t $ s)
+      fpack t (Valss (RawPtr ∷ P E ∷ [])) (within (shape (owning E)) (d.ptr, (d.alloc, tt)) (word E hv b o ∷ [])) (vptr b o ∷ [], (hv ∷ [], tt)) $
+      fjoin t $ s)
 
 module _ (E : BlockOf) {M : Type 1} {𝓤 : Ura M} {𝓛 : Logic 𝓤} {K : Type 0} {Γ : List (Item 𝓤)} {G : Goal 𝓤 𝓛.H} where
   pub block_opens : K → Soaks G → {κ : Lft} {q : Share} {γ : GName} (d : D E) (rb ro : ℕ)
-      → ((b o : ℕ) (hv : Val) → d.ptr ≡ block_ptr b o → Seq K 𝓛 (‵ (part_at (R E) full_share d.value b o) ∷ ‵ (fsep (token E.al d.alloc (bare (τ E)) (block_ptr b o)) (handle E d.alloc hv)) ∷ ‵ (cell_at full_share (B E).mir (word E hv b o ∷ []) rb ro)
+      → ((b o : ℕ) (hv : Val) → d.ptr ≡ block_ptr b o
+      → Seq K 𝓛 (‵ (part_at (R E) full_share d.value b o) ∷ ‵ (fsep (token E.al d.alloc (bare (τ E)) (block_ptr b o)) (handle E d.alloc hv))
+      ∷ ‵ (cell_at full_share (B E).mir (word E hv b o ∷ []) rb ro)
       ∷ ‵ (fobor κ q (Borrowed (mem (B E)) rb ro γ)) ∷ ‵ (fobs γ ((B E).coded.code d)) ∷ ‵ (fauth γ ((B E).coded.code d)) ∷ Γ) G)
       → Seq K 𝓛 (‵ (fobs γ ((B E).coded.code d)) ∷ ‵ (fbor κ (Borrowed (mem (B E)) rb ro γ)) ∷ ‵ (flft κ q) ∷ Γ) G
   block_opens t z d rb ro k =

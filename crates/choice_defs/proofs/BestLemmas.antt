@@ -36,17 +36,20 @@ rest_best : (cost : NodeId → ℕ) (x : KnownRoute) (xs : List KnownRoute) (sou
 rest_best cost x xs source y b k = record { among = inr b.among; covering = b.covering; best = best }
   where
     best : (o : KnownRoute) → Among o (x ∷ xs) → covers o.prefix source ≡ true → is_better cost o y ≡ false
-    best o (inl e) c = subst (λ (z : KnownRoute). is_better cost z y ≡ false) (sym e) (k (ap (λ (z : KnownRoute). covers z.prefix source) (sym e) ∙ c))
+    best o (inl e) c =
+        subst (λ (z : KnownRoute). is_better cost z y ≡ false) (sym e) (k (ap (λ (z : KnownRoute). covers z.prefix source) (sym e) ∙ c))
     best o (inr a) c = b.best o a c
 
-compared : (cost : NodeId → ℕ) (x : KnownRoute) (xs : List KnownRoute) (source : Addr) (y : KnownRoute) → covers x.prefix source ≡ true → Best cost xs source y
+compared : (cost : NodeId → ℕ) (x : KnownRoute) (xs : List KnownRoute) (source : Addr) (y : KnownRoute) → covers x.prefix source ≡ true
+    → Best cost xs source y
     → (t : Bool) → is_better cost y x ≡ t → BestIs cost (x ∷ xs) source (cond t (Some y) (Some x))
 compared cost x xs source y h b true e =
     rest_best cost x xs source y b (λ c. not_less (route_cmp cost x y) (λ l. not_both (route_total cost) x y l (is_less (route_cmp cost y x) e)))
 compared cost x xs source y h b false e =
     first_best cost x xs source h (λ o a c. not_less_chain (route_total cost) o y x (b.best o a c) e)
 
-one_more : (cost : NodeId → ℕ) (x : KnownRoute) (xs : List KnownRoute) (source : Addr) (t : Bool) → covers x.prefix source ≡ t → (rest : Option KnownRoute) → BestIs cost xs source rest
+one_more : (cost : NodeId → ℕ) (x : KnownRoute) (xs : List KnownRoute) (source : Addr) (t : Bool) → covers x.prefix source ≡ t
+    → (rest : Option KnownRoute) → BestIs cost xs source rest
     → BestIs cost (x ∷ xs) source (better_of cost t x rest)
 one_more cost x xs source false h None b = none
   where

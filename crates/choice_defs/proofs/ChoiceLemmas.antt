@@ -23,20 +23,23 @@ use Rattle.choice_defs.proofs.HashLemmas.{edge_of_candidate, Names, names, one_h
 
 -- ---- the best is chosen
 
-higher : (e : NodeId) (a : Addr) (r : Rd) (f : NodeId) (b : Addr) (s : Rd) → (e ≡ f) ↔ (a ≡ b) → is_lt (ordering_then (addr_cmp a b) (rd_cmp s r)) ≡ false → IsHigher e a r f b s
+higher : (e : NodeId) (a : Addr) (r : Rd) (f : NodeId) (b : Addr) (s : Rd) → (e ≡ f) ↔ (a ≡ b)
+    → is_lt (ordering_then (addr_cmp a b) (rd_cmp s r)) ≡ false → IsHigher e a r f b s
 higher e a r f b s told h = elim (then_not_less (addr_cmp a b) (rd_cmp s r) h) [
   | inl g ↦ inl (greater_back addr_cmp_total a b g)
   | inr k ↦ inr (told.1 (one_addr a b k.0), λ l. less_twice (rd_cmp s r) l k.1)
 ]
 
-first_by : (rule : Rule) (cost : NodeId → ℕ) (routes : List KnownRoute) (source group : Addr) (e : NodeId) (a : Addr) (r : Rd) (f : NodeId) (b : Addr) (s : Rd) → (e ≡ f) ↔ (a ≡ b)
+first_by : (rule : Rule) (cost : NodeId → ℕ) (routes : List KnownRoute) (source group : Addr) (e : NodeId) (a : Addr) (r : Rd) (f : NodeId) (b : Addr)
+    (s : Rd) → (e ≡ f) ↔ (a ≡ b)
     → (rule ≡ Hash → IsHashed routes source group a) → is_lt (remote_cmp (cost_by rule cost routes source group) f b s e a r) ≡ false
     → IsFirst rule cost (IsHashed routes source group) e a r f b s
 first_by Highest cost routes source group e a r f b s told named h = higher e a r f b s told h
-first_by Nearest cost routes source group e a r f b s told named h = elim (then_not_less (nat_cmp (cost f) (cost e)) (ordering_then (addr_cmp a b) (rd_cmp s r)) h) [
-  | inl g ↦ inl (nat_greater (cost f) (cost e) g)
-  | inr k ↦ inr (sym (nat_equal (cost f) (cost e) k.0), higher e a r f b s told k.1)
-]
+first_by Nearest cost routes source group e a r f b s told named h =
+    elim (then_not_less (nat_cmp (cost f) (cost e)) (ordering_then (addr_cmp a b) (rd_cmp s r)) h) [
+      | inl g ↦ inl (nat_greater (cost f) (cost e) g)
+      | inr k ↦ inr (sym (nat_equal (cost f) (cost e) k.0), higher e a r f b s told k.1)
+    ]
 first_by Hash cost routes source group e a r f b s told named h = (named refl, not_less_rd)
   where
     by_hash : NodeId → ℕ
@@ -65,7 +68,8 @@ no_longer cost o r h = elim (then_not_less (nat_cmp r.prefix.bits o.prefix.bits)
   | inr k ↦ (let same : r.prefix.bits ≡ o.prefix.bits = nat_equal r.prefix.bits o.prefix.bits k.0 in omega (arith, same))
 ]
 
-no_better : (cost : NodeId → ℕ) (o r : KnownRoute) → is_better cost o r ≡ false → o.prefix.bits ≡ r.prefix.bits → is_lt (origin_cmp cost o.origin r.origin) ≡ false
+no_better : (cost : NodeId → ℕ) (o r : KnownRoute) → is_better cost o r ≡ false → o.prefix.bits ≡ r.prefix.bits
+    → is_lt (origin_cmp cost o.origin r.origin) ≡ false
 no_better cost o r h e = elim (then_not_less (nat_cmp r.prefix.bits o.prefix.bits) (origin_cmp cost o.origin r.origin) h) [
   | inl g ↦ absurd (let less : o.prefix.bits < r.prefix.bits = nat_greater r.prefix.bits o.prefix.bits g in omega (arith, less, e))
   | inr k ↦ k.1
@@ -77,12 +81,14 @@ record Gives (cost : NodeId → ℕ) (routes : List KnownRoute) (source : Addr) 
   is_best : Best cost routes source route
   of_origin : route.origin ≡ origin
 
-given_by : (cost : NodeId → ℕ) (routes : List KnownRoute) (source : Addr) (origin : Origin) (found : Option KnownRoute) → BestIs cost routes source found
+given_by : (cost : NodeId → ℕ) (routes : List KnownRoute) (source : Addr) (origin : Origin) (found : Option KnownRoute)
+    → BestIs cost routes source found
     → option_map (λ route. route.origin) found ≡ Some origin → Gives cost routes source origin
 given_by cost routes source origin None b e = absurd cc
 given_by cost routes source origin (Some r) b e = record { route = r; is_best = b; of_origin = same_Some r.origin origin e }
 
-given : (cost : NodeId → ℕ) (routes : List KnownRoute) (source : Addr) (origin : Origin) → option_map (λ route. route.origin) (best_route cost routes source) ≡ Some origin → Gives cost routes source origin
+given : (cost : NodeId → ℕ) (routes : List KnownRoute) (source : Addr) (origin : Origin)
+    → option_map (λ route. route.origin) (best_route cost routes source) ≡ Some origin → Gives cost routes source origin
 given cost routes source origin e = given_by cost routes source origin (best_route cost routes source) (best cost routes source) e
 
 -- a best route is a candidate
@@ -90,7 +96,8 @@ candidate : (cost : NodeId → ℕ) (routes : List KnownRoute) (source : Addr) (
 candidate cost routes source r b = record { among = b.among; covering = b.covering; longest = λ o a c. no_longer cost o r (b.best o a c) }
 
 -- candidates are of one length
-one_length : (routes : List KnownRoute) (source : Addr) (x y : KnownRoute) → IsCandidate routes source x → IsCandidate routes source y → x.prefix.bits ≡ y.prefix.bits
+one_length : (routes : List KnownRoute) (source : Addr) (x y : KnownRoute) → IsCandidate routes source x → IsCandidate routes source y
+    → x.prefix.bits ≡ y.prefix.bits
 one_length routes source x y c d =
     let below : y.prefix.bits ≤ x.prefix.bits = c.longest y d.among d.covering in
     let above : x.prefix.bits ≤ y.prefix.bits = d.longest x c.among c.covering in
@@ -114,7 +121,8 @@ named_by e f h is c = by (f.0 == e.0) refl (subst (λ (o : Option NodeId). cost_
     by true same l = one_node e f same
     by false other l = absurd (omega (arith, l))
 
-not_worse : (cost : NodeId → ℕ) (e : NodeId) (a : Addr) (r : Rd) (f : NodeId) (b : Addr) (s : Rd) → is_lt (remote_cmp cost f b s e a r) ≡ false → cost e ≤ cost f
+not_worse : (cost : NodeId → ℕ) (e : NodeId) (a : Addr) (r : Rd) (f : NodeId) (b : Addr) (s : Rd) → is_lt (remote_cmp cost f b s e a r) ≡ false
+    → cost e ≤ cost f
 not_worse cost e a r f b s h = elim (then_not_less (nat_cmp (cost f) (cost e)) (ordering_then (addr_cmp a b) (rd_cmp s r)) h) [
   | inl g ↦ (let less : cost e < cost f = nat_greater (cost f) (cost e) g in omega (arith, less))
   | inr k ↦ (let same : cost f ≡ cost e = nat_equal (cost f) (cost e) k.0 in omega (arith, same))
@@ -124,7 +132,8 @@ module _ (cost : NodeId → ℕ) (routes : List KnownRoute) (source group : Addr
   by_hash : NodeId → ℕ
   by_hash = cost_by Hash cost routes source group
 
-  named_best : (x : KnownRoute) → Best by_hash routes source x → (e : NodeId) (a : Addr) (r : Rd) → x.origin ≡ Remote e a r → IsHashed routes source group a
+  named_best : (x : KnownRoute) → Best by_hash routes source x → (e : NodeId) (a : Addr) (r : Rd) → x.origin ≡ Remote e a r
+      → IsHashed routes source group a
   unfolding by_hash
   named_best x b e a r h = subst (IsHashed routes source group) (sym addresses) n.hashed
     where
@@ -151,7 +160,8 @@ module _ (cost : NodeId → ℕ) (routes : List KnownRoute) (source group : Addr
       addresses = (edges x o.0 b.among o.2.among e n.edge a n.address r o.1 h o.3).0 (named_by e n.edge _ n.is_named least)
 
 named_when : (rule : Rule) (cost : NodeId → ℕ) (routes : List KnownRoute) (source group : Addr) → AreOfEdges routes → (x : KnownRoute)
-    → Best (cost_by rule cost routes source group) routes source x → rule ≡ Hash → (e : NodeId) (a : Addr) (r : Rd) → x.origin ≡ Remote e a r → IsHashed routes source group a
+    → Best (cost_by rule cost routes source group) routes source x → rule ≡ Hash → (e : NodeId) (a : Addr) (r : Rd) → x.origin ≡ Remote e a r
+    → IsHashed routes source group a
 unfolding by_hash
 named_when Highest cost routes source group edges x b h = absurd cc
 named_when Nearest cost routes source group edges x b h = absurd cc
@@ -167,7 +177,8 @@ chosen_when rule cost routes source group origin edges e =
       route = g.route;
       candidate = is;
       of_origin = g.of_origin;
-      first = λ o c. precedes rule cost routes source group g.route.origin o.origin (edges g.route o g.is_best.among c.among) (named_when rule cost routes source group edges g.route g.is_best)
+      first = λ o c. precedes rule cost routes source group g.route.origin o.origin (edges g.route o g.is_best.among c.among)
+          (named_when rule cost routes source group edges g.route g.is_best)
           (no_better costs o g.route (g.is_best.best o c.among c.covering) (one_length routes source o g.route c is));
     }
 
@@ -178,7 +189,8 @@ none_by : (cost : NodeId → ℕ) (routes : List KnownRoute) (source : Addr) (fo
 none_by cost routes source None b = (λ e. b, λ u. refl)
 none_by cost routes source (Some r) b = (λ e. absurd cc, λ u. absurd (opposite (covers r.prefix source) b.covering (u r b.among)))
 
-pub none_when : (rule : Rule) (cost : NodeId → ℕ) (routes : List KnownRoute) (source group : Addr) → (choose rule cost routes source group ≡ None) ↔ IsUncovered routes source
+pub none_when : (rule : Rule) (cost : NodeId → ℕ) (routes : List KnownRoute) (source group : Addr)
+    → (choose rule cost routes source group ≡ None) ↔ IsUncovered routes source
 none_when rule cost routes source group =
     let costs = cost_by rule cost routes source group in
     none_by costs routes source (best_route costs routes source) (best costs routes source)
@@ -201,7 +213,8 @@ one_front (V6 xs) (V6 ys) (V4 zs) bits h k = absurd cc
 one_prefix : (a b : Prefix) (source : Addr) → a.bits ≡ b.bits → covers a source ≡ true → covers b source ≡ true → IsOnePrefix a b
 one_prefix a b source e h k = (e, one_front a.addr b.addr source a.bits h (subst (λ (n : ℕ). same_front b.addr source n ≡ true) (sym e) k))
 
-one_higher : (e : NodeId) (a : Addr) (r : Rd) (f : NodeId) (b : Addr) (s : Rd) → (e ≡ f) ↔ (a ≡ b) → IsHigher e a r f b s → IsHigher f b s e a r → Remote e a r ≡ Remote f b s
+one_higher : (e : NodeId) (a : Addr) (r : Rd) (f : NodeId) (b : Addr) (s : Rd) → (e ≡ f) ↔ (a ≡ b) → IsHigher e a r f b s → IsHigher f b s e a r
+    → Remote e a r ≡ Remote f b s
 one_higher e a r f b s told (inl l) (inl m) = absurd (not_both addr_cmp_total b a l m)
 one_higher e a r f b s told (inl l) (inr m) = absurd (not_itself addr_cmp_total a (subst (λ (x : Addr). IsLower x a) (sym (told.0 (sym m.0))) l))
 one_higher e a r f b s told (inr l) (inl m) = absurd (not_itself addr_cmp_total b (subst (λ (x : Addr). IsLower x b) (told.0 l.0) m))
@@ -229,16 +242,19 @@ one_origin : (rule : Rule) (cost : NodeId → ℕ) (Named : Addr → Type 0) →
 one_origin rule cost Named one (Local s) (Local t) told sites l m = ap (λ (site : SiteId). Local site) (sites s t refl refl)
 one_origin rule cost Named one (Local s) (Remote f b d) told sites l m = absurd m
 one_origin rule cost Named one (Remote e a r) (Local t) told sites l m = absurd l
-one_origin rule cost Named one (Remote e a r) (Remote f b d) told sites l m = one_first rule cost Named one e a r f b d (told e f a b r d refl refl) l m
+one_origin rule cost Named one (Remote e a r) (Remote f b d) told sites l m =
+    one_first rule cost Named one e a r f b d (told e f a b r d refl refl) l m
 
-pub one_choice : (rule : Rule) (cost : NodeId → ℕ) (routes : List KnownRoute) (source group : Addr) (origin other : Origin) → AreOfEdges routes → AreOfSites routes
+pub one_choice : (rule : Rule) (cost : NodeId → ℕ) (routes : List KnownRoute) (source group : Addr) (origin other : Origin) → AreOfEdges routes
+    → AreOfSites routes
     → IsChosen rule cost routes source group origin → IsChosen rule cost routes source group other → origin ≡ other
 one_choice rule cost routes source group origin other edges sites x y =
     let c = x.candidate in
     let d = y.candidate in
     let prefix = one_prefix x.route.prefix y.route.prefix source (one_length routes source x.route y.route c d) c.covering d.covering in
     sym x.of_origin
-    ∙ one_origin rule cost (IsHashed routes source group) (one_hashed routes source group) x.route.origin y.route.origin (edges x.route y.route c.among d.among)
+    ∙ one_origin rule cost (IsHashed routes source group) (one_hashed routes source group) x.route.origin y.route.origin
+    (edges x.route y.route c.among d.among)
     (λ s t. sites x.route y.route s t c.among d.among prefix) (x.first y.route d) (y.first x.route c)
     ∙ y.of_origin
 
@@ -247,11 +263,14 @@ all_by : (rule : Rule) (cost : NodeId → ℕ) (routes : List KnownRoute) (sourc
 all_by rule cost routes source group origin edges sites c None e =
     absurd (opposite (covers c.route.prefix source) c.candidate.covering ((none_when rule cost routes source group).0 e c.route c.candidate.among))
 all_by rule cost routes source group origin edges sites c (Some x) e =
-    ap (λ (o : Origin). Some o) (one_choice rule cost routes source group x origin edges sites (chosen_when rule cost routes source group x edges e) c)
+    ap (λ (o : Origin). Some o) (one_choice rule cost routes source group x origin edges sites (chosen_when rule cost routes source group x edges e)
+    c)
 
-pub all_chosen : (rule : Rule) (cost : NodeId → ℕ) (routes : List KnownRoute) (source group : Addr) (origin : Origin) → AreOfEdges routes → AreOfSites routes
+pub all_chosen : (rule : Rule) (cost : NodeId → ℕ) (routes : List KnownRoute) (source group : Addr) (origin : Origin) → AreOfEdges routes
+    → AreOfSites routes
     → IsChosen rule cost routes source group origin → choose rule cost routes source group ≡ Some origin
-all_chosen rule cost routes source group origin edges sites c = all_by rule cost routes source group origin edges sites c (choose rule cost routes source group) refl
+all_chosen rule cost routes source group origin edges sites c =
+    all_by rule cost routes source group origin edges sites c (choose rule cost routes source group) refl
 
 -- ---- the order of the list
 
@@ -267,13 +286,15 @@ module _ (routes others : List KnownRoute) (source : Addr) (same : (route : Know
     addresses = h.addresses;
     rising = h.rising;
     each = λ b. (
-      λ m. (let c = (h.each b).0 m in record { route = c.route; edge = c.edge; rd = c.rd; candidate = candidate_back c.route c.candidate; of_edge = c.of_edge }),
+      λ m. (let c = (h.each b).0 m in
+          record { route = c.route; edge = c.edge; rd = c.rd; candidate = candidate_back c.route c.candidate; of_edge = c.of_edge }),
       λ c. (h.each b).1 (record { route = c.route; edge = c.edge; rd = c.rd; candidate = candidate_too c.route c.candidate; of_edge = c.of_edge }),
     );
     named = h.named;
   }
 
-  first_back : (rule : Rule) (cost : NodeId → ℕ) (group : Addr) (x y : Origin) → Precedes rule cost (IsHashed others source group) x y → Precedes rule cost (IsHashed routes source group) x y
+  first_back : (rule : Rule) (cost : NodeId → ℕ) (group : Addr) (x y : Origin) → Precedes rule cost (IsHashed others source group) x y
+      → Precedes rule cost (IsHashed routes source group) x y
   first_back rule cost group (Local s) y p = tt
   first_back rule cost group (Remote e a r) (Local t) p = p
   first_back Highest cost group (Remote e a r) (Remote f b d) p = p
@@ -281,7 +302,8 @@ module _ (routes others : List KnownRoute) (source : Addr) (same : (route : Know
   first_back Hash cost group (Remote e a r) (Remote f b d) p = (hashed_back group a p.0, p.1)
 
   -- what is chosen of one list is chosen of another one of the same routes
-  carried : (rule : Rule) (cost : NodeId → ℕ) (group : Addr) (origin : Origin) → IsChosen rule cost others source group origin → IsChosen rule cost routes source group origin
+  carried : (rule : Rule) (cost : NodeId → ℕ) (group : Addr) (origin : Origin) → IsChosen rule cost others source group origin
+      → IsChosen rule cost routes source group origin
   carried rule cost group origin c = record {
     route = c.route;
     candidate = candidate_back c.route c.candidate;
@@ -311,7 +333,8 @@ order_by rule cost routes others source group edges sites same (Some x) (Some y)
 pub any_order : (rule : Rule) (cost : NodeId → ℕ) (routes others : List KnownRoute) (source group : Addr) → AreOfEdges routes → AreOfSites routes
     → ((route : KnownRoute) → Among route routes ↔ Among route others) → choose rule cost routes source group ≡ choose rule cost others source group
 any_order rule cost routes others source group edges sites same =
-    order_by rule cost routes others source group edges sites same (choose rule cost routes source group) (choose rule cost others source group) refl refl
+    order_by rule cost routes others source group edges sites same (choose rule cost routes source group) (choose rule cost others source group) refl
+    refl
 
 -- ---- local routes alone
 

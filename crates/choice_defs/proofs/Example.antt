@@ -11,7 +11,8 @@ use Rattle.choice_defs.specs.Example.{near_address, far_address, own_rd, here, n
 use Rattle.choice_defs.proofs.OrderLemmas.{not_itself, addr_cmp_total}
 
 apart : near_address ≡ far_address → ⊥
-apart e = let lower : IsLower near_address far_address = refl in absurd (not_itself addr_cmp_total far_address (subst (λ (x : Addr). IsLower x far_address) e lower))
+apart e = let lower : IsLower near_address far_address = refl in
+    absurd (not_itself addr_cmp_total far_address (subst (λ (x : Addr). IsLower x far_address) e lower))
 
 -- the two edges
 abbrev IsEdge : NodeId → Addr → Type 0
@@ -38,8 +39,14 @@ number_of e f h = ap (λ (x : NodeId). x.0) h
 
 told : (e f : NodeId) (a b : Addr) → IsEdge e a → IsEdge f b → (e ≡ f) ↔ (a ≡ b)
 told e f a b (inl p) (inl q) = (λ h. p.1 ∙ sym q.1, λ h. one_node e f (p.0 ∙ sym q.0))
-told e f a b (inl p) (inr q) = (λ h. absurd (let same = number_of e f h in let one = p.0 in let two = q.0 in omega (arith, same, one, two)), λ h. absurd (apart (sym p.1 ∙ h ∙ q.1)))
-told e f a b (inr p) (inl q) = (λ h. absurd (let same = number_of e f h in let one = p.0 in let two = q.0 in omega (arith, same, one, two)), λ h. absurd (apart (sym q.1 ∙ sym h ∙ p.1)))
+told e f a b (inl p) (inr q) = (
+  λ h. absurd (let same = number_of e f h in let one = p.0 in let two = q.0 in omega (arith, same, one, two)),
+  λ h. absurd (apart (sym p.1 ∙ h ∙ q.1)),
+)
+told e f a b (inr p) (inl q) = (
+  λ h. absurd (let same = number_of e f h in let one = p.0 in let two = q.0 in omega (arith, same, one, two)),
+  λ h. absurd (apart (sym q.1 ∙ sym h ∙ p.1)),
+)
 told e f a b (inr p) (inr q) = (λ h. p.1 ∙ sym q.1, λ h. one_node e f (p.0 ∙ sym q.0))
 
 of_edges : AreOfEdges routes
@@ -58,4 +65,15 @@ of_sites : AreOfSites routes
 of_sites x y s t m n prefix h k = site_of x s m h ∙ sym (site_of y t n k)
 
 pub worked : Worked
-worked = record { edges = of_edges; sites = of_sites; highest = refl; nearest = refl; number = refl; hashed = refl; other_number = refl; other_hashed = refl; alone = refl }
+worked = record {
+  edges = of_edges;
+  sites = of_sites;
+  highest = refl;
+  nearest = refl;
+  number = refl;
+  hashed = refl;
+  other_number =
+      refl;
+  other_hashed = refl;
+  alone = refl;
+}

@@ -28,13 +28,15 @@ rising_heads x y xs ys r s (inl e) m = e
 rising_heads x y xs ys r s (inr n) (inl e) = sym e
 rising_heads x y xs ys r s (inr n) (inr m) = absurd (not_both addr_cmp_total x y (r.0 y m) (s.0 x n))
 
-behind : (x y : Addr) (xs ys : List Addr) → x ≡ y → AreRising (x ∷ xs) → ((a : Addr) → Among a (x ∷ xs) → Among a (y ∷ ys)) → (a : Addr) → Among a xs → Among a ys
+behind : (x y : Addr) (xs ys : List Addr) → x ≡ y → AreRising (x ∷ xs) → ((a : Addr) → Among a (x ∷ xs) → Among a (y ∷ ys)) → (a : Addr) → Among a xs
+    → Among a ys
 behind x y xs ys e r same a m = elim (same a (inr m)) [
   | inl f ↦ absurd (not_itself addr_cmp_total x (subst (λ (b : Addr). IsLower x b) (f ∙ sym e) (r.0 a m)))
   | inr n ↦ n
 ]
 
-pub one_rising : (xs ys : List Addr) → AreRising xs → AreRising ys → ((a : Addr) → Among a xs → Among a ys) → ((a : Addr) → Among a ys → Among a xs) → xs ≡ ys
+pub one_rising : (xs ys : List Addr) → AreRising xs → AreRising ys → ((a : Addr) → Among a xs → Among a ys) → ((a : Addr) → Among a ys → Among a xs)
+    → xs ≡ ys
 one_rising [] [] r s there back = refl
 one_rising [] (y ∷ ys) r s there back = absurd (back y (inl refl))
 one_rising (x ∷ xs) [] r s there back = absurd (there x (inl refl))
@@ -45,7 +47,8 @@ one_rising (x ∷ xs) (y ∷ ys) r s there back =
 
 -- ---- one more edge
 
-put_from_by : (new x p : Edge) (xs put : List Edge) → (Among p put → (p ≡ new) ⊎ Among p xs) → (o : Ordering) → Among p (put_by o new x xs put) → (p ≡ new) ⊎ Among p (x ∷ xs)
+put_from_by : (new x p : Edge) (xs put : List Edge) → (Among p put → (p ≡ new) ⊎ Among p xs) → (o : Ordering) → Among p (put_by o new x xs put)
+    → (p ≡ new) ⊎ Among p (x ∷ xs)
 put_from_by new x p xs put k Less (inl h) = inl h
 put_from_by new x p xs put k Less (inr m) = inr m
 put_from_by new x p xs put k Equal m = inr m
@@ -57,7 +60,8 @@ put_from new p [] (inl h) = inl h
 put_from new p [] (inr n) = absurd n
 put_from new p (x ∷ xs) m = put_from_by new x p xs (put_edge new xs) (put_from new p xs) (addr_cmp new.1 x.1) m
 
-put_here_by : (new x : Edge) (xs put : List Edge) → Among new.1 (addresses put) → (o : Ordering) → addr_cmp new.1 x.1 ≡ o → Among new.1 (addresses (put_by o new x xs put))
+put_here_by : (new x : Edge) (xs put : List Edge) → Among new.1 (addresses put) → (o : Ordering) → addr_cmp new.1 x.1 ≡ o
+    → Among new.1 (addresses (put_by o new x xs put))
 put_here_by new x xs put k Less h = inl refl
 put_here_by new x xs put k Equal h = inl (one_addr new.1 x.1 h)
 put_here_by new x xs put k Greater h = inr k
@@ -66,7 +70,8 @@ put_here : (new : Edge) (xs : List Edge) → Among new.1 (addresses (put_edge ne
 put_here new [] = inl refl
 put_here new (x ∷ xs) = put_here_by new x xs (put_edge new xs) (put_here new xs) (addr_cmp new.1 x.1) refl
 
-put_kept_by : (new x : Edge) (a : Addr) (xs put : List Edge) → (Among a (addresses xs) → Among a (addresses put)) → (o : Ordering) → Among a (addresses (x ∷ xs))
+put_kept_by : (new x : Edge) (a : Addr) (xs put : List Edge) → (Among a (addresses xs) → Among a (addresses put)) → (o : Ordering)
+    → Among a (addresses (x ∷ xs))
     → Among a (addresses (put_by o new x xs put))
 put_kept_by new x a xs put k Less m = inr m
 put_kept_by new x a xs put k Equal m = m
@@ -94,15 +99,18 @@ address_from new a xs m = let found = of_edge a (put_edge new xs) m in elim (put
     among_addresses e b (y ∷ ys) (inl h) = inl (ap (λ (p : Edge). p.1) h)
     among_addresses e b (y ∷ ys) (inr n) = inr (among_addresses e b ys n)
 
-below : (new x : Edge) (xs : List Edge) → AreRising (addresses (x ∷ xs)) → IsLower new.1 x.1 → (a : Addr) → Among a (addresses (x ∷ xs)) → IsLower new.1 a
+below : (new x : Edge) (xs : List Edge) → AreRising (addresses (x ∷ xs)) → IsLower new.1 x.1 → (a : Addr) → Among a (addresses (x ∷ xs))
+    → IsLower new.1 a
 below new x xs r l a (inl h) = subst (λ (b : Addr). IsLower new.1 b) (sym h) l
 below new x xs r l a (inr m) = addr_cmp_total.trans new.1 x.1 a l (r.0 a m)
 
-above : (new x : Edge) (xs : List Edge) → AreRising (addresses (x ∷ xs)) → IsLower x.1 new.1 → (a : Addr) → (a ≡ new.1) ⊎ Among a (addresses xs) → IsLower x.1 a
+above : (new x : Edge) (xs : List Edge) → AreRising (addresses (x ∷ xs)) → IsLower x.1 new.1 → (a : Addr) → (a ≡ new.1) ⊎ Among a (addresses xs)
+    → IsLower x.1 a
 above new x xs r l a (inl h) = subst (λ (b : Addr). IsLower x.1 b) (sym h) l
 above new x xs r l a (inr m) = r.0 a m
 
-put_rising_by : (new x : Edge) (xs : List Edge) → AreRising (addresses (x ∷ xs)) → AreRising (addresses (put_edge new xs)) → (o : Ordering) → addr_cmp new.1 x.1 ≡ o
+put_rising_by : (new x : Edge) (xs : List Edge) → AreRising (addresses (x ∷ xs)) → AreRising (addresses (put_edge new xs)) → (o : Ordering)
+    → addr_cmp new.1 x.1 ≡ o
     → AreRising (addresses (put_by o new x xs (put_edge new xs)))
 put_rising_by new x xs r k Less h = (below new x xs r h, r)
 put_rising_by new x xs r k Equal h = r
@@ -123,8 +131,10 @@ record IsOf (bits : ℕ) (routes : List KnownRoute) (source : Addr) (edge : Node
   of_bits : route.prefix.bits ≡ bits
   of_edge : route.origin ≡ Remote edge address rd
 
-later : (bits : ℕ) (x : KnownRoute) (xs : List KnownRoute) (source : Addr) (e : NodeId) (a : Addr) → IsOf bits xs source e a → IsOf bits (x ∷ xs) source e a
-later bits x xs source e a f = record { route = f.route; rd = f.rd; among = inr f.among; covering = f.covering; of_bits = f.of_bits; of_edge = f.of_edge }
+later : (bits : ℕ) (x : KnownRoute) (xs : List KnownRoute) (source : Addr) (e : NodeId) (a : Addr) → IsOf bits xs source e a
+    → IsOf bits (x ∷ xs) source e a
+later bits x xs source e a f =
+    record { route = f.route; rd = f.rd; among = inr f.among; covering = f.covering; of_bits = f.of_bits; of_edge = f.of_edge }
 
 both : (p q : Bool) → (p && q) ≡ true → (p ≡ true) × (q ≡ true)
 both true q h = (refl, h)
@@ -136,7 +146,8 @@ same_number m n h = grind (arith, nat_tests)
 number_itself : (m n : ℕ) → m ≡ n → (m == n) ≡ true
 number_itself m n h = grind (arith, nat_tests)
 
-first_of : (bits : ℕ) (x : KnownRoute) (xs : List KnownRoute) (source : Addr) → is_candidate bits source x ≡ true → (e : NodeId) (a : Addr) (o : Origin) → x.origin ≡ o
+first_of : (bits : ℕ) (x : KnownRoute) (xs : List KnownRoute) (source : Addr) → is_candidate bits source x ≡ true
+    → (e : NodeId) (a : Addr) (o : Origin) → x.origin ≡ o
     → (rest : List Edge) → (Among (e, a) rest → IsOf bits xs source e a) → Among (e, a) (put_origin o rest) → IsOf bits (x ∷ xs) source e a
 first_of bits x xs source c e a (Local site) h rest k m = later bits x xs source e a (k m)
 first_of bits x xs source c e a (Remote f b rd) h rest k m = elim (put_from (f, b) (e, a) rest m) [
@@ -155,14 +166,16 @@ first_of bits x xs source c e a (Remote f b rd) h rest k m = elim (put_from (f, 
   | inr n ↦ later bits x xs source e a (k n)
 ]
 
-edge_from : (bits : ℕ) (xs : List KnownRoute) (source : Addr) (e : NodeId) (a : Addr) → Among (e, a) (edges_of bits xs source) → IsOf bits xs source e a
+edge_from : (bits : ℕ) (xs : List KnownRoute) (source : Addr) (e : NodeId) (a : Addr) → Among (e, a) (edges_of bits xs source)
+    → IsOf bits xs source e a
 edge_from bits [] source e a m = absurd m
 edge_from bits (x ∷ xs) source e a m = by (edge_from bits xs source e a) (is_candidate bits source x) refl m
   where
     rest : List Edge
     rest = edges_of bits xs source
 
-    by : (Among (e, a) rest → IsOf bits xs source e a) → (t : Bool) → is_candidate bits source x ≡ t → Among (e, a) (cond t (put_origin x.origin rest) rest)
+    by : (Among (e, a) rest → IsOf bits xs source e a) → (t : Bool) → is_candidate bits source x ≡ t
+        → Among (e, a) (cond t (put_origin x.origin rest) rest)
         → IsOf bits (x ∷ xs) source e a
     by k true h n = first_of bits x xs source h e a x.origin refl rest k n
     by k false h n = later bits x xs source e a (k n)
@@ -178,13 +191,15 @@ kept_by false o a rest m = m
 here_by : (o : Origin) (e : NodeId) (a : Addr) (r : Rd) (rest : List Edge) → o ≡ Remote e a r → Among a (addresses (put_origin o rest))
 here_by o e a r rest h = subst (λ (x : Origin). Among a (addresses (put_origin x rest))) (sym h) (put_here (e, a) rest)
 
-edge_to : (bits : ℕ) (xs : List KnownRoute) (source : Addr) (x : KnownRoute) (e : NodeId) (a : Addr) (r : Rd) → Among x xs → is_candidate bits source x ≡ true → x.origin ≡ Remote e a r
+edge_to : (bits : ℕ) (xs : List KnownRoute) (source : Addr) (x : KnownRoute) (e : NodeId) (a : Addr) (r : Rd) → Among x xs
+    → is_candidate bits source x ≡ true → x.origin ≡ Remote e a r
     → Among a (addresses (edges_of bits xs source))
 edge_to bits [] source x e a r m c h = absurd m
 edge_to bits (y ∷ ys) source x e a r (inl same) c h =
     let rest = edges_of bits ys source in
     let passes : is_candidate bits source y ≡ true = ap (is_candidate bits source) (sym same) ∙ c in
-    subst (λ (t : Bool). Among a (addresses (cond t (put_origin y.origin rest) rest))) (sym passes) (here_by y.origin e a r rest (ap (λ (z : KnownRoute). z.origin) (sym same) ∙ h))
+    subst (λ (t : Bool). Among a (addresses (cond t (put_origin y.origin rest) rest))) (sym passes)
+    (here_by y.origin e a r rest (ap (λ (z : KnownRoute). z.origin) (sym same) ∙ h))
 edge_to bits (y ∷ ys) source x e a r (inr m) c h =
     kept_by (is_candidate bits source y) y.origin a (edges_of bits ys source) (edge_to bits ys source x e a r m c h)
 
@@ -208,7 +223,8 @@ first_most x y = grind (arith, nat_tests)
 rest_most : (x y z : ℕ) → z ≤ y → z ≤ max x y
 rest_most x y z h = grind (arith, nat_tests)
 
-bits_above : (xs : List KnownRoute) (source : Addr) (o : KnownRoute) → Among o xs → covers o.prefix source ≡ true → o.prefix.bits ≤ longest_bits xs source
+bits_above : (xs : List KnownRoute) (source : Addr) (o : KnownRoute) → Among o xs → covers o.prefix source ≡ true
+    → o.prefix.bits ≤ longest_bits xs source
 bits_above [] source o m c = absurd m
 bits_above (x ∷ xs) source o (inl e) c = subst (λ (z : KnownRoute). z.prefix.bits ≤ longest_bits (x ∷ xs) source) (sym e) first
   where
@@ -216,16 +232,20 @@ bits_above (x ∷ xs) source o (inl e) c = subst (λ (z : KnownRoute). z.prefix.
     covering = ap (λ (z : KnownRoute). covers z.prefix source) (sym e) ∙ c
 
     first : x.prefix.bits ≤ longest_bits (x ∷ xs) source
-    first = subst (λ (t : Bool). x.prefix.bits ≤ max (cond t x.prefix.bits 0) (longest_bits xs source)) (sym covering) (first_most x.prefix.bits (longest_bits xs source))
-bits_above (x ∷ xs) source o (inr m) c = rest_most (cond (covers x.prefix source) x.prefix.bits 0) (longest_bits xs source) o.prefix.bits (bits_above xs source o m c)
+    first = subst (λ (t : Bool). x.prefix.bits ≤ max (cond t x.prefix.bits 0) (longest_bits xs source)) (sym covering)
+        (first_most x.prefix.bits (longest_bits xs source))
+bits_above (x ∷ xs) source o (inr m) c =
+    rest_most (cond (covers x.prefix source) x.prefix.bits 0) (longest_bits xs source) o.prefix.bits (bits_above xs source o m c)
 
 zero_least : (n : ℕ) → 0 ≤ n
 zero_least n = omega (arith)
 
-bits_least : (xs : List KnownRoute) (source : Addr) (n : ℕ) → ((o : KnownRoute) → Among o xs → covers o.prefix source ≡ true → o.prefix.bits ≤ n) → longest_bits xs source ≤ n
+bits_least : (xs : List KnownRoute) (source : Addr) (n : ℕ) → ((o : KnownRoute) → Among o xs → covers o.prefix source ≡ true → o.prefix.bits ≤ n)
+    → longest_bits xs source ≤ n
 bits_least [] source n k = zero_least n
 bits_least (x ∷ xs) source n k =
-    at_most (cond (covers x.prefix source) x.prefix.bits 0) (longest_bits xs source) n (by (covers x.prefix source) refl) (bits_least xs source n (λ o m. k o (inr m)))
+    at_most (cond (covers x.prefix source) x.prefix.bits 0) (longest_bits xs source) n (by (covers x.prefix source) refl)
+    (bits_least xs source n (λ o m. k o (inr m)))
   where
     by : (t : Bool) → covers x.prefix source ≡ t → cond t x.prefix.bits 0 ≤ n
     by true c = k x (inl refl) c
@@ -237,7 +257,8 @@ level m n h k = omega (arith, h, k)
 -- a candidate is of the longest length, and passes the test
 passes : (xs : List KnownRoute) (source : Addr) (x : KnownRoute) → IsCandidate xs source x → is_candidate (longest_bits xs source) source x ≡ true
 passes xs source x c =
-    let same = level x.prefix.bits (longest_bits xs source) (bits_above xs source x c.among c.covering) (bits_least xs source x.prefix.bits c.longest) in
+    let same =
+    level x.prefix.bits (longest_bits xs source) (bits_above xs source x c.among c.covering) (bits_least xs source x.prefix.bits c.longest) in
     ap (λ (t : Bool). t && x.prefix.bits == longest_bits xs source) c.covering ∙ number_itself x.prefix.bits (longest_bits xs source) same
 
 pub edge_of_candidate : (xs : List KnownRoute) (source : Addr) (e : NodeId) (a : Addr) → Among (e, a) (candidate_edges xs source)
@@ -325,16 +346,19 @@ names routes source group address c =
     edges : List Edge
     edges = candidate_edges routes source
 
-pub some_hashed : (routes : List KnownRoute) (source group address : Addr) → IsEdgeOfCandidate routes source address → (named : Addr) × IsHashed routes source group named
+pub some_hashed : (routes : List KnownRoute) (source group address : Addr) → IsEdgeOfCandidate routes source address
+    → (named : Addr) × IsHashed routes source group named
 some_hashed routes source group address c = let found = names routes source group address c in (found.address, found.hashed)
 
 same_some : {X : Type 0} (x y : X) → Some x ≡ Some y → x ≡ y
 same_some x y h = cc
 
-pub one_hashed : (routes : List KnownRoute) (source group named other : Addr) → IsHashed routes source group named → IsHashed routes source group other → named ≡ other
+pub one_hashed : (routes : List KnownRoute) (source group named other : Addr) → IsHashed routes source group named
+    → IsHashed routes source group other → named ≡ other
 one_hashed routes source group named other h k =
     let same = one_rising h.addresses k.addresses h.rising k.rising (λ a m. (k.each a).1 ((h.each a).0 m)) (λ a m. (h.each a).1 ((k.each a).0 m)) in
     same_some named other (sym h.named ∙ ap (λ (xs : List Addr). slice_get xs (hash_of source group % length xs)) same ∙ k.named)
 
-pub hashed_candidate : (routes : List KnownRoute) (source group named : Addr) → IsHashed routes source group named → IsEdgeOfCandidate routes source named
+pub hashed_candidate : (routes : List KnownRoute) (source group named : Addr) → IsHashed routes source group named
+    → IsEdgeOfCandidate routes source named
 hashed_candidate routes source group named h = (h.each named).0 (at_place h.addresses (hash_of source group % length h.addresses) named h.named)

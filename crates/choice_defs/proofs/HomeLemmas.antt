@@ -42,7 +42,8 @@ pick_short : (a b : Route) (rest : Option Route) → nat_le b.prefix.bits a.pref
 pick_short a b None h = sym (kept a b (no_longer a.prefix.bits b.prefix.bits h))
 pick_short a b (Some c) h = elim (cases_Bool (nat_lt b.prefix.bits c.prefix.bits)) [
   | inl e ↦ sym (ap (pick a) (passed b c e))
-  | inr e ↦ kept a c (not_beyond a.prefix.bits b.prefix.bits c.prefix.bits h e) ∙ sym (kept a b (no_longer a.prefix.bits b.prefix.bits h)) ∙ sym (ap (pick a) (kept b c e))
+  | inr e ↦ kept a c (not_beyond a.prefix.bits b.prefix.bits c.prefix.bits h e) ∙ sym (kept a b (no_longer a.prefix.bits b.prefix.bits h))
+      ∙ sym (ap (pick a) (kept b c e))
 ]
 
 pick_long : (a b : Route) (rest : Option Route) → nat_le b.prefix.bits a.prefix.bits ≡ false → pick b rest ≡ pick a (pick b rest)
@@ -56,9 +57,11 @@ after_pick : (ys : List Route) (a : Route) → longest_after (Some a) ys ≡ pic
 after_pick [] a = refl
 after_pick (y ∷ ys) a = elim (cases_Bool (nat_le y.prefix.bits a.prefix.bits)) [
   | inl e ↦
-      ap (λ (t : Bool). longest_after (cond t (Some a) (Some y)) ys) e ∙ after_pick ys a ∙ pick_short a y (longest_after None ys) e ∙ ap (pick a) (sym (after_pick ys y))
+      ap (λ (t : Bool). longest_after (cond t (Some a) (Some y)) ys) e ∙ after_pick ys a ∙ pick_short a y (longest_after None ys) e
+      ∙ ap (pick a) (sym (after_pick ys y))
   | inr e ↦
-      ap (λ (t : Bool). longest_after (cond t (Some a) (Some y)) ys) e ∙ after_pick ys y ∙ pick_long a y (longest_after None ys) e ∙ ap (pick a) (sym (after_pick ys y))
+      ap (λ (t : Bool). longest_after (cond t (Some a) (Some y)) ys) e ∙ after_pick ys y ∙ pick_long a y (longest_after None ys) e
+      ∙ ap (pick a) (sym (after_pick ys y))
 ]
 
 -- ---- the best of local routes
@@ -72,7 +75,8 @@ moved : (a b : Route) (t : Bool) → cond t (Some (of_site b)) (Some (of_site a)
 moved a b true = refl
 moved a b false = refl
 
-better_pick : (cost : NodeId → ℕ) (a : Route) (rest : Option Route) → better_of cost true (of_site a) (option_map of_site rest) ≡ option_map of_site (pick a rest)
+better_pick : (cost : NodeId → ℕ) (a : Route) (rest : Option Route)
+    → better_of cost true (of_site a) (option_map of_site rest) ≡ option_map of_site (pick a rest)
 better_pick cost a None = refl
 better_pick cost a (Some b) =
     ap (λ (t : Bool). cond t (Some (of_site b)) (Some (of_site a))) (by_length (nat_lt a.prefix.bits b.prefix.bits) (a.prefix.bits == b.prefix.bits))
@@ -84,13 +88,15 @@ one_more cost a rest false = refl
 one_more cost a rest true = better_pick cost a (longest_after None rest) ∙ ap (option_map of_site) (sym (after_pick rest a))
 
 best_local : (cost : NodeId → ℕ) (routes : List Route) (source : Addr)
-    → best_route cost (map of_site routes) source ≡ option_map of_site (longest_after None (filter (λ (route : Route). covers route.prefix source) routes))
+    → best_route cost (map of_site routes) source
+    ≡ option_map of_site (longest_after None (filter (λ (route : Route). covers route.prefix source) routes))
 best_local cost [] source = refl
 best_local cost (a ∷ more) source =
     ap (better_of cost (covers a.prefix source) (of_site a)) (best_local cost more source)
     ∙ one_more cost a (filter (λ (route : Route). covers route.prefix source) more) (covers a.prefix source)
 
-of_found : (found : Option Route) → option_map (λ (route : KnownRoute). route.origin) (option_map of_site found) ≡ option_map (λ (site : SiteId). Local site) (option_map (λ (route : Route). route.site) found)
+of_found : (found : Option Route) → option_map (λ (route : KnownRoute). route.origin) (option_map of_site found)
+    ≡ option_map (λ (site : SiteId). Local site) (option_map (λ (route : Route). route.site) found)
 of_found None = refl
 of_found (Some a) = refl
 

@@ -48,11 +48,15 @@ use Rattle.control_laws.proofs.Zipped.{Stands, zipped, zip_back, gathered_zip, z
 where_not : {X : Type 0} (b : Bool) (x y : X) → b ≡ false → cond b x y ≡ y
 where_not b x y h = ap (λ (c : Bool). cond c x y) h
 
-pub between_at : (kept : Kept) → AreTreesBetween kept → (core : Core) (it : OwnTree) → Among it (trees_of kept) → IsTreeBetween (place_of kept.home core) (control_of kept) it.own it.tree
-between_at kept between core it a = of_each (λ (other : OwnTree). IsTreeBetween (place_of kept.home core) (control_of kept) other.own other.tree) (trees_of kept) (between.each core) it a
+pub between_at : (kept : Kept) → AreTreesBetween kept → (core : Core) (it : OwnTree) → Among it (trees_of kept)
+    → IsTreeBetween (place_of kept.home core) (control_of kept) it.own it.tree
+between_at kept between core it a =
+    of_each (λ (other : OwnTree). IsTreeBetween (place_of kept.home core) (control_of kept) other.own other.tree) (trees_of kept) (between.each core)
+    it a
 
 -- what is kept of a VRF between two refreshes of what may be other tables
-part_between : (kept : Kept) (peers : FinMap node_cmp Taken) (it : OwnTree) → ((core : Core) → IsTreeBetween (place_of kept.home core) (record (control_of kept) { peers = peers }) it.own it.tree)
+part_between : (kept : Kept) (peers : FinMap node_cmp Taken) (it : OwnTree)
+    → ((core : Core) → IsTreeBetween (place_of kept.home core) (record (control_of kept) { peers = peers }) it.own it.tree)
     → IsPart kept.home peers it
 part_between kept peers it is =
     let control : Control = record (control_of kept) { peers = peers } in
@@ -84,7 +88,8 @@ are_between kept trees = between_together kept (full_of kept trees) (parts_of ke
 
 -- ---- trees with other routes of peers
 
-module _ (kept : Kept) (peers : FinMap node_cmp Taken) (others : List TreeData) (R : OwnTree → TreeData → Type 0) (zip : AllZip R (trees_of kept) others)
+module _ (kept : Kept) (peers : FinMap node_cmp Taken) (others : List TreeData) (R : OwnTree → TreeData → Type 0)
+    (zip : AllZip R (trees_of kept) others)
     (customers : (it : OwnTree) (new : TreeData) → R it new → KeepsCustomers it.tree new) where
   abbrev changed : Kept
   changed = record kept { trees = others; peers = peers }
@@ -97,22 +102,27 @@ module _ (kept : Kept) (peers : FinMap node_cmp Taken) (others : List TreeData) 
   routes_are = same_control _ _
       (same_entries _ _ (λ at.
       entries_gathered changed at
-      ∙ gathered_zip None option_or (Stands R) (entry_in at) (entry_in at) (λ it new s. ap (λ (m : Entries). maps.get m at) (customers it new.tree s.is).entries) (trees_of kept) (trees_of changed) pairs
+      ∙ gathered_zip None option_or (Stands R) (entry_in at) (entry_in at)
+      (λ it new s. ap (λ (m : Entries). maps.get m at) (customers it new.tree s.is).entries) (trees_of kept) (trees_of changed) pairs
       ∙ sym (entries_gathered kept at)))
       (same_notes _ _ (λ note.
       notes_gathered changed note
       ∙ gathered_zip false (λ a b. a || b) (Stands R) (note_in (tree_note note)) (note_in (tree_note note))
-      (λ it new s. ap (λ (m : FinSet tree_keys.note_cmp). sets.contains m (tree_note note)) (customers it new.tree s.is).notes) (trees_of kept) (trees_of changed) pairs
+      (λ it new s. ap (λ (m : FinSet tree_keys.note_cmp). sets.contains m (tree_note note)) (customers it new.tree s.is).notes) (trees_of kept)
+      (trees_of changed) pairs
       ∙ sym (notes_gathered kept note)))
       (same_selections _ _ (λ key.
       selections_gathered changed key
       ∙ gathered_zip None option_or (Stands R) (selected_in key) (selected_in key)
-      (λ it new s i. cond (((s.own i).id.0) == key.vrf.0) (option_map selected_of (find (is_of key.pattern) ((customers it new.tree s.is).selections i))) None) (trees_of kept) (trees_of changed) pairs
+      (λ it new s i. cond (((s.own i).id.0) == key.vrf.0)
+      (option_map selected_of (find (is_of key.pattern) ((customers it new.tree s.is).selections i))) None) (trees_of kept) (trees_of changed)
+      pairs
       ∙ sym (selections_gathered kept key)))
       (same_flows _ _ (λ key.
       flows_gathered changed key
       ∙ gathered_zip None option_or (Stands R) (choice_in key) (choice_in key)
-      (λ it new s i. cond (((s.own i).id.0) == key.vrf.0) (option_map upstream_by (maps.get ((customers it new.tree s.is).flows i) (flow_of key))) None) (trees_of kept) (trees_of changed) pairs
+      (λ it new s i. cond (((s.own i).id.0) == key.vrf.0) (option_map upstream_by (maps.get ((customers it new.tree s.is).flows i) (flow_of key)))
+      None) (trees_of kept) (trees_of changed) pairs
       ∙ sym (flows_gathered kept key)))
       refl
 
@@ -125,11 +135,13 @@ module _ (kept : Kept) (peers : FinMap node_cmp Taken) (others : List TreeData) 
       subst (IsPart kept.home peers) (λ i. record { own = sym s.own i; tree = new.tree })
       (part_between kept peers (with it new.tree) (λ core. each core it new.tree among s.is)))
 
-pub routes_make : (kept : Kept) (peers : FinMap node_cmp Taken) (others : List TreeData) → AreTreesBetween kept → AllZip (HasRoutes kept peers) (trees_of kept) others
+pub routes_make : (kept : Kept) (peers : FinMap node_cmp Taken) (others : List TreeData) → AreTreesBetween kept
+    → AllZip (HasRoutes kept peers) (trees_of kept) others
     → MakesBetween (record kept { trees = others; peers = peers }) (record (control_of kept) { peers = peers })
 routes_make kept peers others between zip = record {
   is = routes_are kept peers others (HasRoutes kept peers) zip (λ it new h. h.customers);
-  trees = routes_between kept peers others (HasRoutes kept peers) zip (λ it new h. h.customers) (full_between kept between) (λ core it new a h. h.tree core);
+  trees = routes_between kept peers others (HasRoutes kept peers) zip (λ it new h. h.customers) (full_between kept between)
+      (λ core it new a h. h.tree core);
 }
 
 -- ---- trees behind a refresh
@@ -140,7 +152,8 @@ upstream_again (Some None) = refl
 upstream_again (Some (Some (Site site))) = refl
 upstream_again (Some (Some (Remote edge rd import source_as))) = refl
 
-module _ (kept : Kept) (core : Core) (now : ℕ) (others : List TreeData) (zip : AllZip (IsRefreshed (core.cost kept.home.me) now) kept.trees others) (full : AreFull kept) where
+module _ (kept : Kept) (core : Core) (now : ℕ) (others : List TreeData) (zip : AllZip (IsRefreshed (core.cost kept.home.me) now) kept.trees others)
+    (full : AreFull kept) where
   abbrev place : EdgePlace
   place = place_of kept.home core
 
@@ -164,7 +177,8 @@ module _ (kept : Kept) (core : Core) (now : ℕ) (others : List TreeData) (zip :
   refreshed_parts parts new a =
       let (it, among, s) = zip_back (Stands Refreshed) (trees_of kept) (trees_of behind) refreshed_pairs new a in
       let part = parts it among in
-      subst (IsPart kept.home kept.peers) (is_with it new s) (record { entries = part.entries; notes = part.notes; selections = part.selections; derived = part.derived })
+      subst (IsPart kept.home kept.peers) (is_with it new s)
+      (record { entries = part.entries; notes = part.notes; selections = part.selections; derived = part.derived })
 
   refreshed_wants : AreWanting behind
   refreshed_wants new a =
@@ -175,9 +189,11 @@ module _ (kept : Kept) (core : Core) (now : ℕ) (others : List TreeData) (zip :
   refreshed_full = zip_full kept Refreshed others full by_trees
 
   module _ (parts : AreParts kept) (told : (it : OwnTree) → Among it (trees_of kept) → (flow : Flow)
-      → tree_flows.flow_of it.tree.vrf (core.cost kept.home.me) now flow ≡ option_map choice_of (maps.get (flows_at place now (control_of kept)) (flow_in it.own.id flow))) where
+      → tree_flows.flow_of it.tree.vrf (core.cost kept.home.me) now flow
+      ≡ option_map choice_of (maps.get (flows_at place now (control_of kept)) (flow_in it.own.id flow))) where
     -- the flow of a VRF of the edge
-    flow_told : (new : OwnTree) → Among new (trees_of behind) → (flow : Flow) → maps.get (control_of behind).flows (flow_in new.own.id flow) ≡ maps.get (flows_at place now (control_of kept)) (flow_in new.own.id flow)
+    flow_told : (new : OwnTree) → Among new (trees_of behind) → (flow : Flow)
+        → maps.get (control_of behind).flows (flow_in new.own.id flow) ≡ maps.get (flows_at place now (control_of kept)) (flow_in new.own.id flow)
     flow_told new a flow =
         let (it, among, s) = zip_back (Stands Refreshed) (trees_of kept) (trees_of behind) refreshed_pairs new a in
         flow_at behind (refreshed_parts parts) new a flow ∙ ap (option_map upstream_by) (s.is.flows flow ∙ told it among flow)
@@ -185,22 +201,28 @@ module _ (kept : Kept) (core : Core) (now : ℕ) (others : List TreeData) (zip :
         ∙ ap (λ (own : OwnVrf). maps.get (flows_at place now (control_of kept)) (flow_in own.id flow)) (sym s.own)
 
     -- a flow of another VRF is none
-    none_at : (key : VrfFlow) → ((new : OwnTree) → Among new (trees_of behind) → (new.own.id.0 == key.vrf.0) ≡ false) → (o : Option (Option Upstream)) → maps.get (flows_at place now (control_of kept)) key ≡ o → o ≡ None
+    none_at : (key : VrfFlow) → ((new : OwnTree) → Among new (trees_of behind) → (new.own.id.0 == key.vrf.0) ≡ false) → (o : Option (Option Upstream))
+        → maps.get (flows_at place now (control_of kept)) key ≡ o → o ≡ None
     none_at key h None e = refl
     none_at key h (Some up) e =
         let asked = is_asked place now (control_of kept) key up e in
-        let (new, among, is) = map_among (λ (it : OwnTree). it.own) asked.own (trees_of behind) (subst (Among asked.own) (sym refreshed_full.all) asked.of_edge) in
-        absurd (not_both (new.own.id.0 == key.vrf.0) (eq-eqb new.own.id.0 key.vrf.0 (ap (λ (own : OwnVrf). own.id.0) (sym is) ∙ ap (λ (v : VrfId). v.0) asked.of_flow)) (h new among))
+        let (new, among, is) =
+        map_among (λ (it : OwnTree). it.own) asked.own (trees_of behind) (subst (Among asked.own) (sym refreshed_full.all) asked.of_edge) in
+        absurd (not_both (new.own.id.0 == key.vrf.0)
+        (eq-eqb new.own.id.0 key.vrf.0 (ap (λ (own : OwnVrf). own.id.0) (sym is) ∙ ap (λ (v : VrfId). v.0) asked.of_flow)) (h new among))
 
     flows_are : (key : VrfFlow) → maps.get (control_of behind).flows key ≡ maps.get (flows_at place now (control_of kept)) key
     flows_are key = by (or_not options (λ (own : OwnVrf). own.id.0 == key.vrf.0) (of_number key.vrf.0) (choice_in key) (trees_of behind))
       where
-        by : ((new : OwnTree) × Among new (trees_of behind) × ((new.own.id.0 == key.vrf.0) ≡ true)) ⊎ ((new : OwnTree) → Among new (trees_of behind) → (new.own.id.0 == key.vrf.0) ≡ false)
+        by : ((new : OwnTree) × Among new (trees_of behind) × ((new.own.id.0 == key.vrf.0) ≡ true))
+            ⊎ ((new : OwnTree) → Among new (trees_of behind) → (new.own.id.0 == key.vrf.0) ≡ false)
             → maps.get (control_of behind).flows key ≡ maps.get (flows_at place now (control_of kept)) key
         by (inl found) =
             let number = eqb-true found.0.own.id.0 key.vrf.0 found.2 in
-            let here : flow_in found.0.own.id (flow_of key) ≡ key = λ i. record { vrf = record { 0 = number i }; source = key.source; group = key.group } in
-            subst (λ (k : VrfFlow). maps.get (control_of behind).flows k ≡ maps.get (flows_at place now (control_of kept)) k) here (flow_told found.0 found.1 (flow_of key))
+            let here : flow_in found.0.own.id (flow_of key) ≡ key =
+            λ i. record { vrf = record { 0 = number i }; source = key.source; group = key.group } in
+            subst (λ (k : VrfFlow). maps.get (control_of behind).flows k ≡ maps.get (flows_at place now (control_of kept)) k) here
+            (flow_told found.0 found.1 (flow_of key))
         by (inr none) =
             flow_nowhere behind (refreshed_parts parts) key none ∙ sym (none_at key none (maps.get (flows_at place now (control_of kept)) key) refl)
 
@@ -209,7 +231,8 @@ module _ (kept : Kept) (core : Core) (now : ℕ) (others : List TreeData) (zip :
       is = same_control _ _
           (same_entries _ _ (λ at.
           entries_gathered behind at
-          ∙ gathered_zip None option_or (Stands Refreshed) (entry_in at) (entry_in at) (λ it new s i. maps.get ((s.is.rest i).vrf.entries) at) (trees_of kept) (trees_of behind) refreshed_pairs
+          ∙ gathered_zip None option_or (Stands Refreshed) (entry_in at) (entry_in at) (λ it new s i. maps.get ((s.is.rest i).vrf.entries) at)
+          (trees_of kept) (trees_of behind) refreshed_pairs
           ∙ sym (entries_gathered kept at)))
           (same_notes _ _ (λ note.
           notes_gathered behind note
@@ -219,7 +242,8 @@ module _ (kept : Kept) (core : Core) (now : ℕ) (others : List TreeData) (zip :
           (same_selections _ _ (λ key.
           selections_gathered behind key
           ∙ gathered_zip None option_or (Stands Refreshed) (selected_in key) (selected_in key)
-          (λ it new s i. cond (((s.own i).id.0) == key.vrf.0) (option_map selected_of (find (is_of key.pattern) ((s.is.rest i).root.selections))) None) (trees_of kept) (trees_of behind) refreshed_pairs
+          (λ it new s i. cond (((s.own i).id.0) == key.vrf.0) (option_map selected_of (find (is_of key.pattern) ((s.is.rest i).root.selections)))
+          None) (trees_of kept) (trees_of behind) refreshed_pairs
           ∙ sym (selections_gathered kept key)))
           (same_flows _ _ flows_are)
           refl;
@@ -228,15 +252,18 @@ module _ (kept : Kept) (core : Core) (now : ℕ) (others : List TreeData) (zip :
 
   -- where the scenario meets its rules, the peers are nodes of it, and prefixes are whole
   pub trees_refreshed : AreTreesBetween kept → Rules kept.home.scenario → AreNodes place (control_of kept)
-      → ((own : OwnVrf) → Among own (own_vrfs place) → AreWhole (known_routes place (control_of kept) own)) → Makes behind (refreshed place now (control_of kept))
+      → ((own : OwnVrf) → Among own (own_vrfs place) → AreWhole (known_routes place (control_of kept) own))
+      → Makes behind (refreshed place now (control_of kept))
   trees_refreshed between rules nodes whole =
       refreshed_makes (parts_between kept between) (λ it a flow.
       let own = subst (Among it.own) full.all (among_map (λ (o : OwnTree). o.own) it (trees_of kept) a) in
       looked_up place now (control_of kept) it.own (as_wanted it.tree) flow own (between_at kept between core it a) rules nodes (whole it.own own))
 
 -- a refresh behind the effect of a call is its step
-pub step_is : (old between new : Kept) (core : Core) (now : ℕ) (call : Call) → is_vrf_step call ≡ true → control_of between ≡ effect (place_of old.home core) now (control_of old) call
-    → Makes new (refreshed (place_of old.home core) now (control_of between)) → Makes new (control_step (place_of old.home core) now (control_of old) call)
+pub step_is : (old between new : Kept) (core : Core) (now : ℕ) (call : Call) → is_vrf_step call ≡ true
+    → control_of between ≡ effect (place_of old.home core) now (control_of old) call
+    → Makes new (refreshed (place_of old.home core) now (control_of between))
+    → Makes new (control_step (place_of old.home core) now (control_of old) call)
 step_is old between new core now call step is makes =
     let place = place_of old.home core in
     let own : Control = effect place now (control_of old) call in

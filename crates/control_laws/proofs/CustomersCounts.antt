@@ -70,23 +70,29 @@ module _ (kept : Kept) (full : AreFull kept) (parts : AreParts kept) where
     where
       by : (t : Bool) → its_iface e.0 it.own ≡ t → t ≡ true
       by true h = refl
-      by false h = absurd (none_there (maps.get it.tree.vrf.entries e.0) e.1 (entry_get entry_cmp_total it.tree.vrf.entries e.0 e.1 b) ((parts it a).entries e.0 h))
+      by false h =
+          absurd (none_there (maps.get it.tree.vrf.entries e.0) e.1 (entry_get entry_cmp_total it.tree.vrf.entries e.0 e.1 b)
+          ((parts it a).entries e.0 h))
 
-  sum-entries : (g : IfaceEntry × Expiry → ℕ) → sum_by g (maps.entries (control_of kept).entries) ≡ sum_by (λ tree. sum_by g (maps.entries tree.vrf.entries)) kept.trees
+  sum-entries : (g : IfaceEntry × Expiry → ℕ) → sum_by g (maps.entries (control_of kept).entries)
+      ≡ sum_by (λ tree. sum_by g (maps.entries tree.vrf.entries)) kept.trees
   sum-entries g =
-      sum-owned entry_cmp_total entry_cmp_exact its_iface (λ at. of_iface kept.home.scenario at.iface) entries_in g (trees_of kept) (apart kept) entry_own (λ it a. map_once it.tree.vrf.entries)
+      sum-owned entry_cmp_total entry_cmp_exact its_iface (λ at. of_iface kept.home.scenario at.iface) entries_in g (trees_of kept) (apart kept)
+      entry_own (λ it a. map_once it.tree.vrf.entries)
       ∙ sum-trees kept full (λ tree. sum_by g (maps.entries tree.vrf.entries))
 
   pub entries_counted : maps.len (control_of kept).entries ≡ sum_by (λ tree. maps.len tree.vrf.entries) kept.trees
   entries_counted =
       len-sum (control_of kept).entries ∙ sum-entries (λ e. 1)
-      ∙ sum-alike (λ tree. sum_by (λ (e : IfaceEntry × Expiry). 1) (maps.entries tree.vrf.entries)) (λ tree. maps.len tree.vrf.entries) kept.trees (λ tree a. sym (len-sum tree.vrf.entries))
+      ∙ sum-alike (λ tree. sum_by (λ (e : IfaceEntry × Expiry). 1) (maps.entries tree.vrf.entries)) (λ tree. maps.len tree.vrf.entries) kept.trees
+      (λ tree a. sym (len-sum tree.vrf.entries))
 
   pub entries_due : (now : ℕ) → due (control_of kept).entries now ≡ sum_by (λ tree. due tree.vrf.entries now) kept.trees
   entries_due now =
       let ended : Expiry → Bool = λ expiry. not (is_after expiry now) in
       count-sum ended (control_of kept).entries ∙ sum-entries (λ e. cond (ended e.1) 1 0)
-      ∙ sum-alike (λ tree. sum_by (λ (e : IfaceEntry × Expiry). cond (ended e.1) 1 0) (maps.entries tree.vrf.entries)) (λ tree. due tree.vrf.entries now) kept.trees
+      ∙ sum-alike (λ tree. sum_by (λ (e : IfaceEntry × Expiry). cond (ended e.1) 1 0) (maps.entries tree.vrf.entries))
+      (λ tree. due tree.vrf.entries now) kept.trees
       (λ tree a. sym (count-sum ended tree.vrf.entries))
 
   -- ---- notes
@@ -101,7 +107,8 @@ module _ (kept : Kept) (full : AreFull kept) (parts : AreParts kept) where
   notes_are = same_notes _ _ (λ note.
       notes_gathered kept note
       ∙ sym (contains-gathered note_total notes_in note (trees_of kept)
-      ∙ gathered_alike false (λ a b. a || b) (λ (it : OwnTree). list_any (eq_by_cmp note_cmp note) (notes_in it)) (note_in (tree_note note)) (trees_of kept)
+      ∙ gathered_alike false (λ a b. a || b) (λ (it : OwnTree). list_any (eq_by_cmp note_cmp note) (notes_in it)) (note_in (tree_note note))
+      (trees_of kept)
       (λ it a. any_noted note (in_order it.tree.vrf.notes) ∙ sym (contains_in_order tree_note_total it.tree.vrf.notes (tree_note note)))))
 
   note_own : (it : OwnTree) → Among it (trees_of kept) → (note : Note) → Among note (notes_in it) → note_iface note it.own ≡ true
@@ -158,7 +165,8 @@ module _ (kept : Kept) (full : AreFull kept) (parts : AreParts kept) where
     single_at it a = of_each (λ (tree : TreeData). AreSingle tree.root.selections) kept.trees single it.tree
         (subst (Among it.tree) full.full (among_map (λ (o : OwnTree). o.tree) it (trees_of kept) a))
 
-    sum-selections : (g : VrfPattern × Selected → ℕ) → sum_by g (maps.entries (control_of kept).selections) ≡ sum_by (λ (it : OwnTree). sum_by g (selections_in it)) (trees_of kept)
+    sum-selections : (g : VrfPattern × Selected → ℕ)
+        → sum_by g (maps.entries (control_of kept).selections) ≡ sum_by (λ (it : OwnTree). sum_by g (selections_in it)) (trees_of kept)
     sum-selections g =
         sum-owned pattern_total pattern_exact of_pattern (λ key. of_number key.vrf.0) selections_in g (trees_of kept) (apart kept) selection_own
         (λ it a. selections_once it.own.id it.tree.root.selections (single_at it a))
@@ -166,12 +174,14 @@ module _ (kept : Kept) (full : AreFull kept) (parts : AreParts kept) where
     pub selections_counted : maps.len (control_of kept).selections ≡ sum_by (λ tree. length tree.root.selections) kept.trees
     selections_counted =
         len-sum (control_of kept).selections ∙ sum-selections (λ e. 1)
-        ∙ sum-alike (λ (it : OwnTree). sum_by (λ (e : VrfPattern × Selected). 1) (selections_in it)) (λ (it : OwnTree). length it.tree.root.selections) (trees_of kept)
+        ∙ sum-alike (λ (it : OwnTree). sum_by (λ (e : VrfPattern × Selected). 1) (selections_in it))
+        (λ (it : OwnTree). length it.tree.root.selections) (trees_of kept)
         (λ it a. sum-one (selections_in it) ∙ length-map it.tree.root.selections (selected_by it.own.id))
         ∙ sum-trees kept full (λ tree. length tree.root.selections)
 
     pub selections_due : (now : ℕ)
-        → count_by (is_selection_due kept.home.scenario.delay now) (maps.values (control_of kept).selections) ≡ sum_by (λ tree. count_by (is_waiting tree.root.delay now) tree.root.selections) kept.trees
+        → count_by (is_selection_due kept.home.scenario.delay now) (maps.values (control_of kept).selections)
+        ≡ sum_by (λ tree. count_by (is_waiting tree.root.delay now) tree.root.selections) kept.trees
     selections_due now =
         let waits : Selected → Bool = is_selection_due kept.home.scenario.delay now in
         count-sum waits (control_of kept).selections ∙ sum-selections (λ e. cond (waits e.1) 1 0)
@@ -183,7 +193,8 @@ module _ (kept : Kept) (full : AreFull kept) (parts : AreParts kept) where
 
 -- ---- behind a message
 
-pub sum-set : {X : Type 0} (f : X → ℕ) (xs : List X) (number : ℕ) (x y : X) → slice_get xs number ≡ Some x → sum_by f (slice_set xs number y) + f x ≡ sum_by f xs + f y
+pub sum-set : {X : Type 0} (f : X → ℕ) (xs : List X) (number : ℕ) (x y : X) → slice_get xs number ≡ Some x
+    → sum_by f (slice_set xs number y) + f x ≡ sum_by f xs + f y
 sum-set f [] number x y h = absurd cc
 sum-set f (z ∷ xs) zero x y h =
     let same : f z ≡ f x = here f z x h in
@@ -199,7 +210,8 @@ sum-set f (z ∷ xs) (suc number) x y h =
     let new = sum_by-cons f z (slice_set xs number y) in
     omega (arith, rest, old, new)
 
-pub tree_there : (owns : List OwnVrf) (trees : List TreeData) (number : ℕ) (it : OwnTree) → slice_get (own_trees owns trees) number ≡ Some it → slice_get trees number ≡ Some it.tree
+pub tree_there : (owns : List OwnVrf) (trees : List TreeData) (number : ℕ) (it : OwnTree) → slice_get (own_trees owns trees) number ≡ Some it
+    → slice_get trees number ≡ Some it.tree
 tree_there [] trees number it h = absurd cc
 tree_there (own ∷ owns) [] number it h = absurd cc
 tree_there (own ∷ owns) (tree ∷ trees) zero it h = (let same : record { own = own; tree = tree } ≡ it = cc in ap (λ (x : OwnTree). Some x.tree) same)
@@ -211,7 +223,8 @@ module _ (kept : Kept) (trees : AreTrees kept) (number : ℕ) (it : OwnTree) (at
   taken = pim_taken iface message now it.tree
 
   -- the entries behind a message are those of the changed tree and of the others
-  pub applied_counted : maps.len (applied (control_of kept).entries iface message now) ≡ sum_by (λ tree. maps.len tree.vrf.entries) (slice_set kept.trees number taken)
+  pub applied_counted : maps.len (applied (control_of kept).entries iface message now)
+      ≡ sum_by (λ tree. maps.len tree.vrf.entries) (slice_set kept.trees number taken)
   applied_counted =
       let made = pim_makes kept trees number it at_number iface own message now no_core in
       let new = with_tree number taken kept in
@@ -223,7 +236,8 @@ module _ (kept : Kept) (trees : AreTrees kept) (number : ℕ) (it : OwnTree) (at
       let f : TreeData → ℕ = λ tree. maps.len tree.vrf.entries in
       let then = applied_counted in
       let before = entries_counted kept (full_of kept trees) (parts_of kept trees) in
-      let both = sum-set f kept.trees number it.tree taken (tree_there (vrfs_from kept.home.me 0 kept.home.scenario.vrfs) kept.trees number it at_number) in
+      let both =
+      sum-set f kept.trees number it.tree taken (tree_there (vrfs_from kept.home.me 0 kept.home.scenario.vrfs) kept.trees number it at_number) in
       omega (arith, then, before, both)
 
 -- ---- selections of which no pattern stands twice
@@ -236,11 +250,13 @@ single_found pattern selections new = by (find (is_of pattern) selections) refl
     by (Some found) e = (let is = find_is pattern selections found e in absurd (new (found, is.0, is.1)))
 
 -- another selection is none of a pattern that was not selected
-not_new : (pattern : Pattern) (first one : Selection) → one.pattern ≡ pattern → (first.pattern ≡ pattern → ⊥) → (b : Bool) → is_of first.pattern one ≡ b → b ≡ false
+not_new : (pattern : Pattern) (first one : Selection) → one.pattern ≡ pattern → (first.pattern ≡ pattern → ⊥) → (b : Bool)
+    → is_of first.pattern one ≡ b → b ≡ false
 not_new pattern first one is ne false e = refl
 not_new pattern first one is ne true e = absurd (ne (sym (one_pattern one.pattern first.pattern e) ∙ is))
 
-single_more : (selections : List Selection) (one : Selection) → AreSingle selections → (IsSelected one.pattern selections → ⊥) → AreSingle (selections ++ one ∷ [])
+single_more : (selections : List Selection) (one : Selection) → AreSingle selections → (IsSelected one.pattern selections → ⊥)
+    → AreSingle (selections ++ one ∷ [])
 single_more [] one single new = (refl, tt)
 single_more (first ∷ more) one single new = (
   find-append (is_of first.pattern) more (one ∷ [])
@@ -249,7 +265,8 @@ single_more (first ∷ more) one single new = (
   single_more more one single.1 (λ s. new (s.0, inr s.1, s.2)),
 )
 
-pub single_selected : (pattern : Pattern) (now : ℕ) (selections : List Selection) → AreSingle selections → (IsSelected pattern selections → ⊥) → AreSingle (selections ++ selected_now pattern now selections ∷ [])
+pub single_selected : (pattern : Pattern) (now : ℕ) (selections : List Selection) → AreSingle selections → (IsSelected pattern selections → ⊥)
+    → AreSingle (selections ++ selected_now pattern now selections ∷ [])
 single_selected pattern now selections single new = single_more selections (selected_now pattern now selections) single new
 
 -- what is not found in a list is not found in what is left of it
@@ -257,7 +274,8 @@ find_less : (q p : Selection → Bool) (selections : List Selection) → find q 
 find_less q p [] h = refl
 find_less q p (first ∷ more) h = by (q first) (p first) refl h (find_less q p more)
   where
-    by : (b c : Bool) → q first ≡ b → cond b (Some first) (find q more) ≡ None → (find q more ≡ None → find q (filter p more) ≡ None) → find q (cond c (first ∷ filter p more) (filter p more)) ≡ None
+    by : (b c : Bool) → q first ≡ b → cond b (Some first) (find q more) ≡ None → (find q more ≡ None → find q (filter p more) ≡ None)
+        → find q (cond c (first ∷ filter p more) (filter p more)) ≡ None
     by true c e none rest = absurd (let bad : Some first ≡ None = none in cc)
     by false true e none rest = ap (λ (b : Bool). cond b (Some first) (find q (filter p more))) e ∙ rest none
     by false false e none rest = rest none
@@ -272,5 +290,7 @@ single_less p (first ∷ more) single = by (p first) (single_less p more single.
 
 pub single_run : (delay now : ℕ) (selections : List Selection) → AreSingle selections → AreSingle (map (run_due delay now) selections)
 single_run delay now [] single = tt
-single_run delay now (first ∷ more) single =
-    (find-run delay now first.pattern more ∙ ap (λ (o : Option Selection). option_map (run_due delay now) o) single.0, single_run delay now more single.1)
+single_run delay now (first ∷ more) single = (
+  find-run delay now first.pattern more ∙ ap (λ (o : Option Selection). option_map (run_due delay now) o) single.0,
+  single_run delay now more single.1,
+)

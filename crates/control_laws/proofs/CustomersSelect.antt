@@ -36,13 +36,16 @@ use Rattle.control_laws.proofs.Replaced.{same_control, same_selections, it_among
 one_value : (a b : Selected) → Some a ≡ Some b → a ≡ b
 one_value a b h = cc
 
-found_of : (selections : List Selection) (pattern : Pattern) (value : Selected) (o : Option Selection) → find (is_of pattern) selections ≡ o → option_map selected_of o ≡ Some value
+found_of : (selections : List Selection) (pattern : Pattern) (value : Selected) (o : Option Selection) → find (is_of pattern) selections ≡ o
+    → option_map selected_of o ≡ Some value
     → (selection : Selection) × Among selection selections × (selected_of selection ≡ value)
 found_of selections pattern value None e h = absurd cc
-found_of selections pattern value (Some found) e h = (let same : selected_of found ≡ value = cc in (found, (find_is pattern selections found e).0, same))
+found_of selections pattern value (Some found) e h =
+    (let same : selected_of found ≡ value = cc in (found, (find_is pattern selections found e).0, same))
 
 module _ (control : Control) (vrf : VrfId) (selections : List Selection) (distinct : AreDistinct selections)
-    (kept : (pattern : Pattern) → maps.get control.selections (record { vrf = vrf; pattern = pattern }) ≡ option_map selected_of (find (is_of pattern) selections)) where
+    (kept : (pattern : Pattern) → maps.get control.selections (record { vrf = vrf; pattern = pattern })
+    ≡ option_map selected_of (find (is_of pattern) selections)) where
   least_below : (number other : ℕ) → IsLeastFree vrf control.selections number → IsLeastNumber selections other → number < other → ⊥
   least_below number other free least below =
       let (selection, among, is) = least.least number free.counted below in
@@ -53,7 +56,9 @@ module _ (control : Control) (vrf : VrfId) (selections : List Selection) (distin
   free_below number other free least below =
       let (key, value, at, own, is) = free.least other least.counted below in
       let here : record { vrf = vrf; pattern = key.pattern } ≡ key = λ i. record { vrf = record { 0 = sym own i }; pattern = key.pattern } in
-      let found = found_of selections key.pattern value (find (is_of key.pattern) selections) refl (sym (kept key.pattern) ∙ ap (maps.get control.selections) here ∙ at) in
+      let found =
+      found_of selections key.pattern value (find (is_of key.pattern) selections) refl
+      (sym (kept key.pattern) ∙ ap (maps.get control.selections) here ∙ at) in
       least.free found.0 found.1 (ap (λ (s : Selected). s.number) found.2 ∙ is)
 
   one_number : (number other : ℕ) → IsLeastFree vrf control.selections number → IsLeastNumber selections other → number ≡ other
@@ -75,7 +80,8 @@ module _ (control : Control) (vrf : VrfId) (selections : List Selection) (distin
       let key : VrfPattern = record { vrf = vrf; pattern = pattern } in
       let value : Selected = record { number = whole_number; since = now; run = false } in
       let made : maps.get (with_selection now vrf pattern control.selections) key ≡ Some value =
-      maps.get-insert pattern_total control.selections key value key ∙ ap (λ (b : Bool). cond b (Some value) (maps.get control.selections key)) (own_key pattern_total key) in
+      maps.get-insert pattern_total control.selections key value key
+      ∙ ap (λ (b : Bool). cond b (Some value) (maps.get control.selections key)) (own_key pattern_total key) in
       let given : Selected = record { number = is.number; since = now; run = false } in
       let values : value ≡ given = one_value value given (sym made ∙ is.kept) in
       ap (λ (s : Selected). s.number) values ∙ one_number is.number (next_number selections) is.least (least_number selections)
@@ -95,7 +101,8 @@ find-same : {X : Type 0} (q p : X → Bool) (xs : List X) → ((x : X) → q x �
 find-same q p [] h = refl
 find-same q p (x ∷ xs) h = by (p x) (q x) refl refl (find-same q p xs h)
   where
-    by : (b c : Bool) → p x ≡ b → q x ≡ c → find q (filter p xs) ≡ find q xs → find q (cond b (x ∷ filter p xs) (filter p xs)) ≡ cond c (Some x) (find q xs)
+    by : (b c : Bool) → p x ≡ b → q x ≡ c → find q (filter p xs) ≡ find q xs
+        → find q (cond b (x ∷ filter p xs) (filter p xs)) ≡ cond c (Some x) (find q xs)
     by true c e k rest = ap (λ (d : Bool). cond d (Some x) (find q (filter p xs))) k ∙ ap (cond c (Some x)) rest
     by false true e k rest = absurd (not_both (p x) (h x k) e)
     by false false e k rest = rest
@@ -106,7 +113,8 @@ else_none (Some x) = refl
 
 -- ---- one tree
 
-module _ (kept : Kept) (trees : AreTrees kept) (number : ℕ) (it : OwnTree) (at_number : slice_get (trees_of kept) number ≡ Some it) (pattern : Pattern) where
+module _ (kept : Kept) (trees : AreTrees kept) (number : ℕ) (it : OwnTree) (at_number : slice_get (trees_of kept) number ≡ Some it)
+    (pattern : Pattern) where
   abbrev parts : AreParts kept
   parts = parts_of kept trees
 
@@ -122,7 +130,8 @@ module _ (kept : Kept) (trees : AreTrees kept) (number : ℕ) (it : OwnTree) (at
   abbrev its : VrfPattern → Bool
   its key = it.own.id.0 == key.vrf.0
 
-  its_own : (key : VrfPattern) → its key ≡ true → maps.get (control_of kept).selections key ≡ option_map selected_of (find (is_of key.pattern) selections)
+  its_own : (key : VrfPattern) → its key ≡ true
+      → maps.get (control_of kept).selections key ≡ option_map selected_of (find (is_of key.pattern) selections)
   its_own key h =
       let own = eqb-true it.own.id.0 key.vrf.0 h in
       let here : key ≡ record { vrf = it.own.id; pattern = key.pattern } = λ i. record { vrf = record { 0 = sym own i }; pattern = key.pattern } in
@@ -158,7 +167,8 @@ module _ (kept : Kept) (trees : AreTrees kept) (number : ℕ) (it : OwnTree) (at
 
     abbrev value : Selected
     value = record {
-      number = free_number (λ number. list_any (is_used it.own.id number) (maps.entries (control_of kept).selections)) (maps.len (control_of kept).selections) 1;
+      number = free_number (λ number. list_any (is_used it.own.id number) (maps.entries (control_of kept).selections))
+          (maps.len (control_of kept).selections) 1;
       since = now;
       run = false;
     }
@@ -174,21 +184,25 @@ module _ (kept : Kept) (trees : AreTrees kept) (number : ℕ) (it : OwnTree) (at
     selected_by_key key false c h k = refl
     selected_by_key key true true h k =
         ap (option_map selected_of) (find-append (is_of key.pattern) selections (one ∷ [])
-        ∙ ap (λ (o : Option Selection). option_or o (find (is_of key.pattern) (one ∷ []))) (none_before key k (find (is_of key.pattern) selections) refl)
+        ∙ ap (λ (o : Option Selection). option_or o (find (is_of key.pattern) (one ∷ [])))
+        (none_before key k (find (is_of key.pattern) selections) refl)
         ∙ ap (λ (t : Bool). cond t (Some one) None) k) ∙ ap (λ (s : Selected). Some s) value_is
     selected_by_key key true false h k =
         ap (option_map selected_of) (find-append (is_of key.pattern) selections (one ∷ [])
-        ∙ ap (λ (t : Bool). option_or (find (is_of key.pattern) selections) (cond t (Some one) None)) k ∙ else_none (find (is_of key.pattern) selections))
+        ∙ ap (λ (t : Bool). option_or (find (is_of key.pattern) selections) (cond t (Some one) None)) k
+        ∙ else_none (find (is_of key.pattern) selections))
         ∙ sym (its_own key h)
 
-    selected_selections : (key : VrfPattern) → maps.get (control_of (with_tree number with_one kept)).selections key ≡ maps.get (with_selection now it.own.id pattern (control_of kept).selections) key
+    selected_selections : (key : VrfPattern) → maps.get (control_of (with_tree number with_one kept)).selections key
+        ≡ maps.get (with_selection now it.own.id pattern (control_of kept).selections) key
     selected_selections key =
         selection_then kept number it at_number with_one parts selected_part key
         ∙ selected_by_key key (its key) (is_of key.pattern one) refl refl
         ∙ ap (λ (t : Bool). cond t (Some value) (maps.get (control_of kept).selections key)) (sym (pattern_ties it.own.id key one))
         ∙ sym (maps.get-insert pattern_total (control_of kept).selections (pattern_of it.own.id one) value key)
 
-    pub selected_makes : (core : Core) → Makes (with_tree number with_one kept) (effect (place_of kept.home core) now (control_of kept) (Select it.own.id pattern))
+    pub selected_makes : (core : Core) → Makes (with_tree number with_one kept)
+        (effect (place_of kept.home core) now (control_of kept) (Select it.own.id pattern))
     selected_makes core = record {
       is = same_control _ _ (entries_stay kept number it at_number with_one refl) (notes_stay kept number it at_number with_one refl)
           (same_selections _ _ selected_selections) (flows_stay kept number it at_number with_one refl) refl;
@@ -207,7 +221,8 @@ module _ (kept : Kept) (trees : AreTrees kept) (number : ℕ) (it : OwnTree) (at
   unselected_part = record {
     entries = old.entries;
     notes = old.notes;
-    selections = λ first second a b e. old.selections first second (filter_among stays first selections a).0 (filter_among stays second selections b).0 e;
+    selections =
+        λ first second a b e. old.selections first second (filter_among stays first selections a).0 (filter_among stays second selections b).0 e;
     derived = old.derived;
   }
 
@@ -225,23 +240,27 @@ module _ (kept : Kept) (trees : AreTrees kept) (number : ℕ) (it : OwnTree) (at
     where
       by : (b : Bool) → is_of pattern s ≡ b → not b ≡ true
       by false e = refl
-      by true e = absurd (not_both (is_of key.pattern any) (ap (λ (p : Pattern). same_pattern p key.pattern) (sym (one_pattern s.pattern pattern e)) ∙ k) h)
+      by true e =
+          absurd (not_both (is_of key.pattern any) (ap (λ (p : Pattern). same_pattern p key.pattern) (sym (one_pattern s.pattern pattern e)) ∙ k) h)
 
   unselected_by_key : (key : VrfPattern) (b c : Bool) → its key ≡ b → is_of key.pattern any ≡ c
       → cond b (option_map selected_of (find (is_of key.pattern) (filter stays selections))) (maps.get (control_of kept).selections key)
       ≡ cond (b && c) None (maps.get (control_of kept).selections key)
   unselected_by_key key false c h k = refl
   unselected_by_key key true true h k = ap (option_map selected_of) (find-none (is_of key.pattern) stays selections (gone_by key k))
-  unselected_by_key key true false h k = ap (option_map selected_of) (find-same (is_of key.pattern) stays selections (stays_by key k)) ∙ sym (its_own key h)
+  unselected_by_key key true false h k =
+      ap (option_map selected_of) (find-same (is_of key.pattern) stays selections (stays_by key k)) ∙ sym (its_own key h)
 
-  unselected_selections : (key : VrfPattern) → maps.get (control_of (with_tree number without_it kept)).selections key ≡ maps.get (maps.remove (control_of kept).selections (pattern_of it.own.id any)) key
+  unselected_selections : (key : VrfPattern) → maps.get (control_of (with_tree number without_it kept)).selections key
+      ≡ maps.get (maps.remove (control_of kept).selections (pattern_of it.own.id any)) key
   unselected_selections key =
       selection_then kept number it at_number without_it parts unselected_part key
       ∙ unselected_by_key key (its key) (is_of key.pattern any) refl refl
       ∙ ap (λ (t : Bool). cond t None (maps.get (control_of kept).selections key)) (sym (pattern_ties it.own.id key any))
       ∙ sym (maps.get-remove pattern_total (control_of kept).selections (pattern_of it.own.id any) key)
 
-  pub unselected_makes : (core : Core) (now : ℕ) → Makes (with_tree number without_it kept) (effect (place_of kept.home core) now (control_of kept) (Unselect it.own.id pattern))
+  pub unselected_makes : (core : Core) (now : ℕ)
+      → Makes (with_tree number without_it kept) (effect (place_of kept.home core) now (control_of kept) (Unselect it.own.id pattern))
   unselected_makes core now = record {
     is = same_control _ _ (entries_stay kept number it at_number without_it refl) (notes_stay kept number it at_number without_it refl)
         (same_selections _ _ unselected_selections) (flows_stay kept number it at_number without_it refl) refl;

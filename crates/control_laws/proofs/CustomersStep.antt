@@ -37,12 +37,15 @@ use Rattle.control_laws.proofs.Replaced.{same_control, same_entries, same_notes,
 -- ---- interfaces
 
 -- an interface of no VRF is none of its own
-pub other_iface : (scenario : Scenario) (vrf : VrfId) (iface other : IfaceId) → is_iface_of scenario vrf iface ≡ true → is_iface_of scenario vrf other ≡ false → (other.0 == iface.0) ≡ false
+pub other_iface : (scenario : Scenario) (vrf : VrfId) (iface other : IfaceId) → is_iface_of scenario vrf iface ≡ true
+    → is_iface_of scenario vrf other ≡ false → (other.0 == iface.0) ≡ false
 other_iface scenario vrf iface other h k = by (other.0 == iface.0) refl
   where
     by : (b : Bool) → (other.0 == iface.0) ≡ b → b ≡ false
     by false e = refl
-    by true e = absurd (not_both (is_iface_of scenario vrf iface) h (ap (λ (n : ℕ). is_iface_of scenario vrf (record { 0 = n })) (sym (eqb-true other.0 iface.0 e)) ∙ k))
+    by true e =
+        absurd (not_both (is_iface_of scenario vrf iface) h
+        (ap (λ (n : ℕ). is_iface_of scenario vrf (record { 0 = n })) (sym (eqb-true other.0 iface.0 e)) ∙ k))
 
 -- ---- Join/Prune messages
 
@@ -51,10 +54,12 @@ abbrev expiry_by : IfaceId → JoinPrune → ℕ → IfaceEntry → Option Expir
 expiry_by iface message now at old =
     cond (at.iface.0 == iface.0) (expiry_after at.entry (mention_of message at.entry) now message.holdtime old) old
 
-pub applied_elsewhere : (entries : Entries) (iface : IfaceId) (message : JoinPrune) (now : ℕ) (at : IfaceEntry) → (at.iface.0 == iface.0) ≡ false → maps.get (applied entries iface message now) at ≡ maps.get entries at
+pub applied_elsewhere : (entries : Entries) (iface : IfaceId) (message : JoinPrune) (now : ℕ) (at : IfaceEntry) → (at.iface.0 == iface.0) ≡ false
+    → maps.get (applied entries iface message now) at ≡ maps.get entries at
 applied_elsewhere entries iface message now at h =
     get-applied entries iface message now at
-    ∙ ap (λ (b : Bool). cond b (expiry_after at.entry (mention_of message at.entry) now message.holdtime (maps.get entries at)) (maps.get entries at)) h
+    ∙ ap (λ (b : Bool). cond b (expiry_after at.entry (mention_of message at.entry) now message.holdtime (maps.get entries at)) (maps.get entries at))
+    h
 
 module _ (kept : Kept) (trees : AreTrees kept) (number : ℕ) (it : OwnTree) (at_number : slice_get (trees_of kept) number ≡ Some it) where
   abbrev parts : AreParts kept
@@ -76,30 +81,37 @@ module _ (kept : Kept) (trees : AreTrees kept) (number : ℕ) (it : OwnTree) (at
 
       pim_part : IsPart kept.home kept.peers (with it tree)
       pim_part = record {
-        entries = λ at h. applied_elsewhere it.tree.vrf.entries iface message now at (other_iface kept.home.scenario it.own.id iface at.iface own h) ∙ old.entries at h;
+        entries =
+            λ at h. applied_elsewhere it.tree.vrf.entries iface message now at (other_iface kept.home.scenario it.own.id iface at.iface own h)
+            ∙ old.entries at h;
         notes = old.notes;
         selections = old.selections;
         derived = old.derived;
       }
 
       pim_entries : (at : IfaceEntry) (b : Bool) → its at.iface ≡ b
-          → cond b (maps.get tree.vrf.entries at) (maps.get (control_of kept).entries at) ≡ maps.get (applied (control_of kept).entries iface message now) at
+          → cond b (maps.get tree.vrf.entries at) (maps.get (control_of kept).entries at)
+          ≡ maps.get (applied (control_of kept).entries iface message now) at
       pim_entries at true h =
-          get-applied it.tree.vrf.entries iface message now at ∙ ap (expiry_by iface message now at) (sym (entry_at kept parts it among at h)) ∙ sym (get-applied (control_of kept).entries iface message now at)
-      pim_entries at false h = sym (applied_elsewhere (control_of kept).entries iface message now at (other_iface kept.home.scenario it.own.id iface at.iface own h))
+          get-applied it.tree.vrf.entries iface message now at ∙ ap (expiry_by iface message now at) (sym (entry_at kept parts it among at h))
+          ∙ sym (get-applied (control_of kept).entries iface message now at)
+      pim_entries at false h =
+          sym (applied_elsewhere (control_of kept).entries iface message now at (other_iface kept.home.scenario it.own.id iface at.iface own h))
 
       pub pim_makes : (core : Core) → Makes (with_tree number tree kept) (effect (place_of kept.home core) now (control_of kept) (Pim iface message))
       pim_makes core = record {
         is = same_control _ _
             (same_entries _ _ (λ at. entry_then kept number it at_number tree parts pim_part at ∙ pim_entries at (its at.iface) refl))
-            (notes_stay kept number it at_number tree refl) (selections_stay kept number it at_number tree refl) (flows_stay kept number it at_number tree refl) refl;
+            (notes_stay kept number it at_number tree refl) (selections_stay kept number it at_number tree refl)
+            (flows_stay kept number it at_number tree refl) refl;
         trees = one_trees kept number it at_number tree trees pim_part (wants_of kept trees it among);
       }
 
     -- ---- notes
 
     -- a note at an interface of another VRF is another
-    no_tie : (source group : Addr) (note : tree_notes.Note) → its note.iface ≡ false → eq_by_cmp tree_keys.note_cmp note (note_of iface source group) ≡ false
+    no_tie : (source group : Addr) (note : tree_notes.Note) → its note.iface ≡ false
+        → eq_by_cmp tree_keys.note_cmp note (note_of iface source group) ≡ false
     no_tie source group note h = by (eq_by_cmp tree_keys.note_cmp note (note_of iface source group)) refl
       where
         by : (b : Bool) → eq_by_cmp tree_keys.note_cmp note (note_of iface source group) ≡ b → b ≡ false
@@ -125,14 +137,18 @@ module _ (kept : Kept) (trees : AreTrees kept) (number : ℕ) (it : OwnTree) (at
       }
 
       noted_notes : (n : Note) (b : Bool) → its n.iface ≡ b
-          → cond b (sets.contains with_note.vrf.notes (tree_note n)) (sets.contains (control_of kept).notes n) ≡ sets.contains (sets.insert (control_of kept).notes note) n
+          → cond b (sets.contains with_note.vrf.notes (tree_note n)) (sets.contains (control_of kept).notes n)
+          ≡ sets.contains (sets.insert (control_of kept).notes note) n
       noted_notes n true h =
           sets.contains-insert tree_note_total it.tree.vrf.notes (tree_note note) (tree_note n)
-          ∙ ap (λ (b : Bool). eq_by_cmp note_cmp n note || b) (sym (note_at kept parts it among (tree_note n) h)) ∙ sym (sets.contains-insert note_total (control_of kept).notes note n)
+          ∙ ap (λ (b : Bool). eq_by_cmp note_cmp n note || b) (sym (note_at kept parts it among (tree_note n) h))
+          ∙ sym (sets.contains-insert note_total (control_of kept).notes note n)
       noted_notes n false h =
-          sym (sets.contains-insert note_total (control_of kept).notes note n ∙ ap (λ (b : Bool). b || sets.contains (control_of kept).notes n) (no_tie source group (tree_note n) h))
+          sym (sets.contains-insert note_total (control_of kept).notes note n
+          ∙ ap (λ (b : Bool). b || sets.contains (control_of kept).notes n) (no_tie source group (tree_note n) h))
 
-      pub noted_makes : (core : Core) (now : ℕ) → Makes (with_tree number with_note kept) (effect (place_of kept.home core) now (control_of kept) (Active iface source group))
+      pub noted_makes : (core : Core) (now : ℕ) → Makes (with_tree number with_note kept)
+          (effect (place_of kept.home core) now (control_of kept) (Active iface source group))
       noted_makes core now = record {
         is = same_control _ _ (entries_stay kept number it at_number with_note refl)
             (same_notes _ _ (λ n. note_then kept number it at_number with_note parts noted_part n ∙ noted_notes n (its n.iface) refl))
@@ -153,14 +169,18 @@ module _ (kept : Kept) (trees : AreTrees kept) (number : ℕ) (it : OwnTree) (at
       }
 
       unnoted_notes : (n : Note) (b : Bool) → its n.iface ≡ b
-          → cond b (sets.contains without_note.vrf.notes (tree_note n)) (sets.contains (control_of kept).notes n) ≡ sets.contains (sets.remove (control_of kept).notes note) n
+          → cond b (sets.contains without_note.vrf.notes (tree_note n)) (sets.contains (control_of kept).notes n)
+          ≡ sets.contains (sets.remove (control_of kept).notes note) n
       unnoted_notes n true h =
           sets.contains-remove tree_note_total it.tree.vrf.notes (tree_note note) (tree_note n)
-          ∙ ap (λ (b : Bool). not (eq_by_cmp note_cmp n note) && b) (sym (note_at kept parts it among (tree_note n) h)) ∙ sym (sets.contains-remove note_total (control_of kept).notes note n)
+          ∙ ap (λ (b : Bool). not (eq_by_cmp note_cmp n note) && b) (sym (note_at kept parts it among (tree_note n) h))
+          ∙ sym (sets.contains-remove note_total (control_of kept).notes note n)
       unnoted_notes n false h =
-          sym (sets.contains-remove note_total (control_of kept).notes note n ∙ ap (λ (b : Bool). not b && sets.contains (control_of kept).notes n) (no_tie source group (tree_note n) h))
+          sym (sets.contains-remove note_total (control_of kept).notes note n
+          ∙ ap (λ (b : Bool). not b && sets.contains (control_of kept).notes n) (no_tie source group (tree_note n) h))
 
-      pub unnoted_makes : (core : Core) (now : ℕ) → Makes (with_tree number without_note kept) (effect (place_of kept.home core) now (control_of kept) (Idle iface source group))
+      pub unnoted_makes : (core : Core) (now : ℕ) → Makes (with_tree number without_note kept)
+          (effect (place_of kept.home core) now (control_of kept) (Idle iface source group))
       unnoted_makes core now = record {
         is = same_control _ _ (entries_stay kept number it at_number without_note refl)
             (same_notes _ _ (λ n. note_then kept number it at_number without_note parts unnoted_part n ∙ unnoted_notes n (its n.iface) refl))

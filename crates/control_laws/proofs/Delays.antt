@@ -68,7 +68,8 @@ sum-found f tell [] = refl
 sum-found f tell (x ∷ xs) =
     ap (sum_by f) (found_step tell x xs (tell x) refl) ∙ by (tell x) (sum-found f tell xs) ∙ sym (sum_by-cons (λ y. of_found f (tell y)) x xs)
   where
-    by : (o : Option _) → sum_by f (found_in tell xs) ≡ sum_by (λ y. of_found f (tell y)) xs → sum_by f (found_one o (found_in tell xs)) ≡ of_found f o + sum_by (λ y. of_found f (tell y)) xs
+    by : (o : Option _) → sum_by f (found_in tell xs) ≡ sum_by (λ y. of_found f (tell y)) xs
+        → sum_by f (found_one o (found_in tell xs)) ≡ of_found f o + sum_by (λ y. of_found f (tell y)) xs
     by None rest = rest ∙ more_by_none (sum_by (λ y. of_found f (tell y)) xs)
     by (Some y) rest = sum_by-cons f y (found_in tell xs) ∙ ap (λ (n : ℕ). f y + n) rest
 
@@ -98,11 +99,13 @@ sum-turned h (x ∷ xs) ys =
 not_some : {X : Type 0} (o : Option X) (x : X) → o ≡ Some x → o ≡ None → ⊥
 not_some o x h k = absurd (let bad : Some x ≡ None = sym h ∙ k in cc)
 
-module _ {K V J W : Type 0} {R : K → K → Ordering} {S : J → J → Ordering} (total : IsTotalOrder R) (exact : IsAntisymmetric S) (tell : K × V → Option (J × W)) where
+module _ {K V J W : Type 0} {R : K → K → Ordering} {S : J → J → Ordering} (total : IsTotalOrder R) (exact : IsAntisymmetric S)
+    (tell : K × V → Option (J × W)) where
   abbrev IsOne : List (K × V) → Type 0
   IsOne es = (e f : K × V) (j : J) (v w : W) → Among e es → Among f es → tell e ≡ Some (j, v) → tell f ≡ Some (j, w) → e.0 ≡ f.0
 
-  no_other : (e : K × V) (es : List (K × V)) → IsOne (e ∷ es) → find R e.0 es ≡ None → (y : J × W) → tell e ≡ Some y → (o : Option W) → find S y.0 (found_in tell es) ≡ o → o ≡ None
+  no_other : (e : K × V) (es : List (K × V)) → IsOne (e ∷ es) → find R e.0 es ≡ None → (y : J × W) → tell e ≡ Some y → (o : Option W)
+      → find S y.0 (found_in tell es) ≡ o → o ≡ None
   no_other e es one none y is None h = refl
   no_other e es one none y is (Some w) h =
       let (f, among, tells) = found_among tell (y.0, w) es (found_stands exact y.0 w (found_in tell es) h) in
@@ -121,11 +124,13 @@ module _ {K V J W : Type 0} {R : K → K → Ordering} {S : J → J → Ordering
       by (Some y) h rest = (no_other e es one once.0 y h (find S y.0 (found_in tell es)) refl, rest)
 
 -- lists of which each has keys of its own
-module _ {K V J W : Type 0} {R : K → K → Ordering} {S : J → J → Ordering} (total : IsTotalOrder R) (exact : IsAntisymmetric S) (list : K × V → List (J × W)) (of_key : J → K) where
+module _ {K V J W : Type 0} {R : K → K → Ordering} {S : J → J → Ordering} (total : IsTotalOrder R) (exact : IsAntisymmetric S)
+    (list : K × V → List (J × W)) (of_key : J → K) where
   abbrev IsOf : K × V → Type 0
   IsOf x = (e : J × W) → Among e (list x) → of_key e.0 ≡ x.0
 
-  no_more : (x : K × V) (more : List (K × V)) → find R x.0 more ≡ None → IsOf x → ((y : K × V) → Among y more → IsOf y) → (e : J × W) → Among e (list x) → (o : Option W)
+  no_more : (x : K × V) (more : List (K × V)) → find R x.0 more ≡ None → IsOf x → ((y : K × V) → Among y more → IsOf y) → (e : J × W)
+      → Among e (list x) → (o : Option W)
       → find S e.0 (flat_map list more) ≡ o → o ≡ None
   no_more x more none own others e a None h = refl
   no_more x more none own others e a (Some w) h =
@@ -134,7 +139,8 @@ module _ {K V J W : Type 0} {R : K → K → Ordering} {S : J → J → Ordering
       let (v, found) = some_found total y.0 y.1 more among in
       absurd (not_some (find R y.0 more) v found (ap (λ (k : K). find R k more) (sym same) ∙ none))
 
-  lists_once : (xs : List (K × V)) → StandOnce R xs → ((x : K × V) → Among x xs → StandOnce S (list x)) → ((x : K × V) → Among x xs → IsOf x) → StandOnce S (flat_map list xs)
+  lists_once : (xs : List (K × V)) → StandOnce R xs → ((x : K × V) → Among x xs → StandOnce S (list x)) → ((x : K × V) → Among x xs → IsOf x)
+      → StandOnce S (flat_map list xs)
   lists_once [] once each own = tt
   lists_once (x ∷ more) once each own =
       once_both S (list x) (flat_map list more) (each x (inl refl)) (lists_once more once.1 (λ y a. each y (inr a)) (λ y a. own y (inr a)))
@@ -155,9 +161,11 @@ module _ (place : EdgePlace) (control : Control) (own : OwnVrf) (writable : AreW
   abbrev Tells : RouteKey → Learned → Type 0
   Tells x learned = Told (tell_selective place own) (tables_of control) x learned
 
-  abbrev told_at : (peer : NodeId × Taken) (entry : Key × TakenRoute) (e : RouteKey × Learned) → Among peer (maps.entries control.peers) → Among entry (maps.entries peer.1) → tell peer.0 entry ≡ Some e
+  abbrev told_at : (peer : NodeId × Taken) (entry : Key × TakenRoute) (e : RouteKey × Learned) → Among peer (maps.entries control.peers)
+      → Among entry (maps.entries peer.1) → tell peer.0 entry ≡ Some e
       → Tells e.0 e.1
-  told_at peer entry e a b h = record { peer = peer.0; key = entry.0; route = entry.1; is = taken_of control peer.0 peer.1 entry.0 entry.1 a b; tells = h }
+  told_at peer entry e a b h =
+      record { peer = peer.0; key = entry.0; route = entry.1; is = taken_of control peer.0 peer.1 entry.0 entry.1 a b; tells = h }
 
   told_from : (e : RouteKey × Learned) → Among e all_told → Tells e.0 e.1
   told_from e a =
@@ -176,25 +184,30 @@ module _ (place : EdgePlace) (control : Control) (own : OwnVrf) (writable : AreW
   rds : (one other : Rd) → selective_kinds.Of one ≡ selective_kinds.Of other → one ≡ other
   rds one other h = cc
 
-  one_key_of : (peer : NodeId) (e f : Key × TakenRoute) (x : RouteKey) → IsWritableKey e.0 → IsWritableKey f.0 → SelectiveAt place own x peer e.0 e.1 → SelectiveAt place own x peer f.0 f.1 → e.0 ≡ f.0
+  one_key_of : (peer : NodeId) (e f : Key × TakenRoute) (x : RouteKey) → IsWritableKey e.0 → IsWritableKey f.0 → SelectiveAt place own x peer e.0 e.1
+      → SelectiveAt place own x peer f.0 f.1 → e.0 ≡ f.0
   one_key_of peer e f x h k one other =
       let same = one.is ∙ sym other.is in
-      let rd : one.imported.route.rd ≡ other.imported.route.rd = rds one.imported.route.rd other.imported.route.rd (ap (λ (key : RouteKey). key.place) same) in
+      let rd : one.imported.route.rd ≡ other.imported.route.rd =
+      rds one.imported.route.rd other.imported.route.rd (ap (λ (key : RouteKey). key.place) same) in
       let pattern = ap (λ (key : RouteKey). key.pattern) same in
       selective_one own.vrf own.vrf (addr_of place.scenario peer) e f one.imported other.imported h k one.found other.found rd
       (ap (λ (p : Pattern). p.source) pattern) (ap (λ (p : Pattern). p.group) pattern)
 
-  spelled : (peer : NodeId × Taken) (entry : Key × TakenRoute) → Among peer (maps.entries control.peers) → Among entry (maps.entries peer.1) → IsWritableKey entry.0
+  spelled : (peer : NodeId × Taken) (entry : Key × TakenRoute) → Among peer (maps.entries control.peers) → Among entry (maps.entries peer.1)
+      → IsWritableKey entry.0
   spelled peer entry a b = writable peer.0 entry.0 (ap (λ (o : Option TakenRoute). is_some o) (taken_of control peer.0 peer.1 entry.0 entry.1 a b))
 
-  where_told : (peer : NodeId × Taken) (entry : Key × TakenRoute) (x : RouteKey) (learned : Learned) → Among peer (maps.entries control.peers) → Among entry (maps.entries peer.1)
+  where_told : (peer : NodeId × Taken) (entry : Key × TakenRoute) (x : RouteKey) (learned : Learned) → Among peer (maps.entries control.peers)
+      → Among entry (maps.entries peer.1)
       → tell peer.0 entry ≡ Some (x, learned) → SelectiveAt place own x peer.0 entry.0 entry.1
   where_told peer entry x learned a b h = selective_where place own (tables_of control) x learned (told_at peer entry (x, learned) a b h)
 
   all_once : StandOnce route_cmp all_told
   all_once = lists_once node_cmp_total route_exact told_by (λ key. key.peer) (maps.entries control.peers) (map_once control.peers)
       (λ peer a. found_once key_total route_exact (tell peer.0) (maps.entries peer.1) (map_once peer.1)
-      (λ e f x v w c d h k. one_key_of peer.0 e f x (spelled peer e a c) (spelled peer f a d) (where_told peer e x v a c h) (where_told peer f x w a d k)))
+      (λ e f x v w c d h k. one_key_of peer.0 e f x (spelled peer e a c) (spelled peer f a d) (where_told peer e x v a c h)
+      (where_told peer f x w a d k)))
       (λ peer a e b. (let (entry, inside, tells) = found_among (tell peer.0) e (maps.entries peer.1) b in
       sym (ap (λ (key : RouteKey). key.peer) (where_told peer entry e.0 e.1 a inside tells).is)))
 
@@ -212,13 +225,17 @@ module _ (place : EdgePlace) (control : Control) (own : OwnVrf) (writable : AreW
         absurd (not_some (find route_cmp x all_told) w found e)
 
     routes_are : maps.from_entries all_told ≡ tree.leaf.routes
-    routes_are = maps.same_map route_total route_exact _ _ (λ x. kept_at x (maps.get (maps.from_entries all_told) x) (maps.get tree.leaf.routes x) (sym (maps.get-from_entries route_total all_told x)) refl)
+    routes_are =
+        maps.same_map route_total route_exact _ _ (λ x. kept_at x (maps.get (maps.from_entries all_told) x) (maps.get tree.leaf.routes x)
+        (sym (maps.get-from_entries route_total all_told x)) refl)
 
     pub sum-routes : (g : RouteKey × Learned → ℕ) → sum_by g (maps.entries tree.leaf.routes)
         ≡ sum_by (λ (peer : NodeId × Taken). sum_by (λ entry. of_found g (tell peer.0 entry)) (maps.entries peer.1)) (maps.entries control.peers)
     sum-routes g =
-        ap (λ (m : leaves.Routes). sum_by g (maps.entries m)) (sym routes_are) ∙ sum-made route_total g all_told all_once ∙ sum-flat g told_by (maps.entries control.peers)
-        ∙ sum-alike (λ (peer : NodeId × Taken). sum_by g (told_by peer)) (λ peer. sum_by (λ entry. of_found g (tell peer.0 entry)) (maps.entries peer.1)) (maps.entries control.peers)
+        ap (λ (m : leaves.Routes). sum_by g (maps.entries m)) (sym routes_are) ∙ sum-made route_total g all_told all_once
+        ∙ sum-flat g told_by (maps.entries control.peers)
+        ∙ sum-alike (λ (peer : NodeId × Taken). sum_by g (told_by peer))
+        (λ peer. sum_by (λ entry. of_found g (tell peer.0 entry)) (maps.entries peer.1)) (maps.entries control.peers)
         (λ peer a. sum-found g (tell peer.0) (maps.entries peer.1))
 
 -- ---- what is due
@@ -236,7 +253,10 @@ due_in place now peer entry own =
     if is_some (imported_selective own.vrf (addr_of place.scenario peer) entry) then (if waits place.scenario.delay now entry.1 then 1 else 0) else 0
 
 due_where : (peer : NodeId) (taken : TakenRoute) (delay now : ℕ) (o : Option ImportedSelective)
-    → of_found (due_if delay now) (o >>? λ imported. Some (leaves.key_of peer imported.route.rd (pattern_of imported.route.source imported.route.group), record { fec = imported.fec; since = taken.since; run = taken.run }))
+    → of_found (due_if delay now) (o >>? λ imported. Some (
+      leaves.key_of peer imported.route.rd (pattern_of imported.route.source imported.route.group),
+      record { fec = imported.fec; since = taken.since; run = taken.run },
+    ))
     ≡ (if is_some o then (if waits delay now taken then 1 else 0) else 0)
 due_where peer taken delay now None = refl
 due_where peer taken delay now (Some imported) = refl
@@ -245,14 +265,18 @@ none_or : (b : Bool) → cond {A = ℕ} b 0 0 ≡ 0
 none_or true = refl
 none_or false = refl
 
-due_each : (place : EdgePlace) (now : ℕ) (peer : NodeId) (entry : Key × TakenRoute) (owns : List OwnVrf) (b : Bool) → waits place.scenario.delay now entry.1 ≡ b
-    → (if b then count_by (λ own. is_some (imported_selective own.vrf (addr_of place.scenario peer) entry)) owns else 0) ≡ sum_by (due_in place now peer entry) owns
+due_each : (place : EdgePlace) (now : ℕ) (peer : NodeId) (entry : Key × TakenRoute) (owns : List OwnVrf) (b : Bool)
+    → waits place.scenario.delay now entry.1 ≡ b
+    → (if b then count_by (λ own. is_some (imported_selective own.vrf (addr_of place.scenario peer) entry)) owns else 0)
+    ≡ sum_by (due_in place now peer entry) owns
 due_each place now peer entry owns true h =
-    sum-alike (λ (own : OwnVrf). if is_some (imported_selective own.vrf (addr_of place.scenario peer) entry) then 1 else 0) (due_in place now peer entry) owns
+    sum-alike (λ (own : OwnVrf). if is_some (imported_selective own.vrf (addr_of place.scenario peer) entry) then 1 else 0)
+    (due_in place now peer entry) owns
     (λ own a. ap (λ (b : Bool). if is_some (imported_selective own.vrf (addr_of place.scenario peer) entry) then (if b then 1 else 0) else 0) (sym h))
 due_each place now peer entry owns false h =
     sym (sum-none owns) ∙ sum-alike (λ (own : OwnVrf). 0) (due_in place now peer entry) owns
-    (λ own a. sym (ap (λ (b : Bool). if is_some (imported_selective own.vrf (addr_of place.scenario peer) entry) then (if b then 1 else 0) else 0) h ∙ none_or (is_some (imported_selective own.vrf (addr_of place.scenario peer) entry))))
+    (λ own a. sym (ap (λ (b : Bool). if is_some (imported_selective own.vrf (addr_of place.scenario peer) entry) then (if b then 1 else 0) else 0) h
+    ∙ none_or (is_some (imported_selective own.vrf (addr_of place.scenario peer) entry))))
 
 module _ (kept : Kept) (between : AreTreesBetween kept) (writable : AreWritable (control_of kept)) (now : ℕ) where
   abbrev place : EdgePlace
@@ -267,29 +291,37 @@ module _ (kept : Kept) (between : AreTreesBetween kept) (writable : AreWritable 
       (λ entry a. due_each place now peer.0 entry (own_vrfs place) (waits place.scenario.delay now entry.1) refl)
       ∙ sum-turned (due_in place now peer.0) (maps.entries peer.1) (own_vrfs place)
 
-  of_tree : (it : OwnTree) → Among it (trees_of kept) → sum_by (λ peer. from_peer peer it.own) (maps.entries kept.peers) ≡ count_by (is_waiting it.tree.leaf.delay now) (maps.values it.tree.leaf.routes)
+  of_tree : (it : OwnTree) → Among it (trees_of kept)
+      → sum_by (λ peer. from_peer peer it.own) (maps.entries kept.peers)
+      ≡ count_by (is_waiting it.tree.leaf.delay now) (maps.values it.tree.leaf.routes)
   of_tree it a =
       let is = between_at kept between no_core it a in
       sym (count-sum (is_waiting it.tree.leaf.delay now) it.tree.leaf.routes
-      ∙ ap (λ (delay : ℕ). sum_by (λ (e : RouteKey × Learned). if is_waiting delay now e.1 then 1 else 0) (maps.entries it.tree.leaf.routes)) is.leaf_delay
+      ∙ ap (λ (delay : ℕ). sum_by (λ (e : RouteKey × Learned). if is_waiting delay now e.1 then 1 else 0) (maps.entries it.tree.leaf.routes))
+      is.leaf_delay
       ∙ sum-routes place (control_of kept) it.own writable it.tree is (due_if place.scenario.delay now)
-      ∙ sum-alike (λ (peer : NodeId × Taken). sum_by (λ entry. of_found (due_if place.scenario.delay now) (tell_selective place it.own peer.0 entry.0 entry.1)) (maps.entries peer.1))
+      ∙ sum-alike (λ (peer : NodeId × Taken). sum_by
+      (λ entry. of_found (due_if place.scenario.delay now) (tell_selective place it.own peer.0 entry.0 entry.1)) (maps.entries peer.1))
       (λ peer. from_peer peer it.own) (maps.entries kept.peers)
-      (λ peer b. sum-alike (λ entry. of_found (due_if place.scenario.delay now) (tell_selective place it.own peer.0 entry.0 entry.1)) (λ entry. due_in place now peer.0 entry it.own) (maps.entries peer.1)
+      (λ peer b. sum-alike (λ entry. of_found (due_if place.scenario.delay now) (tell_selective place it.own peer.0 entry.0 entry.1))
+      (λ entry. due_in place now peer.0 entry it.own) (maps.entries peer.1)
       (λ entry c. due_where peer.0 entry.1 place.scenario.delay now (imported_selective it.own.vrf (addr_of place.scenario peer.0) entry))))
 
-  pub delays_counted : sum_by (due_from place now) (maps.entries kept.peers) ≡ sum_by (λ tree. count_by (is_waiting tree.leaf.delay now) (maps.values tree.leaf.routes)) kept.trees
+  pub delays_counted : sum_by (due_from place now) (maps.entries kept.peers)
+      ≡ sum_by (λ tree. count_by (is_waiting tree.leaf.delay now) (maps.values tree.leaf.routes)) kept.trees
   delays_counted =
       sum-alike (due_from place now) (λ peer. sum_by (from_peer peer) (own_vrfs place)) (maps.entries kept.peers) (λ peer a. by_owns peer)
       ∙ sum-turned from_peer (maps.entries kept.peers) (own_vrfs place)
       ∙ ap (sum_by (λ (own : OwnVrf). sum_by (λ peer. from_peer peer own) (maps.entries kept.peers))) (sym between.all)
       ∙ sum-map (λ (own : OwnVrf). sum_by (λ peer. from_peer peer own) (maps.entries kept.peers)) (λ (it : OwnTree). it.own) (trees_of kept)
-      ∙ sum-alike (λ (it : OwnTree). sum_by (λ peer. from_peer peer it.own) (maps.entries kept.peers)) (λ (it : OwnTree). count_by (is_waiting it.tree.leaf.delay now) (maps.values it.tree.leaf.routes)) (trees_of kept) of_tree
+      ∙ sum-alike (λ (it : OwnTree). sum_by (λ peer. from_peer peer it.own) (maps.entries kept.peers))
+      (λ (it : OwnTree). count_by (is_waiting it.tree.leaf.delay now) (maps.values it.tree.leaf.routes)) (trees_of kept) of_tree
       ∙ sum-trees kept (full_between kept between) (λ tree. count_by (is_waiting tree.leaf.delay now) (maps.values tree.leaf.routes))
 
 -- ---- all that is due
 
-module _ (kept : Kept) (trees : AreTrees kept) (writable : AreWritable (control_of kept)) (single : AllByRecursion (λ (tree : TreeData). AreSingle tree.root.selections) kept.trees) (now : ℕ) where
+module _ (kept : Kept) (trees : AreTrees kept) (writable : AreWritable (control_of kept))
+    (single : AllByRecursion (λ (tree : TreeData). AreSingle tree.root.selections) kept.trees) (now : ℕ) where
   abbrev ended : TreeData → ℕ
   ended tree = entries.due tree.vrf.entries now
 
@@ -299,7 +331,8 @@ module _ (kept : Kept) (trees : AreTrees kept) (writable : AreWritable (control_
   abbrev waiting : TreeData → ℕ
   waiting tree = count_by (is_waiting tree.leaf.delay now) (maps.values tree.leaf.routes)
 
-  pub due_counted : (core : Core) (part : LabelData) (raised : FinMap node_cmp ℕ) → due (place_of kept.home core) now (record { control = control_of kept; part = part; raised = raised })
+  pub due_counted : (core : Core) (part : LabelData) (raised : FinMap node_cmp ℕ)
+      → due (place_of kept.home core) now (record { control = control_of kept; part = part; raised = raised })
       ≡ labels.due (label_place kept.home.scenario core kept.home.me) now part + sum_by (tree_due now) kept.trees
   due_counted core part raised =
       let a = entries_due kept (full_of kept trees) (parts_of kept trees) now in

@@ -45,22 +45,27 @@ module _ {A X : Type 0} {none : X} {or : X → X → X} (laws : HasNone none or)
 
   pub gathered_none : (part : A → X) (xs : List A) → ((x : A) → Among x xs → part x ≡ none) → all part xs ≡ none
   gathered_none part [] h = refl
-  gathered_none part (x ∷ xs) h = ap (λ (y : X). or y (all part xs)) (h x (inl refl)) ∙ laws.left (all part xs) ∙ gathered_none part xs (λ y a. h y (inr a))
+  gathered_none part (x ∷ xs) h =
+      ap (λ (y : X). or y (all part xs)) (h x (inl refl)) ∙ laws.left (all part xs) ∙ gathered_none part xs (λ y a. h y (inr a))
 
   -- where one alone has something
-  pub gathered_one : (part : A → X) (before : List A) (x : A) (after : List A) → ((y : A) → Among y before → part y ≡ none) → ((y : A) → Among y after → part y ≡ none)
+  pub gathered_one : (part : A → X) (before : List A) (x : A) (after : List A) → ((y : A) → Among y before → part y ≡ none)
+      → ((y : A) → Among y after → part y ≡ none)
       → all part (before ++ x ∷ after) ≡ part x
   gathered_one part [] x after h k = ap (or (part x)) (gathered_none part after k) ∙ laws.right (part x)
   gathered_one part (y ∷ before) x after h k =
-      ap (λ (z : X). or z (all part (before ++ x ∷ after))) (h y (inl refl)) ∙ laws.left (all part (before ++ x ∷ after)) ∙ gathered_one part before x after (λ z a. h z (inr a)) k
+      ap (λ (z : X). or z (all part (before ++ x ∷ after))) (h y (inl refl)) ∙ laws.left (all part (before ++ x ∷ after))
+      ∙ gathered_one part before x after (λ z a. h z (inr a)) k
 
 module _ {A X : Type 0} (none : X) (or : X → X → X) where
   -- where one is changed whose part is as before
-  pub gathered_same : (part : A → X) (before : List A) (x y : A) (after : List A) → part x ≡ part y → gathered none or part (before ++ x ∷ after) ≡ gathered none or part (before ++ y ∷ after)
+  pub gathered_same : (part : A → X) (before : List A) (x y : A) (after : List A) → part x ≡ part y
+      → gathered none or part (before ++ x ∷ after) ≡ gathered none or part (before ++ y ∷ after)
   gathered_same part [] x y after e = ap (λ (z : X). or z (gathered none or part after)) e
   gathered_same part (z ∷ before) x y after e = ap (or (part z)) (gathered_same part before x y after e)
 
-  pub gathered_alike : (one other : A → X) (xs : List A) → ((x : A) → Among x xs → one x ≡ other x) → gathered none or one xs ≡ gathered none or other xs
+  pub gathered_alike : (one other : A → X) (xs : List A) → ((x : A) → Among x xs → one x ≡ other x)
+      → gathered none or one xs ≡ gathered none or other xs
   gathered_alike one other [] h = refl
   gathered_alike one other (x ∷ xs) h =
       ap (λ (y : X). or y (gathered none or one xs)) (h x (inl refl)) ∙ ap (or (other x)) (gathered_alike one other xs (λ y a. h y (inr a)))
@@ -78,9 +83,11 @@ module _ {K V : Type 0} (R : K → K → Ordering) where
 
   pub find-append : (q : K) (xs ys : List (K × V)) → find R q (xs ++ ys) ≡ option_or (find R q xs) (find R q ys)
   find-append q [] ys = refl
-  find-append q (e ∷ xs) ys = ap (cond (eq_by_cmp R q e.0) (Some e.1)) (find-append q xs ys) ∙ head_else (eq_by_cmp R q e.0) e.1 (find R q xs) (find R q ys)
+  find-append q (e ∷ xs) ys =
+      ap (cond (eq_by_cmp R q e.0) (Some e.1)) (find-append q xs ys) ∙ head_else (eq_by_cmp R q e.0) e.1 (find R q xs) (find R q ys)
 
-  pub find-gathered : {A : Type 0} (list : A → List (K × V)) (q : K) (xs : List A) → find R q (flat_map list xs) ≡ gathered None option_or (λ x. find R q (list x)) xs
+  pub find-gathered : {A : Type 0} (list : A → List (K × V)) (q : K) (xs : List A)
+      → find R q (flat_map list xs) ≡ gathered None option_or (λ x. find R q (list x)) xs
   find-gathered list q [] = refl
   find-gathered list q (x ∷ xs) = find-append q (list x) (flat_map list xs) ∙ ap (option_or (find R q (list x))) (find-gathered list q xs)
 
@@ -88,7 +95,8 @@ pub get-gathered : {K V A : Type 0} {R : K → K → Ordering} → IsTotalOrder 
     → maps.get (maps.from_entries {R = R} (flat_map list xs)) q ≡ gathered None option_or (λ x. find R q (list x)) xs
 get-gathered {R = R} total list q xs = maps.get-from_entries total (flat_map list xs) q ∙ find-gathered R list q xs
 
-pub any-gathered : {K A : Type 0} (p : K → Bool) (list : A → List K) (xs : List A) → list_any p (flat_map list xs) ≡ gathered false (λ a b. a || b) (λ x. list_any p (list x)) xs
+pub any-gathered : {K A : Type 0} (p : K → Bool) (list : A → List K) (xs : List A)
+    → list_any p (flat_map list xs) ≡ gathered false (λ a b. a || b) (λ x. list_any p (list x)) xs
 any-gathered p list [] = refl
 any-gathered p list (x ∷ xs) = list_any-append p (list x) (flat_map list xs) ∙ ap (λ (b : Bool). list_any p (list x) || b) (any-gathered p list xs)
 

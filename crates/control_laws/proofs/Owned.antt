@@ -18,12 +18,16 @@ abbrev pub AreApart : List OwnTree → Type 0
 AreApart [] = Unit {0}
 AreApart (it ∷ more) = ((other : OwnTree) → Among other more → other.own.id.0 ≡ it.own.id.0 → ⊥) × AreApart more
 
-later : (me : NodeId) (number : ℕ) (vrfs : List Vrf) (trees : List TreeData) (it : OwnTree) → Among it (own_trees (vrfs_from me number vrfs) trees) → number ≤ it.own.id.0
+later : (me : NodeId) (number : ℕ) (vrfs : List Vrf) (trees : List TreeData) (it : OwnTree) → Among it (own_trees (vrfs_from me number vrfs) trees)
+    → number ≤ it.own.id.0
 later me number [] trees it a = absurd a
-later me number (vrf ∷ more) trees it a = by (vrf.edge.0 == me.0) trees (λ others b. (let behind = later me (number + 1) more others it b in omega (arith, behind))) a
+later me number (vrf ∷ more) trees it a =
+    by (vrf.edge.0 == me.0) trees (λ others b. (let behind = later me (number + 1) more others it b in omega (arith, behind))) a
   where
-    by : (b : Bool) (trees : List TreeData) → ((others : List TreeData) → Among it (own_trees (vrfs_from me (number + 1) more) others) → number ≤ it.own.id.0)
-        → Among it (own_trees (cond b (record { id = record { 0 = number }; vrf = vrf } ∷ vrfs_from me (number + 1) more) (vrfs_from me (number + 1) more)) trees) → number ≤ it.own.id.0
+    by : (b : Bool) (trees : List TreeData) → ((others : List TreeData) → Among it (own_trees (vrfs_from me (number + 1) more) others)
+        → number ≤ it.own.id.0)
+        → Among it (own_trees (cond b (record { id = record { 0 = number }; vrf = vrf } ∷ vrfs_from me (number + 1) more)
+        (vrfs_from me (number + 1) more)) trees) → number ≤ it.own.id.0
     by true [] further b = absurd b
     by true (tree ∷ trees) further (inl e) = let same : it.own.id.0 ≡ number = ap (λ (x : OwnTree). x.own.id.0) e in omega (arith, same)
     by true (tree ∷ trees) further (inr b) = further trees b
@@ -34,22 +38,26 @@ apart_from me number [] trees = tt
 apart_from me number (vrf ∷ more) trees = by (vrf.edge.0 == me.0) trees (apart_from me (number + 1) more)
   where
     by : (b : Bool) (trees : List TreeData) → ((others : List TreeData) → AreApart (own_trees (vrfs_from me (number + 1) more) others))
-        → AreApart (own_trees (cond b (record { id = record { 0 = number }; vrf = vrf } ∷ vrfs_from me (number + 1) more) (vrfs_from me (number + 1) more)) trees)
+        → AreApart (own_trees (cond b (record { id = record { 0 = number }; vrf = vrf } ∷ vrfs_from me (number + 1) more)
+        (vrfs_from me (number + 1) more)) trees)
     by true [] rest = tt
     by true (tree ∷ trees) rest = (λ other a e. (let behind = later me (number + 1) more trees other a in omega (arith, behind, e)), rest trees)
     by false trees rest = rest trees
 
-pub apart_before : (before : List OwnTree) (it : OwnTree) (after : List OwnTree) → AreApart (before ++ it ∷ after) → (other : OwnTree) → Among other before → other.own.id.0 ≡ it.own.id.0 → ⊥
+pub apart_before : (before : List OwnTree) (it : OwnTree) (after : List OwnTree) → AreApart (before ++ it ∷ after) → (other : OwnTree)
+    → Among other before → other.own.id.0 ≡ it.own.id.0 → ⊥
 apart_before [] it after h other a e = a
 apart_before (one ∷ before) it after h other (inl same) e =
     h.0 it (among_behind it before (it ∷ after) (inl refl)) (sym e ∙ ap (λ (x : OwnTree). x.own.id.0) same)
 apart_before (one ∷ before) it after h other (inr a) e = apart_before before it after h.1 other a e
 
-pub apart_after : (before : List OwnTree) (it : OwnTree) (after : List OwnTree) → AreApart (before ++ it ∷ after) → (other : OwnTree) → Among other after → other.own.id.0 ≡ it.own.id.0 → ⊥
+pub apart_after : (before : List OwnTree) (it : OwnTree) (after : List OwnTree) → AreApart (before ++ it ∷ after) → (other : OwnTree)
+    → Among other after → other.own.id.0 ≡ it.own.id.0 → ⊥
 apart_after [] it after h other a e = h.0 other a e
 apart_after (one ∷ before) it after h other a e = apart_after before it after h.1 other a e
 
-pub one_of_number : (its : List OwnTree) → AreApart its → (it other : OwnTree) → Among it its → Among other its → it.own.id.0 ≡ other.own.id.0 → it ≡ other
+pub one_of_number : (its : List OwnTree) → AreApart its → (it other : OwnTree) → Among it its → Among other its → it.own.id.0 ≡ other.own.id.0
+    → it ≡ other
 one_of_number [] apart it other a b e = absurd a
 one_of_number (first ∷ more) apart it other (inl h) (inl k) e = h ∙ sym k
 one_of_number (first ∷ more) apart it other (inl h) (inr b) e = absurd (apart.0 other b (sym e ∙ ap (λ (x : OwnTree). x.own.id.0) h))
@@ -69,7 +77,8 @@ pub record IsOneOf (owns : List OwnVrf) (trees : List TreeData) (number : ℕ) (
   pub is : own_trees owns trees ≡ before ++ it ∷ after
   pub changed : (tree : TreeData) → own_trees owns (slice_set trees number tree) ≡ before ++ with it tree ∷ after
 
-pub one_of : (owns : List OwnVrf) (trees : List TreeData) (number : ℕ) (it : OwnTree) → slice_get (own_trees owns trees) number ≡ Some it → IsOneOf owns trees number it
+pub one_of : (owns : List OwnVrf) (trees : List TreeData) (number : ℕ) (it : OwnTree) → slice_get (own_trees owns trees) number ≡ Some it
+    → IsOneOf owns trees number it
 one_of [] trees number it h = absurd cc
 one_of (own ∷ owns) [] number it h = absurd cc
 one_of (own ∷ owns) (tree ∷ trees) zero it h =
@@ -90,7 +99,8 @@ one_of (own ∷ owns) (tree ∷ trees) (suc number) it h =
       changed = λ new. ap (λ (xs : List OwnTree). here ∷ xs) (rest.changed new);
     }
 
-pub there : (owns : List OwnVrf) (trees : List TreeData) (number : ℕ) (own : OwnVrf) (tree : TreeData) → slice_get owns number ≡ Some own → slice_get trees number ≡ Some tree
+pub there : (owns : List OwnVrf) (trees : List TreeData) (number : ℕ) (own : OwnVrf) (tree : TreeData) → slice_get owns number ≡ Some own
+    → slice_get trees number ≡ Some tree
     → slice_get (own_trees owns trees) number ≡ Some (record { own = own; tree = tree })
 there [] trees number own tree h k = absurd cc
 there (one ∷ owns) [] number own tree h k = absurd cc
@@ -101,7 +111,8 @@ there (one ∷ owns) (first ∷ trees) zero own tree h k =
 there (one ∷ owns) (first ∷ trees) (suc number) own tree h k = there owns trees number own tree h k
 
 -- as many trees as before stand each at its VRF
-pub paired : (owns : List OwnVrf) (trees others : List TreeData) → map (λ (it : OwnTree). it.own) (own_trees owns trees) ≡ owns → map (λ (it : OwnTree). it.tree) (own_trees owns trees) ≡ trees
+pub paired : (owns : List OwnVrf) (trees others : List TreeData) → map (λ (it : OwnTree). it.own) (own_trees owns trees) ≡ owns
+    → map (λ (it : OwnTree). it.tree) (own_trees owns trees) ≡ trees
     → length others ≡ length trees
     → (map (λ (it : OwnTree). it.own) (own_trees owns others) ≡ owns) × (map (λ (it : OwnTree). it.tree) (own_trees owns others) ≡ others)
 paired [] [] [] h k e = (refl, refl)
@@ -115,10 +126,12 @@ paired (own ∷ owns) (tree ∷ trees) (other ∷ others) h k e =
     let rest = paired owns trees others of_owns of_trees (omega (arith, e)) in
     (ap (λ (xs : List OwnVrf). own ∷ xs) rest.0, ap (λ (xs : List TreeData). other ∷ xs) rest.1)
 
-pub trees_map : (change : TreeData → TreeData) (owns : List OwnVrf) (trees : List TreeData) → own_trees owns (map change trees) ≡ map (λ (it : OwnTree). with it (change it.tree)) (own_trees owns trees)
+pub trees_map : (change : TreeData → TreeData) (owns : List OwnVrf) (trees : List TreeData)
+    → own_trees owns (map change trees) ≡ map (λ (it : OwnTree). with it (change it.tree)) (own_trees owns trees)
 trees_map change [] trees = refl
 trees_map change (own ∷ owns) [] = refl
-trees_map change (own ∷ owns) (tree ∷ trees) = ap (λ (xs : List OwnTree). with (record { own = own; tree = tree }) (change tree) ∷ xs) (trees_map change owns trees)
+trees_map change (own ∷ owns) (tree ∷ trees) =
+    ap (λ (xs : List OwnTree). with (record { own = own; tree = tree }) (change tree) ∷ xs) (trees_map change owns trees)
 
 -- ---- what holds of each
 
@@ -131,11 +144,13 @@ pub each_of : {X : Type 0} (P : X → Type 0) (xs : List X) → ((x : X) → Amo
 each_of P [] h = tt
 each_of P (y ∷ ys) h = (h y (inl refl), each_of P ys (λ x a. h x (inr a)))
 
-pub all_but : {X : Type 0} (P : X → Type 0) (before : List X) (x y : X) (after : List X) → AllByRecursion P (before ++ x ∷ after) → P y → AllByRecursion P (before ++ y ∷ after)
+pub all_but : {X : Type 0} (P : X → Type 0) (before : List X) (x y : X) (after : List X) → AllByRecursion P (before ++ x ∷ after) → P y
+    → AllByRecursion P (before ++ y ∷ after)
 all_but P [] x y after h new = (new, h.1)
 all_but P (z ∷ before) x y after h new = (h.0, all_but P before x y after h.1 new)
 
-pub all_mapped : {X Y : Type 0} (P : X → Type 0) (Q : Y → Type 0) (f : X → Y) → ((x : X) → P x → Q (f x)) → (xs : List X) → AllByRecursion P xs → AllByRecursion Q (map f xs)
+pub all_mapped : {X Y : Type 0} (P : X → Type 0) (Q : Y → Type 0) (f : X → Y) → ((x : X) → P x → Q (f x)) → (xs : List X) → AllByRecursion P xs
+    → AllByRecursion Q (map f xs)
 all_mapped P Q f k [] h = tt
 all_mapped P Q f k (x ∷ xs) h = (k x h.0, all_mapped P Q f k xs h.1)
 
@@ -166,7 +181,8 @@ module _ {X : Type 0} {none : X} {or : X → X → X} (laws : HasNone none or) (
       by false e = owned e
 
   -- the tree of the VRF has all of it
-  pub all_at : (before : List OwnTree) (it : OwnTree) (after : List OwnTree) → AreApart (before ++ it ∷ after) → ((other : OwnTree) → Among other (before ++ it ∷ after) → IsOwned other)
+  pub all_at : (before : List OwnTree) (it : OwnTree) (after : List OwnTree) → AreApart (before ++ it ∷ after)
+      → ((other : OwnTree) → Among other (before ++ it ∷ after) → IsOwned other)
       → test it.own ≡ true → gathered none or part (before ++ it ∷ after) ≡ part it
   all_at before it after apart owned h =
       gathered_one laws part before it after
@@ -174,22 +190,29 @@ module _ {X : Type 0} {none : X} {or : X → X → X} (laws : HasNone none or) (
       (λ other a. other_none it other h (owned other (among_behind other before (it ∷ after) (inr a))) (apart_after before it after apart other a))
 
   -- what is of none of the VRFs is nowhere
-  pub all_none : (its : List OwnTree) → ((other : OwnTree) → Among other its → IsOwned other) → ((other : OwnTree) → Among other its → test other.own ≡ false) → gathered none or part its ≡ none
+  pub all_none : (its : List OwnTree) → ((other : OwnTree) → Among other its → IsOwned other)
+      → ((other : OwnTree) → Among other its → test other.own ≡ false) → gathered none or part its ≡ none
   all_none its owned h = gathered_none laws part its (λ other a. owned other a (h other a))
 
   -- with another tree of one VRF, what is of that VRF is the new tree's, and all else is as before
-  pub all_changed : (before : List OwnTree) (it : OwnTree) (after : List OwnTree) (tree : TreeData) → AreApart (before ++ it ∷ after) → AreApart (before ++ with it tree ∷ after)
-      → ((other : OwnTree) → Among other (before ++ it ∷ after) → IsOwned other) → ((other : OwnTree) → Among other (before ++ with it tree ∷ after) → IsOwned other)
-      → gathered none or part (before ++ with it tree ∷ after) ≡ cond (test it.own) (part (with it tree)) (gathered none or part (before ++ it ∷ after))
+  pub all_changed : (before : List OwnTree) (it : OwnTree) (after : List OwnTree) (tree : TreeData) → AreApart (before ++ it ∷ after)
+      → AreApart (before ++ with it tree ∷ after)
+      → ((other : OwnTree) → Among other (before ++ it ∷ after) → IsOwned other)
+      → ((other : OwnTree) → Among other (before ++ with it tree ∷ after) → IsOwned other)
+      → gathered none or part (before ++ with it tree ∷ after)
+      ≡ cond (test it.own) (part (with it tree)) (gathered none or part (before ++ it ∷ after))
   all_changed before it after tree apart apart_then owned owned_then = by (test it.own) refl
     where
-      by : (b : Bool) → test it.own ≡ b → gathered none or part (before ++ with it tree ∷ after) ≡ cond b (part (with it tree)) (gathered none or part (before ++ it ∷ after))
+      by : (b : Bool) → test it.own ≡ b → gathered none or part (before ++ with it tree ∷ after)
+          ≡ cond b (part (with it tree)) (gathered none or part (before ++ it ∷ after))
       by true h = all_at before (with it tree) after apart_then owned_then h
       by false h = gathered_same none or part before (with it tree) it after
-          (owned_then (with it tree) (among_behind (with it tree) before (with it tree ∷ after) (inl refl)) h ∙ sym (owned it (among_behind it before (it ∷ after) (inl refl)) h))
+          (owned_then (with it tree) (among_behind (with it tree) before (with it tree ∷ after) (inl refl)) h
+          ∙ sym (owned it (among_behind it before (it ∷ after) (inl refl)) h))
 
   -- so for each of a list
-  pub all_of : (its : List OwnTree) (it : OwnTree) → Among it its → AreApart its → ((other : OwnTree) → Among other its → IsOwned other) → test it.own ≡ true → gathered none or part its ≡ part it
+  pub all_of : (its : List OwnTree) (it : OwnTree) → Among it its → AreApart its → ((other : OwnTree) → Among other its → IsOwned other)
+      → test it.own ≡ true → gathered none or part its ≡ part it
   all_of its it a apart owned h =
       let (before, after, is) = split_at it its a in
       subst (λ (xs : List OwnTree). AreApart xs → ((other : OwnTree) → Among other xs → IsOwned other) → gathered none or part xs ≡ part it) (sym is)
@@ -199,7 +222,8 @@ module _ {X : Type 0} {none : X} {or : X → X → X} (laws : HasNone none or) (
   or_not [] = inr (λ it a. absurd a)
   or_not (first ∷ more) = by (test first.own) refl (or_not more)
     where
-      by : (b : Bool) → test first.own ≡ b → ((it : OwnTree) × Among it more × (test it.own ≡ true)) ⊎ ((it : OwnTree) → Among it more → test it.own ≡ false)
+      by : (b : Bool) → test first.own ≡ b → ((it : OwnTree) × Among it more × (test it.own ≡ true))
+          ⊎ ((it : OwnTree) → Among it more → test it.own ≡ false)
           → ((it : OwnTree) × Among it (first ∷ more) × (test it.own ≡ true)) ⊎ ((it : OwnTree) → Among it (first ∷ more) → test it.own ≡ false)
       by true h rest = inl (first, inl refl, h)
       by false h (inl found) = inl (found.0, inr found.1, found.2)
@@ -207,7 +231,8 @@ module _ {X : Type 0} {none : X} {or : X → X → X} (laws : HasNone none or) (
 
 module _ {X : Type 0} {none : X} {or : X → X → X} (laws : HasNone none or) (test : OwnVrf → Bool) (one : IsOfOne test) (part : OwnTree → X) where
   -- what changes the part of each changes all of it
-  pub all_through : (its : List OwnTree) → AreApart its → ((other : OwnTree) → Among other its → IsOwned laws test one part other) → (change : X → X) → change none ≡ none
+  pub all_through : (its : List OwnTree) → AreApart its → ((other : OwnTree) → Among other its → IsOwned laws test one part other) → (change : X → X)
+      → change none ≡ none
       → gathered none or (λ it. change (part it)) its ≡ change (gathered none or part its)
   all_through its apart owned change nothing = elim (or_not laws test one part its) [
     | inl found ↦ all_of laws test one (λ it. change (part it)) its found.0 found.1 apart (λ other a h. ap change (owned other a h) ∙ nothing) found.2

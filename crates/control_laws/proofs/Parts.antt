@@ -61,18 +61,21 @@ abbrev pub only_peers : FinMap node_cmp Taken → Control
 only_peers peers = record no_control { peers = peers }
 
 -- These parts of the tree of a VRF are what the scenario says of the VRF, and what the tables of the peers say.
-pub record IsDerived (place : EdgePlace) (peers : FinMap node_cmp Taken) (own : OwnVrf) (site_list : List SiteIface) (active_set : FinSet active_cmp) (routes : Routes)
+pub record IsDerived (place : EdgePlace) (peers : FinMap node_cmp Taken) (own : OwnVrf) (site_list : List SiteIface) (active_set : FinSet active_cmp)
+    (routes : Routes)
     (joins : FinSet join_cmp) (vrf_number root_delay : ℕ) (leaf : Leaf) : Type 0 where
   pub ifaces : site_list ≡ site_ifaces own.id 0 place.scenario.ifaces
   pub actives : (route : ActiveRoute) → (sets.contains active_set route ≡ true) ↔ IsActiveTaken (only_peers peers) own route
   pub joined : (join : TakenJoin) → (sets.contains joins join ≡ true) ↔ IsJoinTaken place (only_peers peers) own join
   pub rule : routes.rule ≡ own.vrf.rule
   pub learned : (key : RouteKey) → maps.get routes.learned key ≡ held_at place (only_peers peers) own key.prefix key.place
-  pub attached : (key : RouteKey) (site : SiteId) → (maps.get routes.attached key ≡ Some site) ↔ IsAttachedAt place.scenario own key.prefix key.place site
+  pub attached : (key : RouteKey) (site : SiteId)
+      → (maps.get routes.attached key ≡ Some site) ↔ IsAttachedAt place.scenario own key.prefix key.place site
   pub number : vrf_number ≡ own.vrf.number
   pub delay : root_delay ≡ place.scenario.delay
   pub leaf_delay : leaf.delay ≡ place.scenario.delay
-  pub selective : (key : selective_keys.RouteKey) (learned : Learned) → (maps.get leaf.routes key ≡ Some learned) ↔ IsSelectiveAt place (only_peers peers) own key learned
+  pub selective : (key : selective_keys.RouteKey) (learned : Learned)
+      → (maps.get leaf.routes key ≡ Some learned) ↔ IsSelectiveAt place (only_peers peers) own key learned
 
 -- The tree of a VRF keeps entries and notes at the VRF's interfaces alone, no two selections of one pattern, and what the scenario and
 -- the peers say.
@@ -81,7 +84,8 @@ pub record IsPart (home : Home) (peers : FinMap node_cmp Taken) (it : OwnTree) :
   pub notes : (note : Note) → is_iface_of home.scenario it.own.id note.iface ≡ false → sets.contains it.tree.vrf.notes note ≡ false
   pub selections : AreDistinct it.tree.root.selections
   pub derived : (core : Core) →
-      IsDerived (place_of home core) peers it.own it.tree.vrf.ifaces it.tree.vrf.actives it.tree.vrf.routes it.tree.joined it.tree.root.number it.tree.root.delay it.tree.leaf
+      IsDerived (place_of home core) peers it.own it.tree.vrf.ifaces it.tree.vrf.actives it.tree.vrf.routes it.tree.joined it.tree.root.number
+      it.tree.root.delay it.tree.leaf
 
 -- Behind a refresh it also keeps which tunnels its flows want.
 abbrev pub Wants : OwnTree → Type 0
@@ -89,25 +93,29 @@ Wants it = it.tree.wants ≡ sets.from_list (wanted_by it.tree.leaf it.tree.vrf.
 
 -- ---- of the peers alone
 
-active_peers : (control : Control) (own : OwnVrf) (route : ActiveRoute) → IsActiveTaken control own route ↔ IsActiveTaken (only_peers control.peers) own route
+active_peers : (control : Control) (own : OwnVrf) (route : ActiveRoute)
+    → IsActiveTaken control own route ↔ IsActiveTaken (only_peers control.peers) own route
 active_peers control own route = (
   λ h. record { afi = h.afi; taken = h.taken; at = h.at; imported = h.imported },
   λ h. record { afi = h.afi; taken = h.taken; at = h.at; imported = h.imported },
 )
 
-join_peers : (place : EdgePlace) (control : Control) (own : OwnVrf) (join : TakenJoin) → IsJoinTaken place control own join ↔ IsJoinTaken place (only_peers control.peers) own join
+join_peers : (place : EdgePlace) (control : Control) (own : OwnVrf) (join : TakenJoin)
+    → IsJoinTaken place control own join ↔ IsJoinTaken place (only_peers control.peers) own join
 join_peers place control own join = (
   λ h. record { key = h.key; taken = h.taken; at = h.at; used = h.used },
   λ h. record { key = h.key; taken = h.taken; at = h.at; used = h.used },
 )
 
-held_peers : (place : EdgePlace) (control : Control) (own : OwnVrf) (prefix : Prefix) (from : Place) → held_at place control own prefix from ≡ held_at place (only_peers control.peers) own prefix from
+held_peers : (place : EdgePlace) (control : Control) (own : OwnVrf) (prefix : Prefix) (from : Place)
+    → held_at place control own prefix from ≡ held_at place (only_peers control.peers) own prefix from
 held_peers place control own prefix First = refl
 held_peers place control own prefix Here = refl
 held_peers place control own prefix (From peer rd) = refl
 held_peers place control own prefix Last = refl
 
-selective_peers : (place : EdgePlace) (control : Control) (own : OwnVrf) (peer : NodeId) (pattern : Pattern) (kind : selective_places.Place) (learned : Learned)
+selective_peers : (place : EdgePlace) (control : Control) (own : OwnVrf) (peer : NodeId) (pattern : Pattern) (kind : selective_places.Place)
+    (learned : Learned)
     → IsSelectiveAt place control own (record { peer = peer; pattern = pattern; place = kind }) learned
     ↔ IsSelectiveAt place (only_peers control.peers) own (record { peer = peer; pattern = pattern; place = kind }) learned
 selective_peers place control own peer pattern selective_kinds.First learned = (λ h. h, λ h. h)
@@ -144,14 +152,17 @@ derived_of place control own tree is = record {
 pub selection_kept : (control : Control) (vrf : VrfId) (selection : Selection) → Among selection (selections_of control vrf)
     → maps.get control.selections (record { vrf = vrf; pattern = selection.pattern }) ≡ Some (selected_of selection)
 selection_kept control vrf selection a =
-    let (entry, among, is) = map_among selection_of selection (filter (λ (entry : VrfPattern × Selected). entry.0.vrf.0 == vrf.0) (maps.entries control.selections)) a in
+    let (entry, among, is) =
+    map_among selection_of selection (filter (λ (entry : VrfPattern × Selected). entry.0.vrf.0 == vrf.0) (maps.entries control.selections)) a in
     let kept = filter_among (λ (entry : VrfPattern × Selected). entry.0.vrf.0 == vrf.0) entry (maps.entries control.selections) among in
     let number = eqb-true entry.0.vrf.0 vrf.0 kept.1 in
-    let at : record { vrf = vrf; pattern = selection.pattern } ≡ entry.0 = λ i. record { vrf = record { 0 = sym number i }; pattern = (is i).pattern } in
+    let at : record { vrf = vrf; pattern = selection.pattern } ≡ entry.0 =
+    λ i. record { vrf = record { 0 = sym number i }; pattern = (is i).pattern } in
     let value : entry.1 ≡ selected_of selection = λ i. selected_of (sym is i) in
     ap (maps.get control.selections) at ∙ entry_get pattern_total control.selections entry.0 entry.1 kept.0 ∙ ap (λ (s : Selected). Some s) value
 
-pub kept_selection : (control : Control) (vrf : VrfId) (selection : Selection) → maps.get control.selections (record { vrf = vrf; pattern = selection.pattern }) ≡ Some (selected_of selection)
+pub kept_selection : (control : Control) (vrf : VrfId) (selection : Selection)
+    → maps.get control.selections (record { vrf = vrf; pattern = selection.pattern }) ≡ Some (selected_of selection)
     → Among selection (selections_of control vrf)
 kept_selection control vrf selection h =
     let entry : VrfPattern × Selected = (record { vrf = vrf; pattern = selection.pattern }, selected_of selection) in
@@ -160,22 +171,27 @@ kept_selection control vrf selection h =
     (get_entry pattern_exact control.selections entry.0 entry.1 h))
 
 -- what is found by its pattern
-pub find_is : (pattern : Pattern) (selections : List Selection) (selection : Selection) → find (is_of pattern) selections ≡ Some selection → Among selection selections × (selection.pattern ≡ pattern)
+pub find_is : (pattern : Pattern) (selections : List Selection) (selection : Selection) → find (is_of pattern) selections ≡ Some selection
+    → Among selection selections × (selection.pattern ≡ pattern)
 find_is pattern [] selection h = absurd cc
 find_is pattern (one ∷ more) selection h = by (is_of pattern one) refl h (find_is pattern more selection)
   where
     by : (b : Bool) → is_of pattern one ≡ b → cond b (Some one) (find (is_of pattern) more) ≡ Some selection
-        → (find (is_of pattern) more ≡ Some selection → Among selection more × (selection.pattern ≡ pattern)) → Among selection (one ∷ more) × (selection.pattern ≡ pattern)
+        → (find (is_of pattern) more ≡ Some selection → Among selection more × (selection.pattern ≡ pattern))
+        → Among selection (one ∷ more) × (selection.pattern ≡ pattern)
     by true t e rest = (let same : selection ≡ one = cc in (inl same, ap (λ (s : Selection). s.pattern) same ∙ one_pattern one.pattern pattern t))
     by false t e rest = (let found = rest e in (inr found.0, found.1))
 
-pub is_found : (selections : List Selection) (selection : Selection) → AreDistinct selections → Among selection selections → find (is_of selection.pattern) selections ≡ Some selection
+pub is_found : (selections : List Selection) (selection : Selection) → AreDistinct selections → Among selection selections
+    → find (is_of selection.pattern) selections ≡ Some selection
 is_found selections selection distinct a = by (find (is_of selection.pattern) selections) refl
   where
     some : (xs : List Selection) → Among selection xs → find (is_of selection.pattern) xs ≡ None → ⊥
     some [] b e = b
     some (one ∷ more) (inl same) e =
-        absurd (let bad : Some one ≡ None = ap (λ (b : Bool). cond b (Some one) (find (is_of selection.pattern) more)) (sym (ap (λ (s : Selection). is_of selection.pattern s) (sym same) ∙ pattern_itself selection.pattern)) ∙ e in cc)
+        absurd (let bad : Some one ≡ None =
+        ap (λ (b : Bool). cond b (Some one) (find (is_of selection.pattern) more))
+        (sym (ap (λ (s : Selection). is_of selection.pattern s) (sym same) ∙ pattern_itself selection.pattern)) ∙ e in cc)
     some (one ∷ more) (inr b) e = some_more (is_of selection.pattern one) (some more b) e
       where
         some_more : (t : Bool) → (find (is_of selection.pattern) more ≡ None → ⊥) → cond t (Some one) (find (is_of selection.pattern) more) ≡ None → ⊥
@@ -226,23 +242,31 @@ module _ (kept : Kept) where
     its_iface iface own = is_iface_of scenario own.id iface
 
     -- an entry at an interface of a VRF is the one of its tree; at an interface of none there is none
-    pub entry_at : (it : OwnTree) → Among it (trees_of kept) → (at : IfaceEntry) → is_iface_of scenario it.own.id at.iface ≡ true → maps.get (control_of kept).entries at ≡ maps.get it.tree.vrf.entries at
+    pub entry_at : (it : OwnTree) → Among it (trees_of kept) → (at : IfaceEntry) → is_iface_of scenario it.own.id at.iface ≡ true
+        → maps.get (control_of kept).entries at ≡ maps.get it.tree.vrf.entries at
     entry_at it a at h =
-        entries_gathered kept at ∙ all_of options (its_iface at.iface) (of_iface scenario at.iface) (entry_in at) (trees_of kept) it a apart (λ other b. (parts other b).entries at) h
+        entries_gathered kept at ∙ all_of options (its_iface at.iface) (of_iface scenario at.iface) (entry_in at) (trees_of kept) it a apart
+        (λ other b. (parts other b).entries at) h
 
-    pub entry_nowhere : (at : IfaceEntry) → ((it : OwnTree) → Among it (trees_of kept) → is_iface_of scenario it.own.id at.iface ≡ false) → maps.get (control_of kept).entries at ≡ None
+    pub entry_nowhere : (at : IfaceEntry) → ((it : OwnTree) → Among it (trees_of kept) → is_iface_of scenario it.own.id at.iface ≡ false)
+        → maps.get (control_of kept).entries at ≡ None
     entry_nowhere at h =
-        entries_gathered kept at ∙ all_none options (its_iface at.iface) (of_iface scenario at.iface) (entry_in at) (trees_of kept) (λ other b. (parts other b).entries at) h
+        entries_gathered kept at ∙ all_none options (its_iface at.iface) (of_iface scenario at.iface) (entry_in at) (trees_of kept)
+        (λ other b. (parts other b).entries at) h
 
     -- so of a note
-    pub note_at : (it : OwnTree) → Among it (trees_of kept) → (note : Note) → is_iface_of scenario it.own.id note.iface ≡ true → sets.contains (control_of kept).notes (edge_note note) ≡ sets.contains it.tree.vrf.notes note
+    pub note_at : (it : OwnTree) → Among it (trees_of kept) → (note : Note) → is_iface_of scenario it.own.id note.iface ≡ true
+        → sets.contains (control_of kept).notes (edge_note note) ≡ sets.contains it.tree.vrf.notes note
     note_at it a note h =
         notes_gathered kept (edge_note note)
-        ∙ all_of truths (its_iface note.iface) (of_iface scenario note.iface) (note_in note) (trees_of kept) it a apart (λ other b. (parts other b).notes note) h
+        ∙ all_of truths (its_iface note.iface) (of_iface scenario note.iface) (note_in note) (trees_of kept) it a apart
+        (λ other b. (parts other b).notes note) h
 
-    pub note_nowhere : (note : Note) → ((it : OwnTree) → Among it (trees_of kept) → is_iface_of scenario it.own.id note.iface ≡ false) → sets.contains (control_of kept).notes (edge_note note) ≡ false
+    pub note_nowhere : (note : Note) → ((it : OwnTree) → Among it (trees_of kept) → is_iface_of scenario it.own.id note.iface ≡ false)
+        → sets.contains (control_of kept).notes (edge_note note) ≡ false
     note_nowhere note h =
-        notes_gathered kept (edge_note note) ∙ all_none truths (its_iface note.iface) (of_iface scenario note.iface) (note_in note) (trees_of kept) (λ other b. (parts other b).notes note) h
+        notes_gathered kept (edge_note note) ∙ all_none truths (its_iface note.iface) (of_iface scenario note.iface) (note_in note) (trees_of kept)
+        (λ other b. (parts other b).notes note) h
 
     -- a flow of a VRF is the one of its tree, with its upstream; of another VRF there is none
     abbrev by_flow : VrfFlow → OwnVrf → Bool
@@ -251,44 +275,57 @@ module _ (kept : Kept) where
     pub no_flow : (key : VrfFlow) (other : OwnTree) → IsOwned options (by_flow key) (of_number key.vrf.0) (choice_in key) other
     no_flow key other h = where_not (other.own.id.0 == key.vrf.0) (option_map upstream_by (maps.get other.tree.vrf.flows (flow_of key))) None h
 
-    pub flow_at : (it : OwnTree) → Among it (trees_of kept) → (flow : Flow) → maps.get (control_of kept).flows (flow_in it.own.id flow) ≡ option_map upstream_by (maps.get it.tree.vrf.flows flow)
+    pub flow_at : (it : OwnTree) → Among it (trees_of kept) → (flow : Flow)
+        → maps.get (control_of kept).flows (flow_in it.own.id flow) ≡ option_map upstream_by (maps.get it.tree.vrf.flows flow)
     flow_at it a flow =
         let key : VrfFlow = flow_in it.own.id flow in
         let own = eq-eqb it.own.id.0 it.own.id.0 refl in
-        flows_gathered kept key ∙ all_of options (by_flow key) (of_number key.vrf.0) (choice_in key) (trees_of kept) it a apart (λ other b. no_flow key other) own
+        flows_gathered kept key ∙ all_of options (by_flow key) (of_number key.vrf.0) (choice_in key) (trees_of kept) it a apart
+        (λ other b. no_flow key other) own
         ∙ where_so (it.own.id.0 == it.own.id.0) (option_map upstream_by (maps.get it.tree.vrf.flows flow)) None own
 
-    pub flow_nowhere : (key : VrfFlow) → ((it : OwnTree) → Among it (trees_of kept) → (it.own.id.0 == key.vrf.0) ≡ false) → maps.get (control_of kept).flows key ≡ None
-    flow_nowhere key h = flows_gathered kept key ∙ all_none options (by_flow key) (of_number key.vrf.0) (choice_in key) (trees_of kept) (λ other b. no_flow key other) h
+    pub flow_nowhere : (key : VrfFlow) → ((it : OwnTree) → Among it (trees_of kept) → (it.own.id.0 == key.vrf.0) ≡ false)
+        → maps.get (control_of kept).flows key ≡ None
+    flow_nowhere key h =
+        flows_gathered kept key ∙ all_none options (by_flow key) (of_number key.vrf.0) (choice_in key) (trees_of kept) (λ other b. no_flow key other)
+        h
 
     -- a selection of a VRF is the one of its tree; of another VRF there is none
     abbrev by_pattern : VrfPattern → OwnVrf → Bool
     by_pattern key own = own.id.0 == key.vrf.0
 
     pub no_selection : (key : VrfPattern) (other : OwnTree) → IsOwned options (by_pattern key) (of_number key.vrf.0) (selected_in key) other
-    no_selection key other h = where_not (other.own.id.0 == key.vrf.0) (option_map selected_of (find (is_of key.pattern) other.tree.root.selections)) None h
+    no_selection key other h =
+        where_not (other.own.id.0 == key.vrf.0) (option_map selected_of (find (is_of key.pattern) other.tree.root.selections)) None h
 
     pub selection_at : (it : OwnTree) → Among it (trees_of kept) → (pattern : Pattern)
-        → maps.get (control_of kept).selections (record { vrf = it.own.id; pattern = pattern }) ≡ option_map selected_of (find (is_of pattern) it.tree.root.selections)
+        → maps.get (control_of kept).selections (record { vrf = it.own.id; pattern = pattern })
+        ≡ option_map selected_of (find (is_of pattern) it.tree.root.selections)
     selection_at it a pattern =
         let key : VrfPattern = record { vrf = it.own.id; pattern = pattern } in
         let own = eq-eqb it.own.id.0 it.own.id.0 refl in
-        selections_gathered kept key ∙ all_of options (by_pattern key) (of_number key.vrf.0) (selected_in key) (trees_of kept) it a apart (λ other b. no_selection key other) own
+        selections_gathered kept key ∙ all_of options (by_pattern key) (of_number key.vrf.0) (selected_in key) (trees_of kept) it a apart
+        (λ other b. no_selection key other) own
         ∙ where_so (it.own.id.0 == it.own.id.0) (option_map selected_of (find (is_of pattern) it.tree.root.selections)) None own
 
-    pub selection_nowhere : (key : VrfPattern) → ((it : OwnTree) → Among it (trees_of kept) → (it.own.id.0 == key.vrf.0) ≡ false) → maps.get (control_of kept).selections key ≡ None
+    pub selection_nowhere : (key : VrfPattern) → ((it : OwnTree) → Among it (trees_of kept) → (it.own.id.0 == key.vrf.0) ≡ false)
+        → maps.get (control_of kept).selections key ≡ None
     selection_nowhere key h =
-        selections_gathered kept key ∙ all_none options (by_pattern key) (of_number key.vrf.0) (selected_in key) (trees_of kept) (λ other b. no_selection key other) h
+        selections_gathered kept key ∙ all_none options (by_pattern key) (of_number key.vrf.0) (selected_in key) (trees_of kept)
+        (λ other b. no_selection key other) h
 
     -- the selections of a VRF are those of its tree
-    pub selections_among : (it : OwnTree) → Among it (trees_of kept) → (selection : Selection) → Among selection it.tree.root.selections ↔ Among selection (selections_of (control_of kept) it.own.id)
+    pub selections_among : (it : OwnTree) → Among it (trees_of kept) → (selection : Selection)
+        → Among selection it.tree.root.selections ↔ Among selection (selections_of (control_of kept) it.own.id)
     selections_among it a selection = (
       λ b. kept_selection (control_of kept) it.own.id selection
           (selection_at it a selection.pattern ∙ ap (option_map selected_of) (is_found it.tree.root.selections selection (parts it a).selections b)),
-      λ b. found_among (find (is_of selection.pattern) it.tree.root.selections) refl (sym (selection_at it a selection.pattern) ∙ selection_kept (control_of kept) it.own.id selection b),
+      λ b. found_among (find (is_of selection.pattern) it.tree.root.selections) refl
+          (sym (selection_at it a selection.pattern) ∙ selection_kept (control_of kept) it.own.id selection b),
     )
       where
-        found_among : (o : Option Selection) → find (is_of selection.pattern) it.tree.root.selections ≡ o → option_map selected_of o ≡ Some (selected_of selection) → Among selection it.tree.root.selections
+        found_among : (o : Option Selection) → find (is_of selection.pattern) it.tree.root.selections ≡ o
+            → option_map selected_of o ≡ Some (selected_of selection) → Among selection it.tree.root.selections
         found_among None e h = absurd cc
         found_among (Some found) e h =
             let is = find_is selection.pattern it.tree.root.selections found e in
@@ -328,8 +365,11 @@ module _ (kept : Kept) (parts : AreParts kept) (core : Core) (it : OwnTree) (a :
       let place = place_of kept.home core in
       record {
         ifaces = d.ifaces;
-        entries = λ at. where_owned (is_iface_of home it.own.id at.iface) (maps.get it.tree.vrf.entries at) (maps.get (control_of kept).entries at) (λ h. sym (entry_at kept parts it a at h)) (part.entries at);
-        notes = λ note. both_true (is_iface_of home it.own.id note.iface) (sets.contains it.tree.vrf.notes note) (sets.contains (control_of kept).notes (edge_note note)) (λ h. sym (note_at kept parts it a note h)) (part.notes note);
+        entries =
+            λ at. where_owned (is_iface_of home it.own.id at.iface) (maps.get it.tree.vrf.entries at) (maps.get (control_of kept).entries at)
+            (λ h. sym (entry_at kept parts it a at h)) (part.entries at);
+        notes = λ note. both_true (is_iface_of home it.own.id note.iface) (sets.contains it.tree.vrf.notes note)
+            (sets.contains (control_of kept).notes (edge_note note)) (λ h. sym (note_at kept parts it a note h)) (part.notes note);
         actives = λ route. through (d.actives route) (back (active_peers (control_of kept) it.own route));
         joined = λ join. through (d.joined join) (back (join_peers place (control_of kept) it.own join));
         rule = d.rule;
@@ -340,7 +380,9 @@ module _ (kept : Kept) (parts : AreParts kept) (core : Core) (it : OwnTree) (a :
         delay = d.delay;
         selections = selections_among kept parts it a;
         leaf_delay = d.leaf_delay;
-        selective = λ key learned. through (d.selective key learned) (back (selective_peers place (control_of kept) it.own key.peer key.pattern key.place learned));
+        selective =
+            λ key learned. through (d.selective key learned)
+            (back (selective_peers place (control_of kept) it.own key.peer key.pattern key.place learned));
         wants = wants;
       }
 
@@ -355,7 +397,8 @@ pub record AreFull (kept : Kept) : Type 0 where
 -- trees that are parts each are those of what they make together
 pub trees_together : (kept : Kept) → AreFull kept → AreParts kept → AreWanting kept → AreTrees kept
 trees_together kept full parts wants = record {
-  each = λ core. each_of (λ (it : OwnTree). IsTreeOf (place_of kept.home core) (control_of kept) it.own it.tree) (trees_of kept) (λ it a. is_tree kept parts core it a (wants it a));
+  each = λ core. each_of (λ (it : OwnTree). IsTreeOf (place_of kept.home core) (control_of kept) it.own it.tree) (trees_of kept)
+      (λ it a. is_tree kept parts core it a (wants it a));
   full = full.full;
   all = full.all;
 }
@@ -366,17 +409,21 @@ trees_together kept full parts wants = record {
 abbrev pub no_core : Core
 no_core = record { cost = λ from to. 0; toward = λ from to. None }
 
-pub selections_distinct : (place : EdgePlace) (control : Control) (own : OwnVrf) (tree : TreeData) → IsTreeOf place control own tree → AreDistinct tree.root.selections
+pub selections_distinct : (place : EdgePlace) (control : Control) (own : OwnVrf) (tree : TreeData) → IsTreeOf place control own tree
+    → AreDistinct tree.root.selections
 selections_distinct place control own tree is one other a b e =
     let first = selection_kept control own.id one ((is.selections one).0 a) in
     let second = selection_kept control own.id other ((is.selections other).0 b) in
-    let at : ◌≡◌ {A = VrfPattern} (record { vrf = own.id; pattern = one.pattern }) (record { vrf = own.id; pattern = other.pattern }) = λ i. record { vrf = own.id; pattern = e i } in
+    let at : ◌≡◌ {A = VrfPattern} (record { vrf = own.id; pattern = one.pattern }) (record { vrf = own.id; pattern = other.pattern }) =
+    λ i. record { vrf = own.id; pattern = e i } in
     let both : Some (selected_of one) ≡ Some (selected_of other) = sym first ∙ ap (maps.get control.selections) at ∙ second in
     let value : selected_of one ≡ selected_of other = cc in
     λ i. record { pattern = e i; number = (value i).number; since = (value i).since; run = (value i).run }
 
-pub tree_at : (kept : Kept) → AreTrees kept → (core : Core) (it : OwnTree) → Among it (trees_of kept) → IsTreeOf (place_of kept.home core) (control_of kept) it.own it.tree
-tree_at kept trees core it a = of_each (λ (other : OwnTree). IsTreeOf (place_of kept.home core) (control_of kept) other.own other.tree) (trees_of kept) (trees.each core) it a
+pub tree_at : (kept : Kept) → AreTrees kept → (core : Core) (it : OwnTree) → Among it (trees_of kept)
+    → IsTreeOf (place_of kept.home core) (control_of kept) it.own it.tree
+tree_at kept trees core it a =
+    of_each (λ (other : OwnTree). IsTreeOf (place_of kept.home core) (control_of kept) other.own other.tree) (trees_of kept) (trees.each core) it a
 
 pub parts_of : (kept : Kept) → AreTrees kept → AreParts kept
 parts_of kept trees it a =

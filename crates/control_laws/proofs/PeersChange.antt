@@ -55,27 +55,34 @@ use Rattle.control_laws.proofs.PeersTold.{Changes, Here, here_or_not, Tables, To
 one_rd : (a b : Rd) → selective_kinds.Of a ≡ selective_kinds.Of b → a ≡ b
 one_rd a b h = cc
 
-spelled_at : (tables : Tables) → AreSpelled tables → (peer : NodeId) (key : Key) (route : TakenRoute) → tables peer key ≡ Some route → IsWritableKey key
+spelled_at : (tables : Tables) → AreSpelled tables → (peer : NodeId) (key : Key) (route : TakenRoute) → tables peer key ≡ Some route
+    → IsWritableKey key
 spelled_at tables spelled peer key route is = spelled peer key (ap is_some is)
 
 module _ (place : EdgePlace) (own : OwnVrf) (tables : Tables) where
-  unicast_once : (x : RouteKey) (v w : Held) (a : Told (tell_unicast place own) tables x v) (b : Told (tell_unicast place own) tables x w) → Here b.peer b.key a.peer a.key
+  unicast_once : (x : RouteKey) (v w : Held) (a : Told (tell_unicast place own) tables x v) (b : Told (tell_unicast place own) tables x w)
+      → Here b.peer b.key a.peer a.key
   unicast_once x v w a b =
       let one = unicast_where place own tables x v a in
       let other = unicast_where place own tables x w b in
       (one.0 ∙ sym other.0, one.1 ∙ sym other.1)
 
   module _ (spelled : AreSpelled tables) where
-    active_once : (x : ActiveRoute) (v w : Unit {0}) (a : Told (tell_active own) tables x v) (b : Told (tell_active own) tables x w) → Here b.peer b.key a.peer a.key
+    active_once : (x : ActiveRoute) (v w : Unit {0}) (a : Told (tell_active own) tables x v) (b : Told (tell_active own) tables x w)
+        → Here b.peer b.key a.peer a.key
     active_once x v w a b =
         let one = active_where own tables x a in
         let other = active_where own tables x b in
         let afi = active_one one.afi other.afi (record { 0 = x.rd }) x.flow.source x.flow.group
         (subst IsWritableKey one.is (spelled_at tables spelled a.peer a.key a.route a.is))
-        (subst IsWritableKey other.is (spelled_at tables spelled b.peer b.key b.route b.is)) in
-        (one.of_peer ∙ sym other.of_peer, one.is ∙ (λ i. Mcast (afi i) (routes.Active (record { 0 = x.rd }) x.flow.source x.flow.group)) ∙ sym other.is)
+        (subst IsWritableKey other.is (spelled_at tables spelled b.peer b.key b.route b.is)) in (
+          one.of_peer ∙ sym other.of_peer,
+          one.is ∙ (λ i. Mcast (afi i) (routes.Active (record { 0 = x.rd }) x.flow.source x.flow.group))
+              ∙ sym other.is,
+        )
 
-    join_once : (x : TakenJoin) (v w : Unit {0}) (a : Told (tell_join place own) tables x v) (b : Told (tell_join place own) tables x w) → Here b.peer b.key a.peer a.key
+    join_once : (x : TakenJoin) (v w : Unit {0}) (a : Told (tell_join place own) tables x v) (b : Told (tell_join place own) tables x w)
+        → Here b.peer b.key a.peer a.key
     join_once x v w a b =
         let one = join_where place own tables x a in
         let other = join_where place own tables x b in (
@@ -84,7 +91,8 @@ module _ (place : EdgePlace) (own : OwnVrf) (tables : Tables) where
               (spelled_at tables spelled a.peer a.key a.route a.is) (spelled_at tables spelled b.peer b.key b.route b.is) one.1 other.1,
         )
 
-    selective_once : (x : selective_keys.RouteKey) (v w : Learned) (a : Told (tell_selective place own) tables x v) (b : Told (tell_selective place own) tables x w)
+    selective_once : (x : selective_keys.RouteKey) (v w : Learned) (a : Told (tell_selective place own) tables x v)
+        (b : Told (tell_selective place own) tables x w)
         → Here b.peer b.key a.peer a.key
     selective_once x v w a b =
         let one = selective_where place own tables x v a in
@@ -109,9 +117,11 @@ in_two (Some a) f g = refl
 module _ (place : EdgePlace) (own : OwnVrf) (before after : Tables) (peer : NodeId) (now : ℕ) (old new : Option TakenRoute) where
   -- ---- unicast routes
 
-  unicast_change : (rd : Rd) (prefix : Prefix) → Changes before after peer (Unicast rd prefix) old new → (tree : TreeData) → Parts place own before tree
+  unicast_change : (rd : Rd) (prefix : Prefix) → Changes before after peer (Unicast rd prefix) old new → (tree : TreeData)
+      → Parts place own before tree
       → (x : RouteKey) (held : Held)
-      → (maps.get (learned_with (key_from peer rd prefix) (told_unicast place own peer new) tree.vrf.routes.learned) x ≡ Some held) ↔ Told (tell_unicast place own) after x held
+      → (maps.get (learned_with (key_from peer rd prefix) (told_unicast place own peer new) tree.vrf.routes.learned) x ≡ Some held) ↔ Told
+      (tell_unicast place own) after x held
   unicast_change rd prefix changes tree parts x held =
       let same = eq_by_cmp unicast_order.key_cmp in
       let key = key_from peer rd prefix in
@@ -134,16 +144,20 @@ module _ (place : EdgePlace) (own : OwnVrf) (before after : Tables) (peer : Node
   -- ---- Source Active routes
 
   module _ (spelled : AreSpelled before) (still : AreSpelled after) where
-    active_harmless : (afi : Afi) (rd : Rd) (source group : Addr) → IsWritableKey (Mcast afi (routes.Active rd source group)) → (y : ActiveRoute) → active_of peer rd source group ≡ y
+    active_harmless : (afi : Afi) (rd : Rd) (source group : Addr) → IsWritableKey (Mcast afi (routes.Active rd source group)) → (y : ActiveRoute)
+        → active_of peer rd source group ≡ y
         → (told : Told (tell_active own) before y tt) → Here peer (Mcast afi (routes.Active rd source group)) told.peer told.key
     active_harmless afi rd source group writable y e told =
         let at = subst (λ (r : ActiveRoute). ActiveAt own r told.peer told.key told.route) (sym e) (active_where own before y told) in
-        let one = active_one at.afi afi rd source group (subst IsWritableKey at.is (spelled_at before spelled told.peer told.key told.route told.is)) writable in
+        let one =
+        active_one at.afi afi rd source group (subst IsWritableKey at.is (spelled_at before spelled told.peer told.key told.route told.is))
+        writable in
         (at.of_peer, at.is ∙ (λ i. Mcast (one i) (routes.Active rd source group)))
 
     active_change : (afi : Afi) (rd : Rd) (source group : Addr) → Changes before after peer (Mcast afi (routes.Active rd source group)) old new
         → IsWritableKey (Mcast afi (routes.Active rd source group)) → (tree : TreeData) → Parts place own before tree → (x : ActiveRoute)
-        → (flag (sets.contains (actives_with (active_of peer rd source group) (told_active own (Mcast afi (routes.Active rd source group)) new) tree.vrf.actives) x) ≡ Some tt)
+        → (flag (sets.contains (actives_with (active_of peer rd source group) (told_active own (Mcast afi (routes.Active rd source group)) new)
+        tree.vrf.actives) x) ≡ Some tt)
         ↔ Told (tell_active own) after x tt
     active_change afi rd source group changes writable tree parts x =
         let same = eq_by_cmp active_cmp in
@@ -165,7 +179,8 @@ module _ (place : EdgePlace) (own : OwnVrf) (before after : Tables) (peer : Node
     -- ---- Source Tree Joins
 
     join_change : (key : Key) → Changes before after peer key old new → (tree : TreeData) → Parts place own before tree → (x : TakenJoin)
-        → (flag (sets.contains (joined_with peer (told_join place own key new) (left_with peer (told_join place own key old) tree.joined)) x) ≡ Some tt)
+        → (flag (sets.contains (joined_with peer (told_join place own key new) (left_with peer (told_join place own key old) tree.joined)) x)
+        ≡ Some tt)
         ↔ Told (tell_join place own) after x tt
     join_change key changes tree parts x =
         let same = eq_by_cmp join_cmp in
@@ -176,13 +191,15 @@ module _ (place : EdgePlace) (own : OwnVrf) (before after : Tables) (peer : Node
         (at_joined peer (told_join place own key old) (told_join place own key new) tree.joined x
         ∙ (λ i. put same (read new i) x (dropped same (first_of (read old i)) x (flag (sets.contains tree.joined x)))))
         (told_iff same (one_by join_cmp join_exact) (itself_by join_cmp join_total)
-        tell before after peer key old new changes (λ y. flag (sets.contains tree.joined y)) (first_of (old >>? tell peer key)) (λ y v. parts.joined y)
+        tell before after peer key old new changes (λ y. flag (sets.contains tree.joined y)) (first_of (old >>? tell peer key))
+        (λ y v. parts.joined y)
         (first_covers (old >>? tell peer key)) (first_harmless tell before peer key old changes.was (join_once place own before spelled))
         (join_once place own after still) x tt)
 
     -- ---- selective routes
 
-    read_old : (key : Key) (o : Option TakenRoute) → first_of (told_selective place own peer key o >>? route_by peer now) ≡ first_of (o >>? tell_selective place own peer key)
+    read_old : (key : Key) (o : Option TakenRoute)
+        → first_of (told_selective place own peer key o >>? route_by peer now) ≡ first_of (o >>? tell_selective place own peer key)
     read_old key None = refl
     read_old key (Some route) = by (imported_selective own.vrf (addr_of place.scenario peer) (key, route))
       where
@@ -203,9 +220,11 @@ module _ (place : EdgePlace) (own : OwnVrf) (before after : Tables) (peer : Node
           (let learned : Learned = record { fec = imported.fec; since = sym at.0 i; run = sym at.1 i } in learned),
         )
 
-    selective_change : (key : Key) → Changes before after peer key old new → ((route : TakenRoute) → new ≡ Some route → (route.since ≡ now) × (route.run ≡ false))
+    selective_change : (key : Key) → Changes before after peer key old new
+        → ((route : TakenRoute) → new ≡ Some route → (route.since ≡ now) × (route.run ≡ false))
         → (tree : TreeData) → Parts place own before tree → (x : selective_keys.RouteKey) (learned : Learned)
-        → (maps.get (selective_with peer now (told_selective place own peer key new) (selective_without peer (told_selective place own peer key old) tree.leaf.routes)) x ≡ Some learned)
+        → (maps.get (selective_with peer now (told_selective place own peer key new)
+        (selective_without peer (told_selective place own peer key old) tree.leaf.routes)) x ≡ Some learned)
         ↔ Told (tell_selective place own) after x learned
     selective_change key changes fresh tree parts x learned =
         let same = eq_by_cmp route_cmp in
@@ -223,24 +242,30 @@ module _ (place : EdgePlace) (own : OwnVrf) (before after : Tables) (peer : Node
     module _ (key : Key) (changes : Changes before after peer key old new) (tree : TreeData) (parts : Parts place own before tree) where
       no_unicast : ((t : TakenRoute) → tell_unicast place own peer key t ≡ None) → (x : RouteKey) (held : Held)
           → (maps.get tree.vrf.routes.learned x ≡ Some held) ↔ Told (tell_unicast place own) after x held
-      no_unicast silent x held = joins (parts.unicast x held) (silent_stays (tell_unicast place own) peer key silent before after old new changes x held)
+      no_unicast silent x held =
+          joins (parts.unicast x held) (silent_stays (tell_unicast place own) peer key silent before after old new changes x held)
 
-      no_active : ((t : TakenRoute) → tell_active own peer key t ≡ None) → (x : ActiveRoute) → (flag (sets.contains tree.vrf.actives x) ≡ Some tt) ↔ Told (tell_active own) after x tt
+      no_active : ((t : TakenRoute) → tell_active own peer key t ≡ None) → (x : ActiveRoute)
+          → (flag (sets.contains tree.vrf.actives x) ≡ Some tt) ↔ Told (tell_active own) after x tt
       no_active silent x = joins (parts.actives x) (silent_stays (tell_active own) peer key silent before after old new changes x tt)
 
-      no_join : ((t : TakenRoute) → tell_join place own peer key t ≡ None) → (x : TakenJoin) → (flag (sets.contains tree.joined x) ≡ Some tt) ↔ Told (tell_join place own) after x tt
+      no_join : ((t : TakenRoute) → tell_join place own peer key t ≡ None) → (x : TakenJoin)
+          → (flag (sets.contains tree.joined x) ≡ Some tt) ↔ Told (tell_join place own) after x tt
       no_join silent x = joins (parts.joined x) (silent_stays (tell_join place own) peer key silent before after old new changes x tt)
 
       no_selective : ((t : TakenRoute) → tell_selective place own peer key t ≡ None) → (x : selective_keys.RouteKey) (learned : Learned)
           → (maps.get tree.leaf.routes x ≡ Some learned) ↔ Told (tell_selective place own) after x learned
-      no_selective silent x learned = joins (parts.selective x learned) (silent_stays (tell_selective place own) peer key silent before after old new changes x learned)
+      no_selective silent x learned =
+          joins (parts.selective x learned) (silent_stays (tell_selective place own) peer key silent before after old new changes x learned)
 
       -- a route of no kind that a VRF takes
       no_parts : ((t : TakenRoute) → tell_unicast place own peer key t ≡ None) → ((t : TakenRoute) → tell_active own peer key t ≡ None)
-          → ((t : TakenRoute) → tell_join place own peer key t ≡ None) → ((t : TakenRoute) → tell_selective place own peer key t ≡ None) → Parts place own after tree
+          → ((t : TakenRoute) → tell_join place own peer key t ≡ None) → ((t : TakenRoute) → tell_selective place own peer key t ≡ None)
+          → Parts place own after tree
       no_parts a b c d = record { unicast = no_unicast a; actives = no_active b; joined = no_join c; selective = no_selective d }
 
-    pub parts_with : (key : Key) → Changes before after peer key old new → IsWritableKey key → ((route : TakenRoute) → new ≡ Some route → (route.since ≡ now) × (route.run ≡ false))
+    pub parts_with : (key : Key) → Changes before after peer key old new → IsWritableKey key
+        → ((route : TakenRoute) → new ≡ Some route → (route.since ≡ now) × (route.run ≡ false))
         → (tree : TreeData) → Parts place own before tree → Parts place own after (tree_with place own peer now key old new tree)
     parts_with (Unicast rd prefix) changes writable fresh tree parts =
         let key = Unicast rd prefix in
@@ -288,8 +313,10 @@ module _ (place : EdgePlace) (own : OwnVrf) (before after : Tables) (peer : Node
 -- ---- the tree of a VRF
 
 -- What a route of the peer makes of the parts, behind the route that stood there before.
-pub parts_changed : (place : EdgePlace) (own : OwnVrf) (before after : Tables) (peer : NodeId) (now : ℕ) (key : Key) (old new : Option TakenRoute) → Changes before after peer key old new
-    → IsBehind now old new → AreSpelled before → IsWritableKey key → (tree : TreeData) → Parts place own before tree → Parts place own after (tree_change place own peer now key old new tree)
+pub parts_changed : (place : EdgePlace) (own : OwnVrf) (before after : Tables) (peer : NodeId) (now : ℕ) (key : Key) (old new : Option TakenRoute)
+    → Changes before after peer key old new
+    → IsBehind now old new → AreSpelled before → IsWritableKey key → (tree : TreeData) → Parts place own before tree
+    → Parts place own after (tree_change place own peer now key old new tree)
 parts_changed place own before after peer now key old new changes behind spelled writable tree parts = by (same_route old new) refl
   where
     unmoved : new ≡ old → (q : NodeId) (k : Key) → after q k ≡ before q k
@@ -301,25 +328,38 @@ parts_changed place own before after peer now key old new changes behind spelled
     by : (b : Bool) → same_route old new ≡ b → Parts place own after (cond b tree (tree_with place own peer now key old new tree))
     by true e = same_parts place own before after tree (unmoved (behind.same e)) parts
     by false e =
-        parts_with place own before after peer now old new spelled (still_spelled before after peer key old new changes spelled writable) key changes writable (behind.fresh e) tree parts
+        parts_with place own before after peer now old new spelled (still_spelled before after peer key old new changes spelled writable) key changes
+        writable (behind.fresh e) tree parts
 
 -- the tree of a route that is put by kind has other routes alone
-between : (place : EdgePlace) (control : Control) (peers : FinMap _ Taken) (own : OwnVrf) (peer : NodeId) (now : ℕ) (key : Key) (old new : Option TakenRoute) (tree : TreeData)
-    → IsTreeBetween place control own tree → Parts place own (tables_of (record control { peers = peers })) (tree_with place own peer now key old new tree)
+between : (place : EdgePlace) (control : Control) (peers : FinMap _ Taken) (own : OwnVrf) (peer : NodeId) (now : ℕ) (key : Key)
+    (old new : Option TakenRoute) (tree : TreeData)
+    → IsTreeBetween place control own tree → Parts place own (tables_of (record control { peers = peers }))
+    (tree_with place own peer now key old new tree)
     → IsTreeBetween place (record control { peers = peers }) own (tree_with place own peer now key old new tree)
 between place control peers own peer now (Unicast rd prefix) old new tree is parts = tree_of place own control peers tree _ _ _ _ is parts
-between place control peers own peer now (Mcast afi (routes.Active rd source group)) old new tree is parts = tree_of place own control peers tree _ _ _ _ is parts
-between place control peers own peer now (Mcast afi (routes.SourceJoin rd source_as source group)) old new tree is parts = tree_of place own control peers tree _ _ _ _ is parts
-between place control peers own peer now (Mcast afi (routes.Selective rd source group originator)) old new tree is parts = tree_of place own control peers tree _ _ _ _ is parts
-between place control peers own peer now (Mcast afi (routes.Intra rd originator)) old new tree is parts = tree_of place own control peers tree _ _ _ _ is parts
-between place control peers own peer now (Mcast afi (routes.Inter rd source_as)) old new tree is parts = tree_of place own control peers tree _ _ _ _ is parts
-between place control peers own peer now (Mcast afi (routes.Leaf leaf originator)) old new tree is parts = tree_of place own control peers tree _ _ _ _ is parts
-between place control peers own peer now (Mcast afi (routes.SharedJoin rd source_as source group)) old new tree is parts = tree_of place own control peers tree _ _ _ _ is parts
-between place control peers own peer now (Mcast afi (routes.Other kind octets)) old new tree is parts = tree_of place own control peers tree _ _ _ _ is parts
+between place control peers own peer now (Mcast afi (routes.Active rd source group)) old new tree is parts =
+    tree_of place own control peers tree _ _ _ _ is parts
+between place control peers own peer now (Mcast afi (routes.SourceJoin rd source_as source group)) old new tree is parts =
+    tree_of place own control peers tree _ _ _ _ is parts
+between place control peers own peer now (Mcast afi (routes.Selective rd source group originator)) old new tree is parts =
+    tree_of place own control peers tree _ _ _ _ is parts
+between place control peers own peer now (Mcast afi (routes.Intra rd originator)) old new tree is parts =
+    tree_of place own control peers tree _ _ _ _ is parts
+between place control peers own peer now (Mcast afi (routes.Inter rd source_as)) old new tree is parts =
+    tree_of place own control peers tree _ _ _ _ is parts
+between place control peers own peer now (Mcast afi (routes.Leaf leaf originator)) old new tree is parts =
+    tree_of place own control peers tree _ _ _ _ is parts
+between place control peers own peer now (Mcast afi (routes.SharedJoin rd source_as source group)) old new tree is parts =
+    tree_of place own control peers tree _ _ _ _ is parts
+between place control peers own peer now (Mcast afi (routes.Other kind octets)) old new tree is parts =
+    tree_of place own control peers tree _ _ _ _ is parts
 
 -- and so has the tree that takes it
-between_changed : (place : EdgePlace) (control : Control) (peers : FinMap _ Taken) (own : OwnVrf) (peer : NodeId) (now : ℕ) (key : Key) (old new : Option TakenRoute) (tree : TreeData)
-    → IsTreeBetween place control own tree → Parts place own (tables_of (record control { peers = peers })) (tree_change place own peer now key old new tree)
+between_changed : (place : EdgePlace) (control : Control) (peers : FinMap _ Taken) (own : OwnVrf) (peer : NodeId) (now : ℕ) (key : Key)
+    (old new : Option TakenRoute) (tree : TreeData)
+    → IsTreeBetween place control own tree → Parts place own (tables_of (record control { peers = peers }))
+    (tree_change place own peer now key old new tree)
     → IsTreeBetween place (record control { peers = peers }) own (tree_change place own peer now key old new tree)
 between_changed place control peers own peer now key old new tree is = by (same_route old new)
   where
@@ -329,7 +369,8 @@ between_changed place control peers own peer now key old new tree is = by (same_
     by false parts = between place control peers own peer now key old new tree is parts
 
 -- The tree that takes the change keeps what the edge keeps behind it.
-pub change_keeps : (place : EdgePlace) (control : Control) (own : OwnVrf) (peer : NodeId) (taken : Taken) (now : ℕ) (change : Change) (tree : TreeData)
+pub change_keeps : (place : EdgePlace) (control : Control) (own : OwnVrf) (peer : NodeId) (taken : Taken) (now : ℕ) (change : Change)
+    (tree : TreeData)
     → maps.get control.peers peer ≡ Some taken → AreWritable control → IsWritableKey (key_of change) → IsTreeBetween place control own tree
     → IsTreeBetween place (with_table peer (taken_change now taken change) control) own (tree_taking place own peer now taken change tree)
 change_keeps place control own peer taken now change tree up spelled writable is =
@@ -341,15 +382,18 @@ change_keeps place control own peer taken now change tree up spelled writable is
     (changed control peer taken up now change) (is_behind now change old) spelled writable tree (parts_of place own control tree is))
 
 -- the keys still have spellings
-pub change_spelled : (control : Control) (peer : NodeId) (taken : Taken) (now : ℕ) (change : Change) → maps.get control.peers peer ≡ Some taken → AreWritable control → IsWritableKey (key_of change)
+pub change_spelled : (control : Control) (peer : NodeId) (taken : Taken) (now : ℕ) (change : Change) → maps.get control.peers peer ≡ Some taken
+    → AreWritable control → IsWritableKey (key_of change)
     → AreWritable (with_table peer (taken_change now taken change) control)
 change_spelled control peer taken now change up spelled writable =
-    still_spelled (tables_of control) (tables_of (with_table peer (taken_change now taken change) control)) peer (key_of change) (maps.get taken (key_of change))
+    still_spelled (tables_of control) (tables_of (with_table peer (taken_change now taken change) control)) peer (key_of change)
+    (maps.get taken (key_of change))
     (route_behind now change (maps.get taken (key_of change))) (changed control peer taken up now change) spelled writable
 
 -- flows and what they want stay as the last refresh left them
 pub change_leaves : (place : EdgePlace) (own : OwnVrf) (peer : NodeId) (now : ℕ) (key : Key) (old new : Option TakenRoute) (tree : TreeData)
-    → ((tree_change place own peer now key old new tree).vrf.flows ≡ tree.vrf.flows) × ((tree_change place own peer now key old new tree).wants ≡ tree.wants)
+    → ((tree_change place own peer now key old new tree).vrf.flows ≡ tree.vrf.flows)
+    × ((tree_change place own peer now key old new tree).wants ≡ tree.wants)
 change_leaves place own peer now key old new tree = by (same_route old new) key
   where
     by : (b : Bool) (k : Key) → ((cond b tree (tree_with place own peer now k old new tree)).vrf.flows ≡ tree.vrf.flows)
@@ -392,9 +436,12 @@ put_itself peers peer taken up = maps.same_map node_cmp_total node_cmp_exact (ma
     by q true e = sym up ∙ ap (maps.get peers) (sym (one_by node_cmp node_cmp_exact q peer e))
     by q false e = refl
 
-put_twice : (peers : FinMap node_cmp Taken) (peer : NodeId) (one other : Taken) → maps.insert (maps.insert peers peer one) peer other ≡ maps.insert peers peer other
-put_twice peers peer one other = maps.same_map node_cmp_total node_cmp_exact (maps.insert (maps.insert peers peer one) peer other) (maps.insert peers peer other)
-    (λ q. maps.get-insert node_cmp_total (maps.insert peers peer one) peer other q ∙ ap (cond (eq_by_cmp node_cmp q peer) (Some other)) (maps.get-insert node_cmp_total peers peer one q)
+put_twice : (peers : FinMap node_cmp Taken) (peer : NodeId) (one other : Taken)
+    → maps.insert (maps.insert peers peer one) peer other ≡ maps.insert peers peer other
+put_twice peers peer one other =
+    maps.same_map node_cmp_total node_cmp_exact (maps.insert (maps.insert peers peer one) peer other) (maps.insert peers peer other)
+    (λ q. maps.get-insert node_cmp_total (maps.insert peers peer one) peer other q
+    ∙ ap (cond (eq_by_cmp node_cmp q peer) (Some other)) (maps.get-insert node_cmp_total peers peer one q)
     ∙ by (eq_by_cmp node_cmp q peer) (maps.get peers q) ∙ sym (maps.get-insert node_cmp_total peers peer other q))
   where
     by : (b : Bool) (o : Option Taken) → cond b (Some other) (cond b (Some one) o) ≡ cond b (Some other) o
@@ -405,17 +452,21 @@ abbrev Keeps : EdgePlace → Control → OwnVrf → TreeData → Type 0
 Keeps place control own tree = IsTreeBetween place control own tree × AreWritable control
 
 -- The tree that takes all changes keeps what the edge keeps behind them.
-pub changes_keep : (place : EdgePlace) (control : Control) (own : OwnVrf) (peer : NodeId) (taken : Taken) (now : ℕ) (changes : List Change) (tree : TreeData)
-    → maps.get control.peers peer ≡ Some taken → AreWritable control → ((change : Change) → Among change changes → IsWritableKey (key_of change)) → IsTreeBetween place control own tree
+pub changes_keep : (place : EdgePlace) (control : Control) (own : OwnVrf) (peer : NodeId) (taken : Taken) (now : ℕ) (changes : List Change)
+    (tree : TreeData)
+    → maps.get control.peers peer ≡ Some taken → AreWritable control → ((change : Change) → Among change changes → IsWritableKey (key_of change))
+    → IsTreeBetween place control own tree
     → IsTreeBetween place (with_table peer (fold (taken_change now) taken changes) control) own (tree_updated place own peer now taken changes tree)
     × AreWritable (with_table peer (fold (taken_change now) taken changes) control)
 changes_keep place control own peer taken now [] tree up spelled writable is =
-    subst (λ (peers : FinMap node_cmp Taken). Keeps place (record control { peers = peers }) own tree) (sym (put_itself control.peers peer taken up)) (is, spelled)
+    subst (λ (peers : FinMap node_cmp Taken). Keeps place (record control { peers = peers }) own tree) (sym (put_itself control.peers peer taken up))
+    (is, spelled)
 changes_keep place control own peer taken now (change ∷ more) tree up spelled writable is =
     let table = taken_change now taken change in
     let next = with_table peer table control in
     let rest = changes_keep place next own peer table now more (tree_taking place own peer now taken change tree) (put_own control.peers peer table)
     (change_spelled control peer taken now change up spelled (writable change (inl refl))) (λ other a. writable other (inr a))
     (change_keeps place control own peer taken now change tree up spelled (writable change (inl refl)) is) in
-    subst (λ (peers : FinMap node_cmp Taken). Keeps place (record control { peers = peers }) own (tree_updated place own peer now table more (tree_taking place own peer now taken change tree)))
+    subst (λ (peers : FinMap node_cmp Taken). Keeps place (record control { peers = peers }) own
+    (tree_updated place own peer now table more (tree_taking place own peer now taken change tree)))
     (put_twice control.peers peer table (fold (taken_change now) table more)) rest

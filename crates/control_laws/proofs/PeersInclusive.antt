@@ -45,17 +45,21 @@ module _ (place : EdgePlace) (own : OwnVrf) where
   one_fec (Some fec) = refl
 
   -- what is told is the tunnel, and the other way round
-  is_fec : (peer : NodeId) (key : Key) (o : Option TakenRoute) → only_fec (o >>? tell_inclusive place own peer key) ≡ told_inclusive place own peer key o
+  is_fec : (peer : NodeId) (key : Key) (o : Option TakenRoute)
+      → only_fec (o >>? tell_inclusive place own peer key) ≡ told_inclusive place own peer key o
   is_fec peer key None = refl
   is_fec peer key (Some taken) = one_fec (imported_inclusive own.vrf (addr_of place.scenario peer) (key, taken))
 
-  fec_told : (peer : NodeId) (key : Key) (o : Option TakenRoute) (fec : Fec) → (o >>? tell_inclusive place own peer key) ≡ Some (fec, tt) → told_inclusive place own peer key o ≡ Some fec
+  fec_told : (peer : NodeId) (key : Key) (o : Option TakenRoute) (fec : Fec) → (o >>? tell_inclusive place own peer key) ≡ Some (fec, tt)
+      → told_inclusive place own peer key o ≡ Some fec
   fec_told peer key o fec h = sym (is_fec peer key o) ∙ ap only_fec h
 
-  told_fec : (peer : NodeId) (key : Key) (o : Option TakenRoute) (fec : Fec) → told_inclusive place own peer key o ≡ Some fec → (o >>? tell_inclusive place own peer key) ≡ Some (fec, tt)
+  told_fec : (peer : NodeId) (key : Key) (o : Option TakenRoute) (fec : Fec) → told_inclusive place own peer key o ≡ Some fec
+      → (o >>? tell_inclusive place own peer key) ≡ Some (fec, tt)
   told_fec peer key o fec h =
       next_some (λ (taken : TakenRoute). imported_inclusive own.vrf (addr_of place.scenario peer) (key, taken)) o fec h
-      (λ taken is found. ap (λ (r : Option TakenRoute). r >>? tell_inclusive place own peer key) is ∙ ap (λ (f : Option Fec). f >>? λ fec. Some (fec, tt)) found)
+      (λ taken is found. ap (λ (r : Option TakenRoute). r >>? tell_inclusive place own peer key) is
+      ∙ ap (λ (f : Option Fec). f >>? λ fec. Some (fec, tt)) found)
 
   -- ---- the tunnels are those that routes tell
 
@@ -98,14 +102,16 @@ module _ (place : EdgePlace) (own : OwnVrf) where
     changes = changed control peer taken up now change
 
     -- A tunnel behind the change was one before it, or is that of the new route.
-    pub fec_came : (fec : Fec) → Among fec (inclusive_of place next own) → (told_inclusive place own peer (key_of change) new ≡ Some fec) ⊎ Among fec (inclusive_of place control own)
+    pub fec_came : (fec : Fec) → Among fec (inclusive_of place next own)
+        → (told_inclusive place own peer (key_of change) new ≡ Some fec) ⊎ Among fec (inclusive_of place control own)
     fec_came fec a = elim (came tell (tables_of control) (tables_of next) peer (key_of change) old new changes fec tt (has_told next fec a)) [
       | inl h ↦ inl (fec_told peer (key_of change) new fec h)
       | inr told ↦ inr (told_has control fec told)
     ]
 
     -- A tunnel before the change is one behind it, or was that of the old route.
-    pub fec_went : (fec : Fec) → Among fec (inclusive_of place control own) → (told_inclusive place own peer (key_of change) old ≡ Some fec) ⊎ Among fec (inclusive_of place next own)
+    pub fec_went : (fec : Fec) → Among fec (inclusive_of place control own)
+        → (told_inclusive place own peer (key_of change) old ≡ Some fec) ⊎ Among fec (inclusive_of place next own)
     fec_went fec a = elim (went tell (tables_of control) (tables_of next) peer (key_of change) old new changes fec tt (has_told control fec a)) [
       | inl h ↦ inl (fec_told peer (key_of change) old fec h)
       | inr told ↦ inr (told_has next fec told)
@@ -113,18 +119,24 @@ module _ (place : EdgePlace) (own : OwnVrf) where
 
     -- That of the new route is one.
     pub fec_new : (fec : Fec) → told_inclusive place own peer (key_of change) new ≡ Some fec → Among fec (inclusive_of place next own)
-    fec_new fec h = told_has next fec (news tell (tables_of control) (tables_of next) peer (key_of change) old new changes fec tt (told_fec peer (key_of change) new fec h))
+    fec_new fec h =
+        told_has next fec (news tell (tables_of control) (tables_of next) peer (key_of change) old new changes fec tt
+        (told_fec peer (key_of change) new fec h))
 
-    nothing_told : (route : Option TakenRoute) → imports.inclusive_of (key_of change) ≡ None → told_inclusive place own peer (key_of change) route ≡ None
+    nothing_told : (route : Option TakenRoute) → imports.inclusive_of (key_of change) ≡ None
+        → told_inclusive place own peer (key_of change) route ≡ None
     nothing_told None none = refl
-    nothing_told (Some taken) none = ap (λ (o : Option Addr). o >>? λ originator. only_if (is_admitted own.vrf taken.value.comms) taken.value >>? λ value.
+    nothing_told (Some taken) none =
+        ap (λ (o : Option Addr). o >>? λ originator. only_if (is_admitted own.vrf taken.value.comms) taken.value >>? λ value.
         tunnel_by (addr_of place.scenario peer) originator value) none
 
-    not_told : (route : Option TakenRoute) (fec : Fec) → imports.inclusive_of (key_of change) ≡ None → told_inclusive place own peer (key_of change) route ≡ Some fec → ⊥
+    not_told : (route : Option TakenRoute) (fec : Fec) → imports.inclusive_of (key_of change) ≡ None
+        → told_inclusive place own peer (key_of change) route ≡ Some fec → ⊥
     not_told route fec none h = absurd (let bad : None ≡ Some fec = sym (nothing_told route none) ∙ h in cc)
 
     -- A route of another kind changes none.
-    pub fec_same : imports.inclusive_of (key_of change) ≡ None → (fec : Fec) → Among fec (inclusive_of place control own) ↔ Among fec (inclusive_of place next own)
+    pub fec_same : imports.inclusive_of (key_of change) ≡ None → (fec : Fec)
+        → Among fec (inclusive_of place control own) ↔ Among fec (inclusive_of place next own)
     fec_same none fec = (
       λ a. elim (fec_went fec a) [ inl h ↦ absurd (not_told old fec none h) | inr b ↦ b ],
       λ a. elim (fec_came fec a) [ inl h ↦ absurd (not_told new fec none h) | inr b ↦ b ],
@@ -132,22 +144,31 @@ module _ (place : EdgePlace) (own : OwnVrf) where
 
   -- ---- delays
 
-  pub fec_run : (now : ℕ) (control : Control) (fec : Fec) → Among fec (inclusive_of place control own) ↔ Among fec (inclusive_of place (with_run place now control) own)
+  pub fec_run : (now : ℕ) (control : Control) (fec : Fec)
+      → Among fec (inclusive_of place control own) ↔ Among fec (inclusive_of place (with_run place now control) own)
   fec_run now control fec =
-      let both = timeless place now (tables_of control) (tables_of (with_run place now control)) (ran place now control) (tell_inclusive place own) (λ q k t. refl) fec tt in
-      (λ a. told_has (with_run place now control) fec (both.0 (has_told control fec a)), λ a. told_has control fec (both.1 (has_told (with_run place now control) fec a)))
+      let both =
+      timeless place now (tables_of control) (tables_of (with_run place now control)) (ran place now control) (tell_inclusive place own)
+      (λ q k t. refl) fec tt in (
+        λ a. told_has (with_run place now control) fec (both.0 (has_told control fec a)),
+        λ a. told_has control fec (both.1 (has_told (with_run place now control) fec a)),
+      )
 
   -- ---- all routes of a peer
 
   -- the root of a tunnel is the address of its peer
-  root_of : (peer : NodeId) (key : Key) (taken : TakenRoute) (fec : Fec) → tell_inclusive place own peer key taken ≡ Some (fec, tt) → fec.root ≡ addr_of place.scenario peer
+  root_of : (peer : NodeId) (key : Key) (taken : TakenRoute) (fec : Fec) → tell_inclusive place own peer key taken ≡ Some (fec, tt)
+      → fec.root ≡ addr_of place.scenario peer
   root_of peer key taken fec h =
-      next_some (λ (originator : Addr). only_if (is_admitted own.vrf taken.value.comms) taken.value >>? λ value. tunnel_by (addr_of place.scenario peer) originator value)
+      next_some (λ (originator : Addr). only_if (is_admitted own.vrf taken.value.comms) taken.value >>? λ value. tunnel_by
+      (addr_of place.scenario peer) originator value)
       (imports.inclusive_of key) fec (fec_told peer key (Some taken) fec h)
       (λ originator is k.
-      next_some (λ (value : Value). tunnel_by (addr_of place.scenario peer) originator value) (only_if (is_admitted own.vrf taken.value.comms) taken.value) fec k
+      next_some (λ (value : Value). tunnel_by (addr_of place.scenario peer) originator value)
+      (only_if (is_admitted own.vrf taken.value.comms) taken.value) fec k
       (λ value is_value l.
-      next_some (λ (found : Fec). only_if (same_addr found.root (addr_of place.scenario peer) && same_addr originator (addr_of place.scenario peer)) found) (lsp_of value.pmsi) fec l
+      next_some (λ (found : Fec). only_if (same_addr found.root (addr_of place.scenario peer) && same_addr originator (addr_of place.scenario peer))
+      found) (lsp_of value.pmsi) fec l
       (λ found is_found m.
       let test = if_some (same_addr found.root (addr_of place.scenario peer) && same_addr originator (addr_of place.scenario peer)) found fec m in
       ap (λ (f : Fec). f.root) (sym test.1)
@@ -171,17 +192,20 @@ module _ (place : EdgePlace) (own : OwnVrf) where
     pub fec_left : Among fec (inclusive_of place next own) → Among fec (inclusive_of place control own)
     fec_left a = told_has control fec (was_told (has_told next fec a))
 
-    of_peer : (told : Told (tell_inclusive place own) (tables_of control) fec tt) → told.peer ≡ peer → Among fec (inclusive_tunnels place own (peer, taken_from control peer))
+    of_peer : (told : Told (tell_inclusive place own) (tables_of control) fec tt) → told.peer ≡ peer
+        → Among fec (inclusive_tunnels place own (peer, taken_from control peer))
     of_peer told same =
         among_found (imported_inclusive own.vrf (addr_of place.scenario peer)) (told.key, told.route) fec (maps.entries (taken_from control peer))
         (get_entry key_exact (taken_from control peer) told.key told.route ((λ i. tables_of control (sym same i) told.key) ∙ told.is))
         (fec_told peer told.key (Some told.route) fec ((λ i. tell_inclusive place own (sym same i) told.key told.route) ∙ told.tells))
 
     -- One before it is left, or was one of the peer.
-    pub fec_lost : Among fec (inclusive_of place control own) → Among fec (inclusive_tunnels place own (peer, taken_from control peer)) ⊎ Among fec (inclusive_of place next own)
+    pub fec_lost : Among fec (inclusive_of place control own)
+        → Among fec (inclusive_tunnels place own (peer, taken_from control peer)) ⊎ Among fec (inclusive_of place next own)
     fec_lost a = by (has_told control fec a)
       where
-        by : Told (tell_inclusive place own) (tables_of control) fec tt → Among fec (inclusive_tunnels place own (peer, taken_from control peer)) ⊎ Among fec (inclusive_of place next own)
+        by : Told (tell_inclusive place own) (tables_of control) fec tt
+            → Among fec (inclusive_tunnels place own (peer, taken_from control peer)) ⊎ Among fec (inclusive_of place next own)
         by told = elim (node_cases told.peer peer) [
           | inl same ↦ inl (of_peer told same)
           | inr ne ↦ inr (told_has next fec (record {
@@ -194,7 +218,8 @@ module _ (place : EdgePlace) (own : OwnVrf) where
         ]
 
     -- Those of the peer are left no more, where no other peer has its address.
-    pub fec_gone : ((other : NodeId) → is_some (maps.get next.peers other) ≡ true → addr_of place.scenario other ≡ addr_of place.scenario peer → other ≡ peer)
+    pub fec_gone : ((other : NodeId) → is_some (maps.get next.peers other) ≡ true → addr_of place.scenario other ≡ addr_of place.scenario peer
+        → other ≡ peer)
         → Among fec (inclusive_tunnels place own (peer, taken_from control peer)) → Among fec (inclusive_of place next own) → ⊥
     fec_gone alone a b =
         let found = found_among (imported_inclusive own.vrf (addr_of place.scenario peer)) fec (maps.entries (taken_from control peer)) a in
@@ -207,7 +232,8 @@ module _ (place : EdgePlace) (own : OwnVrf) where
 
 -- ---- a peer that is lost
 
-pub fec_removed_left : (place : EdgePlace) (own : OwnVrf) (control : Control) (peer : NodeId) (fec : Fec) → Among fec (inclusive_of place (without_table peer control) own) → Among fec (inclusive_of place control own)
+pub fec_removed_left : (place : EdgePlace) (own : OwnVrf) (control : Control) (peer : NodeId) (fec : Fec)
+    → Among fec (inclusive_of place (without_table peer control) own) → Among fec (inclusive_of place control own)
 fec_removed_left place own control peer fec = fec_left place own control (without_table peer control) peer (removed_loses control peer) fec
 
 pub fec_removed_lost : (place : EdgePlace) (own : OwnVrf) (control : Control) (peer : NodeId) (fec : Fec) → Among fec (inclusive_of place control own)
@@ -215,7 +241,8 @@ pub fec_removed_lost : (place : EdgePlace) (own : OwnVrf) (control : Control) (p
 fec_removed_lost place own control peer fec = fec_lost place own control (without_table peer control) peer (removed_loses control peer) fec
 
 -- the peers that are left
-still_up : (control : Control) (peer other : NodeId) → is_some (maps.get (maps.remove control.peers peer) other) ≡ true → is_some (maps.get control.peers other) ≡ true
+still_up : (control : Control) (peer other : NodeId) → is_some (maps.get (maps.remove control.peers peer) other) ≡ true
+    → is_some (maps.get control.peers other) ≡ true
 still_up control peer other h = by (eq_by_cmp node_cmp other peer) (sym (ap is_some (maps.get-remove node_cmp_total control.peers peer other)) ∙ h)
   where
     by : (b : Bool) → is_some (cond b None (maps.get control.peers other)) ≡ true → is_some (maps.get control.peers other) ≡ true
@@ -226,4 +253,5 @@ pub fec_removed_gone : (place : EdgePlace) (own : OwnVrf) (control : Control) (p
     → ((other : NodeId) → is_some (maps.get control.peers other) ≡ true → addr_of place.scenario other ≡ addr_of place.scenario peer → other ≡ peer)
     → Among fec (inclusive_tunnels place own (peer, taken_from control peer)) → Among fec (inclusive_of place (without_table peer control) own) → ⊥
 fec_removed_gone place own control peer fec alone =
-    fec_gone place own control (without_table peer control) peer (removed_loses control peer) fec (λ other up. alone other (still_up control peer other up))
+    fec_gone place own control (without_table peer control) peer (removed_loses control peer) fec
+    (λ other up. alone other (still_up control peer other up))

@@ -32,11 +32,13 @@ some_core = record { cost = λ from to. 0; toward = λ from to. None }
 -- ---- the trees, each changed
 
 -- a list that is another one with each element changed, by whatever core
-zip_each : {A B : Type 0} (f : Core → A → B) (xs : List A) (ys : List B) → ((core : Core) → ys ≡ map (f core) xs) → AllZip (λ x y. (core : Core) → y ≡ f core x) xs ys
+zip_each : {A B : Type 0} (f : Core → A → B) (xs : List A) (ys : List B) → ((core : Core) → ys ≡ map (f core) xs)
+    → AllZip (λ x y. (core : Core) → y ≡ f core x) xs ys
 zip_each f [] [] are = tt
 zip_each f [] (y ∷ ys) are = absurd (let bad = are some_core in cc)
 zip_each f (x ∷ xs) [] are = absurd (let bad = are some_core in cc)
-zip_each {B = B} f (x ∷ xs) (y ∷ ys) are = (λ core. first y (f core x) ys (map (f core) xs) (are core), zip_each f xs ys (λ core. rest y (f core x) ys (map (f core) xs) (are core)))
+zip_each {B = B} f (x ∷ xs) (y ∷ ys) are =
+    (λ core. first y (f core x) ys (map (f core) xs) (are core), zip_each f xs ys (λ core. rest y (f core x) ys (map (f core) xs) (are core)))
   where
     first : (one other : B) (more others : List B) → one ∷ more ≡ other ∷ others → one ≡ other
     first one other more others h = cc
@@ -44,7 +46,8 @@ zip_each {B = B} f (x ∷ xs) (y ∷ ys) are = (λ core. first y (f core x) ys (
     rest : (one other : B) (more others : List B) → one ∷ more ≡ other ∷ others → more ≡ others
     rest one other more others h = cc
 
-zip_more : {A B : Type 0} (P Q : A → B → Type 0) (xs : List A) (ys : List B) → ((x : A) (y : B) → Among x xs → P x y → Q x y) → AllZip P xs ys → AllZip Q xs ys
+zip_more : {A B : Type 0} (P Q : A → B → Type 0) (xs : List A) (ys : List B) → ((x : A) (y : B) → Among x xs → P x y → Q x y) → AllZip P xs ys
+    → AllZip Q xs ys
 zip_more P Q [] [] each h = tt
 zip_more P Q [] (y ∷ ys) each h = absurd h
 zip_more P Q (x ∷ xs) [] each h = absurd h
@@ -58,15 +61,20 @@ kept_customers old new same = record {
   selections = ap (λ (c : Customers). c.2) same;
 }
 
-module _ (kept : Kept) (between : AreTreesBetween kept) (peers : FinMap node_cmp Taken) (trees : List TreeData) (change : Core → OwnVrf → TreeData → TreeData)
-    (are : (core : Core) → trees ≡ changed_trees (change core) kept) (leaves : (core : Core) (own : OwnVrf) (tree : TreeData) → customers_of (change core own tree) ≡ customers_of tree)
-    (step : (core : Core) (own : OwnVrf) (tree : TreeData) → Among own (own_vrfs (place_of kept.home core)) → IsTreeBetween (place_of kept.home core) (control_of kept) own tree
+module _ (kept : Kept) (between : AreTreesBetween kept) (peers : FinMap node_cmp Taken) (trees : List TreeData)
+    (change : Core → OwnVrf → TreeData → TreeData)
+    (are : (core : Core) → trees ≡ changed_trees (change core) kept)
+    (leaves : (core : Core) (own : OwnVrf) (tree : TreeData) → customers_of (change core own tree) ≡ customers_of tree)
+    (step : (core : Core) (own : OwnVrf) (tree : TreeData) → Among own (own_vrfs (place_of kept.home core))
+    → IsTreeBetween (place_of kept.home core) (control_of kept) own tree
     → IsTreeBetween (place_of kept.home core) (record (control_of kept) { peers = peers }) own (change core own tree)) where
-  has_routes : (it : OwnTree) (new : TreeData) → Among it (trees_of kept) → ((core : Core) → new ≡ change core it.own it.tree) → HasRoutes kept peers it new
+  has_routes : (it : OwnTree) (new : TreeData) → Among it (trees_of kept) → ((core : Core) → new ≡ change core it.own it.tree)
+      → HasRoutes kept peers it new
   has_routes it new a is = record {
     customers = kept_customers it.tree new (ap customers_of (is some_core) ∙ leaves some_core it.own it.tree);
     tree = λ core. subst (IsTreeBetween (place_of kept.home core) (record (control_of kept) { peers = peers }) it.own) (sym (is core))
-        (step core it.own it.tree (subst (Among it.own) between.all (among_map (λ (o : OwnTree). o.own) it (trees_of kept) a)) (between_at kept between core it a));
+        (step core it.own it.tree (subst (Among it.own) between.all (among_map (λ (o : OwnTree). o.own) it (trees_of kept) a))
+        (between_at kept between core it a));
   }
 
   makes_next : MakesBetween (record kept { trees = trees; peers = peers }) (record (control_of kept) { peers = peers })
@@ -82,7 +90,8 @@ updated_customers : (place : EdgePlace) (own : OwnVrf) (peer : NodeId) (now : �
 updated_customers place own peer now taken [] tree = refl
 updated_customers place own peer now taken (change ∷ more) tree =
     updated_customers place own peer now (taken_change now taken change) more (tree_taking place own peer now taken change tree)
-    ∙ change_customers place own peer now (key_of change) (maps.get taken (key_of change)) (route_behind now change (maps.get taken (key_of change))) tree
+    ∙ change_customers place own peer now (key_of change) (maps.get taken (key_of change)) (route_behind now change (maps.get taken (key_of change)))
+    tree
 
 module _ (kept : Kept) (between : AreTreesBetween kept) (peer : NodeId) (now : ℕ) (trees : List TreeData) where
   -- all changes of a message
@@ -92,23 +101,30 @@ module _ (kept : Kept) (between : AreTreesBetween kept) (peer : NodeId) (now : �
       → MakesBetween (record kept { trees = trees; peers = maps.insert kept.peers peer (fold (taken_change now) taken changes) })
       (record (control_of kept) { peers = maps.insert kept.peers peer (fold (taken_change now) taken changes) })
   update_makes taken changes up spelled writable are =
-      makes_next kept between (maps.insert kept.peers peer (fold (taken_change now) taken changes)) trees (λ core own tree. tree_updated (place_of kept.home core) own peer now taken changes tree) are
+      makes_next kept between (maps.insert kept.peers peer (fold (taken_change now) taken changes)) trees
+      (λ core own tree. tree_updated (place_of kept.home core) own peer now taken changes tree) are
       (λ core own tree. updated_customers (place_of kept.home core) own peer now taken changes tree)
       (λ core own tree a is. (changes_keep (place_of kept.home core) (control_of kept) own peer taken now changes tree up spelled writable is).0)
 
   -- a peer that is lost
-  pub loss_makes : ((core : Core) → trees ≡ changed_trees (λ own tree. tree_lost (place_of kept.home core) own peer (taken_from (control_of kept) peer) tree) kept)
-      → MakesBetween (record kept { trees = trees; peers = maps.remove kept.peers peer }) (record (control_of kept) { peers = maps.remove kept.peers peer })
+  pub loss_makes : ((core : Core) → trees ≡ changed_trees
+      (λ own tree. tree_lost (place_of kept.home core) own peer (taken_from (control_of kept) peer) tree) kept)
+      → MakesBetween (record kept { trees = trees; peers = maps.remove kept.peers peer })
+      (record (control_of kept) { peers = maps.remove kept.peers peer })
   loss_makes are =
-      makes_next kept between (maps.remove kept.peers peer) trees (λ core own tree. tree_lost (place_of kept.home core) own peer (taken_from (control_of kept) peer) tree) are
+      makes_next kept between (maps.remove kept.peers peer) trees
+      (λ core own tree. tree_lost (place_of kept.home core) own peer (taken_from (control_of kept) peer) tree) are
       (λ core own tree. lost_customers (place_of kept.home core) own (control_of kept) peer tree)
       (λ core own tree a is. removal_keeps (place_of kept.home core) (control_of kept) own peer tree is)
 
   -- a session that comes up
-  pub raise_makes : ((core : Core) → trees ≡ changed_trees (λ own tree. tree_lost (place_of kept.home core) own peer (taken_from (control_of kept) peer) tree) kept)
-      → MakesBetween (record kept { trees = trees; peers = maps.insert kept.peers peer maps.empty }) (record (control_of kept) { peers = maps.insert kept.peers peer maps.empty })
+  pub raise_makes : ((core : Core) → trees ≡ changed_trees
+      (λ own tree. tree_lost (place_of kept.home core) own peer (taken_from (control_of kept) peer) tree) kept)
+      → MakesBetween (record kept { trees = trees; peers = maps.insert kept.peers peer maps.empty })
+      (record (control_of kept) { peers = maps.insert kept.peers peer maps.empty })
   raise_makes are =
-      makes_next kept between (maps.insert kept.peers peer maps.empty) trees (λ core own tree. tree_lost (place_of kept.home core) own peer (taken_from (control_of kept) peer) tree) are
+      makes_next kept between (maps.insert kept.peers peer maps.empty) trees
+      (λ core own tree. tree_lost (place_of kept.home core) own peer (taken_from (control_of kept) peer) tree) are
       (λ core own tree. lost_customers (place_of kept.home core) own (control_of kept) peer tree)
       (λ core own tree a is. raise_keeps (place_of kept.home core) (control_of kept) own peer tree is)
 
@@ -117,12 +133,15 @@ module _ (kept : Kept) (between : AreTreesBetween kept) (peer : NodeId) (now : �
       → MakesBetween (record kept { trees = trees; peers = peers_run (place_of kept.home core) now kept.peers })
       (record (control_of kept) { peers = peers_run (place_of kept.home core) now kept.peers })
   run_makes are core =
-      makes_next kept between (peers_run (place_of kept.home core) now kept.peers) trees (λ other own tree. tree_run now tree) (λ other. are) (λ other own tree. refl)
+      makes_next kept between (peers_run (place_of kept.home core) now kept.peers) trees (λ other own tree. tree_run now tree) (λ other. are)
+      (λ other own tree. refl)
       (λ other own tree a is. run_keeps (place_of kept.home other) now (control_of kept) own a tree is)
 
 -- where the session was down, the trees stay as they are
 pub down_makes : (kept : Kept) → AreTreesBetween kept → (peer : NodeId) → maps.get kept.peers peer ≡ None
-    → MakesBetween (record kept { peers = maps.insert kept.peers peer maps.empty }) (record (control_of kept) { peers = maps.insert kept.peers peer maps.empty })
+    → MakesBetween (record kept { peers = maps.insert kept.peers peer maps.empty })
+    (record (control_of kept) { peers = maps.insert kept.peers peer maps.empty })
 down_makes kept between peer down =
-    makes_next kept between (maps.insert kept.peers peer maps.empty) kept.trees (λ core own tree. tree) (λ core. sym between.full) (λ core own tree. refl)
+    makes_next kept between (maps.insert kept.peers peer maps.empty) kept.trees (λ core own tree. tree) (λ core. sym between.full)
+    (λ core own tree. refl)
     (λ core own tree a is. raise_down (place_of kept.home core) (control_of kept) own peer tree down is)

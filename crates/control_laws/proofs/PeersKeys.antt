@@ -81,17 +81,21 @@ is_selective (Mcast afi (routes.Other kind octets)) route h = absurd cc
 from_peer : (peer originator : Addr) (value : Value) (fec : Fec) → tunnel_by peer originator value ≡ Some fec → originator ≡ peer
 from_peer peer originator value fec h =
     next_some (λ (fec : Fec). only_if (same_addr fec.root peer && same_addr originator peer) fec) (lsp_of value.pmsi) fec h
-    (λ found is k. same_addr_equal originator peer (and_parts (same_addr found.root peer) (same_addr originator peer) (if_some (same_addr found.root peer && same_addr originator peer) found fec k).0).1)
+    (λ found is k. same_addr_equal originator peer
+    (and_parts (same_addr found.root peer) (same_addr originator peer)
+    (if_some (same_addr found.root peer && same_addr originator peer) found fec k).0).1)
 
 -- the key of one that is imported, and its originator
 pub record IsImported (peer : Addr) (key : Key) (route : SelectiveRoute) : Type 0 where
   pub of_key : IsSelective key route
   pub originator : route.originator ≡ peer
 
-pub is_imported : (vrf : Vrf) (peer : Addr) (key : Key) (taken : TakenRoute) (found : ImportedSelective) → imported_selective vrf peer (key, taken) ≡ Some found → IsImported peer key found.route
+pub is_imported : (vrf : Vrf) (peer : Addr) (key : Key) (taken : TakenRoute) (found : ImportedSelective)
+    → imported_selective vrf peer (key, taken) ≡ Some found → IsImported peer key found.route
 is_imported vrf peer key taken found h =
     next_some
-    (λ (route : SelectiveRoute). only_if (is_admitted vrf taken.value.comms) taken.value >>? λ value. tunnel_by peer route.originator value >>? λ fec. Some (record { route = route; fec = fec }))
+    (λ (route : SelectiveRoute). only_if (is_admitted vrf taken.value.comms) taken.value >>? λ value. tunnel_by peer route.originator value >>? λ fec.
+    Some (record { route = route; fec = fec }))
     (selective_of key) found h
     (λ route is k.
     next_some (λ (value : Value). tunnel_by peer route.originator value >>? λ fec. Some (record { route = route; fec = fec }))
@@ -103,23 +107,27 @@ is_imported vrf peer key taken found h =
     subst (λ (r : SelectiveRoute). IsImported peer key r) same
     (record { of_key = is_selective key route is; originator = from_peer peer route.originator value fec is_fec }))))
 
-one_selective : (peer : Addr) (own next : Key) (found also : SelectiveRoute) → IsWritableKey own → IsWritableKey next → IsImported peer own found → IsImported peer next also
+one_selective : (peer : Addr) (own next : Key) (found also : SelectiveRoute) → IsWritableKey own → IsWritableKey next → IsImported peer own found
+    → IsImported peer next also
     → found.rd ≡ also.rd → found.source ≡ also.source → found.group ≡ also.group → own ≡ next
 one_selective peer own next found also h k a b rd source group =
     let originator : found.originator ≡ also.originator = a.originator ∙ sym b.originator in
     let same : found ≡ also = λ i. record { rd = rd i; source = source i; group = group i; originator = originator i } in
     let mine = (subst IsWritableKey a.of_key.is h).route in
-    let theirs = (subst (λ (r : SelectiveRoute). IsWritableKey (selective_key b.of_key.afi r)) (sym same) (subst IsWritableKey b.of_key.is k)).route in
+    let theirs =
+    (subst (λ (r : SelectiveRoute). IsWritableKey (selective_key b.of_key.afi r)) (sym same) (subst IsWritableKey b.of_key.is k)).route in
     let used = subst (λ (r : SelectiveRoute). is_passed_over b.of_key.afi r.source r.group ≡ false) (sym same) b.of_key.used in
     let afi = by_pattern a.of_key.afi b.of_key.afi found.source found.group a.of_key.used used mine.1.0 theirs.1.0 mine.1.1.0 theirs.1.1.0 in
     a.of_key.is ∙ (λ i. selective_key (afi i) (same i)) ∙ sym b.of_key.is
 
 -- Two that are imported from one peer, of one route distinguisher and pattern, have one key.
-pub selective_one : (vrf other : Vrf) (peer : Addr) (own next : Key × TakenRoute) (found also : ImportedSelective) → IsWritableKey own.0 → IsWritableKey next.0
+pub selective_one : (vrf other : Vrf) (peer : Addr) (own next : Key × TakenRoute) (found also : ImportedSelective) → IsWritableKey own.0
+    → IsWritableKey next.0
     → imported_selective vrf peer own ≡ Some found → imported_selective other peer next ≡ Some also
     → found.route.rd ≡ also.route.rd → found.route.source ≡ also.route.source → found.route.group ≡ also.route.group → own.0 ≡ next.0
 selective_one vrf other peer own next found also h k a b =
-    one_selective peer own.0 next.0 found.route also.route h k (is_imported vrf peer own.0 own.1 found a) (is_imported other peer next.0 next.1 also b)
+    one_selective peer own.0 next.0 found.route also.route h k (is_imported vrf peer own.0 own.1 found a)
+    (is_imported other peer next.0 next.1 also b)
 
 -- ---- Source Active routes
 
@@ -155,7 +163,8 @@ pub record IsJoin (place : EdgePlace) (vrf : Vrf) (key : Key) (flow : FlowRoute)
   pub afi : Afi
   pub is : key ≡ Mcast afi (routes.SourceJoin vrf.rd place.scenario.system flow.source flow.group)
 
-pub is_join : (place : EdgePlace) (vrf : Vrf) (key : Key) (taken : TakenRoute) (flow : FlowRoute) → imported_join place vrf (key, taken) ≡ Some flow → IsJoin place vrf key flow
+pub is_join : (place : EdgePlace) (vrf : Vrf) (key : Key) (taken : TakenRoute) (flow : FlowRoute) → imported_join place vrf (key, taken) ≡ Some flow
+    → IsJoin place vrf key flow
 is_join place vrf (Unicast rd prefix) taken flow h = absurd cc
 is_join place vrf (Mcast afi (routes.Intra rd originator)) taken flow h = absurd cc
 is_join place vrf (Mcast afi (routes.Inter rd source_as)) taken flow h = absurd cc

@@ -40,7 +40,8 @@ tell_unicast place own peer (Unicast rd prefix) taken = held_from place own.vrf 
 tell_unicast place own peer other taken = None
 
 module _ (place : EdgePlace) (control : Control) (own : OwnVrf) where
-  pub unicast_told : (x : RouteKey) (held : Held) → held_at place control own x.prefix x.place ≡ Some held → Told (tell_unicast place own) (tables_of control) x held
+  pub unicast_told : (x : RouteKey) (held : Held) → held_at place control own x.prefix x.place ≡ Some held
+      → Told (tell_unicast place own) (tables_of control) x held
   unicast_told x held h = by x.place refl h
     where
       by : (p : Place) → x.place ≡ p → held_at place control own x.prefix p ≡ Some held → Told (tell_unicast place own) (tables_of control) x held
@@ -48,7 +49,8 @@ module _ (place : EdgePlace) (control : Control) (own : OwnVrf) where
       by Here e k = absurd cc
       by Last e k = absurd cc
       by (From peer rd) e k =
-          next_some (λ (taken : TakenRoute). held_from place own.vrf peer taken.value) (maps.get (taken_from control peer) (Unicast rd x.prefix)) held k
+          next_some (λ (taken : TakenRoute). held_from place own.vrf peer taken.value) (maps.get (taken_from control peer) (Unicast rd x.prefix)) held
+          k
           (λ taken is from. record {
             peer = peer;
             key = Unicast rd x.prefix;
@@ -68,11 +70,13 @@ module _ (place : EdgePlace) (control : Control) (own : OwnVrf) where
       subst (λ (e : RouteKey × Held). held_at place control own e.0.prefix e.0.place ≡ Some e.1) same
       (ap (λ (o : Option TakenRoute). o >>? λ (t : TakenRoute). held_from place own.vrf peer t.value) is ∙ from))
 
-  pub told_unicast : (x : RouteKey) (held : Held) → Told (tell_unicast place own) (tables_of control) x held → held_at place control own x.prefix x.place ≡ Some held
+  pub told_unicast : (x : RouteKey) (held : Held) → Told (tell_unicast place own) (tables_of control) x held
+      → held_at place control own x.prefix x.place ≡ Some held
   told_unicast x held told = told_from x held told.peer told.key told.route told.is told.tells
 
 -- where a route stands that tells this
-unicast_at : (place : EdgePlace) (own : OwnVrf) (x : RouteKey) (held : Held) (peer : NodeId) (key : Key) (taken : TakenRoute) → tell_unicast place own peer key taken ≡ Some (x, held)
+unicast_at : (place : EdgePlace) (own : OwnVrf) (x : RouteKey) (held : Held) (peer : NodeId) (key : Key) (taken : TakenRoute)
+    → tell_unicast place own peer key taken ≡ Some (x, held)
     → (peer ≡ peer_of x.place) × (key ≡ Unicast (rd_of x.place) x.prefix)
 unicast_at place own x held peer (Mcast afi route) taken tells = absurd cc
 unicast_at place own x held peer (Unicast rd prefix) taken tells =
@@ -81,7 +85,8 @@ unicast_at place own x held peer (Unicast rd prefix) taken tells =
     let same = same_Some (key_from peer rd prefix, found) (x, held) k in
     (ap (λ (e : RouteKey × Held). peer_of e.0.place) same, ap (λ (e : RouteKey × Held). Unicast (rd_of e.0.place) e.0.prefix) same))
 
-pub unicast_where : (place : EdgePlace) (own : OwnVrf) (tables : Tables) (x : RouteKey) (held : Held) (told : Told (tell_unicast place own) tables x held)
+pub unicast_where : (place : EdgePlace) (own : OwnVrf) (tables : Tables) (x : RouteKey) (held : Held)
+    (told : Told (tell_unicast place own) tables x held)
     → (told.peer ≡ peer_of x.place) × (told.key ≡ Unicast (rd_of x.place) x.prefix)
 unicast_where place own tables x held told = unicast_at place own x held told.peer told.key told.route told.tells
 
@@ -106,16 +111,19 @@ pub record ActiveAt (own : OwnVrf) (x : ActiveRoute) (peer : NodeId) (key : Key)
   pub of_peer : peer ≡ x.peer
   pub afi : _
   pub is : key ≡ Mcast afi (routes.Active (record { 0 = x.rd }) x.flow.source x.flow.group)
-  pub imported : imported_active own.vrf (Mcast afi (routes.Active (record { 0 = x.rd }) x.flow.source x.flow.group), taken) ≡ Some (flow_route x.flow)
+  pub imported : imported_active own.vrf (Mcast afi (routes.Active (record { 0 = x.rd }) x.flow.source x.flow.group), taken)
+      ≡ Some (flow_route x.flow)
 
-active_at : (own : OwnVrf) (x : ActiveRoute) (peer : NodeId) (key : Key) (taken : TakenRoute) → tell_active own peer key taken ≡ Some (x, tt) → ActiveAt own x peer key taken
+active_at : (own : OwnVrf) (x : ActiveRoute) (peer : NodeId) (key : Key) (taken : TakenRoute) → tell_active own peer key taken ≡ Some (x, tt)
+    → ActiveAt own x peer key taken
 active_at own x peer (Unicast rd prefix) taken tells = absurd cc
 active_at own x peer (Mcast afi (routes.Intra rd originator)) taken tells = absurd cc
 active_at own x peer (Mcast afi (routes.Inter rd source_as)) taken tells = absurd cc
 active_at own x peer (Mcast afi (routes.Selective rd source group originator)) taken tells = absurd cc
 active_at own x peer (Mcast afi (routes.Leaf key originator)) taken tells = absurd cc
 active_at own x peer (Mcast afi (routes.Active rd source group)) taken tells =
-    next_some (λ (flow : FlowRoute). Some (active_of peer rd source group, tt)) (imported_active own.vrf (Mcast afi (routes.Active rd source group), taken)) (x, tt) tells
+    next_some (λ (flow : FlowRoute). Some (active_of peer rd source group, tt))
+    (imported_active own.vrf (Mcast afi (routes.Active rd source group), taken)) (x, tt) tells
     (λ flow imported k.
     let same = ap (λ (e : ActiveRoute × Unit {0}). e.0) (same_Some (active_of peer rd source group, tt) (x, tt) k) in
     let read = if_some (is_admitted own.vrf taken.value.comms) (record { source = source; group = group }) flow imported in
@@ -130,7 +138,8 @@ told_active control own x told =
     let at = active_at own x told.peer told.key told.route told.tells in
     record { afi = at.afi; taken = told.route; at = (λ i. tables_of control (sym at.of_peer i) (sym at.is i)) ∙ told.is; imported = at.imported }
 
-pub active_where : (own : OwnVrf) (tables : Tables) (x : ActiveRoute) (told : Told (tell_active own) tables x tt) → ActiveAt own x told.peer told.key told.route
+pub active_where : (own : OwnVrf) (tables : Tables) (x : ActiveRoute) (told : Told (tell_active own) tables x tt)
+    → ActiveAt own x told.peer told.key told.route
 active_where own tables x told = active_at own x told.peer told.key told.route told.tells
 
 -- ---- Source Tree Joins
@@ -138,7 +147,8 @@ active_where own tables x told = active_at own x told.peer told.key told.route t
 abbrev pub tell_join : EdgePlace → OwnVrf → NodeId → Key → TakenRoute → Option (TakenJoin × Unit {0})
 tell_join place own peer key taken = imported_join place own.vrf (key, taken) >>? λ flow. Some (join_of peer flow.source flow.group, tt)
 
-pub join_told : (place : EdgePlace) (control : Control) (own : OwnVrf) (x : TakenJoin) → IsJoinTaken place control own x → Told (tell_join place own) (tables_of control) x tt
+pub join_told : (place : EdgePlace) (control : Control) (own : OwnVrf) (x : TakenJoin) → IsJoinTaken place control own x
+    → Told (tell_join place own) (tables_of control) x tt
 join_told place control own x is = record {
   peer = x.peer;
   key = is.key;
@@ -147,7 +157,8 @@ join_told place control own x is = record {
   tells = ap (λ (o : Option FlowRoute). o >>? λ flow. Some (join_of x.peer flow.source flow.group, tt)) is.used;
 }
 
-join_at : (place : EdgePlace) (own : OwnVrf) (x : TakenJoin) (peer : NodeId) (key : Key) (taken : TakenRoute) → tell_join place own peer key taken ≡ Some (x, tt)
+join_at : (place : EdgePlace) (own : OwnVrf) (x : TakenJoin) (peer : NodeId) (key : Key) (taken : TakenRoute)
+    → tell_join place own peer key taken ≡ Some (x, tt)
     → (peer ≡ x.peer) × (imported_join place own.vrf (key, taken) ≡ Some (flow_route x.flow))
 join_at place own x peer key taken tells =
     next_some (λ (flow : FlowRoute). Some (join_of peer flow.source flow.group, tt)) (imported_join place own.vrf (key, taken)) (x, tt) tells
@@ -155,7 +166,8 @@ join_at place own x peer key taken tells =
     let same = ap (λ (e : TakenJoin × Unit {0}). e.0) (same_Some (join_of peer flow.source flow.group, tt) (x, tt) k) in
     (ap (λ (j : TakenJoin). j.peer) same, imported ∙ ap (λ (j : TakenJoin). Some (flow_route j.flow)) same))
 
-pub told_join : (place : EdgePlace) (control : Control) (own : OwnVrf) (x : TakenJoin) → Told (tell_join place own) (tables_of control) x tt → IsJoinTaken place control own x
+pub told_join : (place : EdgePlace) (control : Control) (own : OwnVrf) (x : TakenJoin) → Told (tell_join place own) (tables_of control) x tt
+    → IsJoinTaken place control own x
 told_join place control own x told =
     let at = join_at place own x told.peer told.key told.route told.tells in
     record { key = told.key; taken = told.route; at = ap (λ (q : NodeId). tables_of control q told.key) (sym at.0) ∙ told.is; used = at.1 }
@@ -201,24 +213,31 @@ module _ (place : EdgePlace) (control : Control) (own : OwnVrf) where
           leaves.key_of peer imported.route.rd (pattern_of imported.route.source imported.route.group),
           record { fec = imported.fec; since = is.taken.since; run = is.taken.run },
         )) is.is
-            ∙ (λ i. Some (leaves.key_of peer (is.of_rd i) (same i).pattern, record { fec = (same i).fec; since = (same i).since; run = (same i).run }));
+            ∙ (λ i. Some (
+              leaves.key_of peer (is.of_rd i) (same i).pattern,
+              record { fec = (same i).fec; since = (same i).since; run = (same i).run },
+            ));
       }
 
-  pub selective_told : (x : selective_keys.RouteKey) (learned : Learned) → IsSelectiveAt place control own x learned → Told (tell_selective place own) (tables_of control) x learned
+  pub selective_told : (x : selective_keys.RouteKey) (learned : Learned) → IsSelectiveAt place control own x learned
+      → Told (tell_selective place own) (tables_of control) x learned
   selective_told x learned h = by x.place refl h
     where
       by : (p : _) → x.place ≡ p → IsSelectiveAt place control own (record { peer = x.peer; pattern = x.pattern; place = p }) learned
           → Told (tell_selective place own) (tables_of control) x learned
       by selective_kinds.First e k = absurd k
       by (selective_kinds.Of rd) e k =
-          subst (λ (p : _). Told (tell_selective place own) (tables_of control) (record { peer = x.peer; pattern = x.pattern; place = p }) learned) (sym e)
+          subst (λ (p : _). Told (tell_selective place own) (tables_of control) (record { peer = x.peer; pattern = x.pattern; place = p }) learned)
+          (sym e)
           (taken_told x.peer rd x.pattern learned k)
       by selective_kinds.Last e k = absurd k
 
-  pub told_selective : (x : selective_keys.RouteKey) (learned : Learned) → Told (tell_selective place own) (tables_of control) x learned → IsSelectiveAt place control own x learned
+  pub told_selective : (x : selective_keys.RouteKey) (learned : Learned) → Told (tell_selective place own) (tables_of control) x learned
+      → IsSelectiveAt place control own x learned
   told_selective x learned told = by told.peer told.key told.route told.is told.tells
     where
-      by : (peer : NodeId) (key : Key) (taken : TakenRoute) → tables_of control peer key ≡ Some taken → tell_selective place own peer key taken ≡ Some (x, learned)
+      by : (peer : NodeId) (key : Key) (taken : TakenRoute) → tables_of control peer key ≡ Some taken
+          → tell_selective place own peer key taken ≡ Some (x, learned)
           → IsSelectiveAt place control own x learned
       by peer key taken is tells =
           next_some
@@ -231,16 +250,19 @@ module _ (place : EdgePlace) (control : Control) (own : OwnVrf) where
           (record { key = key; taken = taken; imported = imported; at = is; is = found; of_rd = refl; learned_as = ap (as_learned taken) found }))
 
 -- the imported route that tells this
-pub record SelectiveAt (place : EdgePlace) (own : OwnVrf) (x : selective_keys.RouteKey) (peer : NodeId) (key : Key) (taken : TakenRoute) : Type 0 where
-  pub imported : ImportedSelective
-  pub found : imported_selective own.vrf (addr_of place.scenario peer) (key, taken) ≡ Some imported
-  pub is : leaves.key_of peer imported.route.rd (pattern_of imported.route.source imported.route.group) ≡ x
+pub record SelectiveAt (place : EdgePlace) (own : OwnVrf) (x : selective_keys.RouteKey) (peer : NodeId) (key : Key) (taken : TakenRoute) : Type 0
+  where
+    pub imported : ImportedSelective
+    pub found : imported_selective own.vrf (addr_of place.scenario peer) (key, taken) ≡ Some imported
+    pub is : leaves.key_of peer imported.route.rd (pattern_of imported.route.source imported.route.group) ≡ x
 
-pub selective_where : (place : EdgePlace) (own : OwnVrf) (tables : Tables) (x : selective_keys.RouteKey) (learned : Learned) (told : Told (tell_selective place own) tables x learned)
+pub selective_where : (place : EdgePlace) (own : OwnVrf) (tables : Tables) (x : selective_keys.RouteKey) (learned : Learned)
+    (told : Told (tell_selective place own) tables x learned)
     → SelectiveAt place own x told.peer told.key told.route
 selective_where place own tables x learned told = by told.peer told.key told.route told.tells
   where
-    by : (peer : NodeId) (key : Key) (taken : TakenRoute) → tell_selective place own peer key taken ≡ Some (x, learned) → SelectiveAt place own x peer key taken
+    by : (peer : NodeId) (key : Key) (taken : TakenRoute) → tell_selective place own peer key taken ≡ Some (x, learned)
+        → SelectiveAt place own x peer key taken
     by peer key taken tells =
         next_some
         (λ (imported : ImportedSelective). Some (

@@ -85,14 +85,17 @@ module _ {K E : Type 0} {R : K → K → Ordering} (total : IsTotalOrder R) (exa
   left_from s [] x h = (h, λ e a is. a)
   left_from s (e ∷ es) x h =
       let rest = left_from (drop_one s (drops e)) es x h in
-      let both = kept_of (eq_by_cmp R) (one_by R exact) (itself_by R total) (drops e) x tt (flag (sets.contains s x)) (sym (at_one s (drops e) x) ∙ rest.0) in
+      let both =
+      kept_of (eq_by_cmp R) (one_by R exact) (itself_by R total) (drops e) x tt (flag (sets.contains s x)) (sym (at_one s (drops e) x) ∙ rest.0)
+      in
       (both.0, λ other a is. elim a [ inl same ↦ both.1 (ap drops (sym same) ∙ is) | inr b ↦ rest.1 other b is ])
 
   left_to : (s : FinSet R) (es : List E) (x : K) → Left s es x → flag (sets.contains (drop_all s es) x) ≡ Some tt
   left_to s [] x left = left.0
   left_to s (e ∷ es) x left =
       left_to (drop_one s (drops e)) es x (
-        at_one s (drops e) x ∙ of_kept (eq_by_cmp R) (one_by R exact) (itself_by R total) (drops e) x tt (flag (sets.contains s x)) left.0 (left.1 e (inl refl)),
+        at_one s (drops e) x ∙ of_kept (eq_by_cmp R) (one_by R exact) (itself_by R total) (drops e) x tt (flag (sets.contains s x)) left.0
+            (left.1 e (inl refl)),
         λ other a. left.1 other (inr a),
       )
 
@@ -114,7 +117,8 @@ active_peer peer (Mcast afi (routes.Intra rd originator)) x h = absurd cc
 active_peer peer (Mcast afi (routes.Inter rd source_as)) x h = absurd cc
 active_peer peer (Mcast afi (routes.Selective rd source group originator)) x h = absurd cc
 active_peer peer (Mcast afi (routes.Leaf key originator)) x h = absurd cc
-active_peer peer (Mcast afi (routes.Active rd source group)) x h = ap (λ (r : ActiveRoute). r.peer) (sym (same_Some (active_of peer rd source group) x h))
+active_peer peer (Mcast afi (routes.Active rd source group)) x h =
+    ap (λ (r : ActiveRoute). r.peer) (sym (same_Some (active_of peer rd source group) x h))
 active_peer peer (Mcast afi (routes.SharedJoin rd source_as source group)) x h = absurd cc
 active_peer peer (Mcast afi (routes.SourceJoin rd source_as source group)) x h = absurd cc
 active_peer peer (Mcast afi (routes.Other kind octets)) x h = absurd cc
@@ -129,7 +133,8 @@ module _ (place : EdgePlace) (own : OwnVrf) (peer : NodeId) where
   abbrev with_left : TreeData → List (Key × TakenRoute) → TreeData
   with_left tree es = with_actives (actives_left tree.vrf.actives es) (with_joined (joined_left tree.joined es) tree)
 
-  one_left : (o : Option FlowRoute) (joined : FinSet join_cmp) → left_with peer o joined ≡ drop_one join_total join_exact (join_dropped place own peer) joined (first_of (o >>? join_by peer))
+  one_left : (o : Option FlowRoute) (joined : FinSet join_cmp)
+      → left_with peer o joined ≡ drop_one join_total join_exact (join_dropped place own peer) joined (first_of (o >>? join_by peer))
   one_left None joined = refl
   one_left (Some flow) joined = refl
 
@@ -142,11 +147,14 @@ module _ (place : EdgePlace) (own : OwnVrf) (peer : NodeId) where
   step tree (Unicast rd prefix) taken = join_left tree (Unicast rd prefix, taken)
   step tree (Mcast afi (routes.Intra rd originator)) taken = join_left tree (Mcast afi (routes.Intra rd originator), taken)
   step tree (Mcast afi (routes.Inter rd source_as)) taken = join_left tree (Mcast afi (routes.Inter rd source_as), taken)
-  step tree (Mcast afi (routes.Selective rd source group originator)) taken = join_left tree (Mcast afi (routes.Selective rd source group originator), taken)
+  step tree (Mcast afi (routes.Selective rd source group originator)) taken =
+      join_left tree (Mcast afi (routes.Selective rd source group originator), taken)
   step tree (Mcast afi (routes.Leaf key originator)) taken = join_left tree (Mcast afi (routes.Leaf key originator), taken)
   step tree (Mcast afi (routes.Active rd source group)) taken = refl
-  step tree (Mcast afi (routes.SharedJoin rd source_as source group)) taken = join_left tree (Mcast afi (routes.SharedJoin rd source_as source group), taken)
-  step tree (Mcast afi (routes.SourceJoin rd source_as source group)) taken = join_left tree (Mcast afi (routes.SourceJoin rd source_as source group), taken)
+  step tree (Mcast afi (routes.SharedJoin rd source_as source group)) taken =
+      join_left tree (Mcast afi (routes.SharedJoin rd source_as source group), taken)
+  step tree (Mcast afi (routes.SourceJoin rd source_as source group)) taken =
+      join_left tree (Mcast afi (routes.SourceJoin rd source_as source group), taken)
   step tree (Mcast afi (routes.Other kind octets)) taken = join_left tree (Mcast afi (routes.Other kind octets), taken)
 
   -- the tree without all of these is the tree with what is left of both sets
@@ -156,7 +164,8 @@ module _ (place : EdgePlace) (own : OwnVrf) (peer : NodeId) where
 
 -- ---- the parts
 
-module _ (place : EdgePlace) (own : OwnVrf) (before after : Tables) (peer : NodeId) (taken : Taken) (at : (key : Key) → before peer key ≡ maps.get taken key)
+module _ (place : EdgePlace) (own : OwnVrf) (before after : Tables) (peer : NodeId) (taken : Taken)
+    (at : (key : Key) → before peer key ≡ maps.get taken key)
     (loses : Loses before after peer) (tree : TreeData) (parts : Parts place own before tree) where
   not_other : (a b : NodeId) → (a ≡ b → ⊥) → (a.0 == b.0) ≡ false
   not_other a b ne = by (a.0 == b.0) refl
@@ -166,40 +175,55 @@ module _ (place : EdgePlace) (own : OwnVrf) (before after : Tables) (peer : Node
       by false e = refl
 
   -- a route that tells a key of a map is of the peer where the key is
-  from_peer : (x : RouteKey) (held : Held) (q : NodeId) (k : Key) (t : TakenRoute) → tell_unicast place own q k t ≡ Some (x, held) → is_from peer x.place ≡ (q.0 == peer.0)
+  from_peer : (x : RouteKey) (held : Held) (q : NodeId) (k : Key) (t : TakenRoute) → tell_unicast place own q k t ≡ Some (x, held)
+      → is_from peer x.place ≡ (q.0 == peer.0)
   from_peer x held q (Mcast afi route) t tells = absurd cc
   from_peer x held q (Unicast rd prefix) t tells =
       next_some (λ (h : Held). Some (key_from q rd prefix, h)) (held_from place own.vrf q t.value) (x, held) tells
       (λ found from k. ap (λ (e : RouteKey × Held). is_from peer e.0.place) (sym (same_Some (key_from q rd prefix, found) (x, held) k)))
 
-  unicast_lost : (x : RouteKey) (held : Held) → (maps.get (without_peer peer tree.vrf.routes.learned) x ≡ Some held) ↔ Told (tell_unicast place own) after x held
-  unicast_lost = lost_iff (tell_unicast place own) before after peer loses (maps.get tree.vrf.routes.learned) (maps.get (without_peer peer tree.vrf.routes.learned)) parts.unicast
+  unicast_lost : (x : RouteKey) (held : Held) → (maps.get (without_peer peer tree.vrf.routes.learned) x ≡ Some held) ↔ Told (tell_unicast place own)
+      after x held
+  unicast_lost =
+      lost_iff (tell_unicast place own) before after peer loses (maps.get tree.vrf.routes.learned)
+      (maps.get (without_peer peer tree.vrf.routes.learned)) parts.unicast
       (λ x v h.
-      let both = when_other (is_from peer x.place) (maps.get tree.vrf.routes.learned x) v (sym (left x) ∙ h) in
-      (both.0, λ told same. not_both (told.peer.0 == peer.0) (node_itself told.peer peer same) (sym (from_peer x v told.peer told.key told.route told.tells) ∙ both.1)))
-      (λ x v told ne. left x ∙ ap (λ (b : Bool). cond (not b) (maps.get tree.vrf.routes.learned x) None) (from_peer x v told.peer told.key told.route told.tells ∙ not_other told.peer peer ne))
+      let both = when_other (is_from peer x.place) (maps.get tree.vrf.routes.learned x) v (sym (left x) ∙ h) in (
+        both.0,
+        λ told same. not_both (told.peer.0 == peer.0) (node_itself told.peer peer same)
+            (sym (from_peer x v told.peer told.key told.route told.tells) ∙ both.1),
+      ))
+      (λ x v told ne. left x ∙ ap (λ (b : Bool). cond (not b) (maps.get tree.vrf.routes.learned x) None)
+      (from_peer x v told.peer told.key told.route told.tells ∙ not_other told.peer peer ne))
     where
-      left : (x : RouteKey) → maps.get (without_peer peer tree.vrf.routes.learned) x ≡ cond (not (is_from peer x.place)) (maps.get tree.vrf.routes.learned x) None
+      left : (x : RouteKey) → maps.get (without_peer peer tree.vrf.routes.learned) x
+          ≡ cond (not (is_from peer x.place)) (maps.get tree.vrf.routes.learned x) None
       left x = get_where unicast_order.key_cmp unicast_lemmas.key_exact (λ (key : RouteKey). not (is_from peer key.place)) tree.vrf.routes.learned x
 
-  selective_lost : (x : selective_keys.RouteKey) (learned : Learned) → (maps.get (leaves.without_peer peer tree.leaf.routes) x ≡ Some learned) ↔ Told (tell_selective place own) after x learned
-  selective_lost = lost_iff (tell_selective place own) before after peer loses (maps.get tree.leaf.routes) (maps.get (leaves.without_peer peer tree.leaf.routes)) parts.selective
+  selective_lost : (x : selective_keys.RouteKey) (learned : Learned)
+      → (maps.get (leaves.without_peer peer tree.leaf.routes) x ≡ Some learned) ↔ Told (tell_selective place own) after x learned
+  selective_lost =
+      lost_iff (tell_selective place own) before after peer loses (maps.get tree.leaf.routes) (maps.get (leaves.without_peer peer tree.leaf.routes))
+      parts.selective
       (λ x v h.
       let both = when_other (x.peer.0 == peer.0) (maps.get tree.leaf.routes x) v (sym (left x) ∙ h) in
       (both.0, λ told same. not_both (x.peer.0 == peer.0) (node_itself x.peer peer (sym (peer_in x v told) ∙ same)) both.1))
-      (λ x v told ne. left x ∙ ap (λ (b : Bool). cond (not b) (maps.get tree.leaf.routes x) None) (not_other x.peer peer (λ e. ne (peer_in x v told ∙ e))))
+      (λ x v told ne. left x ∙ ap (λ (b : Bool). cond (not b) (maps.get tree.leaf.routes x) None)
+      (not_other x.peer peer (λ e. ne (peer_in x v told ∙ e))))
     where
       peer_in : (x : selective_keys.RouteKey) (v : Learned) (told : Told (tell_selective place own) before x v) → told.peer ≡ x.peer
       peer_in x v told = ap (λ (k : selective_keys.RouteKey). k.peer) (selective_where place own before x v told).is
 
-      left : (x : selective_keys.RouteKey) → maps.get (leaves.without_peer peer tree.leaf.routes) x ≡ cond (not (x.peer.0 == peer.0)) (maps.get tree.leaf.routes x) None
+      left : (x : selective_keys.RouteKey) → maps.get (leaves.without_peer peer tree.leaf.routes) x
+          ≡ cond (not (x.peer.0 == peer.0)) (maps.get tree.leaf.routes x) None
       left x = get_where route_cmp route_exact (λ (key : selective_keys.RouteKey). not (key.peer.0 == peer.0)) tree.leaf.routes x
 
   -- a route of the peer stands in its table
   listed : (q : NodeId) (k : Key) (t : TakenRoute) → before q k ≡ Some t → q ≡ peer → Among (k, t) (maps.entries taken)
   listed q k t is same = get_entry key_exact taken k t (sym (at k) ∙ (λ i. before (sym same i) k) ∙ is)
 
-  actives_lost : (x : ActiveRoute) → (flag (sets.contains (actives_left place own peer tree.vrf.actives (maps.entries taken)) x) ≡ Some tt) ↔ Told (tell_active own) after x tt
+  actives_lost : (x : ActiveRoute) → (flag (sets.contains (actives_left place own peer tree.vrf.actives (maps.entries taken)) x) ≡ Some tt) ↔ Told
+      (tell_active own) after x tt
   actives_lost x = lost_iff (tell_active own) before after peer loses (λ y. flag (sets.contains tree.vrf.actives y))
       (λ y. flag (sets.contains (actives_left place own peer tree.vrf.actives (maps.entries taken)) y)) (λ y v. parts.actives y)
       (λ y v h.
@@ -217,7 +241,8 @@ module _ (place : EdgePlace) (own : OwnVrf) (before after : Tables) (peer : Node
       (was, λ e a is. ne ((active_where own before y told).of_peer ∙ active_peer peer e.0 y is)) ∙ sym was)
       x tt
 
-  joined_lost : (x : TakenJoin) → (flag (sets.contains (joined_left place own peer tree.joined (maps.entries taken)) x) ≡ Some tt) ↔ Told (tell_join place own) after x tt
+  joined_lost : (x : TakenJoin) → (flag (sets.contains (joined_left place own peer tree.joined (maps.entries taken)) x) ≡ Some tt) ↔ Told
+      (tell_join place own) after x tt
   joined_lost x = lost_iff (tell_join place own) before after peer loses (λ y. flag (sets.contains tree.joined y))
       (λ y. flag (sets.contains (joined_left place own peer tree.joined (maps.entries taken)) y)) (λ y v. parts.joined y)
       (λ y v h.
@@ -242,20 +267,24 @@ module _ (place : EdgePlace) (own : OwnVrf) (before after : Tables) (peer : Node
           (λ flow imported same. ap (λ (e : TakenJoin × Unit {0}). e.0.peer) (same_Some (join_of q flow.source flow.group, tt) (y, tt) same))
 
   pub parts_left : Parts place own after
-      (with_learned (without_peer peer tree.vrf.routes.learned) (with_selective (leaves.without_peer peer tree.leaf.routes) (with_left place own peer tree (maps.entries taken))))
+      (with_learned (without_peer peer tree.vrf.routes.learned)
+      (with_selective (leaves.without_peer peer tree.leaf.routes) (with_left place own peer tree (maps.entries taken))))
   parts_left = record { unicast = unicast_lost; actives = actives_lost; joined = joined_lost; selective = selective_lost }
 
 -- ---- the tree of a VRF
 
 module _ (place : EdgePlace) (own : OwnVrf) (control : Control) (peer : NodeId) where
   -- The tree that forgets all of the peer keeps what the edge keeps where these routes are lost.
-  lost_keeps : (peers : FinMap node_cmp Taken) (tree : TreeData) → Loses (tables_of control) (tables_of (record control { peers = peers })) peer → IsTreeBetween place control own tree
+  lost_keeps : (peers : FinMap node_cmp Taken) (tree : TreeData) → Loses (tables_of control) (tables_of (record control { peers = peers })) peer
+      → IsTreeBetween place control own tree
       → IsTreeBetween place (record control { peers = peers }) own (tree_lost place own peer (taken_from control peer) tree)
   lost_keeps peers tree loses is =
-      subst (λ (t : TreeData). IsTreeBetween place (record control { peers = peers }) own (with_learned (without_peer peer t.vrf.routes.learned) (with_selective (leaves.without_peer peer t.leaf.routes) t)))
+      subst (λ (t : TreeData). IsTreeBetween place (record control { peers = peers }) own
+      (with_learned (without_peer peer t.vrf.routes.learned) (with_selective (leaves.without_peer peer t.leaf.routes) t)))
       (sym (all_left place own peer tree (maps.entries (taken_from control peer))))
       (tree_of place own control peers tree _ _ _ _ is
-      (parts_left place own (tables_of control) (tables_of (record control { peers = peers })) peer (taken_from control peer) (λ key. refl) loses tree (parts_of place own control tree is)))
+      (parts_left place own (tables_of control) (tables_of (record control { peers = peers })) peer (taken_from control peer) (λ key. refl) loses tree
+      (parts_of place own control tree is)))
 
   pub lost_leaves : (tree : TreeData) → ((tree_lost place own peer (taken_from control peer) tree).vrf.flows ≡ tree.vrf.flows)
       × ((tree_lost place own peer (taken_from control peer) tree).wants ≡ tree.wants)
@@ -285,7 +314,8 @@ module _ (control : Control) (peer : NodeId) where
   }
 
   -- where the session was down, nothing is lost
-  raised_same : maps.get control.peers peer ≡ None → (other : NodeId) (key : Key) → tables_of (with_table peer maps.empty control) other key ≡ tables_of control other key
+  raised_same : maps.get control.peers peer ≡ None → (other : NodeId) (key : Key)
+      → tables_of (with_table peer maps.empty control) other key ≡ tables_of control other key
   raised_same down other key = elim (node_cases other peer) [
     | inl same ↦
         (λ i. tables_of (with_table peer maps.empty control) (same i) key) ∙ at_own control peer maps.empty key
@@ -304,18 +334,23 @@ pub removal_keeps : (place : EdgePlace) (control : Control) (own : OwnVrf) (peer
 removal_keeps place control own peer tree is = lost_keeps place own control peer (maps.remove control.peers peer) tree (removed_loses control peer) is
 
 pub removal_spelled : (control : Control) (peer : NodeId) → AreWritable control → AreWritable (without_table peer control)
-removal_spelled control peer spelled = spelled_lost (tables_of control) (tables_of (without_table peer control)) peer (removed_loses control peer) spelled
+removal_spelled control peer spelled =
+    spelled_lost (tables_of control) (tables_of (without_table peer control)) peer (removed_loses control peer) spelled
 
 pub raise_keeps : (place : EdgePlace) (control : Control) (own : OwnVrf) (peer : NodeId) (tree : TreeData) → IsTreeBetween place control own tree
     → IsTreeBetween place (with_table peer maps.empty control) own (tree_lost place own peer (taken_from control peer) tree)
-raise_keeps place control own peer tree is = lost_keeps place own control peer (maps.insert control.peers peer maps.empty) tree (raised_loses control peer) is
+raise_keeps place control own peer tree is =
+    lost_keeps place own control peer (maps.insert control.peers peer maps.empty) tree (raised_loses control peer) is
 
 pub raise_spelled : (control : Control) (peer : NodeId) → AreWritable control → AreWritable (with_table peer maps.empty control)
-raise_spelled control peer spelled = spelled_lost (tables_of control) (tables_of (with_table peer maps.empty control)) peer (raised_loses control peer) spelled
+raise_spelled control peer spelled =
+    spelled_lost (tables_of control) (tables_of (with_table peer maps.empty control)) peer (raised_loses control peer) spelled
 
 -- where the session was down, the tree stays as it is
-pub raise_down : (place : EdgePlace) (control : Control) (own : OwnVrf) (peer : NodeId) (tree : TreeData) → maps.get control.peers peer ≡ None → IsTreeBetween place control own tree
+pub raise_down : (place : EdgePlace) (control : Control) (own : OwnVrf) (peer : NodeId) (tree : TreeData) → maps.get control.peers peer ≡ None
+    → IsTreeBetween place control own tree
     → IsTreeBetween place (with_table peer maps.empty control) own tree
 raise_down place control own peer tree down is =
     tree_of place own control (maps.insert control.peers peer maps.empty) tree _ _ _ _ is
-    (same_parts place own (tables_of control) (tables_of (with_table peer maps.empty control)) tree (raised_same control peer down) (parts_of place own control tree is))
+    (same_parts place own (tables_of control) (tables_of (with_table peer maps.empty control)) tree (raised_same control peer down)
+    (parts_of place own control tree is))

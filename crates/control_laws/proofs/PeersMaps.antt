@@ -80,29 +80,35 @@ module _ {K : Type 0} {R : K → K → Ordering} (total : IsTotalOrder R) where
 -- ---- the parts of a tree
 
 pub at_learned : (key : RouteKey) (told : Option Held) (routes : FinMap unicast_order.key_cmp Held) (x : RouteKey)
-    → maps.get (learned_with key told routes) x ≡ put (eq_by_cmp unicast_order.key_cmp) (told >>? λ held. Some (key, held)) x (dropped (eq_by_cmp unicast_order.key_cmp) (Some key) x (maps.get routes x))
+    → maps.get (learned_with key told routes) x ≡ put (eq_by_cmp unicast_order.key_cmp) (told >>? λ held. Some (key, held)) x
+    (dropped (eq_by_cmp unicast_order.key_cmp) (Some key) x (maps.get routes x))
 at_learned key None routes x = maps.get-remove unicast_order.key_total routes key x
 at_learned key (Some held) routes x =
     maps.get-insert unicast_order.key_total (maps.remove routes key) key held x
     ∙ ap (cond (eq_by_cmp unicast_order.key_cmp x key) (Some held)) (maps.get-remove unicast_order.key_total routes key x)
 
 pub at_actives : (route : ActiveRoute) (told : Option FlowRoute) (actives : FinSet active_cmp) (x : ActiveRoute)
-    → flag (sets.contains (actives_with route told actives) x) ≡ put (eq_by_cmp active_cmp) (told >>? λ flow. Some (route, tt)) x (dropped (eq_by_cmp active_cmp) (Some route) x (flag (sets.contains actives x)))
+    → flag (sets.contains (actives_with route told actives) x)
+    ≡ put (eq_by_cmp active_cmp) (told >>? λ flow. Some (route, tt)) x
+    (dropped (eq_by_cmp active_cmp) (Some route) x (flag (sets.contains actives x)))
 at_actives route None actives x = set_dropped active_total actives route x
 at_actives route (Some flow) actives x =
-    set_put active_total (sets.remove actives route) route x ∙ ap (cond (eq_by_cmp active_cmp x route) (Some tt)) (set_dropped active_total actives route x)
+    set_put active_total (sets.remove actives route) route x
+    ∙ ap (cond (eq_by_cmp active_cmp x route) (Some tt)) (set_dropped active_total actives route x)
 
 abbrev pub join_by : NodeId → FlowRoute → Option (TakenJoin × Unit {0})
 join_by peer flow = Some (join_of peer flow.source flow.group, tt)
 
 at_left : (peer : NodeId) (old : Option FlowRoute) (joined : FinSet join_cmp) (x : TakenJoin)
-    → flag (sets.contains (left_with peer old joined) x) ≡ dropped (eq_by_cmp join_cmp) (first_of (old >>? join_by peer)) x (flag (sets.contains joined x))
+    → flag (sets.contains (left_with peer old joined) x)
+    ≡ dropped (eq_by_cmp join_cmp) (first_of (old >>? join_by peer)) x (flag (sets.contains joined x))
 at_left peer None joined x = refl
 at_left peer (Some flow) joined x = set_dropped join_total joined (join_of peer flow.source flow.group) x
 
 pub at_joined : (peer : NodeId) (old new : Option FlowRoute) (joined : FinSet join_cmp) (x : TakenJoin)
     → flag (sets.contains (joined_with peer new (left_with peer old joined)) x)
-    ≡ put (eq_by_cmp join_cmp) (new >>? join_by peer) x (dropped (eq_by_cmp join_cmp) (first_of (old >>? join_by peer)) x (flag (sets.contains joined x)))
+    ≡ put (eq_by_cmp join_cmp) (new >>? join_by peer) x
+    (dropped (eq_by_cmp join_cmp) (first_of (old >>? join_by peer)) x (flag (sets.contains joined x)))
 at_joined peer old None joined x = at_left peer old joined x
 at_joined peer old (Some flow) joined x =
     set_put join_total (left_with peer old joined) (join_of peer flow.source flow.group) x
@@ -122,7 +128,8 @@ at_without peer now (Some old) routes x =
 
 pub at_selective : (peer : NodeId) (now : ℕ) (old new : Option ImportedSelective) (routes : leaves.Routes) (x : selective_keys.RouteKey)
     → maps.get (selective_with peer now new (selective_without peer old routes)) x
-    ≡ put (eq_by_cmp route_cmp) (new >>? route_by peer now) x (dropped (eq_by_cmp route_cmp) (first_of (old >>? route_by peer now)) x (maps.get routes x))
+    ≡ put (eq_by_cmp route_cmp) (new >>? route_by peer now) x
+    (dropped (eq_by_cmp route_cmp) (first_of (old >>? route_by peer now)) x (maps.get routes x))
 at_selective peer now old None routes x = at_without peer now old routes x
 at_selective peer now old (Some new) routes x =
     let key = leaves.key_of peer new.route.rd (pattern_of new.route.source new.route.group) in

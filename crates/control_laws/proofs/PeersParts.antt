@@ -64,7 +64,8 @@ pub record Parts (place : EdgePlace) (own : OwnVrf) (tables : Tables) (tree : Tr
   pub unicast : (x : RouteKey) (held : Held) → (maps.get tree.vrf.routes.learned x ≡ Some held) ↔ Told (tell_unicast place own) tables x held
   pub actives : (x : ActiveRoute) → (flag (sets.contains tree.vrf.actives x) ≡ Some tt) ↔ Told (tell_active own) tables x tt
   pub joined : (x : TakenJoin) → (flag (sets.contains tree.joined x) ≡ Some tt) ↔ Told (tell_join place own) tables x tt
-  pub selective : (x : selective_keys.RouteKey) (learned : Learned) → (maps.get tree.leaf.routes x ≡ Some learned) ↔ Told (tell_selective place own) tables x learned
+  pub selective : (x : selective_keys.RouteKey) (learned : Learned)
+      → (maps.get tree.leaf.routes x ≡ Some learned) ↔ Told (tell_selective place own) tables x learned
 
 module _ (place : EdgePlace) (own : OwnVrf) where
   pub parts_of : (control : Control) (tree : TreeData) → IsTreeBetween place control own tree → Parts place own (tables_of control) tree
@@ -88,10 +89,13 @@ module _ (place : EdgePlace) (own : OwnVrf) where
   }
 
   -- a tree with other routes, by other tables
-  pub tree_of : (control : Control) (peers : FinMap _ Taken) (tree : TreeData) (learned : FinMap _ Held) (actives : FinSet _) (joined : FinSet _) (routes : FinMap _ Learned)
+  pub tree_of : (control : Control) (peers : FinMap _ Taken) (tree : TreeData) (learned : FinMap _ Held) (actives : FinSet _) (joined : FinSet _)
+      (routes : FinMap _ Learned)
       → IsTreeBetween place control own tree
-      → Parts place own (tables_of (record control { peers = peers })) (with_learned learned (with_actives actives (with_joined joined (with_selective routes tree))))
-      → IsTreeBetween place (record control { peers = peers }) own (with_learned learned (with_actives actives (with_joined joined (with_selective routes tree))))
+      → Parts place own (tables_of (record control { peers = peers }))
+      (with_learned learned (with_actives actives (with_joined joined (with_selective routes tree))))
+      → IsTreeBetween place (record control { peers = peers }) own
+      (with_learned learned (with_actives actives (with_joined joined (with_selective routes tree))))
   tree_of control peers tree learned actives joined routes is parts =
       let next : Control = record control { peers = peers } in
       record {
@@ -120,7 +124,8 @@ module _ (place : EdgePlace) (own : OwnVrf) where
       }
 
   -- tables that are the same make the same of a tree
-  pub same_parts : (before after : Tables) (tree : TreeData) → ((q : NodeId) (k : _) → after q k ≡ before q k) → Parts place own before tree → Parts place own after tree
+  pub same_parts : (before after : Tables) (tree : TreeData) → ((q : NodeId) (k : _) → after q k ≡ before q k) → Parts place own before tree
+      → Parts place own after tree
   same_parts before after tree same parts = record {
     unicast = λ x held. joins (parts.unicast x held) (same_told (tell_unicast place own) before after same x held);
     actives = λ x. joins (parts.actives x) (same_told (tell_active own) before after same x tt);

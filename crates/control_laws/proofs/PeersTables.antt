@@ -35,7 +35,8 @@ module _ (control : Control) (peer : NodeId) (table : Taken) where
 
 -- ---- one change
 
-take_own : (now : ℕ) (taken : Taken) (change : Change) → maps.get (taken_change now taken change) (key_of change) ≡ route_behind now change (maps.get taken (key_of change))
+take_own : (now : ℕ) (taken : Taken) (change : Change)
+    → maps.get (taken_change now taken change) (key_of change) ≡ route_behind now change (maps.get taken (key_of change))
 take_own now taken (updates.Reach advert) =
     let value : Value = record { next_hop = advert.next_hop; comms = advert.comms; pmsi = advert.pmsi } in
     let next = learned now value (maps.get taken advert.key) in
@@ -44,7 +45,8 @@ take_own now taken (updates.Reach advert) =
 take_own now taken (updates.Unreach key) =
     maps.get-remove key_total taken key key ∙ ap (λ (b : Bool). cond b None (maps.get taken key)) (ties key_cmp key_total key key refl)
 
-take_other : (now : ℕ) (taken : Taken) (change : Change) (key : Key) → (key ≡ key_of change → ⊥) → maps.get (taken_change now taken change) key ≡ maps.get taken key
+take_other : (now : ℕ) (taken : Taken) (change : Change) (key : Key) → (key ≡ key_of change → ⊥)
+    → maps.get (taken_change now taken change) key ≡ maps.get taken key
 take_other now taken (updates.Reach advert) key ne =
     let value : Value = record { next_hop = advert.next_hop; comms = advert.comms; pmsi = advert.pmsi } in
     let next = learned now value (maps.get taken advert.key) in
@@ -60,7 +62,8 @@ module _ (control : Control) (peer : NodeId) (taken : Taken) (up : maps.get cont
   was_taken : (key : Key) → tables_of control peer key ≡ maps.get taken key
   was_taken key = ap (λ (t : Taken). maps.get t key) (taken_is control peer taken up)
 
-  pub changed : Changes (tables_of control) (tables_of behind) peer (key_of change) (maps.get taken (key_of change)) (route_behind now change (maps.get taken (key_of change)))
+  pub changed : Changes (tables_of control) (tables_of behind) peer (key_of change) (maps.get taken (key_of change))
+      (route_behind now change (maps.get taken (key_of change)))
   changed = record {
     was = was_taken (key_of change);
     is = at_own control peer (taken_change now taken change) (key_of change) ∙ take_own now taken change;
@@ -73,7 +76,8 @@ module _ (control : Control) (peer : NodeId) (taken : Taken) (up : maps.get cont
   }
 
 -- the keys have spellings behind it too
-pub still_spelled : (before after : Tables) (peer : NodeId) (key : Key) (old new : Option TakenRoute) → Changes before after peer key old new → AreSpelled before → IsWritableKey key → AreSpelled after
+pub still_spelled : (before after : Tables) (peer : NodeId) (key : Key) (old new : Option TakenRoute) → Changes before after peer key old new
+    → AreSpelled before → IsWritableKey key → AreSpelled after
 still_spelled before after peer key old new changes spelled writable q k h = elim (here_or_not peer key q k) [
   | inl here ↦ subst IsWritableKey (sym here.1) writable
   | inr elsewhere ↦ spelled q k (ap is_some (sym (changes.rest q k elsewhere)) ∙ h)
@@ -92,7 +96,8 @@ fresh_route now value = record { value = value; since = now; run = false }
 learned_behind : (now : ℕ) (value : Value) (old : Option TakenRoute) → IsBehind now old (Some (learned now value old))
 learned_behind now value None = record {
   same = λ h. absurd cc;
-  fresh = λ h route is. (let one = same_Some (fresh_route now value) route is in (ap (λ (r : TakenRoute). r.since) (sym one), ap (λ (r : TakenRoute). r.run) (sym one)));
+  fresh = λ h route is. (let one = same_Some (fresh_route now value) route is in
+      (ap (λ (r : TakenRoute). r.since) (sym one), ap (λ (r : TakenRoute). r.run) (sym one)));
 }
 learned_behind now value (Some old) = by (same_value old.value value) refl
   where
@@ -100,7 +105,8 @@ learned_behind now value (Some old) = by (same_value old.value value) refl
     by true e = record { same = λ h. refl; fresh = λ h. absurd (let itself = (value_exact old.value old.value).1 refl in cc) }
     by false e = record {
       same = λ h. absurd (let bad : true ≡ false = sym h ∙ e in cc);
-      fresh = λ h route is. (let one = same_Some (fresh_route now value) route is in (ap (λ (r : TakenRoute). r.since) (sym one), ap (λ (r : TakenRoute). r.run) (sym one)));
+      fresh = λ h route is. (let one = same_Some (fresh_route now value) route is in
+          (ap (λ (r : TakenRoute). r.since) (sym one), ap (λ (r : TakenRoute). r.run) (sym one)));
     }
 
 pub is_behind : (now : ℕ) (change : Change) (old : Option TakenRoute) → IsBehind now old (route_behind now change old)
@@ -120,5 +126,6 @@ learned_value now value (Some old) = by (same_value old.value value) refl
     by false e = refl
 
 -- whether it is one with the old one is whether its value is
-pub same_learned : (now : ℕ) (value : Value) (old : TakenRoute) → same_route (Some old) (Some (learned now value (Some old))) ≡ same_value old.value value
+pub same_learned : (now : ℕ) (value : Value) (old : TakenRoute)
+    → same_route (Some old) (Some (learned now value (Some old))) ≡ same_value old.value value
 same_learned now value old = ap (same_value old.value) (learned_value now value (Some old))

@@ -82,7 +82,8 @@ run_spelled place now control spelled q k h =
 abbrev with_flag : Bool → TakenRoute → TakenRoute
 with_flag run route = record route { run = run }
 
-unicast_timeless : (place : EdgePlace) (own : OwnVrf) (q : NodeId) (k : Key) (t : TakenRoute) (run : Bool) → tell_unicast place own q k (with_flag run t) ≡ tell_unicast place own q k t
+unicast_timeless : (place : EdgePlace) (own : OwnVrf) (q : NodeId) (k : Key) (t : TakenRoute) (run : Bool)
+    → tell_unicast place own q k (with_flag run t) ≡ tell_unicast place own q k t
 unicast_timeless place own q (Unicast rd prefix) t run = refl
 unicast_timeless place own q other t run = refl
 
@@ -90,12 +91,14 @@ active_timeless : (own : OwnVrf) (q : NodeId) (k : Key) (t : TakenRoute) (run : 
 active_timeless own q (Mcast afi (routes.Active rd source group)) t run = refl
 active_timeless own q other t run = refl
 
-join_timeless : (place : EdgePlace) (own : OwnVrf) (q : NodeId) (k : Key) (t : TakenRoute) (run : Bool) → tell_join place own q k (with_flag run t) ≡ tell_join place own q k t
+join_timeless : (place : EdgePlace) (own : OwnVrf) (q : NodeId) (k : Key) (t : TakenRoute) (run : Bool)
+    → tell_join place own q k (with_flag run t) ≡ tell_join place own q k t
 join_timeless place own q (Mcast afi (routes.SourceJoin rd source_as source group)) t run = refl
 join_timeless place own q other t run = refl
 
 module _ (place : EdgePlace) (now : ℕ) (before after : Tables) (is : Ran place now before after) where
-  pub timeless : {X V : Type 0} (tell : NodeId → Key → TakenRoute → Option (X × V)) → ((q : NodeId) (k : Key) (t : TakenRoute) → tell q k (run_at place now q k t) ≡ tell q k t)
+  pub timeless : {X V : Type 0} (tell : NodeId → Key → TakenRoute → Option (X × V))
+      → ((q : NodeId) (k : Key) (t : TakenRoute) → tell q k (run_at place now q k t) ≡ tell q k t)
       → (x : X) (v : V) → Told tell before x v ↔ Told tell after x v
   timeless tell same x v = (
     λ told. record {
@@ -129,7 +132,8 @@ module _ (place : EdgePlace) (now : ℕ) (before after : Tables) (is : Ran place
         )) (imported_selective own.vrf (addr_of place.scenario q) (k, t)) (x, l) tells
         (λ imported found same.
         let used : is_imported place q (k, t) ≡ true =
-        any_from (λ (other : OwnVrf). is_some (imported_selective other.vrf (addr_of place.scenario q) (k, t))) own (own_vrfs place) mine (ap is_some found) in
+        any_from (λ (other : OwnVrf). is_some (imported_selective other.vrf (addr_of place.scenario q) (k, t))) own (own_vrfs place) mine
+        (ap is_some found) in
         let key = leaves.key_of q imported.route.rd (pattern_of imported.route.source imported.route.group) in
         let due = nat_le (t.since + place.scenario.delay) now in
         ap (λ (o : Option ImportedSelective). o >>? λ (imported : ImportedSelective). Some (
@@ -140,7 +144,8 @@ module _ (place : EdgePlace) (now : ℕ) (before after : Tables) (is : Ran place
         ∙ ap (λ (e : selective_keys.RouteKey × Learned). Some (e.0, run_due place.scenario.delay now e.1)) (same_Some _ (x, l) same))
 
     -- and the other way round
-    told_run : (x : selective_keys.RouteKey) (l : Learned) (q : NodeId) (k : Key) (t : TakenRoute) → tell_selective place own q k (run_at place now q k t) ≡ Some (x, l)
+    told_run : (x : selective_keys.RouteKey) (l : Learned) (q : NodeId) (k : Key) (t : TakenRoute)
+        → tell_selective place own q k (run_at place now q k t) ≡ Some (x, l)
         → (old : Learned) × (tell_selective place own q k t ≡ Some (x, old)) × (run_due place.scenario.delay now old ≡ l)
     told_run x l q k t tells =
         next_some
@@ -158,14 +163,18 @@ module _ (place : EdgePlace) (now : ℕ) (before after : Tables) (is : Ran place
         )) found ∙ (λ i. Some (key i, old)) in (
           old,
           was,
-          ap (λ (e : selective_keys.RouteKey × Learned). e.1) (same_Some (x, run_due place.scenario.delay now old) (x, l) (sym (run_told x old q k t was) ∙ tells)),
+          ap (λ (e : selective_keys.RouteKey × Learned). e.1)
+              (same_Some (x, run_due place.scenario.delay now old) (x, l) (sym (run_told x old q k t was) ∙ tells)),
         ))
 
-    module _ (routes : leaves.Routes) (keeps : (x : selective_keys.RouteKey) (l : Learned) → (maps.get routes x ≡ Some l) ↔ Told (tell_selective place own) before x l) where
-      at_run : (x : selective_keys.RouteKey) → maps.get (routes_run place.scenario.delay now routes) x ≡ option_map (run_due place.scenario.delay now) (maps.get routes x)
+    module _ (routes : leaves.Routes) (keeps : (x : selective_keys.RouteKey) (l : Learned)
+        → (maps.get routes x ≡ Some l) ↔ Told (tell_selective place own) before x l) where
+      at_run : (x : selective_keys.RouteKey) → maps.get (routes_run place.scenario.delay now routes) x
+          ≡ option_map (run_due place.scenario.delay now) (maps.get routes x)
       at_run x = get_changed route_cmp (run_due place.scenario.delay now) routes x
 
-      to_run : (x : selective_keys.RouteKey) (l : Learned) → maps.get (routes_run place.scenario.delay now routes) x ≡ Some l → Told (tell_selective place own) after x l
+      to_run : (x : selective_keys.RouteKey) (l : Learned) → maps.get (routes_run place.scenario.delay now routes) x ≡ Some l
+          → Told (tell_selective place own) after x l
       to_run x l h =
           mapped (run_due place.scenario.delay now) (maps.get routes x) l (sym (at_run x) ∙ h)
           (λ old there run.
@@ -178,15 +187,18 @@ module _ (place : EdgePlace) (now : ℕ) (before after : Tables) (is : Ran place
             tells = run_told x old told.peer told.key told.route told.tells ∙ ap (λ (v : Learned). Some (x, v)) run;
           })
 
-      from_run : (x : selective_keys.RouteKey) (l : Learned) → Told (tell_selective place own) after x l → maps.get (routes_run place.scenario.delay now routes) x ≡ Some l
+      from_run : (x : selective_keys.RouteKey) (l : Learned) → Told (tell_selective place own) after x l
+          → maps.get (routes_run place.scenario.delay now routes) x ≡ Some l
       from_run x l told =
           mapped (run_at place now told.peer told.key) (before told.peer told.key) told.route (sym (is told.peer told.key) ∙ told.is)
           (λ t at run.
           let was = told_run x l told.peer told.key t (ap (tell_selective place own told.peer told.key) run ∙ told.tells) in
-          let past : Told (tell_selective place own) before x was.0 = record { peer = told.peer; key = told.key; route = t; is = at; tells = was.1 } in
+          let past : Told (tell_selective place own) before x was.0 =
+          record { peer = told.peer; key = told.key; route = t; is = at; tells = was.1 } in
           at_run x ∙ ap (option_map (run_due place.scenario.delay now)) ((keeps x was.0).1 past) ∙ ap (λ (v : Learned). Some v) was.2)
 
-      pub selective_run : (x : selective_keys.RouteKey) (l : Learned) → (maps.get (routes_run place.scenario.delay now routes) x ≡ Some l) ↔ Told (tell_selective place own) after x l
+      pub selective_run : (x : selective_keys.RouteKey) (l : Learned)
+          → (maps.get (routes_run place.scenario.delay now routes) x ≡ Some l) ↔ Told (tell_selective place own) after x l
       selective_run x l = (to_run x l, from_run x l)
 
 -- ---- the tree of a VRF
@@ -199,11 +211,17 @@ module _ (place : EdgePlace) (now : ℕ) (control : Control) (own : OwnVrf) (min
       let after = tables_of (with_run place now control) in
       let is = ran place now control in
       record {
-        unicast = λ x held. joins (parts.unicast x held) (timeless place now before after is (tell_unicast place own) (λ q k t. unicast_timeless place own q k t (run_at place now q k t).run) x held);
-        actives = λ x. joins (parts.actives x) (timeless place now before after is (tell_active own) (λ q k t. active_timeless own q k t (run_at place now q k t).run) x tt);
-        joined = λ x. joins (parts.joined x) (timeless place now before after is (tell_join place own) (λ q k t. join_timeless place own q k t (run_at place now q k t).run) x tt);
+        unicast =
+            λ x held. joins (parts.unicast x held) (timeless place now before after is (tell_unicast place own)
+            (λ q k t. unicast_timeless place own q k t (run_at place now q k t).run) x held);
+        actives =
+            λ x. joins (parts.actives x) (timeless place now before after is (tell_active own)
+            (λ q k t. active_timeless own q k t (run_at place now q k t).run) x tt);
+        joined = λ x. joins (parts.joined x) (timeless place now before after is (tell_join place own)
+            (λ q k t. join_timeless place own q k t (run_at place now q k t).run) x tt);
         selective =
-            subst (λ (d : ℕ). (x : selective_keys.RouteKey) (l : Learned) → (maps.get (routes_run d now tree.leaf.routes) x ≡ Some l) ↔ Told (tell_selective place own) after x l) (sym same)
+            subst (λ (d : ℕ). (x : selective_keys.RouteKey) (l : Learned)
+            → (maps.get (routes_run d now tree.leaf.routes) x ≡ Some l) ↔ Told (tell_selective place own) after x l) (sym same)
             (selective_run place now before after is own mine tree.leaf.routes parts.selective);
       }
 

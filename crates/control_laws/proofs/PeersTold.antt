@@ -100,18 +100,21 @@ module _ {X V : Type 0} (same : X → X → Bool) (equal : (a b : X) → same a 
       }
     ]
       where
-        at_old : (q : NodeId) (k : Key) (t : TakenRoute) → before q k ≡ Some t → tell q k t ≡ Some (x, v) → Here peer key q k → (old >>? tell peer key) ≡ Some (x, v)
+        at_old : (q : NodeId) (k : Key) (t : TakenRoute) → before q k ≡ Some t → tell q k t ≡ Some (x, v) → Here peer key q k
+            → (old >>? tell peer key) ≡ Some (x, v)
         at_old q k t is tells here =
             ap (λ (o : Option TakenRoute). o >>? tell peer key) (sym changes.was ∙ (λ i. before (sym here.0 i) (sym here.1 i)) ∙ is)
             ∙ (λ i. tell (sym here.0 i) (sym here.1 i) t) ∙ tells
 
-    at_new : (q : NodeId) (k : Key) (t : TakenRoute) (x : X) (v : V) → after q k ≡ Some t → tell q k t ≡ Some (x, v) → Here peer key q k → (new >>? tell peer key) ≡ Some (x, v)
+    at_new : (q : NodeId) (k : Key) (t : TakenRoute) (x : X) (v : V) → after q k ≡ Some t → tell q k t ≡ Some (x, v) → Here peer key q k
+        → (new >>? tell peer key) ≡ Some (x, v)
     at_new q k t x v is tells here =
         ap (λ (o : Option TakenRoute). o >>? tell peer key) (sym changes.is ∙ (λ i. after (sym here.0 i) (sym here.1 i)) ∙ is)
         ∙ (λ i. tell (sym here.0 i) (sym here.1 i) t) ∙ tells
 
     told_new : (x : X) (v : V) → (new >>? tell peer key) ≡ Some (x, v) → Told tell after x v
-    told_new x v h = next_some (tell peer key) new (x, v) h (λ t is tells. record { peer = peer; key = key; route = t; is = changes.is ∙ is; tells = tells })
+    told_new x v h =
+        next_some (tell peer key) new (x, v) h (λ t is tells. record { peer = peer; key = key; route = t; is = changes.is ∙ is; tells = tells })
 
     still : (x : X) (v : V) → dropped same drop x (kept x) ≡ Some v → Told tell after x v
     still x v h = let both = kept_of drop x v (kept x) h in carried x v ((keeps x v).0 both.0) both.1
@@ -149,14 +152,16 @@ module _ {X V : Type 0} (same : X → X → Bool) (equal : (a b : X) → same a 
       | inr apart ↦ by (new >>? tell peer key) refl apart
     ]
       where
-        by : (n : Option (X × V)) → (new >>? tell peer key) ≡ n → (Here peer key told.peer told.key → ⊥) → put same n x (dropped same drop x (kept x)) ≡ Some v
+        by : (n : Option (X × V)) → (new >>? tell peer key) ≡ n → (Here peer key told.peer told.key → ⊥)
+            → put same n x (dropped same drop x (kept x)) ≡ Some v
         by None e apart = unchanged x v told apart
         by (Some entry) e apart = at_entry (same x entry.0) refl
           where
             at_entry : (b : Bool) → same x entry.0 ≡ b → cond b (Some entry.1) (dropped same drop x (kept x)) ≡ Some v
             at_entry true t =
                 next_some (tell peer key) new (x, entry.1) (e ∙ (λ i. Some (sym (equal x entry.0 t) i, entry.1)))
-                (λ route is tells. absurd (apart (one x v entry.1 told (record { peer = peer; key = key; route = route; is = changes.is ∙ is; tells = tells }))))
+                (λ route is tells. absurd (apart (one x v entry.1 told
+                (record { peer = peer; key = key; route = route; is = changes.is ∙ is; tells = tells }))))
             at_entry false t = unchanged x v told apart
 
     pub told_iff : (x : X) (v : V) → (put same (new >>? tell peer key) x (dropped same drop x (kept x)) ≡ Some v) ↔ Told tell after x v
@@ -164,12 +169,14 @@ module _ {X V : Type 0} (same : X → X → Bool) (equal : (a b : X) → same a 
 
 -- ---- a route that tells nothing, neither before nor behind
 
-module _ {X V : Type 0} (tell : NodeId → Key → TakenRoute → Option (X × V)) (peer : NodeId) (key : Key) (silent : (route : TakenRoute) → tell peer key route ≡ None) where
+module _ {X V : Type 0} (tell : NodeId → Key → TakenRoute → Option (X × V)) (peer : NodeId) (key : Key)
+    (silent : (route : TakenRoute) → tell peer key route ≡ None) where
   never : (x : X) (v : V) (q : NodeId) (k : Key) (route : TakenRoute) → tell q k route ≡ Some (x, v) → Here peer key q k → ⊥
   never x v q k route tells here =
       absurd (let bad : None ≡ Some (x, v) = sym (silent route) ∙ (λ i. tell (sym here.0 i) (sym here.1 i) route) ∙ tells in cc)
 
-  pub silent_stays : (before after : Tables) (old new : Option TakenRoute) → Changes before after peer key old new → (x : X) (v : V) → Told tell before x v ↔ Told tell after x v
+  pub silent_stays : (before after : Tables) (old new : Option TakenRoute) → Changes before after peer key old new → (x : X) (v : V)
+      → Told tell before x v ↔ Told tell after x v
   silent_stays before after old new changes x v = (
     λ told. record {
       peer = told.peer;
@@ -188,7 +195,8 @@ module _ {X V : Type 0} (tell : NodeId → Key → TakenRoute → Option (X × V
   )
 
 -- tables that are the same tell the same
-pub same_told : {X V : Type 0} (tell : NodeId → Key → TakenRoute → Option (X × V)) (before after : Tables) → ((q : NodeId) (k : Key) → after q k ≡ before q k) → (x : X) (v : V)
+pub same_told : {X V : Type 0} (tell : NodeId → Key → TakenRoute → Option (X × V)) (before after : Tables)
+    → ((q : NodeId) (k : Key) → after q k ≡ before q k) → (x : X) (v : V)
     → Told tell before x v ↔ Told tell after x v
 same_told tell before after same x v = (
   λ told. record { peer = told.peer; key = told.key; route = told.route; is = same told.peer told.key ∙ told.is; tells = told.tells },
@@ -208,7 +216,8 @@ pub told_first : {X V P : Type 0} (o : Option (X × V)) (x : X) → first_of o �
 told_first None x h k = absurd cc
 told_first (Some entry) x h k = k entry.1 (λ i. Some (same_Some entry.0 x h i, entry.1))
 
-pub first_harmless : {X V : Type 0} (tell : NodeId → Key → TakenRoute → Option (X × V)) (before : Tables) (peer : NodeId) (key : Key) (old : Option TakenRoute) → before peer key ≡ old
+pub first_harmless : {X V : Type 0} (tell : NodeId → Key → TakenRoute → Option (X × V)) (before : Tables) (peer : NodeId) (key : Key)
+    (old : Option TakenRoute) → before peer key ≡ old
     → ((x : X) (v w : V) (a : Told tell before x v) (b : Told tell before x w) → Here b.peer b.key a.peer a.key)
     → (x : X) (v : V) → first_of (old >>? tell peer key) ≡ Some x → (told : Told tell before x v) → Here peer key told.peer told.key
 first_harmless tell before peer key old was one x v h told =
@@ -223,7 +232,8 @@ pub record Loses (before after : Tables) (peer : NodeId) : Type 0 where
   pub gone : (key : Key) → after peer key ≡ None
   pub rest : (q : NodeId) (k : Key) → (q ≡ peer → ⊥) → after q k ≡ before q k
 
-module _ {X V : Type 0} (tell : NodeId → Key → TakenRoute → Option (X × V)) (before after : Tables) (peer : NodeId) (loses : Loses before after peer) (kept left : X → Option V)
+module _ {X V : Type 0} (tell : NodeId → Key → TakenRoute → Option (X × V)) (before after : Tables) (peer : NodeId) (loses : Loses before after peer)
+    (kept left : X → Option V)
     (keeps : (x : X) (v : V) → (kept x ≡ Some v) ↔ Told tell before x v)
     (away : (x : X) (v : V) → left x ≡ Some v → (kept x ≡ Some v) × ((told : Told tell before x v) → told.peer ≡ peer → ⊥))
     (stay : (x : X) (v : V) (told : Told tell before x v) → (told.peer ≡ peer → ⊥) → left x ≡ kept x) where
@@ -259,9 +269,11 @@ module _ {X V : Type 0} (tell : NodeId → Key → TakenRoute → Option (X × V
 
 -- ---- what comes and what goes where one route changes
 
-module _ {X V : Type 0} (tell : NodeId → Key → TakenRoute → Option (X × V)) (before after : Tables) (peer : NodeId) (key : Key) (old new : Option TakenRoute)
+module _ {X V : Type 0} (tell : NodeId → Key → TakenRoute → Option (X × V)) (before after : Tables) (peer : NodeId) (key : Key)
+    (old new : Option TakenRoute)
     (changes : Changes before after peer key old new) (x : X) (v : V) where
-  at_place : (tables : Tables) (o : Option TakenRoute) → tables peer key ≡ o → (told : Told tell tables x v) → Here peer key told.peer told.key → (o >>? tell peer key) ≡ Some (x, v)
+  at_place : (tables : Tables) (o : Option TakenRoute) → tables peer key ≡ o → (told : Told tell tables x v) → Here peer key told.peer told.key
+      → (o >>? tell peer key) ≡ Some (x, v)
   at_place tables o is told here =
       ap (λ (r : Option TakenRoute). r >>? tell peer key) (sym is ∙ (λ i. tables (sym here.0 i) (sym here.1 i)) ∙ told.is)
       ∙ (λ i. tell (sym here.0 i) (sym here.1 i) told.route) ∙ told.tells

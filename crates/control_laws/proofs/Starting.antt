@@ -32,23 +32,27 @@ module _ (kept : Kept) (first : AreFirst kept) where
   nothing_kept = same_control _ _
       (same_entries _ _ (λ at.
       entries_gathered kept at
-      ∙ gathered_none options (entry_in at) (trees_of kept) (λ it a. ap (λ (t : TreeData). maps.get t.vrf.entries at) ((first_at it a).is no_core) ∙ maps.get-empty entry_cmp at)
+      ∙ gathered_none options (entry_in at) (trees_of kept)
+      (λ it a. ap (λ (t : TreeData). maps.get t.vrf.entries at) ((first_at it a).is no_core) ∙ maps.get-empty entry_cmp at)
       ∙ sym (maps.get-empty entry_cmp at)))
       (same_notes _ _ (λ note.
       notes_gathered kept note
       ∙ gathered_none truths (note_in (tree_note note)) (trees_of kept)
-      (λ it a. ap (λ (t : TreeData). sets.contains t.vrf.notes (tree_note note)) ((first_at it a).is no_core) ∙ sets.contains-empty tree_keys.note_cmp (tree_note note))
+      (λ it a. ap (λ (t : TreeData). sets.contains t.vrf.notes (tree_note note)) ((first_at it a).is no_core)
+      ∙ sets.contains-empty tree_keys.note_cmp (tree_note note))
       ∙ sym (sets.contains-empty note_cmp note)))
       (same_selections _ _ (λ key.
       selections_gathered kept key
       ∙ gathered_none options (selected_in key) (trees_of kept)
-      (λ it a. ap (λ (t : TreeData). cond (it.own.id.0 == key.vrf.0) (option_map selected_of (find (is_of key.pattern) t.root.selections)) None) ((first_at it a).is no_core)
+      (λ it a. ap (λ (t : TreeData). cond (it.own.id.0 == key.vrf.0) (option_map selected_of (find (is_of key.pattern) t.root.selections)) None)
+      ((first_at it a).is no_core)
       ∙ where_none (it.own.id.0 == key.vrf.0))
       ∙ sym (maps.get-empty pattern_cmp key)))
       (same_flows _ _ (λ key.
       flows_gathered kept key
       ∙ gathered_none options (choice_in key) (trees_of kept)
-      (λ it a. ap (λ (t : TreeData). cond (it.own.id.0 == key.vrf.0) (option_map upstream_by (maps.get t.vrf.flows (flow_of key))) None) ((first_at it a).is no_core)
+      (λ it a. ap (λ (t : TreeData). cond (it.own.id.0 == key.vrf.0) (option_map upstream_by (maps.get t.vrf.flows (flow_of key))) None)
+      ((first_at it a).is no_core)
       ∙ ap (λ (o : Option _). cond (it.own.id.0 == key.vrf.0) (option_map upstream_by o) None) (maps.get-empty tree_keys.flow_cmp (flow_of key))
       ∙ where_none (it.own.id.0 == key.vrf.0))
       ∙ sym (maps.get-empty flow_cmp key)))
@@ -61,7 +65,8 @@ module _ (kept : Kept) (first : AreFirst kept) where
       each = λ core. each_of (λ (it : OwnTree). IsTreeOf (place_of kept.home core) (control_of kept) it.own it.tree) (trees_of kept) (λ it a.
           let one = first_at it a in
           subst (λ (c : Control). IsTreeOf (place_of kept.home core) c it.own it.tree) (sym nothing_kept)
-          (subst (IsTreeOf (place_of kept.home core) no_control it.own) (sym (one.is core)) (started (place_of kept.home core) it.own one.attached one.sites)));
+          (subst (IsTreeOf (place_of kept.home core) no_control it.own) (sym (one.is core))
+          (started (place_of kept.home core) it.own one.attached one.sites)));
       full = full.full;
       all = full.all;
     };

@@ -59,12 +59,15 @@ module _ {K V : Type 0} (R : K → K → Ordering) where
 
   sorted_once : (es : List (K × V)) → T (is_sorted R es) → StandOnce es
   sorted_once [] h = tt
-  sorted_once (e ∷ es) h = (none_below e.0 es (front_of (below_all R e.0 es) (is_sorted R es) h), sorted_once es (back_of (below_all R e.0 es) (is_sorted R es) h))
+  sorted_once (e ∷ es) h =
+      (none_below e.0 es (front_of (below_all R e.0 es) (is_sorted R es) h), sorted_once es (back_of (below_all R e.0 es) (is_sorted R es) h))
 
   pub once_both : (xs ys : List (K × V)) → StandOnce xs → StandOnce ys → ((e : K × V) → Among e xs → find R e.0 ys ≡ None) → StandOnce (xs ++ ys)
   once_both [] ys once behind apart = behind
-  once_both (e ∷ xs) ys once behind apart =
-      (find-append R e.0 xs ys ∙ ap (λ (o : Option V). option_or o (find R e.0 ys)) once.0 ∙ apart e (inl refl), once_both xs ys once.1 behind (λ f a. apart f (inr a)))
+  once_both (e ∷ xs) ys once behind apart = (
+    find-append R e.0 xs ys ∙ ap (λ (o : Option V). option_or o (find R e.0 ys)) once.0 ∙ apart e (inl refl),
+    once_both xs ys once.1 behind (λ f a. apart f (inr a)),
+  )
 
 pub map_once : {K V : Type 0} {R : K → K → Ordering} (m : FinMap R V) → StandOnce R (maps.entries m)
 map_once {R = R} m = sorted_once R (maps.entries m) (maps.entries_sorted m)
@@ -79,7 +82,8 @@ module _ {K V : Type 0} {R : K → K → Ordering} (total : IsTotalOrder R) (g :
   sum-put key value [] none = sum_by-cons g (key, value) []
   sum-put key value (e ∷ es) none = by (R key e.0) none (sum-put key value es)
     where
-      by : (r : Ordering) → cond (is_eq r) (Some e.1) (find R key es) ≡ None → (find R key es ≡ None → sum_by g (put R key value es) ≡ g (key, value) + sum_by g es)
+      by : (r : Ordering) → cond (is_eq r) (Some e.1) (find R key es) ≡ None
+          → (find R key es ≡ None → sum_by g (put R key value es) ≡ g (key, value) + sum_by g es)
           → sum_by g (by_order r ((key, value) ∷ e ∷ es) ((e.0, value) ∷ es) (e ∷ put R key value es)) ≡ g (key, value) + sum_by g (e ∷ es)
       by Less n rest = sum_by-cons g (key, value) (e ∷ es)
       by Equal n rest = absurd (let bad : Some e.1 ≡ None = n in cc)
@@ -97,16 +101,19 @@ module _ {K V : Type 0} {R : K → K → Ordering} (total : IsTotalOrder R) (g :
 
 -- ---- a list for each VRF, of keys that are of that VRF alone
 
-module _ {K V : Type 0} {R : K → K → Ordering} (total : IsTotalOrder R) (exact : IsAntisymmetric R) (test : K → OwnVrf → Bool) (one : (key : K) → IsOfOne (test key)) (list : OwnTree → List (K × V)) where
+module _ {K V : Type 0} {R : K → K → Ordering} (total : IsTotalOrder R) (exact : IsAntisymmetric R) (test : K → OwnVrf → Bool)
+    (one : (key : K) → IsOfOne (test key)) (list : OwnTree → List (K × V)) where
   abbrev pub IsOwn : OwnTree → Type 0
   IsOwn it = (e : K × V) → Among e (list it) → test e.0 it.own ≡ true
 
-  not_other : (key : K) (it other : OwnTree) → test key it.own ≡ true → IsOwn other → (other.own.id.0 ≡ it.own.id.0 → ⊥) → (o : Option V) → find R key (list other) ≡ o → o ≡ None
+  not_other : (key : K) (it other : OwnTree) → test key it.own ≡ true → IsOwn other → (other.own.id.0 ≡ it.own.id.0 → ⊥) → (o : Option V)
+      → find R key (list other) ≡ o → o ≡ None
   not_other key it other h own ne None e = refl
   not_other key it other h own ne (Some found) e =
       absurd (ne ((one key).one other.own it.own (own (key, found) (found_stands exact key found (list other) e)) h))
 
-  pub flat_once : (its : List OwnTree) → AreApart its → ((it : OwnTree) → Among it its → IsOwn it) → ((it : OwnTree) → Among it its → StandOnce R (list it)) → StandOnce R (flat_map list its)
+  pub flat_once : (its : List OwnTree) → AreApart its → ((it : OwnTree) → Among it its → IsOwn it)
+      → ((it : OwnTree) → Among it its → StandOnce R (list it)) → StandOnce R (flat_map list its)
   flat_once [] apart own once = tt
   flat_once (it ∷ more) apart own once =
       once_both R (list it) (flat_map list more) (once it (inl refl)) (flat_once more apart.1 (λ x a. own x (inr a)) (λ x a. once x (inr a)))
@@ -115,14 +122,16 @@ module _ {K V : Type 0} {R : K → K → Ordering} (total : IsTotalOrder R) (exa
       (λ other b. not_other e.0 it other (own it (inl refl) e a) (own other (inr b)) (apart.0 other b) (find R e.0 (list other)) refl))
 
   -- so the sum is that of the sums of the VRFs
-  pub sum-owned : (g : K × V → ℕ) (its : List OwnTree) → AreApart its → ((it : OwnTree) → Among it its → IsOwn it) → ((it : OwnTree) → Among it its → StandOnce R (list it))
+  pub sum-owned : (g : K × V → ℕ) (its : List OwnTree) → AreApart its → ((it : OwnTree) → Among it its → IsOwn it)
+      → ((it : OwnTree) → Among it its → StandOnce R (list it))
       → sum_by g (maps.entries (maps.from_entries {R = R} (flat_map list its))) ≡ sum_by (λ it. sum_by g (list it)) its
   sum-owned g its apart own once = sum-made total g (flat_map list its) (flat_once its apart own once) ∙ sum-flat g list its
 
 pub len-sum : {K V : Type 0} {R : K → K → Ordering} (m : FinMap R V) → maps.len m ≡ sum_by (λ (e : K × V). 1) (maps.entries m)
 len-sum m = maps.len-entries m ∙ sym (sum-one (maps.entries m))
 
-pub count-sum : {K V : Type 0} {R : K → K → Ordering} (p : V → Bool) (m : FinMap R V) → count_by p (maps.values m) ≡ sum_by (λ (e : K × V). cond (p e.1) 1 0) (maps.entries m)
+pub count-sum : {K V : Type 0} {R : K → K → Ordering} (p : V → Bool) (m : FinMap R V)
+    → count_by p (maps.values m) ≡ sum_by (λ (e : K × V). cond (p e.1) 1 0) (maps.entries m)
 count-sum p m = sum-map (λ v. cond {A = ℕ} (p v) 1 0) (λ e. e.1) (maps.entries m)
 
 -- ---- sets
@@ -132,10 +141,13 @@ module _ {K : Type 0} (R : K → K → Ordering) where
   AreListedOnce [] = Unit {0}
   AreListedOnce (k ∷ ks) = (list_any (eq_by_cmp R k) ks ≡ false) × AreListedOnce ks
 
-  listed_both : (xs ys : List K) → AreListedOnce xs → AreListedOnce ys → ((k : K) → Among k xs → list_any (eq_by_cmp R k) ys ≡ false) → AreListedOnce (xs ++ ys)
+  listed_both : (xs ys : List K) → AreListedOnce xs → AreListedOnce ys → ((k : K) → Among k xs → list_any (eq_by_cmp R k) ys ≡ false)
+      → AreListedOnce (xs ++ ys)
   listed_both [] ys once behind apart = behind
-  listed_both (k ∷ xs) ys once behind apart =
-      (list_any-append (eq_by_cmp R k) xs ys ∙ ap (λ (b : Bool). b || list_any (eq_by_cmp R k) ys) once.0 ∙ apart k (inl refl), listed_both xs ys once.1 behind (λ q a. apart q (inr a)))
+  listed_both (k ∷ xs) ys once behind apart = (
+    list_any-append (eq_by_cmp R k) xs ys ∙ ap (λ (b : Bool). b || list_any (eq_by_cmp R k) ys) once.0 ∙ apart k (inl refl),
+    listed_both xs ys once.1 behind (λ q a. apart q (inr a)),
+  )
 
   keys_once : {V : Type 0} (es : List (K × V)) → StandOnce R es → AreListedOnce (map (λ (e : K × V). e.0) es)
   keys_once [] once = tt
@@ -143,23 +155,30 @@ module _ {K : Type 0} (R : K → K → Ordering) where
 
 module _ {K : Type 0} {R : K → K → Ordering} (total : IsTotalOrder R) where
   pub members_once : (s : FinSet R) → AreListedOnce R (in_order s)
-  members_once s = keys_once R (maps.entries (maps.from_entries {R = R} (map (λ k. (k, tt {0})) (sets.items s)))) (map_once (maps.from_entries {R = R} (map (λ k. (k, tt {0})) (sets.items s))))
+  members_once s =
+      keys_once R (maps.entries (maps.from_entries {R = R} (map (λ k. (k, tt {0})) (sets.items s))))
+      (map_once (maps.from_entries {R = R} (map (λ k. (k, tt {0})) (sets.items s))))
 
   pub len-listed : (ks : List K) → AreListedOnce R ks → sets.len (sets.from_list {R = R} ks) ≡ length ks
   len-listed [] once = sets.len-empty R
   len-listed (k ∷ ks) once =
-      sets.len-insert total (sets.from_list ks) k ∙ ap (λ (b : Bool). cond b (sets.len (sets.from_list {R = R} ks)) (sets.len (sets.from_list {R = R} ks) + 1)) (sets.contains-from_list total ks k ∙ once.0)
+      sets.len-insert total (sets.from_list ks) k ∙ ap
+      (λ (b : Bool). cond b (sets.len (sets.from_list {R = R} ks)) (sets.len (sets.from_list {R = R} ks) + 1))
+      (sets.contains-from_list total ks k ∙ once.0)
       ∙ (let rest = len-listed ks once.1 in omega (arith, rest))
 
   module _ (exact : IsAntisymmetric R) where
     pub of_members : (s : FinSet R) → s ≡ sets.from_list (in_order s)
-    of_members s = sets.same_set total exact s (sets.from_list (in_order s)) (λ k. contains_in_order total s k ∙ sym (sets.contains-from_list total (in_order s) k))
+    of_members s =
+        sets.same_set total exact s (sets.from_list (in_order s))
+        (λ k. contains_in_order total s k ∙ sym (sets.contains-from_list total (in_order s) k))
 
     pub len-members : (s : FinSet R) → sets.len s ≡ length (in_order s)
     len-members s = ap (λ (t : FinSet R). sets.len t) (of_members s) ∙ len-listed (in_order s) (members_once s)
 
     module _ (test : K → OwnVrf → Bool) (one : (key : K) → IsOfOne (test key)) (list : OwnTree → List K) where
-      none_listed : (key : K) (it other : OwnTree) → test key it.own ≡ true → ((k : K) → Among k (list other) → test k other.own ≡ true) → (other.own.id.0 ≡ it.own.id.0 → ⊥)
+      none_listed : (key : K) (it other : OwnTree) → test key it.own ≡ true → ((k : K) → Among k (list other) → test k other.own ≡ true)
+          → (other.own.id.0 ≡ it.own.id.0 → ⊥)
           → (b : Bool) → list_any (eq_by_cmp R key) (list other) ≡ b → b ≡ false
       none_listed key it other h own ne false e = refl
       none_listed key it other h own ne true e =
@@ -174,10 +193,12 @@ module _ {K : Type 0} {R : K → K → Ordering} (total : IsTotalOrder R) where
           listed_both R (list it) (flat_map list more) (once it (inl refl)) (flat_listed more apart.1 (λ x a. own x (inr a)) (λ x a. once x (inr a)))
           (λ k a. any-gathered (eq_by_cmp R k) list more
           ∙ gathered_none truths (λ x. list_any (eq_by_cmp R k) (list x)) more
-          (λ other b. none_listed k it other (own it (inl refl) k a) (own other (inr b)) (apart.0 other b) (list_any (eq_by_cmp R k) (list other)) refl))
+          (λ other b. none_listed k it other (own it (inl refl) k a) (own other (inr b)) (apart.0 other b) (list_any (eq_by_cmp R k) (list other))
+          refl))
 
       pub len-owned : (its : List OwnTree) → AreApart its → ((it : OwnTree) → Among it its → (k : K) → Among k (list it) → test k it.own ≡ true)
-          → ((it : OwnTree) → Among it its → AreListedOnce R (list it)) → sets.len (sets.from_list {R = R} (flat_map list its)) ≡ sum_by (λ it. length (list it)) its
+          → ((it : OwnTree) → Among it its → AreListedOnce R (list it))
+          → sets.len (sets.from_list {R = R} (flat_map list its)) ≡ sum_by (λ it. length (list it)) its
       len-owned its apart own once =
           len-listed (flat_map list its) (flat_listed its apart own once) ∙ sym (sum-one (flat_map list its)) ∙ sum-flat (λ k. 1) list its
           ∙ sum-alike (λ it. sum_by (λ k. 1) (list it)) (λ it. length (list it)) its (λ it a. sum-one (list it))

@@ -58,22 +58,27 @@ selected_in at it = if it.own.id.0 == at.vrf.0 then option_map selected_of (find
 pub entries_gathered : (kept : Kept) (at : IfaceEntry) → maps.get (control_of kept).entries at ≡ gathered None option_or (entry_in at) (trees_of kept)
 entries_gathered kept at =
     get-gathered entry_cmp_total (λ (it : OwnTree). maps.entries it.tree.vrf.entries) at (trees_of kept)
-    ∙ gathered_alike None option_or (λ (it : OwnTree). maps.find entry_cmp at (maps.entries it.tree.vrf.entries)) (entry_in at) (trees_of kept) (λ it a. sym (maps.get-entries it.tree.vrf.entries at))
+    ∙ gathered_alike None option_or (λ (it : OwnTree). maps.find entry_cmp at (maps.entries it.tree.vrf.entries)) (entry_in at) (trees_of kept)
+    (λ it a. sym (maps.get-entries it.tree.vrf.entries at))
 
-pub any_noted : (note : edges.Note) (notes : List Note) → list_any (eq_by_cmp note_cmp note) (map edge_note notes) ≡ list_any (eq_by_cmp tree_keys.note_cmp (tree_note note)) notes
+pub any_noted : (note : edges.Note) (notes : List Note)
+    → list_any (eq_by_cmp note_cmp note) (map edge_note notes) ≡ list_any (eq_by_cmp tree_keys.note_cmp (tree_note note)) notes
 any_noted note [] = refl
 any_noted note (one ∷ notes) = ap (λ (b : Bool). eq_by_cmp tree_keys.note_cmp (tree_note note) one || b) (any_noted note notes)
 
-pub notes_gathered : (kept : Kept) (note : edges.Note) → sets.contains (control_of kept).notes note ≡ gathered false (λ a b. a || b) (note_in (tree_note note)) (trees_of kept)
+pub notes_gathered : (kept : Kept) (note : edges.Note)
+    → sets.contains (control_of kept).notes note ≡ gathered false (λ a b. a || b) (note_in (tree_note note)) (trees_of kept)
 notes_gathered kept note =
     contains-gathered note_total (λ (it : OwnTree). map edge_note (sets.items it.tree.vrf.notes)) note (trees_of kept)
-    ∙ gathered_alike false (λ a b. a || b) (λ (it : OwnTree). list_any (eq_by_cmp note_cmp note) (map edge_note (sets.items it.tree.vrf.notes))) (note_in (tree_note note)) (trees_of kept)
+    ∙ gathered_alike false (λ a b. a || b) (λ (it : OwnTree). list_any (eq_by_cmp note_cmp note) (map edge_note (sets.items it.tree.vrf.notes)))
+    (note_in (tree_note note)) (trees_of kept)
     (λ it a. any_noted note (sets.items it.tree.vrf.notes) ∙ sym (sets.contains-items it.tree.vrf.notes (tree_note note)))
 
 -- ---- keys with the number of a VRF in front
 
 -- such a key ties where the number is that one and the rest ties
-flow_ties : (vrf : VrfId) (key : VrfFlow) (flow : Flow) → eq_by_cmp flow_cmp key (flow_in vrf flow) ≡ ((vrf.0 == key.vrf.0) && eq_by_cmp tree_keys.flow_cmp (flow_of key) flow)
+flow_ties : (vrf : VrfId) (key : VrfFlow) (flow : Flow)
+    → eq_by_cmp flow_cmp key (flow_in vrf flow) ≡ ((vrf.0 == key.vrf.0) && eq_by_cmp tree_keys.flow_cmp (flow_of key) flow)
 flow_ties vrf key flow = both_ways _ _ there back
   where
     there : eq_by_cmp flow_cmp key (flow_in vrf flow) ≡ true → ((vrf.0 == key.vrf.0) && eq_by_cmp tree_keys.flow_cmp (flow_of key) flow) ≡ true
@@ -93,12 +98,14 @@ flow_ties vrf key flow = both_ways _ _ there back
 abbrev pub pattern_of : VrfId → Selection → VrfPattern
 pattern_of vrf selection = record { vrf = vrf; pattern = selection.pattern }
 
-pub pattern_ties : (vrf : VrfId) (key : VrfPattern) (selection : Selection) → eq_by_cmp pattern_cmp key (pattern_of vrf selection) ≡ ((vrf.0 == key.vrf.0) && is_of key.pattern selection)
+pub pattern_ties : (vrf : VrfId) (key : VrfPattern) (selection : Selection)
+    → eq_by_cmp pattern_cmp key (pattern_of vrf selection) ≡ ((vrf.0 == key.vrf.0) && is_of key.pattern selection)
 pattern_ties vrf key selection = both_ways _ _ there back
   where
     there : eq_by_cmp pattern_cmp key (pattern_of vrf selection) ≡ true → ((vrf.0 == key.vrf.0) && is_of key.pattern selection) ≡ true
     there h =
-        let one : key ≡ pattern_of vrf selection = pattern_exact key (pattern_of vrf selection) ((Equal-is (pattern_cmp key (pattern_of vrf selection))).0 h) in
+        let one : key ≡ pattern_of vrf selection =
+        pattern_exact key (pattern_of vrf selection) ((Equal-is (pattern_cmp key (pattern_of vrf selection))).0 h) in
         and_from _ _ (eq-eqb vrf.0 key.vrf.0 (ap (λ (k : VrfPattern). k.vrf.0) (sym one)))
         (ap (λ (k : VrfPattern). same_pattern selection.pattern k.pattern) one ∙ pattern_itself selection.pattern)
 
@@ -110,12 +117,14 @@ pattern_ties vrf key selection = both_ways _ _ there back
         let one : pattern_of vrf selection ≡ key = λ i. record { vrf = record { 0 = number i }; pattern = same i } in
         ap (eq_by_cmp pattern_cmp key) one ∙ ap is_eq (tied_itself pattern_total key)
 
-head_where : {X Y : Type 0} (b t : Bool) (f : X → Y) (x : X) (o : Option X) → cond (b && t) (Some (f x)) (cond b (option_map f o) None) ≡ cond b (option_map f (cond t (Some x) o)) None
+head_where : {X Y : Type 0} (b t : Bool) (f : X → Y) (x : X) (o : Option X)
+    → cond (b && t) (Some (f x)) (cond b (option_map f o) None) ≡ cond b (option_map f (cond t (Some x) o)) None
 head_where true true f x o = refl
 head_where true false f x o = refl
 head_where false t f x o = refl
 
-find-flows : (vrf : VrfId) (key : VrfFlow) (es : List (Flow × Choice)) → maps.find flow_cmp key (map (λ (entry : Flow × Choice). (flow_in vrf entry.0, upstream_by entry.1)) es)
+find-flows : (vrf : VrfId) (key : VrfFlow) (es : List (Flow × Choice))
+    → maps.find flow_cmp key (map (λ (entry : Flow × Choice). (flow_in vrf entry.0, upstream_by entry.1)) es)
     ≡ cond (vrf.0 == key.vrf.0) (option_map upstream_by (maps.find tree_keys.flow_cmp (flow_of key) es)) None
 find-flows vrf key [] = none (vrf.0 == key.vrf.0)
   where
@@ -142,10 +151,13 @@ flows_gathered kept key =
     get-gathered flow_total flows_by key (trees_of kept)
     ∙ gathered_alike None option_or (λ (it : OwnTree). maps.find flow_cmp key (flows_by it)) (choice_in key) (trees_of kept)
     (λ it a. find-flows it.own.id key (maps.entries it.tree.vrf.flows)
-    ∙ ap (λ (o : Option Choice). cond (it.own.id.0 == key.vrf.0) (option_map upstream_by o) None) (sym (maps.get-entries it.tree.vrf.flows (flow_of key))))
+    ∙ ap (λ (o : Option Choice). cond (it.own.id.0 == key.vrf.0) (option_map upstream_by o) None)
+    (sym (maps.get-entries it.tree.vrf.flows (flow_of key))))
 
-pub selections_gathered : (kept : Kept) (key : VrfPattern) → maps.get (control_of kept).selections key ≡ gathered None option_or (selected_in key) (trees_of kept)
+pub selections_gathered : (kept : Kept) (key : VrfPattern)
+    → maps.get (control_of kept).selections key ≡ gathered None option_or (selected_in key) (trees_of kept)
 selections_gathered kept key =
     get-gathered pattern_total (λ (it : OwnTree). map (selected_by it.own.id) it.tree.root.selections) key (trees_of kept)
-    ∙ gathered_alike None option_or (λ (it : OwnTree). maps.find pattern_cmp key (map (selected_by it.own.id) it.tree.root.selections)) (selected_in key) (trees_of kept)
+    ∙ gathered_alike None option_or (λ (it : OwnTree). maps.find pattern_cmp key (map (selected_by it.own.id) it.tree.root.selections))
+    (selected_in key) (trees_of kept)
     (λ it a. find-selections it.own.id key it.tree.root.selections)

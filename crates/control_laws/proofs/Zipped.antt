@@ -30,7 +30,8 @@ zip_back R (x ∷ xs) [] h y a = absurd h
 zip_back R (x ∷ xs) (z ∷ ys) h y (inl e) = (x, inl refl, subst (R x) (sym e) h.0)
 zip_back R (x ∷ xs) (z ∷ ys) h y (inr a) = let (found, among, is) = zip_back R xs ys h.1 y a in (found, inr among, is)
 
-pub gathered_zip : {A B X : Type 0} (none : X) (or : X → X → X) (R : A → B → Type 0) (one : A → X) (other : B → X) → ((x : A) (y : B) → R x y → other y ≡ one x)
+pub gathered_zip : {A B X : Type 0} (none : X) (or : X → X → X) (R : A → B → Type 0) (one : A → X) (other : B → X)
+    → ((x : A) (y : B) → R x y → other y ≡ one x)
     → (xs : List A) (ys : List B) → AllZip R xs ys → gathered none or other ys ≡ gathered none or one xs
 gathered_zip none or R one other same [] [] h = refl
 gathered_zip none or R one other same [] (y ∷ ys) h = absurd h
@@ -50,6 +51,8 @@ zip_length R [] (y ∷ ys) h = absurd h
 zip_length R (x ∷ xs) [] h = absurd h
 zip_length R (x ∷ xs) (y ∷ ys) h = ap suc (zip_length R xs ys h.1)
 
-pub zip_full : (kept : Kept) (R : OwnTree → TreeData → Type 0) (others : List TreeData) → AreFull kept → AllZip R (trees_of kept) others → AreFull (record kept { trees = others })
+pub zip_full : (kept : Kept) (R : OwnTree → TreeData → Type 0) (others : List TreeData) → AreFull kept → AllZip R (trees_of kept) others
+    → AreFull (record kept { trees = others })
 zip_full kept R others full zip =
-    still_full kept others full (zip_length R (trees_of kept) others zip ∙ sym (length-map (trees_of kept) (λ (it : OwnTree). it.tree)) ∙ ap length full.full)
+    still_full kept others full (zip_length R (trees_of kept) others zip ∙ sym (length-map (trees_of kept) (λ (it : OwnTree). it.tree))
+    ∙ ap length full.full)

@@ -44,7 +44,8 @@ known-no x h = grind (arith, nat_tests)
 cases_at : (k i : ℕ) → (k ≡ i) ⊎ (k ≢ i)
 cases_at k i = cases_eq k i
 
-set_sound : (links : List Link) (nodes root : ℕ) (row : List ℕ) (from v : ℕ) → IsSound links nodes root row → from < nodes → v < get_or row from 0 → HasWalk links from root v → v ≤ 65535 * reached row + 65535 → IsSound links nodes root (set row from v)
+set_sound : (links : List Link) (nodes root : ℕ) (row : List ℕ) (from v : ℕ) → IsSound links nodes root row → from < nodes → v < get_or row from 0
+    → HasWalk links from root v → v ≤ 65535 * reached row + 65535 → IsSound links nodes root (set row from v)
 set_sound links nodes root row from v h within lower walk bound = record {
   size = length-set row from v ∙ h.size;
   here = get_or-set_other row from root v 0 other_root ∙ h.here;
@@ -79,7 +80,8 @@ set_sound links nodes root row from v h within lower walk bound = record {
 
     walks : (k : ℕ) → k < nodes → get_or (set row from v) k 0 < far → HasWalk links k root (get_or (set row from v) k 0)
     walks k l f = elim (cases_at k from) [
-      | inl e ↦ subst (λ (j : ℕ). HasWalk links j root (get_or (set row from v) j 0)) (sym e) (subst (λ (x : ℕ). HasWalk links from root x) (sym at_from) walk)
+      | inl e ↦ subst (λ (j : ℕ). HasWalk links j root (get_or (set row from v) j 0)) (sym e)
+          (subst (λ (x : ℕ). HasWalk links from root x) (sym at_from) walk)
       | inr n ↦
           let same = get_or-set_other row from k v 0 n in
           subst (λ (x : ℕ). HasWalk links k root x) (sym same) (h.walks k l (omega (arith, same)))
@@ -107,7 +109,8 @@ set_sound links nodes root row from v h within lower walk bound = record {
     ]
 
 lowered : (links : List Link) (nodes root : ℕ) (row : List ℕ) (from via cost : ℕ) (b : Bool) → ltb (get_or row via 0 + cost) (get_or row from 0) ≡ b →
-    IsSound links nodes root row → IsLinked links from via cost → IsGood nodes from via cost → IsSound links nodes root (cond b (set row from (get_or row via 0 + cost)) row)
+    IsSound links nodes root row → IsLinked links from via cost → IsGood nodes from via cost
+    → IsSound links nodes root (cond b (set row from (get_or row via 0 + cost)) row)
 lowered links nodes root row from via cost false e h linked g = h
 lowered links nodes root row from via cost true e h linked g =
     let less : get_or row via 0 + cost < get_or row from 0 = grind (arith, nat_tests) in
@@ -118,13 +121,16 @@ lowered links nodes root row from via cost true e h linked g =
     let cheap : cost ≤ 65535 = g.cheap in
     let v : get_or row via 0 + cost ≡ cost + get_or row via 0 = omega arith in
     set_sound links nodes root row from (get_or row via 0 + cost) h g.a_within less
-    (subst (λ (x : ℕ). HasWalk links from root x) (sym v) (record { steps = via ∷ w.steps; walk = further links from via root cost (get_or row via 0) w.steps linked w.walk }))
+    (subst (λ (x : ℕ). HasWalk links from root x) (sym v)
+    (record { steps = via ∷ w.steps; walk = further links from via root cost (get_or row via 0) w.steps linked w.walk }))
     (omega arith)
 
-relaxed_sound : (links : List Link) (nodes root : ℕ) (row : List ℕ) (from via cost : ℕ) → IsSound links nodes root row → IsLinked links from via cost → IsGood nodes from via cost → IsSound links nodes root (relaxed row from via cost)
+relaxed_sound : (links : List Link) (nodes root : ℕ) (row : List ℕ) (from via cost : ℕ) → IsSound links nodes root row → IsLinked links from via cost
+    → IsGood nodes from via cost → IsSound links nodes root (relaxed row from via cost)
 relaxed_sound links nodes root row from via cost h linked g = lowered links nodes root row from via cost _ refl h linked g
 
-relaxed_link_sound : (links : List Link) (nodes root : ℕ) (row : List ℕ) (link : Link) → IsTopology nodes links → Contains links link → IsSound links nodes root row → IsSound links nodes root (relaxed_link row link)
+relaxed_link_sound : (links : List Link) (nodes root : ℕ) (row : List ℕ) (link : Link) → IsTopology nodes links → Contains links link
+    → IsSound links nodes root row → IsSound links nodes root (relaxed_link row link)
 relaxed_link_sound links nodes root row link t c h =
     let there = linked_there links link c in
     let here = linked_here links link c in
@@ -132,13 +138,16 @@ relaxed_link_sound links nodes root row link t c h =
     (relaxed_sound links nodes root row link.a.0 link.b.0 link.cost h there (good nodes links _ _ _ t there))
     here (good nodes links _ _ _ t here)
 
-all_sound : (links : List Link) (nodes root : ℕ) (some : List Link) (row : List ℕ) → IsTopology nodes links → All (Contains links) some → IsSound links nodes root row → IsSound links nodes root (relaxed_all row some)
+all_sound : (links : List Link) (nodes root : ℕ) (some : List Link) (row : List ℕ) → IsTopology nodes links → All (Contains links) some
+    → IsSound links nodes root row → IsSound links nodes root (relaxed_all row some)
 all_sound links nodes root [] row t c h = h
 all_sound links nodes root (link ∷ more) row t c h =
-    all_sound links nodes root more (relaxed_link row link) t (All-tail (Contains links) link more c) (relaxed_link_sound links nodes root row link t (All-head (Contains links) link more c) h)
+    all_sound links nodes root more (relaxed_link row link) t (All-tail (Contains links) link more c)
+    (relaxed_link_sound links nodes root row link t (All-head (Contains links) link more c) h)
 
 -- A round keeps what is known of a row.
-pub relaxed_all_sound : (links : List Link) (nodes root : ℕ) (row : List ℕ) → IsTopology nodes links → IsSound links nodes root row → IsSound links nodes root (relaxed_all row links)
+pub relaxed_all_sound : (links : List Link) (nodes root : ℕ) (row : List ℕ) → IsTopology nodes links → IsSound links nodes root row
+    → IsSound links nodes root (relaxed_all row links)
 relaxed_all_sound links nodes root row t h = all_sound links nodes root links row t (All-contains_itself links) h
 
 -- ---- a round makes the row lower, unless each link is tight
@@ -191,7 +200,8 @@ abbrev tight_one : List ℕ → ℕ → ℕ → ℕ → Bool
 tight_one row from via cost = leb (get_or row from 0) (get_or row via 0 + cost)
 
 tight_same : (row : List ℕ) (from via cost : ℕ) → tight_one row from via cost ≡ true → relaxed row from via cost ≡ row
-tight_same row from via cost h = ap (λ (b : Bool). cond b (set row from (get_or row via 0 + cost)) row) (loose_not (get_or row from 0) (get_or row via 0 + cost) h)
+tight_same row from via cost h =
+    ap (λ (b : Bool). cond b (set row from (get_or row via 0 + cost)) row) (loose_not (get_or row from 0) (get_or row via 0 + cost) h)
   where
     loose_not : (x y : ℕ) → leb x y ≡ true → ltb y x ≡ false
     loose_not x y e = grind (arith, nat_tests)
@@ -199,7 +209,8 @@ tight_same row from via cost h = ap (λ (b : Bool). cond b (set row from (get_or
 loose_falls : (row : List ℕ) (from via cost : ℕ) → from < length row → tight_one row from via cost ≡ false → sum (relaxed row from via cost) < sum row
 loose_falls row from via cost within h =
     let less : get_or row via 0 + cost < get_or row from 0 = grind (arith, nat_tests) in
-    subst (λ (b : Bool). sum (cond b (set row from (get_or row via 0 + cost)) row) < sum row) (sym (is_less _ _ less)) (set_sum row from (get_or row via 0 + cost) within less)
+    subst (λ (b : Bool). sum (cond b (set row from (get_or row via 0 + cost)) row) < sum row) (sym (is_less _ _ less))
+    (set_sum row from (get_or row via 0 + cost) within less)
   where
     is_less : (x y : ℕ) → x < y → ltb x y ≡ true
     is_less x y e = grind (arith, nat_tests)
@@ -219,16 +230,20 @@ link_falls row link ends h = by_first (tight_one row link.a.0 link.b.0 link.cost
         omega arith
     by_first true e =
         let same = tight_same row link.a.0 link.b.0 link.cost e in
-        let loose : tight_one row link.b.0 link.a.0 link.cost ≡ false = sym (ap (λ (b : Bool). b && tight_one row link.b.0 link.a.0 link.cost) e) ∙ h in
-        subst (λ (r : List ℕ). sum (relaxed r link.b.0 link.a.0 link.cost) < sum row) (sym same) (loose_falls row link.b.0 link.a.0 link.cost ends.b loose)
+        let loose : tight_one row link.b.0 link.a.0 link.cost ≡ false =
+        sym (ap (λ (b : Bool). b && tight_one row link.b.0 link.a.0 link.cost) e) ∙ h in
+        subst (λ (r : List ℕ). sum (relaxed r link.b.0 link.a.0 link.cost) < sum row) (sym same)
+        (loose_falls row link.b.0 link.a.0 link.cost ends.b loose)
 
 link_same : (row : List ℕ) (link : Link) → is_tight row link ≡ true → relaxed_link row link ≡ row
 link_same row link h =
     let parts = and_parts (tight_one row link.a.0 link.b.0 link.cost) (tight_one row link.b.0 link.a.0 link.cost) h in
-    ap (λ (r : List ℕ). relaxed r link.b.0 link.a.0 link.cost) (tight_same row link.a.0 link.b.0 link.cost parts.0) ∙ tight_same row link.b.0 link.a.0 link.cost parts.1
+    ap (λ (r : List ℕ). relaxed r link.b.0 link.a.0 link.cost) (tight_same row link.a.0 link.b.0 link.cost parts.0)
+    ∙ tight_same row link.b.0 link.a.0 link.cost parts.1
 
 -- A round makes the sum of a row less, where some link is not tight.
-pub relaxed_all_falls : (some : List Link) (row : List ℕ) → All (HasEnds (length row)) some → list_all (is_tight row) some ≡ false → sum (relaxed_all row some) < sum row
+pub relaxed_all_falls : (some : List Link) (row : List ℕ) → All (HasEnds (length row)) some → list_all (is_tight row) some ≡ false
+    → sum (relaxed_all row some) < sum row
 relaxed_all_falls [] row h e = absurd cc
 relaxed_all_falls (link ∷ more) row h e = by_link (relaxed_all_falls more row (All-tail (HasEnds (length row)) link more h)) (is_tight row link) refl
   where
@@ -238,7 +253,8 @@ relaxed_all_falls (link ∷ more) row h e = by_link (relaxed_all_falls more row 
     tail : All (HasEnds (length row)) more
     tail = All-tail (HasEnds (length row)) link more h
 
-    by_link : (list_all (is_tight row) more ≡ false → sum (relaxed_all row more) < sum row) → (b : Bool) → is_tight row link ≡ b → sum (relaxed_all (relaxed_link row link) more) < sum row
+    by_link : (list_all (is_tight row) more ≡ false → sum (relaxed_all row more) < sum row) → (b : Bool) → is_tight row link ≡ b
+        → sum (relaxed_all (relaxed_link row link) more) < sum row
     by_link falls false t =
         let first = link_falls row link head t in
         let size = (relaxed_link_lower row link head).size in
@@ -257,16 +273,22 @@ whole items row len h k =
 ends_at : (links : List Link) (nodes : ℕ) (row : List ℕ) → IsTopology nodes links → length row ≡ nodes → All (HasEnds (length row)) links
 ends_at links nodes row t e = subst (λ (n : ℕ). All (HasEnds n) links) (sym e) t.ends
 
-rounded : (links : List Link) (nodes : ℕ) (items row : List ℕ) (len : ℕ) → IsTopology nodes links → length items ≡ nodes → row ≡ relaxed_all items links → len ≡ length items → take len (row ++ drop (length row) items) ≡ relaxed_all items links
+rounded : (links : List Link) (nodes : ℕ) (items row : List ℕ) (len : ℕ) → IsTopology nodes links → length items ≡ nodes
+    → row ≡ relaxed_all items links → len ≡ length items → take len (row ++ drop (length row) items) ≡ relaxed_all items links
 rounded links nodes items row len t size e k =
     whole items row len (ap (λ (r : List ℕ). length r) e ∙ length-relaxed_all links items (ends_at links nodes items t size)) k ∙ e
 
-pub round_sound : (links : List Link) (nodes root : ℕ) (items row : List ℕ) (len : ℕ) → IsTopology nodes links → IsSound links nodes root items → row ≡ relaxed_all items links → len ≡ length items → IsSound links nodes root (take len (row ++ drop (length row) items))
-round_sound links nodes root items row len t h e k = subst (IsSound links nodes root) (sym (rounded links nodes items row len t h.size e k)) (relaxed_all_sound links nodes root items t h)
+pub round_sound : (links : List Link) (nodes root : ℕ) (items row : List ℕ) (len : ℕ) → IsTopology nodes links → IsSound links nodes root items
+    → row ≡ relaxed_all items links → len ≡ length items → IsSound links nodes root (take len (row ++ drop (length row) items))
+round_sound links nodes root items row len t h e k =
+    subst (IsSound links nodes root) (sym (rounded links nodes items row len t h.size e k)) (relaxed_all_sound links nodes root items t h)
 
-pub round_falls : (links : List Link) (nodes root : ℕ) (items row : List ℕ) (len : ℕ) → IsTopology nodes links → IsSound links nodes root items → row ≡ relaxed_all items links → len ≡ length items → list_all (is_tight items) links ≡ false → sum (take len (row ++ drop (length row) items)) < sum items
+pub round_falls : (links : List Link) (nodes root : ℕ) (items row : List ℕ) (len : ℕ) → IsTopology nodes links → IsSound links nodes root items
+    → row ≡ relaxed_all items links → len ≡ length items → list_all (is_tight items) links ≡ false
+    → sum (take len (row ++ drop (length row) items)) < sum items
 round_falls links nodes root items row len t h e k loose =
-    subst (λ (r : List ℕ). sum r < sum items) (sym (rounded links nodes items row len t h.size e k)) (relaxed_all_falls links items (ends_at links nodes items t h.size) loose)
+    subst (λ (r : List ℕ). sum r < sum items) (sym (rounded links nodes items row len t h.size e k))
+    (relaxed_all_falls links items (ends_at links nodes items t h.size) loose)
 
 -- ---- a row whose links are all tight
 
@@ -276,8 +298,10 @@ IsTight links row = (from via cost : ℕ) → IsLinked links from via cost → g
 tight_linked : (links : List Link) (row : List ℕ) → list_all (is_tight row) links ≡ true → IsTight links row
 tight_linked links row h from via cost linked = by_ends linked.ends
   where
-    parts : (tight_one row linked.link.a.0 linked.link.b.0 linked.link.cost ≡ true) × (tight_one row linked.link.b.0 linked.link.a.0 linked.link.cost ≡ true)
-    parts = and_parts _ _ (All-contains (λ (l : Link). is_tight row l ≡ true) links linked.link (AllPass-from_list_all (is_tight row) links h) linked.listed)
+    parts : (tight_one row linked.link.a.0 linked.link.b.0 linked.link.cost ≡ true)
+        × (tight_one row linked.link.b.0 linked.link.a.0 linked.link.cost ≡ true)
+    parts = and_parts _ _ (All-contains (λ (l : Link). is_tight row l ≡ true) links linked.link (AllPass-from_list_all (is_tight row) links h)
+        linked.listed)
 
     under : (x y : ℕ) → leb x y ≡ true → x ≤ y
     under x y e = grind (arith, nat_tests)
@@ -287,7 +311,8 @@ tight_linked links row h from via cost linked = by_ends linked.ends
         subst (λ (x : ℕ). get_or row x 0 ≤ get_or row via 0 + cost) d
         (subst (λ (y : ℕ). get_or row p 0 ≤ get_or row y 0 + cost) e (subst (λ (z : ℕ). get_or row p 0 ≤ get_or row q 0 + z) f g))
 
-    by_ends : ((linked.link.a.0 ≡ from) × (linked.link.b.0 ≡ via)) ⊎ ((linked.link.a.0 ≡ via) × (linked.link.b.0 ≡ from)) → get_or row from 0 ≤ get_or row via 0 + cost
+    by_ends : ((linked.link.a.0 ≡ from) × (linked.link.b.0 ≡ via)) ⊎ ((linked.link.a.0 ≡ via) × (linked.link.b.0 ≡ from))
+        → get_or row from 0 ≤ get_or row via 0 + cost
     by_ends (inl e) = same _ _ _ e.0 e.1 linked.priced (under _ _ parts.0)
     by_ends (inr e) = same _ _ _ e.1 e.0 linked.priced (under _ _ parts.1)
 
@@ -296,29 +321,38 @@ record IsUnder (entry cost : ℕ) : Type 0 where
   near : entry < far
   below : entry ≤ cost
 
-under_by : (x y first rest cost : ℕ) (nodes known_of : ℕ) → x ≤ y + first → IsUnder y rest → y ≤ 65535 * known_of → known_of ≤ nodes → nodes ≤ 64 → first ≤ 65535 → cost ≡ first + rest → IsUnder x cost
+under_by : (x y first rest cost : ℕ) (nodes known_of : ℕ) → x ≤ y + first → IsUnder y rest → y ≤ 65535 * known_of → known_of ≤ nodes → nodes ≤ 64
+    → first ≤ 65535 → cost ≡ first + rest → IsUnder x cost
 under_by x y first rest cost nodes known_of h u near few nodes_few cheap e = let b = u.below in record { near = omega arith; below = omega arith }
 
-under_walk : (links : List Link) (nodes root : ℕ) (row : List ℕ) → IsTopology nodes links → IsSound links nodes root row → IsTight links row → (steps : List ℕ) (from cost : ℕ) → from < nodes → IsWalk links from steps root cost → IsUnder (get_or row from 0) cost
+under_walk : (links : List Link) (nodes root : ℕ) (row : List ℕ) → IsTopology nodes links → IsSound links nodes root row → IsTight links row
+    → (steps : List ℕ) (from cost : ℕ) → from < nodes → IsWalk links from steps root cost → IsUnder (get_or row from 0) cost
 under_walk links nodes root row t h tight [] from cost within walk =
     let here : get_or row from 0 ≡ 0 = subst (λ (k : ℕ). get_or row k 0 ≡ 0) (sym walk.0) h.here in
     record { near = omega arith; below = omega arith }
 under_walk links nodes root row t h tight (next ∷ behind) from cost within walk =
     let g = good nodes links from next walk.0 t walk.2 in
     let u = under_walk links nodes root row t h tight behind next walk.1 g.b_within walk.3 in
-    under_by (get_or row from 0) (get_or row next 0) walk.0 walk.1 cost nodes (reached row) (tight from next walk.0 walk.2) u (h.near next g.b_within u.near)
+    under_by (get_or row from 0) (get_or row next 0) walk.0 walk.1 cost nodes (reached row) (tight from next walk.0 walk.2) u
+    (h.near next g.b_within u.near)
     (let size = h.size in omega (arith, known-le_length row)) t.few_nodes g.cheap walk.4
   where
     known-le_length : (xs : List ℕ) → reached xs ≤ length xs
     known-le_length xs = count_by-le-length (λ (x : ℕ). ltb x far) xs
 
 -- A row whose links are all tight has the least costs.
-pub cost_row : (links : List Link) (nodes root : ℕ) (row : List ℕ) → IsTopology nodes links → IsSound links nodes root row → list_all (is_tight row) links ≡ true → IsCostRow links nodes root row
+pub cost_row : (links : List Link) (nodes root : ℕ) (row : List ℕ) → IsTopology nodes links → IsSound links nodes root row
+    → list_all (is_tight row) links ≡ true → IsCostRow links nodes root row
 cost_row links nodes root row t h e = record {
   size = h.size;
   top = h.top;
   least = λ k l f.
       let w = h.walks k l f in
-      record { steps = w.steps; walk = w.walk; least = λ steps other walk. (under_walk links nodes root row t h (tight_linked links row e) steps k other l walk).below };
+      record {
+        steps = w.steps;
+        walk = w.walk;
+        least =
+            λ steps other walk. (under_walk links nodes root row t h (tight_linked links row e) steps k other l walk).below;
+      };
   near = λ k l r. (under_walk links nodes root row t h (tight_linked links row e) r.steps k r.cost l r.walk).near;
 }

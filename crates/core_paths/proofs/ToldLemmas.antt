@@ -39,7 +39,8 @@ pub core_told : (nodes : ℕ) (links : List Link) (costs nexts : List ℕ) → I
 core_told nodes links costs nexts h = (
   told nodes costs nexts,
   record {
-    least = λ from to l m. subst (λ (t : Bool). IsLeast links from.0 to.0 (cond t (slice_index costs (to.0 * nodes + from.0)) 0)) (sym (both nodes from to l m)) (h.least.least from.0 to.0 l m);
+    least = λ from to l m. subst (λ (t : Bool). IsLeast links from.0 to.0 (cond t (slice_index costs (to.0 * nodes + from.0)) 0))
+        (sym (both nodes from to l m)) (h.least.least from.0 to.0 l m);
     itself = λ node. none_at (within nodes node node) (next_of nodes nexts node node)
         (ap (λ (b : Bool). cond b None (Some (record { 0 = slice_index nexts (node.0 * nodes + node.0) }))) (eq-eqb node.0 node.0 refl));
     first = λ from to l m ne.

@@ -89,7 +89,8 @@ magic_field = record { told = told; again = again }
   where
     told : (text : List ℕ) (x : ByteOrder) → IsOctets text → length text ≡ 4 → magic_of text ≡ Some x → IsMagic x text
     told text x fits len e =
-        elim (chosen (eqb (from_be_bytes w32 text) 0xA1B2C3D4) (Some BigEndian) (cond (eqb (from_be_bytes w32 text) 0xD4C3B2A1) (Some LittleEndian) None) (Some x) e) [
+        elim (chosen (eqb (from_be_bytes w32 text) 0xA1B2C3D4) (Some BigEndian)
+        (cond (eqb (from_be_bytes w32 text) 0xD4C3B2A1) (Some LittleEndian) None) (Some x) e) [
           | inl a ↦
               let number : text ≡ to_be_bytes w32 0xA1B2C3D4 = sym (wide32.back text len fits) ∙ ap (to_be_bytes w32) (eqb-true _ _ a.0) in
               subst (λ (o : ByteOrder). IsMagic o text) (some_is BigEndian x a.1) number
@@ -108,12 +109,14 @@ magic_reader = field_reader 4 magic_of IsMagic magic_field 0 faults.Magic
 
 word_field : (order : ByteOrder) → IsField 4 (λ field. Some (word_of order field)) (IsWord order)
 word_field order = record {
-  told = λ text x fits len e. subst (λ (n : ℕ). IsWord order n text) (some_is (word_of order text) x e) (word_below order text fits, word_back order text fits len);
+  told = λ text x fits len e. subst (λ (n : ℕ). IsWord order n text) (some_is (word_of order text) x e)
+      (word_below order text fits, word_back order text fits len);
   again = λ x text s. let r = word_read order x text s.0 s.1 in (r.0, ap (λ (n : ℕ). Some n) r.1);
 }
 
 pub word_reader : (order : ByteOrder) → IsReader (word_at order) (IsWord order) (Lacks 4)
-word_reader order = whole_reader 4 (λ field. Some (word_of order field)) (IsWord order) (word_field order) 0 faults.Short (λ text. (word_of order text, refl))
+word_reader order =
+    whole_reader 4 (λ field. Some (word_of order field)) (IsWord order) (word_field order) 0 faults.Short (λ text. (word_of order text, refl))
 
 same_told : (value n : ℕ) (x : ⊤) → same_as value n ≡ Some x → n ≡ value
 same_told value n x e = eqb-true _ _ (when_some (eqb n value) tt x e).0
@@ -121,23 +124,29 @@ same_told value n x e = eqb-true _ _ (when_some (eqb n value) tt x e).0
 same_again : (value n : ℕ) → n ≡ value → same_as value n ≡ Some tt
 same_again value n is = rw (eq-eqb n value is) refl
 
-known_word_field : (order : ByteOrder) (value : ℕ) → value < 2 ^ 32 → IsField 4 (λ field. same_as value (word_of order field)) (IsKnownWord order value)
+known_word_field : (order : ByteOrder) (value : ℕ) → value < 2 ^ 32
+    → IsField 4 (λ field. same_as value (word_of order field)) (IsKnownWord order value)
 known_word_field order value lt = record {
   told = λ text x fits len e. word_back order text fits len ∙ ap (word order) (same_told value (word_of order text) x e);
   again = λ x text s. let r = word_read order value text lt s in (r.0, same_again value (word_of order text) r.1);
 }
 
-pub known_word_reader : (order : ByteOrder) (value : ℕ) (own : PcapFault) → value < 2 ^ 32 → IsReader (known_word_at order value own) (IsKnownWord order value) (FieldFails 4 (IsKnownWord order value) 0 own)
-known_word_reader order value own lt = field_reader 4 (λ field. same_as value (word_of order field)) (IsKnownWord order value) (known_word_field order value lt) 0 own
+pub known_word_reader : (order : ByteOrder) (value : ℕ) (own : PcapFault) → value < 2 ^ 32
+    → IsReader (known_word_at order value own) (IsKnownWord order value) (FieldFails 4 (IsKnownWord order value) 0 own)
+known_word_reader order value own lt =
+    field_reader 4 (λ field. same_as value (word_of order field)) (IsKnownWord order value) (known_word_field order value lt) 0 own
 
-known_half_field : (order : ByteOrder) (value : ℕ) → value < 2 ^ 16 → IsField 2 (λ field. same_as value (half_of order field)) (IsKnownHalf order value)
+known_half_field : (order : ByteOrder) (value : ℕ) → value < 2 ^ 16
+    → IsField 2 (λ field. same_as value (half_of order field)) (IsKnownHalf order value)
 known_half_field order value lt = record {
   told = λ text x fits len e. half_back order text fits len ∙ ap (half order) (same_told value (half_of order text) x e);
   again = λ x text s. let r = half_read order value text lt s in (r.0, same_again value (half_of order text) r.1);
 }
 
-pub known_half_reader : (order : ByteOrder) (value before : ℕ) (own : PcapFault) → value < 2 ^ 16 → IsReader (known_half_at order value before own) (IsKnownHalf order value) (FieldFails 2 (IsKnownHalf order value) before own)
-known_half_reader order value before own lt = field_reader 2 (λ field. same_as value (half_of order field)) (IsKnownHalf order value) (known_half_field order value lt) before own
+pub known_half_reader : (order : ByteOrder) (value before : ℕ) (own : PcapFault) → value < 2 ^ 16
+    → IsReader (known_half_at order value before own) (IsKnownHalf order value) (FieldFails 2 (IsKnownHalf order value) before own)
+known_half_reader order value before own lt =
+    field_reader 2 (λ field. same_as value (half_of order field)) (IsKnownHalf order value) (known_half_field order value lt) before own
 
 -- ---- milliseconds
 
@@ -194,7 +203,8 @@ length_reader order = field_reader 4 (λ field. length_of (word_of order field))
 abbrev node_named : ℕ → NodeId
 node_named n = record { 0 = n }
 
-front_is : (a b c d : ℕ) → a < 256 → b < 256 → c < 256 → d < 256 → from_be_bytes w32 (a ∷ b ∷ c ∷ d ∷ []) ≡ 0x02000000 → (a ≡ 2) × (b ≡ 0) × (c ≡ 0) × (d ≡ 0)
+front_is : (a b c d : ℕ) → a < 256 → b < 256 → c < 256 → d < 256 → from_be_bytes w32 (a ∷ b ∷ c ∷ d ∷ []) ≡ 0x02000000
+    → (a ≡ 2) × (b ≡ 0) × (c ≡ 0) × (d ≡ 0)
 front_is a b c d p q r s e = (omega (arith, p, q, r, s, e), omega (arith, p, q, r, s, e), omega (arith, p, q, r, s, e), omega (arith, p, q, r, s, e))
 
 node_told : (text : List ℕ) (x : NodeId) → IsOctets text → length text ≡ 6 → node_of text ≡ Some x → IsNode x text
@@ -211,7 +221,8 @@ node_told (a ∷ b ∷ c ∷ d ∷ e ∷ f ∷ []) x fits len h =
     let front = front_is a b c d (fits 0) (fits 1) (fits 2) (fits 3) (eqb-true _ _ t.0) in
     let two : IsOctets (e ∷ f ∷ []) = octets_behind 4 (a ∷ b ∷ c ∷ d ∷ e ∷ f ∷ []) fits in
     let back : e ∷ f ∷ [] ≡ to_be_bytes w16 n = sym (wide16.back (e ∷ f ∷ []) refl two) in
-    let whole : a ∷ b ∷ c ∷ d ∷ e ∷ f ∷ [] ≡ node_octets (node_named n) = rw (front.0, front.1, front.2, front.3) (ap (λ (t : List ℕ). 2 ∷ 0 ∷ 0 ∷ 0 ∷ t) back) in
+    let whole : a ∷ b ∷ c ∷ d ∷ e ∷ f ∷ [] ≡ node_octets (node_named n) =
+    rw (front.0, front.1, front.2, front.3) (ap (λ (t : List ℕ). 2 ∷ 0 ∷ 0 ∷ 0 ∷ t) back) in
     subst (λ (node : NodeId). IsNode node (a ∷ b ∷ c ∷ d ∷ e ∷ f ∷ [])) t.1 (wide16.below (e ∷ f ∷ []) two, whole)
 
 node_again : (x : NodeId) (text : List ℕ) → IsNode x text → (length text ≡ 6) × (node_of text ≡ Some x)
@@ -240,12 +251,14 @@ shim_told n x lt e =
 abbrev pair_of : ℕ → ℕ → ℕ × ℕ
 pair_of a b = (a, b)
 
-shim_by : (p q r : Bool) (a b c d : ℕ) → p ≡ true → q ≡ true → r ≡ false → a ≡ c → b ≡ d → cond ((p && q) && not r) (Some (pair_of a b)) None ≡ Some (pair_of c d)
+shim_by : (p q r : Bool) (a b c d : ℕ) → p ≡ true → q ≡ true → r ≡ false → a ≡ c → b ≡ d
+    → cond ((p && q) && not r) (Some (pair_of a b)) None ≡ Some (pair_of c d)
 shim_by p q r a b c d h k l e f = rw (h, k, l, e, f) refl
 
 shim_again : (n label ttl : ℕ) → IsLabel label → IsTtl ttl → n ≡ shim label ttl → shim_of n ≡ Some (label, ttl)
 shim_again n label ttl l t is =
-    shim_by _ _ _ _ _ _ _ (eq-eqb (n / 256 % 16) 1 (omega (arith, is, t.1))) (le-leb 16 (n / 4096) (omega (arith, is, t.1, l.0))) (ne_eqb (n % 256) 0 (λ none. omega (arith, is, none, t.0, t.1)))
+    shim_by _ _ _ _ _ _ _ (eq-eqb (n / 256 % 16) 1 (omega (arith, is, t.1))) (le-leb 16 (n / 4096) (omega (arith, is, t.1, l.0)))
+    (ne_eqb (n % 256) 0 (λ none. omega (arith, is, none, t.0, t.1)))
     (omega (arith, is, t.1)) (omega (arith, is, t.1))
 
 shim_field : IsField 4 (λ field. shim_of (from_be_bytes w32 field)) IsShim

@@ -42,33 +42,40 @@ same_fault f g e = err_is {A = CoreHop × List ℕ} f g e
 
 -- ---- records end to end
 
-more_text : (order : ByteOrder) (hop : CoreHop) (hops : List CoreHop) (rest : List ℕ) → flat_map (hop_text order) (hop ∷ hops) ++ rest ≡ hop_text order hop ++ (flat_map (hop_text order) hops ++ rest)
-more_text order hop hops rest = ap (λ (t : List ℕ). t ++ rest) (flat_map-cons (hop_text order) hop hops) ∙ append_assoc (hop_text order hop) (flat_map (hop_text order) hops) rest
+more_text : (order : ByteOrder) (hop : CoreHop) (hops : List CoreHop) (rest : List ℕ)
+    → flat_map (hop_text order) (hop ∷ hops) ++ rest ≡ hop_text order hop ++ (flat_map (hop_text order) hops ++ rest)
+more_text order hop hops rest =
+    ap (λ (t : List ℕ). t ++ rest) (flat_map-cons (hop_text order) hop hops) ∙ append_assoc (hop_text order hop) (flat_map (hop_text order) hops) rest
 
 -- The first record is read.
-first_read : (order : ByteOrder) (hop : CoreHop) (hops : List CoreHop) (records rest : List ℕ) → All IsHop (hop ∷ hops) → records ≡ flat_map (hop_text order) (hop ∷ hops) ++ rest
+first_read : (order : ByteOrder) (hop : CoreHop) (hops : List CoreHop) (records rest : List ℕ) → All IsHop (hop ∷ hops)
+    → records ≡ flat_map (hop_text order) (hop ∷ hops) ++ rest
     → hop_at order records ≡ read_hop (hop, flat_map (hop_text order) hops ++ rest)
 first_read order hop hops records rest each parts =
     ap (hop_at order) (parts ∙ more_text order hop hops rest)
-    ∙ (hop_reader order).again hop (hop_text order hop) (flat_map (hop_text order) hops ++ rest) (record { is = All-head IsHop hop hops each; octets = refl })
+    ∙ (hop_reader order).again hop (hop_text order hop) (flat_map (hop_text order) hops ++ rest)
+    (record { is = All-head IsHop hop hops each; octets = refl })
 
 -- A record has octets.
 hop_long : (order : ByteOrder) (hop : CoreHop) → 0 < length (hop_text order hop)
 hop_long BigEndian hop = omega arith
 hop_long LittleEndian hop = omega arith
 
-shorter_by : (order : ByteOrder) (hop : CoreHop) (octets text rest : List ℕ) → SpellsHop order hop text → octets ≡ text ++ rest → length rest < length octets
+shorter_by : (order : ByteOrder) (hop : CoreHop) (octets text rest : List ℕ) → SpellsHop order hop text → octets ≡ text ++ rest
+    → length rest < length octets
 shorter_by order hop octets text rest s parts =
     omega (arith, hop_long order hop, ap (λ (t : List ℕ). length t) s.octets, ap (λ (t : List ℕ). length t) parts, length-append text rest)
 
 -- Fewer octets are left behind a record.
-pub shorter : (order : ByteOrder) (octets : List ℕ) (hop : CoreHop) (rest : List ℕ) → IsOctets octets → hop_at order octets ≡ read_hop (hop_read hop rest) → length rest < length octets
+pub shorter : (order : ByteOrder) (octets : List ℕ) (hop : CoreHop) (rest : List ℕ) → IsOctets octets
+    → hop_at order octets ≡ read_hop (hop_read hop rest) → length rest < length octets
 shorter order octets hop rest fits e =
     let t = (hop_reader order).taken octets (hop_read hop rest) fits e in
     shorter_by order hop octets t.0 rest t.1 t.2
 
 -- Where a record is read, reading does not stop.
-goes_on : (order : ByteOrder) (len : ℕ) (records : List ℕ) (hop : CoreHop) (rest : List ℕ) (fault : Option (ℕ × PcapFault)) → IsOctets records → hop_at order records ≡ read_hop (hop_read hop rest)
+goes_on : (order : ByteOrder) (len : ℕ) (records : List ℕ) (hop : CoreHop) (rest : List ℕ) (fault : Option (ℕ × PcapFault)) → IsOctets records
+    → hop_at order records ≡ read_hop (hop_read hop rest)
     → Stops order len records fault → ⊥
 goes_on order len records hop rest None fits e nothing = omega (arith, shorter order records hop rest fits e, ap (λ (t : List ℕ). length t) nothing)
 goes_on order len records hop rest (Some f) fits e stops =
@@ -77,7 +84,8 @@ goes_on order len records hop rest (Some f) fits e stops =
     absurd cc
 
 -- Reading stops in one way.
-stops_one : (order : ByteOrder) (len : ℕ) (rest : List ℕ) (fault other : Option (ℕ × PcapFault)) → IsOctets rest → Stops order len rest fault → Stops order len rest other → fault ≡ other
+stops_one : (order : ByteOrder) (len : ℕ) (rest : List ℕ) (fault other : Option (ℕ × PcapFault)) → IsOctets rest → Stops order len rest fault
+    → Stops order len rest other → fault ≡ other
 stops_one order len rest None None fits a b = refl
 stops_one order len rest None (Some g) fits a b = absurd (b.0 a)
 stops_one order len rest (Some f) None fits a b = absurd (a.0 b)
@@ -92,23 +100,32 @@ stops_one order len rest (Some f) (Some g) fits a b =
     some_fault p q x y e h = rw (e, h) refl
 
 -- Records are those of one list of hops.
-rows_one : (order : ByteOrder) (len : ℕ) (hops others : List CoreHop) (records rest behind : List ℕ) (fault other : Option (ℕ × PcapFault)) → IsOctets records
+rows_one : (order : ByteOrder) (len : ℕ) (hops others : List CoreHop) (records rest behind : List ℕ) (fault other : Option (ℕ × PcapFault))
+    → IsOctets records
     → All IsHop hops → records ≡ flat_map (hop_text order) hops ++ rest → Stops order len rest fault
     → All IsHop others → records ≡ flat_map (hop_text order) others ++ behind → Stops order len behind other
     → (hops ≡ others) × (fault ≡ other)
-rows_one order len [] [] records rest behind fault other fits each parts stops all whole ends =
-    (refl, stops_one order len records fault other fits (subst (λ (t : List ℕ). Stops order len t fault) (sym parts) stops) (subst (λ (t : List ℕ). Stops order len t other) (sym whole) ends))
+rows_one order len [] [] records rest behind fault other fits each parts stops all whole ends = (
+  refl,
+  stops_one order len records fault other fits (subst (λ (t : List ℕ). Stops order len t fault) (sym parts) stops)
+      (subst (λ (t : List ℕ). Stops order len t other) (sym whole) ends),
+)
 rows_one order len [] (y ∷ ys) records rest behind fault other fits each parts stops all whole ends =
-    absurd (goes_on order len records y (flat_map (hop_text order) ys ++ behind) fault fits (first_read order y ys records behind all whole) (subst (λ (t : List ℕ). Stops order len t fault) (sym parts) stops))
+    absurd (goes_on order len records y (flat_map (hop_text order) ys ++ behind) fault fits (first_read order y ys records behind all whole)
+    (subst (λ (t : List ℕ). Stops order len t fault) (sym parts) stops))
 rows_one order len (x ∷ xs) [] records rest behind fault other fits each parts stops all whole ends =
-    absurd (goes_on order len records x (flat_map (hop_text order) xs ++ rest) other fits (first_read order x xs records rest each parts) (subst (λ (t : List ℕ). Stops order len t other) (sym whole) ends))
+    absurd (goes_on order len records x (flat_map (hop_text order) xs ++ rest) other fits (first_read order x xs records rest each parts)
+    (subst (λ (t : List ℕ). Stops order len t other) (sym whole) ends))
 rows_one order len (x ∷ xs) (y ∷ ys) records rest behind fault other fits each parts stops all whole ends =
     let after = flat_map (hop_text order) xs ++ rest in
     let first = first_read order x xs records rest each parts in
     let second = first_read order y ys records behind all whole in
-    let same : hop_read x after ≡ hop_read y (flat_map (hop_text order) ys ++ behind) = same_hop (hop_read x after) (hop_read y (flat_map (hop_text order) ys ++ behind)) (sym first ∙ second) in
+    let same : hop_read x after ≡ hop_read y (flat_map (hop_text order) ys ++ behind) =
+    same_hop (hop_read x after) (hop_read y (flat_map (hop_text order) ys ++ behind)) (sym first ∙ second) in
     let left : IsOctets after = rest_octets records (hop_text order x) after fits (parts ∙ more_text order x xs rest) in
-    let more = rows_one order len xs ys after rest behind fault other left (All-tail IsHop x xs each) refl stops (All-tail IsHop y ys all) (ap (λ (p : CoreHop × List ℕ). p.1) same) ends in
+    let more =
+    rows_one order len xs ys after rest behind fault other left (All-tail IsHop x xs each) refl stops (All-tail IsHop y ys all)
+    (ap (λ (p : CoreHop × List ℕ). p.1) same) ends in
     (cons_is x y xs ys (ap (λ (p : CoreHop × List ℕ). p.0) same) more.0, more.1)
   where
     cons_is : (a b : CoreHop) (more others : List CoreHop) → a ≡ b → more ≡ others → a ∷ more ≡ b ∷ others
@@ -124,13 +141,17 @@ no_order left fault = Err (left, fault)
 
 -- what is read of a file
 data Parsed (hops : List CoreHop) (fault : Option (ℕ × PcapFault)) (octets : List ℕ) : Type 0 where
-  bad : (left : ℕ) (own : PcapFault) → header_at octets ≡ no_order left own → hops ≡ [] → fault ≡ Some (length octets - left, own) → Parsed hops fault octets
-  good : (order : ByteOrder) (records : List ℕ) → IsOctets records → header_at octets ≡ ordered_read order records → Rows order (length octets) records hops fault → Parsed hops fault octets
+  bad : (left : ℕ) (own : PcapFault) → header_at octets ≡ no_order left own → hops ≡ [] → fault ≡ Some (length octets - left, own)
+      → Parsed hops fault octets
+  good : (order : ByteOrder) (records : List ℕ) → IsOctets records → header_at octets ≡ ordered_read order records
+      → Rows order (length octets) records hops fault → Parsed hops fault octets
 
-header_read : (order : ByteOrder) (octets header records : List ℕ) → SpellsHeader order header → octets ≡ header ++ records → header_at octets ≡ ordered_read order records
+header_read : (order : ByteOrder) (octets header records : List ℕ) → SpellsHeader order header → octets ≡ header ++ records
+    → header_at octets ≡ ordered_read order records
 header_read order octets header records head parts = ap header_at parts ∙ header_reader.again order header records head
 
-parsed_faulty : (hops : List CoreHop) (f : ℕ × PcapFault) (octets : List ℕ) → IsOctets octets → FirstFault hops octets f.0 f.1 → Parsed hops (Some f) octets
+parsed_faulty : (hops : List CoreHop) (f : ℕ × PcapFault) (octets : List ℕ) → IsOctets octets → FirstFault hops octets f.0 f.1
+    → Parsed hops (Some f) octets
 parsed_faulty hops f octets fits (in_header left fails none at) =
     bad left f.1 (header_reader.faulty octets left f.1 fits fails) none (ap (λ (place : ℕ). Some (fault_of place f.1)) at)
 parsed_faulty hops f octets fits (in_record order header rest left head each parts some fails at) =
@@ -138,7 +159,8 @@ parsed_faulty hops f octets fits (in_record order header rest left head each par
     good order records (rest_octets octets header records fits parts) (header_read order octets header records head parts)
     (record { rest = rest; each = each; parts = refl; stops = (some, left, fails, at) })
 
-parsed : (hops : List CoreHop) (fault : Option (ℕ × PcapFault)) (octets : List ℕ) → IsOctets octets → Tells hops fault octets → Parsed hops fault octets
+parsed : (hops : List CoreHop) (fault : Option (ℕ × PcapFault)) (octets : List ℕ) → IsOctets octets → Tells hops fault octets
+    → Parsed hops fault octets
 parsed hops None octets fits s =
     let records = flat_map (hop_text s.order) hops in
     good s.order records (rest_octets octets s.header records fits s.parts) (header_read s.order octets s.header records s.head s.parts)
@@ -155,7 +177,8 @@ same_order o p r s e =
 same_stop : (a b : ℕ) (x y : PcapFault) → no_order a x ≡ no_order b y → fault_of a x ≡ fault_of b y
 same_stop a b x y e = err_is {A = ByteOrder × List ℕ} (fault_of a x) (fault_of b y) e
 
-parsed_one : (hops others : List CoreHop) (fault other : Option (ℕ × PcapFault)) (octets : List ℕ) → Parsed hops fault octets → Parsed others other octets → (hops ≡ others) × (fault ≡ other)
+parsed_one : (hops others : List CoreHop) (fault other : Option (ℕ × PcapFault)) (octets : List ℕ) → Parsed hops fault octets
+    → Parsed others other octets → (hops ≡ others) × (fault ≡ other)
 parsed_one hops others fault other octets (bad left own e none is) (bad right its h nothing said) =
     let same = same_stop left right own its (sym e ∙ h) in
     (none ∙ sym nothing, is ∙ ap (λ (f : ℕ × PcapFault). Some (fault_of (length octets - f.0) f.1)) same ∙ sym said)
@@ -165,23 +188,31 @@ parsed_one hops others fault other octets (good order records fits e rows) (bad 
     (let both : ordered_read order records ≡ no_order right its = sym e ∙ h in absurd cc)
 parsed_one hops others fault other octets (good order records fits e rows) (good its same_records more h own) =
     let same = same_order order its records same_records (sym e ∙ h) in
-    let moved : Rows order (length octets) records others other = subst (λ (o : ByteOrder). Rows o (length octets) records others other) (sym same.0) (subst (λ (r : List ℕ). Rows its (length octets) r others other) (sym same.1) own) in
-    rows_one order (length octets) hops others records rows.rest moved.rest fault other fits rows.each rows.parts rows.stops moved.each moved.parts moved.stops
+    let moved : Rows order (length octets) records others other =
+    subst (λ (o : ByteOrder). Rows o (length octets) records others other) (sym same.0)
+    (subst (λ (r : List ℕ). Rows its (length octets) r others other) (sym same.1) own) in
+    rows_one order (length octets) hops others records rows.rest moved.rest fault other fits rows.each rows.parts rows.stops moved.each moved.parts
+    moved.stops
 
 -- What a file tells is one.
-pub tells_one : (hops others : List CoreHop) (fault other : Option (ℕ × PcapFault)) (octets : List ℕ) → IsOctets octets → Tells hops fault octets → Tells others other octets → (hops ≡ others) × (fault ≡ other)
-tells_one hops others fault other octets fits a b = parsed_one hops others fault other octets (parsed hops fault octets fits a) (parsed others other octets fits b)
+pub tells_one : (hops others : List CoreHop) (fault other : Option (ℕ × PcapFault)) (octets : List ℕ) → IsOctets octets → Tells hops fault octets
+    → Tells others other octets → (hops ≡ others) × (fault ≡ other)
+tells_one hops others fault other octets fits a b =
+    parsed_one hops others fault other octets (parsed hops fault octets fits a) (parsed others other octets fits b)
 
 -- ---- what reading answers
 
-pub tells_header : (octets : List ℕ) (left : ℕ) (own : PcapFault) → IsOctets octets → header_at octets ≡ no_order left own → FirstFault [] octets (length octets - left) own
+pub tells_header : (octets : List ℕ) (left : ℕ) (own : PcapFault) → IsOctets octets → header_at octets ≡ no_order left own
+    → FirstFault [] octets (length octets - left) own
 tells_header octets left own fits e = in_header left (header_reader.fails octets left own fits e) refl refl
 
-pub tells_rows : (hops : List CoreHop) (fault : Option (ℕ × PcapFault)) (octets : List ℕ) (order : ByteOrder) (records : List ℕ) → IsOctets octets → header_at octets ≡ ordered_read order records
+pub tells_rows : (hops : List CoreHop) (fault : Option (ℕ × PcapFault)) (octets : List ℕ) (order : ByteOrder) (records : List ℕ) → IsOctets octets
+    → header_at octets ≡ ordered_read order records
     → Rows order (length octets) records hops fault → Tells hops fault octets
 tells_rows hops None octets order records fits e rows =
     let t = header_reader.taken octets (order, records) fits e in
-    let whole : records ≡ flat_map (hop_text order) hops = rows.parts ∙ ap (λ (r : List ℕ). flat_map (hop_text order) hops ++ r) rows.stops ∙ append-nil (flat_map (hop_text order) hops) in
+    let whole : records ≡ flat_map (hop_text order) hops =
+    rows.parts ∙ ap (λ (r : List ℕ). flat_map (hop_text order) hops ++ r) rows.stops ∙ append-nil (flat_map (hop_text order) hops) in
     record { order = order; header = t.0; head = t.1; each = rows.each; parts = t.2 ∙ ap (λ (r : List ℕ). t.0 ++ r) whole }
 tells_rows hops (Some f) octets order records fits e rows =
     let t = header_reader.taken octets (order, records) fits e in
@@ -200,28 +231,34 @@ pub record Done (order : ByteOrder) (records : List ℕ) (hops : List CoreHop) (
 pub done_none : (order : ByteOrder) (records : List ℕ) → Done order records [] records
 done_none order records = record { each = All-nil IsHop; parts = refl }
 
-pub done_octets : (order : ByteOrder) (records : List ℕ) (hops : List CoreHop) (rest : List ℕ) → IsOctets records → Done order records hops rest → IsOctets rest
+pub done_octets : (order : ByteOrder) (records : List ℕ) (hops : List CoreHop) (rest : List ℕ) → IsOctets records → Done order records hops rest
+    → IsOctets rest
 done_octets order records hops rest fits d = rest_octets records (flat_map (hop_text order) hops) rest fits d.parts
 
-done_by : (order : ByteOrder) (records : List ℕ) (hops : List CoreHop) (hop : CoreHop) (rest text behind : List ℕ) → Done order records hops rest → SpellsHop order hop text → rest ≡ text ++ behind → Done order records (hops ++ hop ∷ []) behind
+done_by : (order : ByteOrder) (records : List ℕ) (hops : List CoreHop) (hop : CoreHop) (rest text behind : List ℕ) → Done order records hops rest
+    → SpellsHop order hop text → rest ≡ text ++ behind → Done order records (hops ++ hop ∷ []) behind
 done_by order records hops hop rest text behind d s parts =
     let before = flat_map (hop_text order) hops in
     let whole : rest ≡ hop_text order hop ++ behind = parts ∙ ap (λ (t : List ℕ). t ++ behind) s.octets in
     record {
       each = All-push IsHop hops hop d.each s.is;
-      parts = d.parts ∙ ap (λ (t : List ℕ). before ++ t) whole ∙ sym (append_assoc before (hop_text order hop) behind) ∙ ap (λ (t : List ℕ). t ++ behind) (flat_map_more (hop_text order) [] hops hop);
+      parts = d.parts ∙ ap (λ (t : List ℕ). before ++ t) whole ∙ sym (append_assoc before (hop_text order hop) behind)
+          ∙ ap (λ (t : List ℕ). t ++ behind) (flat_map_more (hop_text order) [] hops hop);
     }
 
-pub done_more : (order : ByteOrder) (records : List ℕ) (hops : List CoreHop) (hop : CoreHop) (rest behind : List ℕ) → IsOctets records → Done order records hops rest → hop_at order rest ≡ read_hop (hop_read hop behind)
+pub done_more : (order : ByteOrder) (records : List ℕ) (hops : List CoreHop) (hop : CoreHop) (rest behind : List ℕ) → IsOctets records
+    → Done order records hops rest → hop_at order rest ≡ read_hop (hop_read hop behind)
     → Done order records (hops ++ hop ∷ []) behind
 done_more order records hops hop rest behind fits d e =
     let t = (hop_reader order).taken rest (hop_read hop behind) (done_octets order records hops rest fits d) e in
     done_by order records hops hop rest t.0 behind d t.1 t.2
 
-pub done_all : (order : ByteOrder) (len : ℕ) (records : List ℕ) (hops : List CoreHop) (rest : List ℕ) → Done order records hops rest → rest ≡ [] → Rows order len records hops None
+pub done_all : (order : ByteOrder) (len : ℕ) (records : List ℕ) (hops : List CoreHop) (rest : List ℕ) → Done order records hops rest → rest ≡ []
+    → Rows order len records hops None
 done_all order len records hops rest d nothing = record { rest = rest; each = d.each; parts = d.parts; stops = nothing }
 
-pub done_stop : (order : ByteOrder) (len : ℕ) (records : List ℕ) (hops : List CoreHop) (rest : List ℕ) (left : ℕ) (fault : PcapFault) → IsOctets records → Done order records hops rest → rest ≢ []
+pub done_stop : (order : ByteOrder) (len : ℕ) (records : List ℕ) (hops : List CoreHop) (rest : List ℕ) (left : ℕ) (fault : PcapFault)
+    → IsOctets records → Done order records hops rest → rest ≢ []
     → hop_at order rest ≡ no_hop (fault_of left fault) → Rows order len records hops (Some (len - left, fault))
 done_stop order len records hops rest left fault fits d some e =
     let fails = (hop_reader order).fails rest left fault (done_octets order records hops rest fits d) e in
@@ -239,7 +276,8 @@ written_spells hops each = record {
 }
 
 -- One hop more.
-pub written_more : (hops : List CoreHop) (i : ℕ) (hop : CoreHop) (out new : List ℕ) → i < length hops → hop ≡ get_or hops i hop → out ≡ written_header ++ flat_map (hop_text BigEndian) (take i hops)
+pub written_more : (hops : List CoreHop) (i : ℕ) (hop : CoreHop) (out new : List ℕ) → i < length hops → hop ≡ get_or hops i hop
+    → out ≡ written_header ++ flat_map (hop_text BigEndian) (take i hops)
     → new ≡ out ++ hop_text BigEndian hop → new ≡ written_header ++ flat_map (hop_text BigEndian) (take (i + 1) hops)
 written_more hops i hop out new lt is so_far h =
     let one : take (i + 1) hops ≡ take i hops ++ hop ∷ [] = take_more hops i hop lt ∙ ap (λ (x : CoreHop). take i hops ++ x ∷ []) (sym is) in
@@ -248,11 +286,13 @@ written_more hops i hop out new lt is so_far h =
 
 -- ---- the answer of a call that may want memory
 
-pub told_rows : (r : Result PcapRead NoMemory) (octets : List ℕ) (order : ByteOrder) (records : List ℕ) → IsOctets octets → header_at octets ≡ ordered_read order records
+pub told_rows : (r : Result PcapRead NoMemory) (octets : List ℕ) (order : ByteOrder) (records : List ℕ) → IsOctets octets
+    → header_at octets ≡ ordered_read order records
     → IfOk r (λ file. ReadsRows order (length octets) records file) → IfOk r (λ file. Tells file.hops file.fault octets)
 told_rows (Ok file) octets order records fits e rows = tells_rows file.hops file.fault octets order records fits e rows
 told_rows (Err want) octets order records fits e rows = tt
 
-pub only_told : (r : Result PcapRead NoMemory) (octets : List ℕ) → IsOctets octets → IfOk r (λ file. Tells file.hops file.fault octets) → (hops : List CoreHop) (fault : Option (ℕ × PcapFault)) → Tells hops fault octets → IsOnly r hops fault
+pub only_told : (r : Result PcapRead NoMemory) (octets : List ℕ) → IsOctets octets → IfOk r (λ file. Tells file.hops file.fault octets)
+    → (hops : List CoreHop) (fault : Option (ℕ × PcapFault)) → Tells hops fault octets → IsOnly r hops fault
 only_told (Ok file) octets fits told hops fault t = tells_one file.hops hops file.fault fault octets fits told t
 only_told (Err want) octets fits told hops fault t = tt

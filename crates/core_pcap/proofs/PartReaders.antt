@@ -41,7 +41,9 @@ version_reader : (order : ByteOrder) → IsReader (version_at order) (IsVersion 
 version_reader order =
     said_reader (version_at order) (VersionText order) (IsVersion order) (VersionFails order) (version_there order) (version_back order)
     (same_reader (version_fields order) (version_at order) _ _ (version_same order)
-    (then_reader (known_half_at order 2 0 faults.Version) (IsKnownHalf order 2) (FieldFails 2 (IsKnownHalf order 2) 0 faults.Version) (λ major. known_half_at order 4 2 faults.Version) (λ major. IsKnownHalf order 4) (λ major. FieldFails 2 (IsKnownHalf order 4) 2 faults.Version)
+    (then_reader (known_half_at order 2 0 faults.Version) (IsKnownHalf order 2) (FieldFails 2 (IsKnownHalf order 2) 0 faults.Version)
+    (λ major. known_half_at order 4 2 faults.Version) (λ major. IsKnownHalf order 4)
+    (λ major. FieldFails 2 (IsKnownHalf order 4) 2 faults.Version)
     (known_half_reader order 2 0 faults.Version (omega arith)) (λ major front s. known_half_reader order 4 2 faults.Version (omega arith))))
 
 -- ---- what may be anything
@@ -99,8 +101,10 @@ passed_reader : IsReader passed_at IsPassed PassedFails
 passed_reader =
     said_reader passed_at PassedText IsPassed PassedFails passed_there passed_back
     (same_reader (then_at (octets_at 4) (λ zone. last_two)) passed_at _ _ passed_same
-    (then_reader (octets_at 4) (AreOctets 4) (Lacks 4) (λ zone. last_two) (λ zone. Both (AreOctets 4) (λ accuracy. LastText)) (λ zone. Then (AreOctets 4) (Lacks 4) (λ accuracy. Lacks 4)) (octets_reader 4) (λ zone front s.
-    then_reader (octets_at 4) (AreOctets 4) (Lacks 4) (λ accuracy. made_at (octets_at 4) no_value) (λ accuracy. LastText) (λ accuracy. Lacks 4) (octets_reader 4) (λ accuracy front s.
+    (then_reader (octets_at 4) (AreOctets 4) (Lacks 4) (λ zone. last_two) (λ zone. Both (AreOctets 4) (λ accuracy. LastText))
+    (λ zone. Then (AreOctets 4) (Lacks 4) (λ accuracy. Lacks 4)) (octets_reader 4) (λ zone front s.
+    then_reader (octets_at 4) (AreOctets 4) (Lacks 4) (λ accuracy. made_at (octets_at 4) no_value) (λ accuracy. LastText) (λ accuracy. Lacks 4)
+    (octets_reader 4) (λ accuracy front s.
     made_reader (octets_at 4) (AreOctets 4) (Lacks 4) no_value (octets_reader 4)))))
 
 -- ---- the header
@@ -139,18 +143,35 @@ header_there order text b =
 
 header_back : (order : ByteOrder) (text : List ℕ) → SpellsHeader order text → HeaderText order text
 header_back order text s =
-    let network : Both IsPassed (λ passed. NetworkText order) order (s.passed ++ word order 1) = record { x = tt; front = s.passed; back = word order 1; first = s.len; second = record { x = tt; is = refl; spells = refl }; parts = refl } in
-    let version : Both (IsVersion order) (λ version. Both IsPassed (λ passed. NetworkText order)) order ((half order 2 ++ half order 4) ++ (s.passed ++ word order 1)) = record { x = tt; front = half order 2 ++ half order 4; back = s.passed ++ word order 1; first = refl; second = network; parts = refl } in
-    record { x = order; front = word order magic; back = (half order 2 ++ half order 4) ++ (s.passed ++ word order 1); first = refl; second = version; parts = s.octets }
+    let network : Both IsPassed (λ passed. NetworkText order) order (s.passed ++ word order 1) =
+    record { x = tt; front = s.passed; back = word order 1; first = s.len; second = record { x = tt; is = refl; spells = refl }; parts = refl } in
+    let version : Both (IsVersion order) (λ version. Both IsPassed (λ passed. NetworkText order)) order
+    ((half order 2 ++ half order 4) ++ (s.passed ++ word order 1)) =
+    record { x = tt; front = half order 2 ++ half order 4; back = s.passed ++ word order 1; first = refl; second = network; parts = refl } in
+    record {
+      x = order;
+      front = word order magic;
+      back = (half order 2 ++ half order 4) ++ (s.passed ++ word order 1);
+      first = refl;
+      second =
+          version;
+      parts = s.octets;
+    }
 
 pub header_reader : IsReader header_at SpellsHeader HeaderFails
 header_reader =
     said_reader header_at HeaderText SpellsHeader HeaderFails header_there header_back
     (same_reader (then_at magic_at behind_magic) header_at _ _ header_same
-    (then_reader magic_at IsMagic MagicFails behind_magic (λ order. Both (IsVersion order) (λ version. Both IsPassed (λ passed. NetworkText order))) (λ order. Then (IsVersion order) (VersionFails order) (λ version. Then IsPassed PassedFails (λ passed. NetworkFails order))) magic_reader (λ order front s.
-    then_reader (version_at order) (IsVersion order) (VersionFails order) (λ version. behind_version order) (λ version. Both IsPassed (λ passed. NetworkText order)) (λ version. Then IsPassed PassedFails (λ passed. NetworkFails order)) (version_reader order) (λ version front s.
-    then_reader passed_at IsPassed PassedFails (λ passed. network_at order) (λ passed. NetworkText order) (λ passed. NetworkFails order) passed_reader (λ passed front s.
-    made_reader (known_word_at order 1 faults.Network) (IsKnownWord order 1) (NetworkFails order) (ordered order) (known_word_reader order 1 faults.Network (omega arith)))))))
+    (then_reader magic_at IsMagic MagicFails behind_magic (λ order. Both (IsVersion order) (λ version. Both IsPassed (λ passed. NetworkText order)))
+    (λ order. Then (IsVersion order) (VersionFails order) (λ version. Then IsPassed PassedFails (λ passed. NetworkFails order))) magic_reader
+    (λ order front s.
+    then_reader (version_at order) (IsVersion order) (VersionFails order) (λ version. behind_version order)
+    (λ version. Both IsPassed (λ passed. NetworkText order)) (λ version. Then IsPassed PassedFails (λ passed. NetworkFails order))
+    (version_reader order) (λ version front s.
+    then_reader passed_at IsPassed PassedFails (λ passed. network_at order) (λ passed. NetworkText order) (λ passed. NetworkFails order) passed_reader
+    (λ passed front s.
+    made_reader (known_word_at order 1 faults.Network) (IsKnownWord order 1) (NetworkFails order) (ordered order)
+    (known_word_reader order 1 faults.Network (omega arith)))))))
 
 -- ---- the time of a hop
 
@@ -171,8 +192,11 @@ time_there : (order : ByteOrder) (tick : ℕ) (text : List ℕ) → TimeText ord
 time_there order tick text b =
     let m = b.second in
     let seconds : b.x ≡ tick / 1000 = omega (arith, m.is, m.spells.0) in
-    let millis : m.x ≡ tick % 1000 = omega (arith, m.is, m.spells.0) in
-    (omega (arith, seconds, b.first.0), joined text b.front b.back _ _ b.parts (b.first.1 ∙ ap (word order) seconds) (m.spells.1 ∙ ap (λ (n : ℕ). word order (n * 1000)) millis))
+    let millis : m.x ≡ tick % 1000 = omega (arith, m.is, m.spells.0) in (
+      omega (arith, seconds, b.first.0),
+      joined text b.front b.back _ _ b.parts (b.first.1 ∙ ap (word order) seconds)
+          (m.spells.1 ∙ ap (λ (n : ℕ). word order (n * 1000)) millis),
+    )
 
 time_back : (order : ByteOrder) (tick : ℕ) (text : List ℕ) → IsTime order tick text → TimeText order tick text
 time_back order tick text s = record {
@@ -188,8 +212,10 @@ time_reader : (order : ByteOrder) → IsReader (time_at order) (IsTime order) (T
 time_reader order =
     said_reader (time_at order) (TimeText order) (IsTime order) (TimeFails order) (time_there order) (time_back order)
     (same_reader (time_fields order) (time_at order) _ _ (time_same order)
-    (then_reader (word_at order) (IsWord order) (Lacks 4) (λ seconds. made_at (millis_at order) (tick_of seconds)) (λ seconds. Made (tick_of seconds) (IsMillis order)) (λ seconds. FieldFails 4 (IsMillis order) 0 faults.Time) (word_reader order)
-    (λ seconds front s. made_reader (millis_at order) (IsMillis order) (FieldFails 4 (IsMillis order) 0 faults.Time) (tick_of seconds) (millis_reader order))))
+    (then_reader (word_at order) (IsWord order) (Lacks 4) (λ seconds. made_at (millis_at order) (tick_of seconds))
+    (λ seconds. Made (tick_of seconds) (IsMillis order)) (λ seconds. FieldFails 4 (IsMillis order) 0 faults.Time) (word_reader order)
+    (λ seconds front s. made_reader (millis_at order) (IsMillis order) (FieldFails 4 (IsMillis order) 0 faults.Time) (tick_of seconds)
+    (millis_reader order))))
 
 -- ---- the lengths of its frame
 
@@ -225,8 +251,12 @@ lengths_reader : (order : ByteOrder) → IsReader (lengths_at order) (AreLengths
 lengths_reader order =
     said_reader (lengths_at order) (LengthsText order) (AreLengths order) (LengthsFail order) (lengths_there order) (lengths_back order)
     (same_reader (lengths_fields order) (lengths_at order) _ _ (lengths_same order)
-    (then_reader (length_at order) (IsLength order) (FieldFails 4 (IsLength order) 0 faults.Length) (λ len. made_at (known_word_at order (18 + len) faults.Length) (sized len)) (λ len. Made (sized len) (IsKnownWord order (18 + len))) (λ len. FieldFails 4 (IsKnownWord order (18 + len)) 0 faults.Length) (length_reader order)
-    (λ len front s. made_reader (known_word_at order (18 + len) faults.Length) (IsKnownWord order (18 + len)) (FieldFails 4 (IsKnownWord order (18 + len)) 0 faults.Length) (sized len) (known_word_reader order (18 + len) faults.Length (omega (arith, s.0))))))
+    (then_reader (length_at order) (IsLength order) (FieldFails 4 (IsLength order) 0 faults.Length)
+    (λ len. made_at (known_word_at order (18 + len) faults.Length) (sized len)) (λ len. Made (sized len) (IsKnownWord order (18 + len)))
+    (λ len. FieldFails 4 (IsKnownWord order (18 + len)) 0 faults.Length) (length_reader order)
+    (λ len front s. made_reader (known_word_at order (18 + len) faults.Length) (IsKnownWord order (18 + len))
+    (FieldFails 4 (IsKnownWord order (18 + len)) 0 faults.Length) (sized len)
+    (known_word_reader order (18 + len) faults.Length (omega (arith, s.0))))))
 
 -- ---- its ends
 
@@ -262,7 +292,8 @@ ends_reader : IsReader ends_at AreEnds EndsFail
 ends_reader =
     said_reader ends_at EndsText AreEnds EndsFail ends_there ends_back
     (same_reader ends_fields ends_at _ _ ends_same
-    (then_reader node_at IsNode (FieldFails 6 IsNode 0 faults.Address) (λ to. made_at node_at (ends_of to)) (λ to. Made (ends_of to) IsNode) (λ to. FieldFails 6 IsNode 0 faults.Address) node_reader
+    (then_reader node_at IsNode (FieldFails 6 IsNode 0 faults.Address) (λ to. made_at node_at (ends_of to)) (λ to. Made (ends_of to) IsNode)
+    (λ to. FieldFails 6 IsNode 0 faults.Address) node_reader
     (λ to front s. made_reader node_at IsNode (FieldFails 6 IsNode 0 faults.Address) (ends_of to) node_reader)))
 
 -- ---- its label
@@ -287,7 +318,9 @@ label_reader : IsReader label_at IsLabelled LabelFails
 label_reader =
     said_reader label_at LabelText IsLabelled LabelFails label_there label_back
     (same_reader label_fields label_at _ _ label_same
-    (then_reader (known_half_at BigEndian 0x8847 0 faults.EtherType) (IsKnownHalf BigEndian 0x8847) (FieldFails 2 (IsKnownHalf BigEndian 0x8847) 0 faults.EtherType) (λ mpls. shim_at) (λ mpls. IsShim) (λ mpls. FieldFails 4 IsShim 0 faults.Shim)
+    (then_reader (known_half_at BigEndian 0x8847 0 faults.EtherType) (IsKnownHalf BigEndian 0x8847)
+    (FieldFails 2 (IsKnownHalf BigEndian 0x8847) 0 faults.EtherType) (λ mpls. shim_at) (λ mpls. IsShim)
+    (λ mpls. FieldFails 4 IsShim 0 faults.Shim)
     (known_half_reader BigEndian 0x8847 0 faults.EtherType (omega arith)) (λ mpls front s. shim_reader)))
 
 -- ---- a record
@@ -336,10 +369,12 @@ hop_there order hop text b =
     let len : c.x ≡ length m.x = sym m.spells.0 in
     let label = joined d.back e.front e.back _ m.x e.parts e.first.2 m.spells.1 in
     let frame = joined c.back d.front d.back _ _ d.parts d.first.2 label in
-    let sizes : c.front ≡ word order (18 + length m.x) ++ word order (18 + length m.x) = c.first.1 ∙ ap (λ (n : ℕ). word order (18 + n) ++ word order (18 + n)) len in
+    let sizes : c.front ≡ word order (18 + length m.x) ++ word order (18 + length m.x) =
+    c.first.1 ∙ ap (λ (n : ℕ). word order (18 + n) ++ word order (18 + n)) len in
     let behind = joined b.back c.front c.back _ _ c.parts sizes frame in
     let whole = joined text b.front b.back _ _ b.parts b.first.1 behind in
-    let is : IsHop made = record { tick = b.first.0; from = d.first.1; to = d.first.0; label = e.first.0; ttl = e.first.1; few = omega (arith, len, c.first.0) } in
+    let is : IsHop made =
+    record { tick = b.first.0; from = d.first.1; to = d.first.0; label = e.first.0; ttl = e.first.1; few = omega (arith, len, c.first.0) } in
     subst (λ (h : CoreHop). SpellsHop order h text) (sym m.is) (record { is = is; octets = whole })
 
 hop_back : (order : ByteOrder) (hop : CoreHop) (text : List ℕ) → SpellsHop order hop text → HopText order hop text
@@ -372,14 +407,26 @@ hop_back order hop text s =
       second = framed;
       parts = refl;
     } in
-    record { x = hop.tick; front = time_text order hop.tick; back = sizes ++ frame_text hop; first = (s.is.tick, refl); second = sizes_before; parts = s.octets }
+    record {
+      x = hop.tick;
+      front = time_text order hop.tick;
+      back = sizes ++ frame_text hop;
+      first = (s.is.tick, refl);
+      second = sizes_before;
+      parts =
+          s.octets;
+    }
 
 pub hop_reader : (order : ByteOrder) → IsReader (hop_at order) (SpellsHop order) (HopFails order)
 hop_reader order =
     said_reader (hop_at order) (HopText order) (SpellsHop order) (HopFails order) (hop_there order) (hop_back order)
     (same_reader (then_at (time_at order) (behind_time order)) (hop_at order) _ _ (hop_same order)
-    (then_reader (time_at order) (IsTime order) (TimeFails order) (behind_time order) (BehindTime order) (λ tick. Then (AreLengths order) (LengthsFail order) (λ len. Then AreEnds EndsFail (λ ends. Then IsLabelled LabelFails (λ label. Lacks len)))) (time_reader order) (λ tick front s.
-    then_reader (lengths_at order) (AreLengths order) (LengthsFail order) (behind_lengths tick) (BehindLengths tick) (λ len. Then AreEnds EndsFail (λ ends. Then IsLabelled LabelFails (λ label. Lacks len))) (lengths_reader order) (λ len front s.
-    then_reader ends_at AreEnds EndsFail (behind_ends tick len) (BehindEnds tick len) (λ ends. Then IsLabelled LabelFails (λ label. Lacks len)) ends_reader (λ ends front s.
+    (then_reader (time_at order) (IsTime order) (TimeFails order) (behind_time order) (BehindTime order)
+    (λ tick. Then (AreLengths order) (LengthsFail order) (λ len. Then AreEnds EndsFail (λ ends. Then IsLabelled LabelFails (λ label. Lacks len))))
+    (time_reader order) (λ tick front s.
+    then_reader (lengths_at order) (AreLengths order) (LengthsFail order) (behind_lengths tick) (BehindLengths tick)
+    (λ len. Then AreEnds EndsFail (λ ends. Then IsLabelled LabelFails (λ label. Lacks len))) (lengths_reader order) (λ len front s.
+    then_reader ends_at AreEnds EndsFail (behind_ends tick len) (BehindEnds tick len) (λ ends. Then IsLabelled LabelFails (λ label. Lacks len))
+    ends_reader (λ ends front s.
     then_reader label_at IsLabelled LabelFails (data_at tick len ends) (DataText tick len ends) (λ label. Lacks len) label_reader (λ label front s.
     made_reader (octets_at len) (AreOctets len) (Lacks len) (hop_of tick ends label) (octets_reader len)))))))

@@ -20,17 +20,20 @@ pub record IsReader {A : Type 0} (read : List ℕ → Read A) (Spells : A → Li
 
 -- What stands behind a text is octets, and so is what stands in front.
 pub rest_octets : (octets text rest : List ℕ) → IsOctets octets → octets ≡ text ++ rest → IsOctets rest
-rest_octets octets text rest fits parts = subst IsOctets (drop_at text rest (length text) refl) (octets_behind (length text) (text ++ rest) (subst IsOctets parts fits))
+rest_octets octets text rest fits parts =
+    subst IsOctets (drop_at text rest (length text) refl) (octets_behind (length text) (text ++ rest) (subst IsOctets parts fits))
 
 pub front_octets : (octets text rest : List ℕ) → IsOctets octets → octets ≡ text ++ rest → IsOctets text
-front_octets octets text rest fits parts = subst IsOctets (take_at text rest (length text) refl) (octets_before (length text) (text ++ rest) (subst IsOctets parts fits))
+front_octets octets text rest fits parts =
+    subst IsOctets (take_at text rest (length text) refl) (octets_before (length text) (text ++ rest) (subst IsOctets parts fits))
 
 -- Two texts at the front are one.
 two_fronts : (octets front after back rest : List ℕ) → octets ≡ front ++ after → after ≡ back ++ rest → octets ≡ (front ++ back) ++ rest
 two_fronts octets front after back rest first second = first ∙ ap (λ (xs : List ℕ). front ++ xs) second ∙ sym (append_assoc front back rest)
 
 -- The same reader, written otherwise.
-pub same_reader : {A : Type 0} (r s : List ℕ → Read A) (S : A → List ℕ → Type 0) (F : List ℕ → ℕ → PcapFault → Type 0) → ((octets : List ℕ) → s octets ≡ r octets) → IsReader r S F → IsReader s S F
+pub same_reader : {A : Type 0} (r s : List ℕ → Read A) (S : A → List ℕ → Type 0) (F : List ℕ → ℕ → PcapFault → Type 0)
+    → ((octets : List ℕ) → s octets ≡ r octets) → IsReader r S F → IsReader s S F
 same_reader r s S F same reader = record {
   taken = λ octets x fits e. reader.taken octets x fits (sym (same octets) ∙ e);
   again = λ x text rest is. same (text ++ rest) ∙ reader.again x text rest is;
@@ -39,7 +42,8 @@ same_reader r s S F same reader = record {
 }
 
 -- The same spelling, said otherwise.
-pub said_reader : {A : Type 0} (r : List ℕ → Read A) (S T : A → List ℕ → Type 0) (F : List ℕ → ℕ → PcapFault → Type 0) → ((x : A) (text : List ℕ) → S x text → T x text) → ((x : A) (text : List ℕ) → T x text → S x text) → IsReader r S F → IsReader r T F
+pub said_reader : {A : Type 0} (r : List ℕ → Read A) (S T : A → List ℕ → Type 0) (F : List ℕ → ℕ → PcapFault → Type 0)
+    → ((x : A) (text : List ℕ) → S x text → T x text) → ((x : A) (text : List ℕ) → T x text → S x text) → IsReader r S F → IsReader r T F
 said_reader r S T F there back reader = record {
   taken = λ octets x fits e. let t = reader.taken octets x fits e in (t.0, there x.0 t.0 t.1, t.2);
   again = λ x text rest is. reader.again x text rest (back x text is);
@@ -61,27 +65,35 @@ pub record Both {A B : Type 0} (S : A → List ℕ → Type 0) (T : A → B → 
 abbrev pub then_at : {A B : Type 0} → (List ℕ → Read A) → (A → List ℕ → Read B) → List ℕ → Read B
 then_at r s octets = r octets >>= λ x. s x.0 x.1
 
-then_ok : {A B : Type 0} (r : List ℕ → Read A) (s : A → List ℕ → Read B) (octets : List ℕ) (x : A) (rest : List ℕ) → r octets ≡ Ok (x, rest) → then_at r s octets ≡ s x rest
+then_ok : {A B : Type 0} (r : List ℕ → Read A) (s : A → List ℕ → Read B) (octets : List ℕ) (x : A) (rest : List ℕ) → r octets ≡ Ok (x, rest)
+    → then_at r s octets ≡ s x rest
 then_ok r s octets x rest e = rw e refl
 
-then_err : {A B : Type 0} (r : List ℕ → Read A) (s : A → List ℕ → Read B) (octets : List ℕ) (f : ℕ × PcapFault) → r octets ≡ Err f → then_at r s octets ≡ Err f
+then_err : {A B : Type 0} (r : List ℕ → Read A) (s : A → List ℕ → Read B) (octets : List ℕ) (f : ℕ × PcapFault) → r octets ≡ Err f
+    → then_at r s octets ≡ Err f
 then_err r s octets f e = rw e refl
 
-pub then_reader : {A B : Type 0} (r : List ℕ → Read A) (S : A → List ℕ → Type 0) (F : List ℕ → ℕ → PcapFault → Type 0) (s : A → List ℕ → Read B) (T : A → B → List ℕ → Type 0) (G : A → List ℕ → ℕ → PcapFault → Type 0)
+pub then_reader : {A B : Type 0} (r : List ℕ → Read A) (S : A → List ℕ → Type 0) (F : List ℕ → ℕ → PcapFault → Type 0) (s : A → List ℕ → Read B)
+    (T : A → B → List ℕ → Type 0) (G : A → List ℕ → ℕ → PcapFault → Type 0)
     → IsReader r S F → ((x : A) (front : List ℕ) → S x front → IsReader (s x) (T x) (G x)) → IsReader (then_at r s) (Both S T) (Then S F G)
 then_reader {A} {B} r S F s T G one two = record { taken = taken; again = again; fails = fails; faulty = faulty }
   where
-    taken : (octets : List ℕ) (y : B × List ℕ) → IsOctets octets → then_at r s octets ≡ Ok y → (text : List ℕ) × Both S T y.0 text × (octets ≡ text ++ y.1)
+    taken : (octets : List ℕ) (y : B × List ℕ) → IsOctets octets → then_at r s octets ≡ Ok y
+        → (text : List ℕ) × Both S T y.0 text × (octets ≡ text ++ y.1)
     taken octets y fits e =
         let a = bind_ok (r octets) (λ x. s x.0 x.1) y e in
         let p = one.taken octets a.0 fits a.1 in
-        let q = (two a.0.0 p.0 p.1).taken a.0.1 y (rest_octets octets p.0 a.0.1 fits p.2) a.2 in
-        (p.0 ++ q.0, record { x = a.0.0; front = p.0; back = q.0; first = p.1; second = q.1; parts = refl }, two_fronts octets p.0 a.0.1 q.0 y.1 p.2 q.2)
+        let q = (two a.0.0 p.0 p.1).taken a.0.1 y (rest_octets octets p.0 a.0.1 fits p.2) a.2 in (
+          p.0 ++ q.0,
+          record { x = a.0.0; front = p.0; back = q.0; first = p.1; second = q.1; parts = refl },
+          two_fronts octets p.0 a.0.1 q.0 y.1 p.2 q.2,
+        )
 
     again : (y : B) (text rest : List ℕ) → Both S T y text → then_at r s (text ++ rest) ≡ Ok (y, rest)
     again y text rest b =
         let whole : text ++ rest ≡ b.front ++ (b.back ++ rest) = ap (λ (xs : List ℕ). xs ++ rest) b.parts ∙ append_assoc b.front b.back rest in
-        ap (then_at r s) whole ∙ then_ok r s (b.front ++ (b.back ++ rest)) b.x (b.back ++ rest) (one.again b.x b.front (b.back ++ rest) b.first) ∙ (two b.x b.front b.first).again y b.back rest b.second
+        ap (then_at r s) whole ∙ then_ok r s (b.front ++ (b.back ++ rest)) b.x (b.back ++ rest) (one.again b.x b.front (b.back ++ rest) b.first)
+        ∙ (two b.x b.front b.first).again y b.back rest b.second
 
     fails : (octets : List ℕ) (left : ℕ) (fault : PcapFault) → IsOctets octets → then_at r s octets ≡ Err (left, fault) → Then S F G octets left fault
     fails octets left fault fits e =
@@ -92,10 +104,12 @@ then_reader {A} {B} r S F s T G one two = record { taken = taken; again = again;
               behind a.0.0 p.0 a.0.1 p.1 p.2 ((two a.0.0 p.0 p.1).fails a.0.1 left fault (rest_octets octets p.0 a.0.1 fits p.2) a.2)
         ]
 
-    faulty : (octets : List ℕ) (left : ℕ) (fault : PcapFault) → IsOctets octets → Then S F G octets left fault → then_at r s octets ≡ Err (left, fault)
+    faulty : (octets : List ℕ) (left : ℕ) (fault : PcapFault) → IsOctets octets → Then S F G octets left fault
+        → then_at r s octets ≡ Err (left, fault)
     faulty octets left fault fits (here first) = then_err r s octets (left, fault) (one.faulty octets left fault fits first)
     faulty octets left fault fits (behind x text rest spells parts second) =
-        ap (then_at r s) parts ∙ then_ok r s (text ++ rest) x rest (one.again x text rest spells) ∙ (two x text spells).faulty rest left fault (rest_octets octets text rest fits parts) second
+        ap (then_at r s) parts ∙ then_ok r s (text ++ rest) x rest (one.again x text rest spells)
+        ∙ (two x text spells).faulty rest left fault (rest_octets octets text rest fits parts) second
 
 -- ---- a value made of what was read
 
@@ -107,14 +121,17 @@ pub record Made {A B : Type 0} (make : A → B) (S : A → List ℕ → Type 0) 
 abbrev pub made_at : {A B : Type 0} → (List ℕ → Read A) → (A → B) → List ℕ → Read B
 made_at r make octets = r octets >>= λ x. Ok (make x.0, x.1)
 
-pub made_reader : {A B : Type 0} (r : List ℕ → Read A) (S : A → List ℕ → Type 0) (F : List ℕ → ℕ → PcapFault → Type 0) (make : A → B) → IsReader r S F → IsReader (made_at r make) (Made make S) F
+pub made_reader : {A B : Type 0} (r : List ℕ → Read A) (S : A → List ℕ → Type 0) (F : List ℕ → ℕ → PcapFault → Type 0) (make : A → B) → IsReader r S F
+    → IsReader (made_at r make) (Made make S) F
 made_reader {A} {B} r S F make reader = record { taken = taken; again = again; fails = fails; faulty = faulty }
   where
-    taken : (octets : List ℕ) (y : B × List ℕ) → IsOctets octets → made_at r make octets ≡ Ok y → (text : List ℕ) × Made make S y.0 text × (octets ≡ text ++ y.1)
+    taken : (octets : List ℕ) (y : B × List ℕ) → IsOctets octets → made_at r make octets ≡ Ok y
+        → (text : List ℕ) × Made make S y.0 text × (octets ≡ text ++ y.1)
     taken octets y fits e =
         let a = bind_ok (r octets) (λ x. Ok (make x.0, x.1)) y e in
         let p = reader.taken octets a.0 fits a.1 in
-        subst (λ (z : B × List ℕ). (text : List ℕ) × Made make S z.0 text × (octets ≡ text ++ z.1)) (ok_is (make a.0.0, a.0.1) y a.2) (p.0, record { x = a.0.0; is = refl; spells = p.1 }, p.2)
+        subst (λ (z : B × List ℕ). (text : List ℕ) × Made make S z.0 text × (octets ≡ text ++ z.1)) (ok_is (make a.0.0, a.0.1) y a.2)
+        (p.0, record { x = a.0.0; is = refl; spells = p.1 }, p.2)
 
     again : (y : B) (text rest : List ℕ) → Made make S y text → made_at r make (text ++ rest) ≡ Ok (y, rest)
     again y text rest m = rw (reader.again m.x text rest m.spells, m.is) refl
@@ -142,7 +159,8 @@ guard_err false d x f e = absurd cc
 pub octets_reader : (n : ℕ) → IsReader (octets_at n) (AreOctets n) (Lacks n)
 octets_reader n = record { taken = taken; again = again; fails = fails; faulty = faulty }
   where
-    taken : (octets : List ℕ) (x : List ℕ × List ℕ) → IsOctets octets → octets_at n octets ≡ Ok x → (text : List ℕ) × AreOctets n x.0 text × (octets ≡ text ++ x.1)
+    taken : (octets : List ℕ) (x : List ℕ × List ℕ) → IsOctets octets → octets_at n octets ≡ Ok x
+        → (text : List ℕ) × AreOctets n x.0 text × (octets ≡ text ++ x.1)
     taken octets x fits e =
         let g = guard_ok (ltb (length octets) n) (length octets, faults.Short) (take n octets, drop n octets) x e in
         subst (λ (y : List ℕ × List ℕ). (text : List ℕ) × AreOctets n y.0 text × (octets ≡ text ++ y.1)) g.1
@@ -191,7 +209,8 @@ abbrev valued : {A : Type 0} → (List ℕ → Option A) → ℕ → PcapFault �
 valued of before own octets field = known_or (of field.0) (length octets + before, own) field.1
 
 module _ {A : Type 0} (n : ℕ) (of : List ℕ → Option A) (Spells : A → List ℕ → Type 0) (is : IsField n of Spells) (before : ℕ) (own : PcapFault) where
-  field_taken : (octets : List ℕ) (x : A × List ℕ) → IsOctets octets → field_at n of before own octets ≡ Ok x → (text : List ℕ) × Spells x.0 text × (octets ≡ text ++ x.1)
+  field_taken : (octets : List ℕ) (x : A × List ℕ) → IsOctets octets → field_at n of before own octets ≡ Ok x
+      → (text : List ℕ) × Spells x.0 text × (octets ≡ text ++ x.1)
   unfolding field_at
   field_taken octets x fits e =
       let a = bind_ok (octets_at n octets) (valued of before own octets) x e in
@@ -206,7 +225,8 @@ module _ {A : Type 0} (n : ℕ) (of : List ℕ → Option A) (Spells : A → Lis
       let k = is.again x text s in
       rw ((octets_reader n).again text text rest (k.0, refl), k.1) refl
 
-  field_fails : (octets : List ℕ) (left : ℕ) (fault : PcapFault) → IsOctets octets → field_at n of before own octets ≡ Err (left, fault) → FieldFails n Spells before own octets left fault
+  field_fails : (octets : List ℕ) (left : ℕ) (fault : PcapFault) → IsOctets octets → field_at n of before own octets ≡ Err (left, fault)
+      → FieldFails n Spells before own octets left fault
   unfolding field_at
   field_fails octets left fault fits e =
       elim (bind_err (octets_at n octets) (valued of before own octets) (left, fault) e) [
@@ -215,10 +235,12 @@ module _ {A : Type 0} (n : ℕ) (of : List ℕ → Option A) (Spells : A → Lis
             let p = (octets_reader n).taken octets a.0 fits a.1 in
             let k = known_err (of a.0.0) (length octets + before, own) a.0.1 (left, fault) a.2 in
             let parts : octets ≡ a.0.0 ++ a.0.1 = p.2 ∙ ap (λ (t : List ℕ). t ++ a.0.1) p.1.1 in
-            wrong a.0.0 a.0.1 p.1.0 parts (λ x s. not_both (of a.0.0) x k.0 (is.again x a.0.0 s).1) (ap (λ (g : ℕ × PcapFault). g.0) (sym k.1)) (ap (λ (g : ℕ × PcapFault). g.1) (sym k.1))
+            wrong a.0.0 a.0.1 p.1.0 parts (λ x s. not_both (of a.0.0) x k.0 (is.again x a.0.0 s).1) (ap (λ (g : ℕ × PcapFault). g.0) (sym k.1))
+            (ap (λ (g : ℕ × PcapFault). g.1) (sym k.1))
       ]
 
-  field_faulty : (octets : List ℕ) (left : ℕ) (fault : PcapFault) → IsOctets octets → FieldFails n Spells before own octets left fault → field_at n of before own octets ≡ Err (left, fault)
+  field_faulty : (octets : List ℕ) (left : ℕ) (fault : PcapFault) → IsOctets octets → FieldFails n Spells before own octets left fault
+      → field_at n of before own octets ≡ Err (left, fault)
   unfolding field_at
   field_faulty octets left fault fits (missing l) = rw ((octets_reader n).faulty octets left fault fits l) refl
   field_faulty octets left fault fits (wrong text rest len parts none at is_own) =
@@ -231,13 +253,22 @@ module _ {A : Type 0} (n : ℕ) (of : List ℕ → Option A) (Spells : A → Lis
 
   -- A field of which all octets are a value fails only where some are missing.
   pub whole_reader : ((text : List ℕ) → (x : A) × (of text ≡ Some x)) → IsReader (field_at n of before own) Spells (Lacks n)
-  whole_reader whole = record { taken = field_taken; again = field_again; fails = fails; faulty = λ octets left fault fits l. field_faulty octets left fault fits (missing l) }
+  whole_reader whole =
+      record {
+        taken = field_taken;
+        again = field_again;
+        fails = fails;
+        faulty =
+            λ octets left fault fits l. field_faulty octets left fault fits (missing l);
+      }
     where
-      only_lacks : (octets : List ℕ) (left : ℕ) (fault : PcapFault) → IsOctets octets → FieldFails n Spells before own octets left fault → Lacks n octets left fault
+      only_lacks : (octets : List ℕ) (left : ℕ) (fault : PcapFault) → IsOctets octets → FieldFails n Spells before own octets left fault
+          → Lacks n octets left fault
       only_lacks octets left fault fits (missing l) = l
       only_lacks octets left fault fits (wrong text rest len parts none at is_own) =
           let x = whole text in
           absurd (none x.0 (is.told text x.0 (front_octets octets text rest fits parts) len x.1))
 
-      fails : (octets : List ℕ) (left : ℕ) (fault : PcapFault) → IsOctets octets → field_at n of before own octets ≡ Err (left, fault) → Lacks n octets left fault
+      fails : (octets : List ℕ) (left : ℕ) (fault : PcapFault) → IsOctets octets → field_at n of before own octets ≡ Err (left, fault)
+          → Lacks n octets left fault
       fails octets left fault fits e = only_lacks octets left fault fits (field_fails octets left fault fits e)

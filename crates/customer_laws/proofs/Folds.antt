@@ -13,7 +13,8 @@ fold_kept step keep idle refused old [] = refl
 fold_kept {B} step keep idle refused old (timed ∷ more) =
     by (λ b. fold_kept step keep idle refused b more) (keep (answered refused timed)) refl
   where
-    by : ((b : B) → fold (λ (b : B) (timed : Timed). step b (answered refused timed)) b more ≡ fold step b (filter keep (map (answered refused) more))) →
+    by : ((b : B) → fold (λ (b : B) (timed : Timed). step b (answered refused timed)) b more
+        ≡ fold step b (filter keep (map (answered refused) more))) →
         (kept : Bool) → keep (answered refused timed) ≡ kept →
         fold (λ (b : B) (timed : Timed). step b (answered refused timed)) (step old (answered refused timed)) more
         ≡ fold step old (cond kept (answered refused timed ∷ filter keep (map (answered refused) more)) (filter keep (map (answered refused) more)))

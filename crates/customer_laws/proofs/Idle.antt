@@ -48,7 +48,8 @@ module _ (scenario : Scenario) (vrf : VrfId) (iface : IfaceId) (member : Member 
   -- an edge that is none of the VPN has no interface of it
   elsewhere : (node : NodeId) → is_edge_of_vpn scenario vrf node ≡ false → is_of_edge scenario node iface ≡ false
   elsewhere node h = false_from_ne_true (is_of_edge scenario node iface) (λ t. true≢false (
-      sym (any_where (is_of_edge scenario node) (λ number found. same_vpn scenario vrf found.vrf) 0 scenario.ifaces iface.0 member.own iface member.at (omega arith) member.vpn t)
+      sym (any_where (is_of_edge scenario node) (λ number found. same_vpn scenario vrf found.vrf) 0 scenario.ifaces iface.0 member.own iface member.at
+      (omega arith) member.vpn t)
       ∙ h))
 
   -- ---- entries
@@ -57,7 +58,8 @@ module _ (scenario : Scenario) (vrf : VrfId) (iface : IfaceId) (member : Member 
       expiry_given iface entry clock old (Some given) ≡ old
   given_apart entry clock old given h = (let e = apart given.iface h in rw e refl)
 
-  read_apart : (entry : JoinEntry) (clock : ℕ) (old : Option Expiry) (own : IfaceId) (o : Result JoinPrune (ℕ × PimFault)) → is_of_vpn scenario vrf own ≡ false →
+  read_apart : (entry : JoinEntry) (clock : ℕ) (old : Option Expiry) (own : IfaceId) (o : Result JoinPrune (ℕ × PimFault))
+      → is_of_vpn scenario vrf own ≡ false →
       expiry_given iface entry clock old (elim o [ Ok message ↦ Some (record { iface = own; message = message }) | Err fault ↦ None ]) ≡ old
   read_apart entry clock old own (Ok message) h = given_apart entry clock old (record { iface = own; message = message }) h
   read_apart entry clock old own (Err fault) h = refl
@@ -80,7 +82,9 @@ module _ (scenario : Scenario) (vrf : VrfId) (iface : IfaceId) (member : Member 
   ticks_idle other h = refl
 
   abbrev pub stands_by : JoinEntry → Standing → Answered → Standing
-  stands_by entry old own = cond own.accepted (record { clock = old.clock + ticks_of own.event; expiry = expiry_by scenario iface entry old.clock own.event old.expiry }) old
+  stands_by entry old own =
+      cond own.accepted (record { clock = old.clock + ticks_of own.event; expiry = expiry_by scenario iface entry old.clock own.event old.expiry })
+      old
 
   stands_idle : (entry : JoinEntry) (old : Standing) (own : Answered) → concerns scenario vrf own.event ≡ false → stands_by entry old own ≡ old
   stands_idle entry old own h = by own.accepted
@@ -88,7 +92,11 @@ module _ (scenario : Scenario) (vrf : VrfId) (iface : IfaceId) (member : Member 
       clock_same : old.clock + ticks_of own.event ≡ old.clock
       clock_same = (let none : ticks_of own.event ≡ 0 = ticks_idle own.event h in omega (arith, none))
 
-      by : (b : Bool) → cond b (record { clock = old.clock + ticks_of own.event; expiry = expiry_by scenario iface entry old.clock own.event old.expiry }) old ≡ old
+      by : (b : Bool) → cond b (record {
+        clock = old.clock + ticks_of own.event;
+        expiry =
+            expiry_by scenario iface entry old.clock own.event old.expiry;
+      }) old ≡ old
       by true = (λ i. record { clock = clock_same i; expiry = expiry_idle entry old.clock old.expiry own.event h i })
       by false = refl
 
@@ -113,7 +121,8 @@ module _ (scenario : Scenario) (vrf : VrfId) (iface : IfaceId) (member : Member 
       is_flow_at iface source group own own_source own_group ≡ false
   flow_apart source group own own_source own_group h = ap (λ b. b && same_addr source own_source && same_addr group own_group) (apart own h)
 
-  noted_idle : (source group : Addr) (event : Event) (old : Bool) → concerns scenario vrf event ≡ false → noted_by scenario iface source group event old ≡ old
+  noted_idle : (source group : Addr) (event : Event) (old : Bool) → concerns scenario vrf event ≡ false
+      → noted_by scenario iface source group event old ≡ old
   noted_idle source group (events.Active own own_source own_group) old h = or_idle old _ (flow_apart source group own own_source own_group h)
   noted_idle source group (events.Idle own own_source own_group) old h = and_idle old _ (flow_apart source group own own_source own_group h)
   noted_idle source group (events.Restart node) old h = and_idle old _ (elsewhere node h)

@@ -21,7 +21,8 @@ any_where p test number (iface ∷ more) zero own id at sum t h = found (test (r
     passes : test (record { 0 = number }) iface ≡ true
     passes = (λ i. test (sym same_id i) (same_own i)) ∙ t
 
-    found : (b : Bool) → b ≡ true → list_any p (cond b (record { 0 = number } ∷ ifaces_where test (number + 1) more) (ifaces_where test (number + 1) more)) ≡ true
+    found : (b : Bool) → b ≡ true → list_any p (cond b (record { 0 = number } ∷ ifaces_where test (number + 1) more)
+        (ifaces_where test (number + 1) more)) ≡ true
     found true e = or_left (p (record { 0 = number })) (list_any p (ifaces_where test (number + 1) more)) (ap p (sym same_id) ∙ h)
     found false e = absurd (let bad : false ≡ true = e in cc)
 any_where p test number (iface ∷ more) (suc offset) own id at sum t h =
@@ -41,7 +42,8 @@ any_alike p q test number (iface ∷ more) each =
     by (any_alike p q test (number + 1) more (λ offset own id at sum. each (suc offset) own id at (omega (arith, sum))))
     (test (record { 0 = number }) iface) refl
   where
-    by : list_any p (ifaces_where test (number + 1) more) ≡ list_any q (ifaces_where test (number + 1) more) → (b : Bool) → test (record { 0 = number }) iface ≡ b →
+    by : list_any p (ifaces_where test (number + 1) more) ≡ list_any q (ifaces_where test (number + 1) more) → (b : Bool)
+        → test (record { 0 = number }) iface ≡ b →
         list_any p (cond b (record { 0 = number } ∷ ifaces_where test (number + 1) more) (ifaces_where test (number + 1) more))
         ≡ list_any q (cond b (record { 0 = number } ∷ ifaces_where test (number + 1) more) (ifaces_where test (number + 1) more))
     by rest true e = (λ i. each zero iface (record { 0 = number }) refl (omega arith) e i || rest i)

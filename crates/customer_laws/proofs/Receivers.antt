@@ -45,14 +45,16 @@ module _ (scenario : Scenario) (vrf : VrfId) (refused other_refused : List ℕ) 
       ∙ ap (fold (stands_by scenario vrf iface member entry) (record { clock = 0; expiry = None })) alike
       ∙ sym (standing_own scenario vrf iface member entry other_refused other_events)
 
-  noted_alike : (iface : IfaceId) → Member scenario vrf iface → (source group : Addr) → is_noted one iface source group ≡ is_noted other iface source group
+  noted_alike : (iface : IfaceId) → Member scenario vrf iface → (source group : Addr)
+      → is_noted one iface source group ≡ is_noted other iface source group
   noted_alike iface member source group =
       noted_own scenario vrf iface member source group refused events
       ∙ ap (fold (notes_by scenario vrf iface member source group) false) alike
       ∙ sym (noted_own scenario vrf iface member source group other_refused other_events)
 
   -- an interface of the VPN of a VRF that is of the VPN is of it too
-  through : (vpn : VrfId) → same_vpn scenario vrf vpn ≡ true → (offset : ℕ) (own : Iface) (id : IfaceId) → slice_get scenario.ifaces offset ≡ Some own →
+  through : (vpn : VrfId) → same_vpn scenario vrf vpn ≡ true → (offset : ℕ) (own : Iface) (id : IfaceId)
+      → slice_get scenario.ifaces offset ≡ Some own →
       id.0 ≡ 0 + offset → same_vpn scenario vpn own.vrf ≡ true → Member scenario vrf id
   through vpn is offset own id at sum of = record {
     own = own;
@@ -60,13 +62,15 @@ module _ (scenario : Scenario) (vrf : VrfId) (refused other_refused : List ℕ) 
     vpn = same_through (targets_of scenario vrf) (targets_of scenario vpn) (targets_of scenario own.vrf) is of;
   }
 
-  active_alike : (vpn : VrfId) → same_vpn scenario vrf vpn ≡ true → (source group : Addr) → is_active one vpn source group ≡ is_active other vpn source group
+  active_alike : (vpn : VrfId) → same_vpn scenario vrf vpn ≡ true → (source group : Addr)
+      → is_active one vpn source group ≡ is_active other vpn source group
   active_alike vpn is source group =
       any_alike (λ (iface : IfaceId). is_noted one iface source group) (λ (iface : IfaceId). is_noted other iface source group)
       (λ number iface. same_vpn scenario vpn iface.vrf) 0 scenario.ifaces
       (λ offset own id at sum of. noted_alike id (through vpn is offset own id at sum of) source group)
 
-  active_at_alike : (iface : IfaceId) → Member scenario vrf iface → (source group : Addr) → is_active_at one iface source group ≡ is_active_at other iface source group
+  active_at_alike : (iface : IfaceId) → Member scenario vrf iface → (source group : Addr)
+      → is_active_at one iface source group ≡ is_active_at other iface source group
   active_at_alike iface member source group =
       ap (λ (o : Option Iface). elim o [ None ↦ false | Some own ↦ is_active one own.vrf source group ]) member.at
       ∙ active_alike member.own.vrf member.vpn source group
@@ -80,19 +84,24 @@ module _ (scenario : Scenario) (vrf : VrfId) (refused other_refused : List ℕ) 
       let active = active_at_alike iface member source group in
       (λ i. asks_by (joined i).clock (active i) (joined i).expiry (shared i).expiry (pruned i).expiry)
 
-  receives_alike : (vpn : VrfId) → same_vpn scenario vrf vpn ≡ true → (site : SiteId) (source group : Addr) (offset : ℕ) (own : Iface) (id : IfaceId) →
-      slice_get scenario.ifaces offset ≡ Some own → id.0 ≡ 0 + offset → receives one vpn site source group id own ≡ receives other vpn site source group id own
+  receives_alike : (vpn : VrfId) → same_vpn scenario vrf vpn ≡ true
+      → (site : SiteId) (source group : Addr) (offset : ℕ) (own : Iface) (id : IfaceId) →
+      slice_get scenario.ifaces offset ≡ Some own → id.0 ≡ 0 + offset
+      → receives one vpn site source group id own ≡ receives other vpn site source group id own
   receives_alike vpn is site source group offset own id at sum = by (same_vpn scenario vpn own.vrf) refl
     where
-      by : (b : Bool) → same_vpn scenario vpn own.vrf ≡ b → (b && not (is_of_site site own) && asks one id source group) ≡ (b && not (is_of_site site own) && asks other id source group)
+      by : (b : Bool) → same_vpn scenario vpn own.vrf ≡ b
+          → (b && not (is_of_site site own) && asks one id source group) ≡ (b && not (is_of_site site own) && asks other id source group)
       by true of = ap (λ (b : Bool). not (is_of_site site own) && b) (asks_alike id (through vpn is offset own id at sum of) source group)
       by false of = refl
 
   -- the VPN of a site that is attached to it
-  vpn_of : Rules scenario → (site : SiteId) → is_attached scenario vrf site ≡ true → (vpn : VrfId) → vrf_of_site scenario site ≡ Some vpn → same_vpn scenario vrf vpn ≡ true
+  vpn_of : Rules scenario → (site : SiteId) → is_attached scenario vrf site ≡ true → (vpn : VrfId) → vrf_of_site scenario site ≡ Some vpn
+      → same_vpn scenario vrf vpn ≡ true
   vpn_of rules site attached vpn e = by (find (is_of_site site) scenario.ifaces) refl e
     where
-      by : (o : Option Iface) → find (is_of_site site) scenario.ifaces ≡ o → option_map (λ (iface : Iface). iface.vrf) o ≡ Some vpn → same_vpn scenario vrf vpn ≡ true
+      by : (o : Option Iface) → find (is_of_site site) scenario.ifaces ≡ o → option_map (λ (iface : Iface). iface.vrf) o ≡ Some vpn
+          → same_vpn scenario vrf vpn ≡ true
       by None is found = absurd (let bad : None ≡ Some vpn = found in cc)
       by (Some first) is found =
           let p = passes-from_find (is_of_site site) scenario.ifaces first is in
@@ -101,7 +110,8 @@ module _ (scenario : Scenario) (vrf : VrfId) (refused other_refused : List ℕ) 
           let sites : q.value.site.0 ≡ first.site.0 = eqb-true q.value.site.0 site.0 both.0 ∙ sym (eqb-true first.site.0 site.0 p.2) in
           let here : same_vpn scenario q.value.vrf first.vrf ≡ true = vpn_of_site scenario rules q.place p.0 q.value first q.at p.1 sites in
           let one_vrf : first.vrf ≡ vpn = cc in
-          ap (same_vpn scenario vrf) (sym one_vrf) ∙ same_through (targets_of scenario vrf) (targets_of scenario q.value.vrf) (targets_of scenario first.vrf) both.1 here
+          ap (same_vpn scenario vrf) (sym one_vrf) ∙ same_through (targets_of scenario vrf) (targets_of scenario q.value.vrf)
+          (targets_of scenario first.vrf) both.1 here
 
   receivers_alike : Rules scenario → (site : SiteId) → is_attached scenario vrf site ≡ true → (source group : Addr) →
       receivers one site source group ≡ receivers other site source group
@@ -109,8 +119,16 @@ module _ (scenario : Scenario) (vrf : VrfId) (refused other_refused : List ℕ) 
     where
       by : (o : Option VrfId) → vrf_of_site scenario site ≡ o →
           ◌≡◌ {A = List IfaceId}
-          (elim o [ None ↦ [] | Some vpn ↦ cond (is_home scenario vpn source site) (ifaces_where (receives one vpn site source group) 0 scenario.ifaces) [] ])
-          (elim o [ None ↦ [] | Some vpn ↦ cond (is_home scenario vpn source site) (ifaces_where (receives other vpn site source group) 0 scenario.ifaces) [] ])
+          (elim o [
+            | None ↦ []
+            | Some vpn ↦ cond (is_home scenario vpn source site)
+                (ifaces_where (receives one vpn site source group) 0 scenario.ifaces) []
+          ])
+          (elim o [
+            | None ↦ []
+            | Some vpn ↦ cond (is_home scenario vpn source site)
+                (ifaces_where (receives other vpn site source group) 0 scenario.ifaces) []
+          ])
       by None e = refl
       by (Some vpn) e =
           ap (λ (all : List IfaceId). cond (is_home scenario vpn source site) all [])
@@ -120,7 +138,8 @@ module _ (scenario : Scenario) (vrf : VrfId) (refused other_refused : List ℕ) 
 -- ---- the laws
 
 pub same_receivers : (vrf : VrfId) (one other : Past) → Rules other.scenario → AreAlike vrf one other →
-    (site : SiteId) → is_attached other.scenario vrf site ≡ true → (source group : Addr) → receivers one site source group ≡ receivers other site source group
+    (site : SiteId) → is_attached other.scenario vrf site ≡ true → (source group : Addr)
+    → receivers one site source group ≡ receivers other site source group
 same_receivers vrf one other rules alike site attached source group =
     ap (λ (s : Scenario). receivers (past s one.refused one.events) site source group) alike.scenario
     ∙ receivers_alike other.scenario vrf one.refused other.refused one.events other.events
@@ -135,7 +154,8 @@ pub same_interfaces : (scenario : Scenario) (one other : Reported) → Rules sce
 same_interfaces scenario one other rules once other_once vrf place number datagram counterpart lies other_lies attached are iface =
     once lies.first lies.last lies.window place datagram lies.accepted lies.behind lies.upto iface
     ∙ ap (λ (all : List IfaceId). cond (list_any (λ (receiver : IfaceId). receiver.0 == iface.0) all) 1 0) same
-    ∙ sym (other_once other_lies.first other_lies.last other_lies.window number counterpart other_lies.accepted other_lies.behind other_lies.upto iface)
+    ∙ sym (other_once other_lies.first other_lies.last other_lies.window number counterpart other_lies.accepted other_lies.behind other_lies.upto
+    iface)
   where
     same : receivers (past_at scenario one.events one.refused datagram.event) datagram.site datagram.source datagram.group
         ≡ receivers (past_at scenario other.events other.refused counterpart.event) counterpart.site counterpart.source counterpart.group

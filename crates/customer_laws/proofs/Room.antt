@@ -55,7 +55,8 @@ none_or_full : (b : Bool) → Either (refused_if b refusals.Full) None
 none_or_full true = inr refl
 none_or_full false = inl refl
 
-ours_or_full : (a b c : Bool) → Either (cond a (Some refusals.Ours) (cond b (Some refusals.Full) (refused_if c refusals.Full))) (refused_if a refusals.Ours)
+ours_or_full : (a b c : Bool) → Either (cond a (Some refusals.Ours) (cond b (Some refusals.Full) (refused_if c refusals.Full)))
+    (refused_if a refusals.Ours)
 ours_or_full true b c = inl refl
 ours_or_full false true c = inr refl
 ours_or_full false false true = inr refl
@@ -76,11 +77,13 @@ or_nothing : (fault : Option Refusal) → option_or fault None ≡ fault
 or_nothing None = refl
 or_nothing (Some reason) = refl
 
-refusal_told : (world : World) (vrf : VrfId) (event : Event) → concerns (scenario_of world) vrf event ≡ true → Either (refusal world event) (own_refusal (scenario_of world) event)
+refusal_told : (world : World) (vrf : VrfId) (event : Event) → concerns (scenario_of world) vrf event ≡ true
+    → Either (refusal world event) (own_refusal (scenario_of world) event)
 refusal_told world vrf (events.Join iface entry) h = message_told world (message_of (scenario_of world) (events.Join iface entry))
 refusal_told world vrf (events.Prune iface entry) h = message_told world (message_of (scenario_of world) (events.Prune iface entry))
 refusal_told world vrf (events.Pim iface bytes) h =
-    first_told (octets_refusal bytes) (message_refusal world (message_of (scenario_of world) (events.Pim iface bytes))) (not_ours (scenario_of world) (message_of (scenario_of world) (events.Pim iface bytes)))
+    first_told (octets_refusal bytes) (message_refusal world (message_of (scenario_of world) (events.Pim iface bytes)))
+    (not_ours (scenario_of world) (message_of (scenario_of world) (events.Pim iface bytes)))
     (message_told world (message_of (scenario_of world) (events.Pim iface bytes)))
 refusal_told world vrf (events.Active iface source group) h = none_or_full _
 refusal_told world vrf (events.Idle iface source group) h = none_or_full (are_sessions_full world)
@@ -97,12 +100,17 @@ refusal_told world vrf other h = absurd (false≢true h)
 -- ---- one event
 
 -- an event that is refused gives the line that says so
-refused_line : (old : World) (timed : Timed) (reason : Refusal) (acts : List Happened) (next : World) → refusal old timed.event ≡ Some reason → outcome old timed ≡ Done acts next →
+refused_line : (old : World) (timed : Timed) (reason : Refusal) (acts : List Happened) (next : World) → refusal old timed.event ≡ Some reason
+    → outcome old timed ≡ Done acts next →
     lines_in acts ≡ lines.Refused timed.line reason ∷ []
 refused_line old timed reason acts next is e =
     let first : List Happened = record { act = None; lines = lines.Refused timed.line reason ∷ [] } ∷ [] in
     let same : ◌≡◌ {A = Outcome} (Done first old) (Done acts next) =
-    sym (ap (λ (o : Option Refusal). elim o [ None ↦ done old timed.event | Some why ↦ Done (record { act = None; lines = lines.Refused timed.line why ∷ [] } ∷ []) old ]) is) ∙ e in
+    sym (ap (λ (o : Option Refusal). elim o [
+      | None ↦ done old timed.event
+      | Some why ↦
+          Done (record { act = None; lines = lines.Refused timed.line why ∷ [] } ∷ []) old
+    ]) is) ∙ e in
     let acts_same : first ≡ acts = cc in
     ap lines_in (sym acts_same)
 
@@ -115,13 +123,18 @@ module _ (scenario : Scenario) (vrf : VrfId) (refused : List ℕ) where
 
   -- there was room for it
   abbrev Room : List Timed → List Traced → Type 0
-  Room all trace = (place : ℕ) (timed : Timed) → slice_get all place ≡ Some timed → concerns scenario vrf timed.event ≡ true → list_any (says_full timed.line) (lines_of (report_of trace)) ≡ false
+  Room all trace =
+      (place : ℕ) (timed : Timed) → slice_get all place ≡ Some timed → concerns scenario vrf timed.event ≡ true
+      → list_any (says_full timed.line) (lines_of (report_of trace)) ≡ false
 
   -- the answer to an event of the VPN is that of the event itself
-  answer_told : (old : World) (timed : Timed) (acts : List Happened) (next : World) (rest : List ReportLine) → scenario_of old ≡ scenario → outcome old timed ≡ Done acts next →
-      concerns scenario vrf timed.event ≡ true → list_any (says_full timed.line) (lines_in acts ++ rest) ≡ false → is_accepted refused timed ≡ accepts (refusal old timed.event) →
+  answer_told : (old : World) (timed : Timed) (acts : List Happened) (next : World) (rest : List ReportLine) → scenario_of old ≡ scenario
+      → outcome old timed ≡ Done acts next →
+      concerns scenario vrf timed.event ≡ true → list_any (says_full timed.line) (lines_in acts ++ rest) ≡ false
+      → is_accepted refused timed ≡ accepts (refusal old timed.event) →
       answered refused timed ≡ judged timed.event
-  answer_told old timed acts next rest same e own room is = elim (subst (λ (s : Scenario). Either (refusal old timed.event) (own_refusal s timed.event)) same
+  answer_told old timed acts next rest same e own room is =
+      elim (subst (λ (s : Scenario). Either (refusal old timed.event) (own_refusal s timed.event)) same
       (refusal_told old vrf timed.event (ap (λ (s : Scenario). concerns s vrf timed.event) same ∙ own))) [
         | inl by_itself ↦ (let flag = is ∙ ap accepts by_itself in (λ i. record { event = timed.event; accepted = flag i }))
         | inr full ↦ absurd (true≢false (
@@ -130,12 +143,15 @@ module _ (scenario : Scenario) (vrf : VrfId) (refused : List ℕ) where
             ∙ room))
       ]
 
-  own_answers : (all : List Timed) → AllByRecursion (λ (timed : Timed). IsSoundEvent scenario timed.event) all → (old : World) (number : ℕ) (trace : List Traced) (new : World) →
+  own_answers : (all : List Timed) → AllByRecursion (λ (timed : Timed). IsSoundEvent scenario timed.event) all
+      → (old : World) (number : ℕ) (trace : List Traced) (new : World) →
       WorldStays scenario old → TellsAccepted refused old all → Room all trace → Runs old number all trace new →
-      filter (λ (own : Answered). concerns scenario vrf own.event) (map (answered refused) all) ≡ map judged (filter (concerns scenario vrf) (map (λ (timed : Timed). timed.event) all))
+      filter (λ (own : Answered). concerns scenario vrf own.event) (map (answered refused) all)
+      ≡ map judged (filter (concerns scenario vrf) (map (λ (timed : Timed). timed.event) all))
   own_answers [] sound old number trace new stays tells room run = refl
   own_answers (timed ∷ more) sound old number trace new stays tells room run =
-      by (own_answers more sound.1 run.1 (number + 1) run.2 new (turned_stays scenario old stays timed sound.0 run.0 run.1 run.3) (tells.1 run.0 run.1 run.3) behind run.5)
+      by (own_answers more sound.1 run.1 (number + 1) run.2 new (turned_stays scenario old stays timed sound.0 run.0 run.1 run.3)
+      (tells.1 run.0 run.1 run.3) behind run.5)
       (concerns scenario vrf timed.event) refl
     where
       all_lines : lines_of (report_of trace) ≡ lines_in run.0 ++ lines_of (report_of run.2)
@@ -148,10 +164,13 @@ module _ (scenario : Scenario) (vrf : VrfId) (refused : List ℕ) where
           ∙ sym (ap (list_any (says_full own.line)) all_lines)
           ∙ room (suc place) own at is)).1
 
-      by : filter (λ (own : Answered). concerns scenario vrf own.event) (map (answered refused) more) ≡ map judged (filter (concerns scenario vrf) (map (λ (t : Timed). t.event) more)) →
+      by : filter (λ (own : Answered). concerns scenario vrf own.event) (map (answered refused) more)
+          ≡ map judged (filter (concerns scenario vrf) (map (λ (t : Timed). t.event) more)) →
           (b : Bool) → concerns scenario vrf timed.event ≡ b →
-          cond b (answered refused timed ∷ filter (λ (own : Answered). concerns scenario vrf own.event) (map (answered refused) more)) (filter (λ (own : Answered). concerns scenario vrf own.event) (map (answered refused) more))
-          ≡ map judged (cond b (timed.event ∷ filter (concerns scenario vrf) (map (λ (t : Timed). t.event) more)) (filter (concerns scenario vrf) (map (λ (t : Timed). t.event) more)))
+          cond b (answered refused timed ∷ filter (λ (own : Answered). concerns scenario vrf own.event) (map (answered refused) more))
+          (filter (λ (own : Answered). concerns scenario vrf own.event) (map (answered refused) more))
+          ≡ map judged (cond b (timed.event ∷ filter (concerns scenario vrf) (map (λ (t : Timed). t.event) more))
+          (filter (concerns scenario vrf) (map (λ (t : Timed). t.event) more)))
       by rest true is =
           let here = answer_told old timed run.0 run.1 (lines_of (report_of run.2)) stays.0.same run.3 is
           (ap (list_any (says_full timed.line)) (sym all_lines) ∙ room 0 timed refl is) tells.0 in
@@ -161,15 +180,18 @@ module _ (scenario : Scenario) (vrf : VrfId) (refused : List ℕ) where
 -- ---- two runs
 
 pub answers_in : (vrf : VrfId) (run : OneRun) → HasRoom vrf run →
-    filter (λ (own : Answered). concerns run.script.scenario vrf own.event) (map (answered (refused_lines (report_of run.trace))) run.events) ≡ map (judged run.script.scenario vrf (refused_lines (report_of run.trace))) (asked_in vrf run)
+    filter (λ (own : Answered). concerns run.script.scenario vrf own.event) (map (answered (refused_lines (report_of run.trace))) run.events)
+    ≡ map (judged run.script.scenario vrf (refused_lines (report_of run.trace))) (asked_in vrf run)
 answers_in vrf run room =
     let scenario = run.script.scenario in
     own_answers scenario vrf (refused_lines (report_of run.trace)) run.events run.sound.sound_events (start scenario run.cores) 0 run.trace run.world
     (start_stays scenario run.cores run.sound.scenario)
-    (tells_accepted run.events (start scenario run.cores) 0 run.trace run.world 0 [] (refused_lines (report_of run.trace)) run.rises (λ line less. refl) refl run.sound.run)
+    (tells_accepted run.events (start scenario run.cores) 0 run.trace run.world 0 [] (refused_lines (report_of run.trace)) run.rises
+    (λ line less. refl) refl run.sound.run)
     room run.sound.run
 
-pub runs_are_alike : (vrf : VrfId) (one other : OneRun) → one.script.scenario ≡ other.script.scenario → asked_in vrf one ≡ asked_in vrf other → HasRoom vrf one → HasRoom vrf other →
+pub runs_are_alike : (vrf : VrfId) (one other : OneRun) → one.script.scenario ≡ other.script.scenario → asked_in vrf one ≡ asked_in vrf other
+    → HasRoom vrf one → HasRoom vrf other →
     AreAlike vrf (past_in one) (past_in other)
 runs_are_alike vrf one other same asked room other_room = record {
   scenario = same;

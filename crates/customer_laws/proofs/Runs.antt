@@ -17,8 +17,10 @@ use Rattle.customer_laws.proofs.Room.{runs_are_alike}
 run_once : (run : OneRun) → Once run.script.scenario run.events (reported_in run).refused (reported_in run).report
 run_once run = deliver_once run.cores run.script run.events run.trace run.world run.sound run.rises
 
-pub runs_deliver_alike : (vrf : VrfId) (one other : OneRun) → one.script.scenario ≡ other.script.scenario → asked_in vrf one ≡ asked_in vrf other → HasRoom vrf one → HasRoom vrf other →
-    (place : ℕ) (datagram : Datagram) → slice_get (datagrams (reported_in one).refused 0 one.events) place ≡ Some datagram → is_attached other.script.scenario vrf datagram.site ≡ true →
+pub runs_deliver_alike : (vrf : VrfId) (one other : OneRun) → one.script.scenario ≡ other.script.scenario → asked_in vrf one ≡ asked_in vrf other
+    → HasRoom vrf one → HasRoom vrf other →
+    (place : ℕ) (datagram : Datagram) → slice_get (datagrams (reported_in one).refused 0 one.events) place ≡ Some datagram
+    → is_attached other.script.scenario vrf datagram.site ≡ true →
     LeavesAlike vrf one other place datagram
 runs_deliver_alike vrf one other same asked room other_room place datagram accepted attached =
     let scenario : Scenario = other.script.scenario in
@@ -34,6 +36,7 @@ runs_deliver_alike vrf one other same asked room other_room place datagram accep
     record {
       found = found;
       leaves = λ lies other_lies iface.
-          same_interfaces scenario (reported_in one) (reported_in other) other.sound.scenario.rules once (run_once other) vrf place found.place datagram found.counterpart
+          same_interfaces scenario (reported_in one) (reported_in other) other.sound.scenario.rules once (run_once other) vrf place found.place
+          datagram found.counterpart
           lies other_lies (sym (ap (is_attached scenario vrf) found.same.site) ∙ attached) found.same iface;
     }

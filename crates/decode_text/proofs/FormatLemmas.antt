@@ -33,9 +33,12 @@ use Rattle.decode_text.specs.Values.{Stands}
 use Rattle.decode_text.proofs.TellLemmas.{IsApart, whole_told, fault_told}
 use Rattle.decode_text.proofs.SessionLemmas.{units_told, stop_told}
 
-fec_or_fault : (octets after : List ℕ) (fec : Fec) (fault : FecFault) → IsOctets octets → fecs.Spells fec (fecs.written fec) → octets ≡ fecs.written fec ++ after → fec_faults.FirstFault (start octets) fault → ⊥
+fec_or_fault : (octets after : List ℕ) (fec : Fec) (fault : FecFault) → IsOctets octets → fecs.Spells fec (fecs.written fec)
+    → octets ≡ fecs.written fec ++ after → fec_faults.FirstFault (start octets) fault → ⊥
 fec_or_fault octets after fec fault fits is parts first =
-    ok_or_err (fec, record { left = after; place = 0 + length (fecs.written fec) }) fault (sym (fec_again (start octets) fec (fecs.written fec) (record { left = after; place = 0 + length (fecs.written fec) }) is (record { parts = parts; place = refl })) ∙ fails_fec (start octets) fault fits first)
+    ok_or_err (fec, record { left = after; place = 0 + length (fecs.written fec) }) fault
+    (sym (fec_again (start octets) fec (fecs.written fec) (record { left = after; place = 0 + length (fecs.written fec) }) is
+    (record { parts = parts; place = refl })) ∙ fails_fec (start octets) fault fits first)
 
 pub fecs_apart : IsApart of_fecs
 fecs_apart = record {
@@ -46,9 +49,12 @@ fecs_apart = record {
 spelled_route : (route : Route) → routes.IsRoute Ipv4 route → routes.Spells Ipv4 route (routes.written route)
 spelled_route route is = record { route = is; octets = refl }
 
-route_or_fault : (octets after : List ℕ) (route : Route) (fault : RouteFault) → IsOctets octets → routes.IsRoute Ipv4 route → octets ≡ routes.written route ++ after → route_faults.FirstFault Ipv4 octets fault → ⊥
+route_or_fault : (octets after : List ℕ) (route : Route) (fault : RouteFault) → IsOctets octets → routes.IsRoute Ipv4 route
+    → octets ≡ routes.written route ++ after → route_faults.FirstFault Ipv4 octets fault → ⊥
 route_or_fault octets after route fault fits is parts first =
-    ok_or_err (route, length (routes.written route)) fault (sym (route_calls.spelled_is_read (route_at Ipv4 octets) Ipv4 octets refl route (routes.written route) after (spelled_route route is) parts) ∙ route_calls.fault_is_read (route_at Ipv4 octets) Ipv4 octets refl fault first)
+    ok_or_err (route, length (routes.written route)) fault
+    (sym (route_calls.spelled_is_read (route_at Ipv4 octets) Ipv4 octets refl route (routes.written route) after (spelled_route route is) parts)
+    ∙ route_calls.fault_is_read (route_at Ipv4 octets) Ipv4 octets refl fault first)
 
 pub routes_apart : IsApart of_routes
 routes_apart = record {
@@ -69,32 +75,41 @@ joinprune_or_fault octets message fault fits spells first =
     ok_or_err message (answered.0, fault.1) (sym (message_again message octets spells) ∙ answered.1)
 
 -- Octets that are a value have no line of a fault.
-value_told : {V F : Type 0} (s : Single V F) → IsValueOrFault s → (refused : Bool) (octets told : List ℕ) → IsOctets octets → TellsOne s refused octets told → (value : V) → s.Spells value octets → refused ≡ false
+value_told : {V F : Type 0} (s : Single V F) → IsValueOrFault s → (refused : Bool) (octets told : List ℕ) → IsOctets octets
+    → TellsOne s refused octets told → (value : V) → s.Spells value octets → refused ≡ false
 value_told s law false octets told fits tells value spells = refl
 value_told s law true octets told fits tells value spells = absurd (law octets value tells.0 fits spells tells.1)
 
 -- Octets that have a fault have its line.
-refusal_told : {V F : Type 0} (s : Single V F) → IsValueOrFault s → (refused : Bool) (octets told : List ℕ) → IsOctets octets → TellsOne s refused octets told → (fault : F) → s.First octets fault → refused ≡ true
+refusal_told : {V F : Type 0} (s : Single V F) → IsValueOrFault s → (refused : Bool) (octets told : List ℕ) → IsOctets octets
+    → TellsOne s refused octets told → (fault : F) → s.First octets fault → refused ≡ true
 refusal_told s law true octets told fits tells fault first = refl
 refusal_told s law false octets told fits tells fault first = absurd (law octets tells.0 fault fits tells.1 first)
 
 -- Octets that are whole have no line of a fault.
-whole_format : (format : Format) (refused : Bool) (octets told : List ℕ) → IsOctets octets → IsWhole format octets → Tells format refused octets told → refused ≡ false
+whole_format : (format : Format) (refused : Bool) (octets told : List ℕ) → IsOctets octets → IsWhole format octets → Tells format refused octets told
+    → refused ≡ false
 whole_format formats.Fec refused octets told fits whole tells = whole_told of_fecs fecs_apart refused octets told fits tells whole.0 whole.1
 whole_format formats.Nlri refused octets told fits whole tells = whole_told of_routes routes_apart refused octets told fits tells whole.0 whole.1
-whole_format formats.Bgp refused octets told fits whole tells = units_told message_front of_bgp 4096 message_format refused octets told whole.0 fits whole.1 tells
-whole_format formats.Ldp refused octets told fits whole tells = units_told pdu_front of_ldp 4100 pdu_format refused octets told whole.0 fits whole.1 tells
+whole_format formats.Bgp refused octets told fits whole tells =
+    units_told message_front of_bgp 4096 message_format refused octets told whole.0 fits whole.1 tells
+whole_format formats.Ldp refused octets told fits whole tells =
+    units_told pdu_front of_ldp 4100 pdu_format refused octets told whole.0 fits whole.1 tells
 whole_format formats.Pmsi refused octets told fits whole tells = value_told of_pmsi pmsi_or_fault refused octets told fits tells whole.0 whole.1
 whole_format formats.Pim refused octets told fits whole tells = value_told of_pim joinprune_or_fault refused octets told fits tells whole.0 whole.1
 
 -- Octets with a first fault have its line.
-fault_format : (format : Format) (refused : Bool) (octets told : List ℕ) → IsOctets octets → HasFault format octets → Tells format refused octets told → refused ≡ true
+fault_format : (format : Format) (refused : Bool) (octets told : List ℕ) → IsOctets octets → HasFault format octets → Tells format refused octets told
+    → refused ≡ true
 fault_format formats.Fec refused octets told fits has tells = fault_told of_fecs fecs_apart refused octets told fits tells has.0 has.1 has.2
 fault_format formats.Nlri refused octets told fits has tells = fault_told of_routes routes_apart refused octets told fits tells has.0 has.1 has.2
-fault_format formats.Bgp refused octets told fits has tells = stop_told message_front of_bgp 4096 message_format refused octets told has.0 has.1 has.2 fits has.3 tells
-fault_format formats.Ldp refused octets told fits has tells = stop_told pdu_front of_ldp 4100 pdu_format refused octets told has.0 has.1 has.2 fits has.3 tells
+fault_format formats.Bgp refused octets told fits has tells =
+    stop_told message_front of_bgp 4096 message_format refused octets told has.0 has.1 has.2 fits has.3 tells
+fault_format formats.Ldp refused octets told fits has tells =
+    stop_told pdu_front of_ldp 4100 pdu_format refused octets told has.0 has.1 has.2 fits has.3 tells
 fault_format formats.Pmsi refused octets told fits has tells = refusal_told of_pmsi pmsi_or_fault refused octets told fits tells has.0 has.1
-fault_format formats.Pim refused octets told fits has tells = refusal_told of_pim joinprune_or_fault refused octets told fits tells (has.0, has.1) has.2
+fault_format formats.Pim refused octets told fits has tells =
+    refusal_told of_pim joinprune_or_fault refused octets told fits tells (has.0, has.1) has.2
 
 -- ---- what is read stands at the front
 
@@ -110,7 +125,8 @@ fec_stands octets fec len h = record {
   text = h.0.octets;
 }
 
-pub route_stands : (octets : List ℕ) (route : Route) (len : ℕ) → routes.Spells Ipv4 route (take len octets) × (len ≤ length octets) → Stands of_routes octets route len
+pub route_stands : (octets : List ℕ) (route : Route) (len : ℕ) → routes.Spells Ipv4 route (take len octets) × (len ≤ length octets)
+    → Stands of_routes octets route len
 route_stands octets route len h = record {
   is = h.0.route;
   some = not_none len (routes.kind route) octets (length (routes.fields route) ∷ routes.fields route) h.0.octets;
@@ -120,10 +136,14 @@ route_stands octets route len h = record {
 
 -- ---- what is told, or memory is wanting
 
-pub whole_tells : {E : Type 0} (format : Format) (octets : List ℕ) (told : Result Told E) → IsOctets octets → IsWhole format octets → IfOk told (λ t. Tells format t.refused octets t.text) → IfOk told (λ t. t.refused ≡ false)
+pub whole_tells : {E : Type 0} (format : Format) (octets : List ℕ) (told : Result Told E) → IsOctets octets → IsWhole format octets
+    → IfOk told (λ t. Tells format t.refused octets t.text) → IfOk told (λ t. t.refused ≡ false)
 whole_tells format octets told fits whole tells =
-    IfOk-weaker told (λ t. Tells format t.refused octets t.text) (λ t. t.refused ≡ false) (λ t h. whole_format format t.refused octets t.text fits whole h) tells
+    IfOk-weaker told (λ t. Tells format t.refused octets t.text) (λ t. t.refused ≡ false)
+    (λ t h. whole_format format t.refused octets t.text fits whole h) tells
 
-pub fault_tells : {E : Type 0} (format : Format) (octets : List ℕ) (told : Result Told E) → IsOctets octets → HasFault format octets → IfOk told (λ t. Tells format t.refused octets t.text) → IfOk told (λ t. t.refused ≡ true)
+pub fault_tells : {E : Type 0} (format : Format) (octets : List ℕ) (told : Result Told E) → IsOctets octets → HasFault format octets
+    → IfOk told (λ t. Tells format t.refused octets t.text) → IfOk told (λ t. t.refused ≡ true)
 fault_tells format octets told fits fault tells =
-    IfOk-weaker told (λ t. Tells format t.refused octets t.text) (λ t. t.refused ≡ true) (λ t h. fault_format format t.refused octets t.text fits fault h) tells
+    IfOk-weaker told (λ t. Tells format t.refused octets t.text) (λ t. t.refused ≡ true)
+    (λ t h. fault_format format t.refused octets t.text fits fault h) tells

@@ -60,7 +60,8 @@ pair_is a b i v w h k = rw (h, k) refl
 two_and_rest : (a b c d : ℕ) (xs ys : List ℕ) → a ≡ c → b ≡ d → xs ≡ ys → a ∷ b ∷ xs ≡ c ∷ d ∷ ys
 two_and_rest a b c d xs ys e f g = cc
 
-pairs_written : (i : ℕ) (s : List ℕ) → length s % 2 ≡ 0 → AllPass is_hex_digit s → (octets : List ℕ) × (decode_pairs i s ≡ Ok octets) × (str_to_ascii_lowercase s ≡ encode_lower octets)
+pairs_written : (i : ℕ) (s : List ℕ) → length s % 2 ≡ 0 → AllPass is_hex_digit s
+    → (octets : List ℕ) × (decode_pairs i s ≡ Ok octets) × (str_to_ascii_lowercase s ≡ encode_lower octets)
 unfolding decode_pairs encode_with
 pairs_written i [] even h = ([], refl, refl)
 pairs_written i (a ∷ []) even h = absurd (omega arith)
@@ -75,13 +76,18 @@ pairs_written i (a ∷ b ∷ rest) even h =
     let low_fits = (digit_bounds b y.0 y.1).1 in
     let high : octet / 16 ≡ x.0 = omega arith in
     let low : octet % 16 ≡ y.0 = omega arith in
-    let first : to_ascii_lowercase a ≡ slice_index lower_digits (octet / 16) = sym (ap (λ (n : ℕ). slice_index lower_digits n) high ∙ lower_digit a x.0 x.1) in
-    let second : to_ascii_lowercase b ≡ slice_index lower_digits (octet % 16) = sym (ap (λ (n : ℕ). slice_index lower_digits n) low ∙ lower_digit b y.0 y.1) in
-    let text : str_to_ascii_lowercase (a ∷ b ∷ rest) ≡ encode_lower (octet ∷ more.0) = two_and_rest (to_ascii_lowercase a) (to_ascii_lowercase b) (slice_index lower_digits (octet / 16)) (slice_index lower_digits (octet % 16)) (str_to_ascii_lowercase rest) (encode_lower more.0) first second more.2 in
+    let first : to_ascii_lowercase a ≡ slice_index lower_digits (octet / 16) =
+    sym (ap (λ (n : ℕ). slice_index lower_digits n) high ∙ lower_digit a x.0 x.1) in
+    let second : to_ascii_lowercase b ≡ slice_index lower_digits (octet % 16) =
+    sym (ap (λ (n : ℕ). slice_index lower_digits n) low ∙ lower_digit b y.0 y.1) in
+    let text : str_to_ascii_lowercase (a ∷ b ∷ rest) ≡ encode_lower (octet ∷ more.0) =
+    two_and_rest (to_ascii_lowercase a) (to_ascii_lowercase b) (slice_index lower_digits (octet / 16)) (slice_index lower_digits (octet % 16))
+    (str_to_ascii_lowercase rest) (encode_lower more.0) first second more.2 in
     (octet ∷ more.0, decode_pairs-ok_pair i a b octet rest pair ∙ ap (cons_byte octet) more.1, text)
 
 -- An even number of digits are those of octets.
-digits_written : (s : List ℕ) → length s % 2 ≡ 0 → AllPass is_hex_digit s → (octets : List ℕ) × (decode_of s ≡ Ok octets) × IsOctets octets × (str_to_ascii_lowercase s ≡ encode_lower octets)
+digits_written : (s : List ℕ) → length s % 2 ≡ 0 → AllPass is_hex_digit s
+    → (octets : List ℕ) × (decode_of s ≡ Ok octets) × IsOctets octets × (str_to_ascii_lowercase s ≡ encode_lower octets)
 digits_written s even h =
     let w = pairs_written 0 s even h in
     let d : decode_of s ≡ Ok w.0 = decode_of-even s even ∙ w.1 in
@@ -110,7 +116,8 @@ short_text text h = ap (λ (long : Bool). cond long (Err long_fault) (told text 
 long_text : (text : List ℕ) → 16777216 < length text → octets_of text ≡ Err long_fault
 long_text text h = ap (λ (long : Bool). cond long (Err long_fault) (told text (position is_other text))) (lt-ltb 16777216 (length text) h)
 
-passed : (front more : List ℕ) → AllPass is_digit_or_white front → position_or_len is_other (front ++ more) ≡ length front + position_or_len is_other more
+passed : (front more : List ℕ) → AllPass is_digit_or_white front
+    → position_or_len is_other (front ++ more) ≡ length front + position_or_len is_other more
 passed [] more h = omega arith
 passed (b ∷ front) more h =
     let kept : ℕ → Type 0 = λ c. is_digit_or_white c ≡ true in
@@ -126,14 +133,17 @@ place_none len n e = grind arith
 
 pub none_other : (text : List ℕ) → AllPass is_digit_or_white text → position is_other text ≡ None
 none_other text h =
-    let all : position_or_len is_other text ≡ length text = ap (λ (xs : List ℕ). position_or_len is_other xs) (sym (append-nil text)) ∙ passed text [] h ∙ omega arith in
+    let all : position_or_len is_other text ≡ length text =
+    ap (λ (xs : List ℕ). position_or_len is_other xs) (sym (append-nil text)) ∙ passed text [] h ∙ omega arith in
     place_none (length text) (position_or_len is_other text) all
 
-first_other : (front : List ℕ) (b : ℕ) (rest : List ℕ) → AllPass is_digit_or_white front → is_digit_or_white b ≡ false → position is_other (front ++ (b ∷ rest)) ≡ Some (length front)
+first_other : (front : List ℕ) (b : ℕ) (rest : List ℕ) → AllPass is_digit_or_white front → is_digit_or_white b ≡ false
+    → position is_other (front ++ (b ∷ rest)) ≡ Some (length front)
 first_other front b rest h not_b =
     let stops : position_or_len is_other (b ∷ rest) ≡ 0 = ap (λ (t : Bool). cond (not (not t)) (1 + position_or_len is_other rest) 0) not_b in
     let all : position_or_len is_other (front ++ (b ∷ rest)) ≡ length front = passed front (b ∷ rest) h ∙ omega (arith, stops) in
-    place_within (length front) (length (front ++ (b ∷ rest))) (position_or_len is_other (front ++ (b ∷ rest))) all (omega (arith, length-append front (b ∷ rest)))
+    place_within (length front) (length (front ++ (b ∷ rest))) (position_or_len is_other (front ++ (b ∷ rest))) all
+    (omega (arith, length-append front (b ∷ rest)))
 
 even_digits : (text : List ℕ) → count_by is_hex_digit text % 2 ≡ 0 → length (filter is_hex_digit text) % 2 ≡ 0
 even_digits text even = omega (arith, length-filter is_hex_digit text)
@@ -155,19 +165,23 @@ written_told text octets writes =
 pub fault_told : (text : List ℕ) (fault : TextFault) → FirstFault text fault → octets_of text ≡ Err fault
 fault_told text fault (FirstFault.long long is) = long_text text long ∙ ap (λ (f : TextFault). Err f) (sym is)
 fault_told text fault (FirstFault.other front b rest short parts clean not_b is) =
-    let found : position is_other text ≡ Some (length front) = ap (λ (xs : List ℕ). position is_other xs) parts ∙ first_other front b rest clean not_b in
+    let found : position is_other text ≡ Some (length front) =
+    ap (λ (xs : List ℕ). position is_other xs) parts ∙ first_other front b rest clean not_b in
     let before : take (length front) text ≡ front = ap (λ (xs : List ℕ). take (length front) xs) parts ∙ take-append_seam front (b ∷ rest) in
-    short_text text short ∙ ap (told text) found ∙ ap (λ (xs : List ℕ). Err (fault_behind xs reasons.Hex)) before ∙ ap (λ (f : TextFault). Err f) (sym is)
+    short_text text short ∙ ap (told text) found ∙ ap (λ (xs : List ℕ). Err (fault_behind xs reasons.Hex)) before
+    ∙ ap (λ (f : TextFault). Err f) (sym is)
 fault_told text fault (FirstFault.odd short clean odd is) =
     let odd_digits : length (filter is_hex_digit text) % 2 ≡ 1 = omega (arith, length-filter is_hex_digit text) in
-    short_text text short ∙ ap (told text) (none_other text clean) ∙ ap (told_digits text) (decode_of-odd (filter is_hex_digit text) odd_digits) ∙ ap (λ (f : TextFault). Err f) (sym is)
+    short_text text short ∙ ap (told text) (none_other text clean) ∙ ap (told_digits text) (decode_of-odd (filter is_hex_digit text) odd_digits)
+    ∙ ap (λ (f : TextFault). Err f) (sym is)
 
 two_cases : (t : Bool) → (t ≡ true) ⊎ (t ≡ false)
 two_cases true = inl refl
 two_cases false = inr refl
 
 abbrev HasOther : List ℕ → Type 0
-HasOther text = (front : List ℕ) × (b : ℕ) × (rest : List ℕ) × (text ≡ front ++ (b ∷ rest)) × AllPass is_digit_or_white front × (is_digit_or_white b ≡ false)
+HasOther text =
+    (front : List ℕ) × (b : ℕ) × (rest : List ℕ) × (text ≡ front ++ (b ∷ rest)) × AllPass is_digit_or_white front × (is_digit_or_white b ≡ false)
 
 clean_or_not : (text : List ℕ) → AllPass is_digit_or_white text ⊎ HasOther text
 clean_or_not [] = inl (All-nil (λ c. is_digit_or_white c ≡ true))

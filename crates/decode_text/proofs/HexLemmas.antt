@@ -14,4 +14,5 @@ found place len other h e = grind arith
 -- The octets behind the last LF are as many as those before it from the end on, or all.
 pub octets_behind_lf : (xs : List ℕ) → unwrap_or (position is_lf (reverse xs)) (length xs) ≡ length (after_last is_lf xs)
 octets_behind_lf xs =
-    found (position_or_len is_lf (reverse xs)) (length (reverse xs)) (length xs) (omega (arith, suffix_len-le-length (λ x. not (is_lf x)) xs, length-reverse xs)) (sym (length-reverse xs)) ∙ sym (behind is_lf xs)
+    found (position_or_len is_lf (reverse xs)) (length (reverse xs)) (length xs)
+    (omega (arith, suffix_len-le-length (λ x. not (is_lf x)) xs, length-reverse xs)) (sym (length-reverse xs)) ∙ sym (behind is_lf xs)

@@ -29,19 +29,26 @@ use Rattle.decode_text.proofs.SessionLemmas.{is_session}
 use Rattle.decode_text.proofs.TellLemmas.{all_append}
 
 -- the tunnel among attributes that are spelled has octets
-tunnel_has : (before : List Attribute) (octets : List ℕ) (attributes : List Attribute) (rest : List ℕ) → ArePartsAfter SpellsAttribute IsNew before octets attributes rest → HasOctets (pmsi_of attributes)
+tunnel_has : (before : List Attribute) (octets : List ℕ) (attributes : List Attribute) (rest : List ℕ)
+    → ArePartsAfter SpellsAttribute IsNew before octets attributes rest → HasOctets (pmsi_of attributes)
 tunnel_has before octets [] rest h = tt
 tunnel_has before octets (Tunnel pmsi ∷ attributes) rest (text, after, spells, is, parts, more) = written_spells pmsi spells.value spells.means
-tunnel_has before octets (Reach r ∷ attributes) rest (text, after, spells, is, parts, more) = tunnel_has (before ++ Reach r ∷ []) after attributes rest more
-tunnel_has before octets (Unreach ks ∷ attributes) rest (text, after, spells, is, parts, more) = tunnel_has (before ++ Unreach ks ∷ []) after attributes rest more
-tunnel_has before octets (Communities comms ∷ attributes) rest (text, after, spells, is, parts, more) = tunnel_has (before ++ Communities comms ∷ []) after attributes rest more
-tunnel_has before octets (Passed kind ∷ attributes) rest (text, after, spells, is, parts, more) = tunnel_has (before ++ Passed kind ∷ []) after attributes rest more
+tunnel_has before octets (Reach r ∷ attributes) rest (text, after, spells, is, parts, more) =
+    tunnel_has (before ++ Reach r ∷ []) after attributes rest more
+tunnel_has before octets (Unreach ks ∷ attributes) rest (text, after, spells, is, parts, more) =
+    tunnel_has (before ++ Unreach ks ∷ []) after attributes rest more
+tunnel_has before octets (Communities comms ∷ attributes) rest (text, after, spells, is, parts, more) =
+    tunnel_has (before ++ Communities comms ∷ []) after attributes rest more
+tunnel_has before octets (Passed kind ∷ attributes) rest (text, after, spells, is, parts, more) =
+    tunnel_has (before ++ Passed kind ∷ []) after attributes rest more
 
-keys_have : (next_hop : _) (comms : List ExtComm) (pmsi : Option Pmsi) (ks : List Key) → HasOctets pmsi → AllByRecursion (λ (a : Advert). HasOctets a.pmsi) (adverts_in comms pmsi (Reach (Some (record { next_hop = next_hop; keys = ks }))))
+keys_have : (next_hop : _) (comms : List ExtComm) (pmsi : Option Pmsi) (ks : List Key) → HasOctets pmsi
+    → AllByRecursion (λ (a : Advert). HasOctets a.pmsi) (adverts_in comms pmsi (Reach (Some (record { next_hop = next_hop; keys = ks }))))
 keys_have next_hop comms pmsi [] h = tt
 keys_have next_hop comms pmsi (k ∷ ks) h = (h, keys_have next_hop comms pmsi ks h)
 
-adverts_have : (comms : List ExtComm) (pmsi : Option Pmsi) (a : Attribute) → HasOctets pmsi → AllByRecursion (λ (a : Advert). HasOctets a.pmsi) (adverts_in comms pmsi a)
+adverts_have : (comms : List ExtComm) (pmsi : Option Pmsi) (a : Attribute) → HasOctets pmsi
+    → AllByRecursion (λ (a : Advert). HasOctets a.pmsi) (adverts_in comms pmsi a)
 adverts_have comms pmsi (Reach (Some r)) h = keys_have r.next_hop comms pmsi r.keys h
 adverts_have comms pmsi (Reach None) h = tt
 adverts_have comms pmsi (Unreach ks) h = tt
@@ -49,13 +56,17 @@ adverts_have comms pmsi (Communities cs) h = tt
 adverts_have comms pmsi (Tunnel p) h = tt
 adverts_have comms pmsi (Passed kind) h = tt
 
-all_have : (comms : List ExtComm) (pmsi : Option Pmsi) (attributes : List Attribute) → HasOctets pmsi → AllByRecursion (λ (a : Advert). HasOctets a.pmsi) (flat_map (adverts_in comms pmsi) attributes)
+all_have : (comms : List ExtComm) (pmsi : Option Pmsi) (attributes : List Attribute) → HasOctets pmsi
+    → AllByRecursion (λ (a : Advert). HasOctets a.pmsi) (flat_map (adverts_in comms pmsi) attributes)
 all_have comms pmsi [] h = tt
-all_have comms pmsi (a ∷ attributes) h = all_append (λ (a : Advert). HasOctets a.pmsi) (adverts_in comms pmsi a) (flat_map (adverts_in comms pmsi) attributes) (adverts_have comms pmsi a h) (all_have comms pmsi attributes h)
+all_have comms pmsi (a ∷ attributes) h =
+    all_append (λ (a : Advert). HasOctets a.pmsi) (adverts_in comms pmsi a) (flat_map (adverts_in comms pmsi) attributes)
+    (adverts_have comms pmsi a h) (all_have comms pmsi attributes h)
 
 update_tellable : (u : Update) (octets : List ℕ) → Spells u octets → AllByRecursion (λ (a : Advert). HasOctets a.pmsi) u.reach
 update_tellable u octets (attributes, are, is) =
-    subst (λ (v : Update). AllByRecursion (λ (a : Advert). HasOctets a.pmsi) v.reach) (sym is) (all_have (comms_of attributes) (pmsi_of attributes) attributes (tunnel_has [] octets attributes [] are))
+    subst (λ (v : Update). AllByRecursion (λ (a : Advert). HasOctets a.pmsi) v.reach) (sym is)
+    (all_have (comms_of attributes) (pmsi_of attributes) attributes (tunnel_has [] octets attributes [] are))
 
 message_tellable : (m : Message) (kind : ℕ) (body : List ℕ) → Means m kind body → IsTellable m
 message_tellable (messages.Update u) kind body h = update_tellable u h.1.list h.1.spelled
@@ -80,4 +91,6 @@ bgp_session = is_session message_front SpellsMessage UnitFault 4096 message_form
 
 -- What the words of a session of LDP meet.
 pub ldp_session : IsSession SpellsPdu PduFault (λ (m : LabelMessage). Unit {0})
-ldp_session = is_session pdu_front SpellsPdu PduFault 4100 pdu_format (λ (m : LabelMessage). Unit {0}) (λ ms text s. ldp_tellable ms) (λ octets ms offset e f. ldp_tellable ms)
+ldp_session =
+    is_session pdu_front SpellsPdu PduFault 4100 pdu_format (λ (m : LabelMessage). Unit {0}) (λ ms text s. ldp_tellable ms)
+    (λ octets ms offset e f. ldp_tellable ms)

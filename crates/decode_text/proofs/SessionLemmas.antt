@@ -23,10 +23,12 @@ no_octets : IsOctets []
 no_octets i = omega arith
 
 -- What the words of a session meet that has a format.
-pub is_session : {M E : Type 0} (front : List ℕ → Front M E) (Spells : List M → List ℕ → Type 0) (Faulty : List ℕ → List M → ℕ → E → Type 0) (limit : ℕ) → IsFormat front Spells Faulty limit → (P : M → Type 0) → ((ms : List M) (text : List ℕ) → Spells ms text → AllByRecursion P ms)
+pub is_session : {M E : Type 0} (front : List ℕ → Front M E) (Spells : List M → List ℕ → Type 0) (Faulty : List ℕ → List M → ℕ → E → Type 0)
+    (limit : ℕ) → IsFormat front Spells Faulty limit → (P : M → Type 0) → ((ms : List M) (text : List ℕ) → Spells ms text → AllByRecursion P ms)
     → ((octets : List ℕ) (ms : List M) (offset : ℕ) (e : E) → Faulty octets ms offset e → AllByRecursion P ms) → IsSession Spells Faulty P
 is_session front Spells Faulty limit format P each before = record {
-  kept = λ octets behind ms offset e fits faulty. format.fails (octets ++ behind) ms offset e fits (format.stream.kept octets behind ms offset e (format.faulty octets ms offset e (IsOctets-before octets behind fits) faulty));
+  kept = λ octets behind ms offset e fits faulty. format.fails (octets ++ behind) ms offset e fits
+      (format.stream.kept octets behind ms offset e (format.faulty octets ms offset e (IsOctets-before octets behind fits) faulty));
   no_unit = none_whole front Spells format.stream.framing [] format.stream.framing.empty;
   no_fault = no_fault front Spells Faulty limit format [] no_octets format.stream.framing.empty;
   tellable = each;
@@ -35,23 +37,33 @@ is_session front Spells Faulty limit format P each before = record {
 
 -- ---- the messages that wait
 
-all_carried : {M : Type 0} (P : M → Type 0) (Spells : List M → List ℕ → Type 0) → ((ms : List M) (text : List ℕ) → Spells ms text → AllByRecursion P ms) → (units : List (Spelled M)) → AreSpelled Spells units → AllByRecursion P (messages_of units)
+all_carried : {M : Type 0} (P : M → Type 0) (Spells : List M → List ℕ → Type 0)
+    → ((ms : List M) (text : List ℕ) → Spells ms text → AllByRecursion P ms) → (units : List (Spelled M)) → AreSpelled Spells units
+    → AllByRecursion P (messages_of units)
 all_carried P Spells each [] h = tt
 all_carried P Spells each (u ∷ us) h = all_append P u.messages (messages_of us) (each u.messages u.octets h.0) (all_carried P Spells each us h.1)
 
-all_begun : {M : Type 0} (P : M → Type 0) (Spells : List M → List ℕ → Type 0) → ((ms : List M) (text : List ℕ) → Spells ms text → AllByRecursion P ms) → (octets : List ℕ) (ms waiting : List M) (rest : List ℕ) → Begins Spells octets ms rest → waiting ≡ ms → AllByRecursion P waiting
+all_begun : {M : Type 0} (P : M → Type 0) (Spells : List M → List ℕ → Type 0) → ((ms : List M) (text : List ℕ) → Spells ms text → AllByRecursion P ms)
+    → (octets : List ℕ) (ms waiting : List M) (rest : List ℕ) → Begins Spells octets ms rest → waiting ≡ ms → AllByRecursion P waiting
 all_begun P Spells each octets ms waiting rest b e = subst (AllByRecursion P) (sym (e ∙ b.carried)) (all_carried P Spells each b.units b.each)
 
 -- Where none waited, the messages that wait behind a feed can be told.
-pub waiting_meet : {X M E : Type 0} (P : M → Type 0) (Spells : List M → List ℕ → Type 0) (Faulty : List ℕ → List M → ℕ → E → Type 0) (limit : ℕ) → IsSession Spells Faulty P → (old : Fed M E) (piece : List ℕ) (fed : Result X (FeedFault E)) (new : Fed M E) → old.waiting ≡ [] → Feeds Spells Faulty limit old piece fed new → AllByRecursion P new.waiting
+pub waiting_meet : {X M E : Type 0} (P : M → Type 0) (Spells : List M → List ℕ → Type 0) (Faulty : List ℕ → List M → ℕ → E → Type 0) (limit : ℕ)
+    → IsSession Spells Faulty P → (old : Fed M E) (piece : List ℕ) (fed : Result X (FeedFault E)) (new : Fed M E) → old.waiting ≡ []
+    → Feeds Spells Faulty limit old piece fed new → AllByRecursion P new.waiting
 waiting_meet {X} {M} P Spells Faulty limit session old piece (Ok x) new none f =
-    all_begun P Spells session.tellable (old.held ++ piece) f.added new.waiting new.held f.splits.begins (f.waiting ∙ ap (λ (ms : List M). ms ++ f.added) none)
+    all_begun P Spells session.tellable (old.held ++ piece) f.added new.waiting new.held f.splits.begins
+    (f.waiting ∙ ap (λ (ms : List M). ms ++ f.added) none)
 waiting_meet {X} {M} P Spells Faulty limit session old piece (Err (faults.First place fault)) new none f =
     let k = f.fails in
-    let all = all_append P k.first k.last (all_begun P Spells session.tellable (old.held ++ piece) k.first k.first k.rest k.begins refl) (session.tellable_before k.rest k.last k.offset fault k.faulty) in
+    let all =
+    all_append P k.first k.last (all_begun P Spells session.tellable (old.held ++ piece) k.first k.first k.rest k.begins refl)
+    (session.tellable_before k.rest k.last k.offset fault k.faulty) in
     subst (AllByRecursion P) (sym (f.waiting ∙ ap (λ (ms : List M). ms ++ f.added) none ∙ k.messages)) all
-waiting_meet {X} {M} {E} P Spells Faulty limit session old piece (Err faults.Failed) new none f = subst (AllByRecursion P) (sym (ap (λ (d : Fed M E). d.waiting) f.1 ∙ none)) tt
-waiting_meet {X} {M} {E} P Spells Faulty limit session old piece (Err faults.NoMemory) new none f = subst (AllByRecursion P) (sym (ap (λ (d : Fed M E). d.waiting) f.1 ∙ none)) tt
+waiting_meet {X} {M} {E} P Spells Faulty limit session old piece (Err faults.Failed) new none f =
+    subst (AllByRecursion P) (sym (ap (λ (d : Fed M E). d.waiting) f.1 ∙ none)) tt
+waiting_meet {X} {M} {E} P Spells Faulty limit session old piece (Err faults.NoMemory) new none f =
+    subst (AllByRecursion P) (sym (ap (λ (d : Fed M E). d.waiting) f.1 ∙ none)) tt
 
 -- ---- piece by piece
 
@@ -66,7 +78,8 @@ pub record ToldSoFar {M E : Type 0} (s : Session M E) (front : List ℕ) (d : Fe
   pub text : told ≡ flat_map s.lines messages
 
 -- Nothing is told of no octets.
-pub none_told : {M E : Type 0} (s : Session M E) (P : M → Type 0) → IsSession s.Spells s.Faulty P → (d : Fed M E) (told : List ℕ) → d ≡ unfed → told ≡ [] → ToldSoFar s [] d told
+pub none_told : {M E : Type 0} (s : Session M E) (P : M → Type 0) → IsSession s.Spells s.Faulty P → (d : Fed M E) (told : List ℕ) → d ≡ unfed
+    → told ≡ [] → ToldSoFar s [] d told
 none_told {M} {E} s P session d told is empty = subst (λ (x : Fed M E). ToldSoFar s [] x told) (sym is) (record {
   messages = [];
   splits = record { begins = nothing_begun s.Spells []; no_unit = session.no_unit };
@@ -77,19 +90,25 @@ none_told {M} {E} s P session d told is empty = subst (λ (x : Fed M E). ToldSoF
 })
 
 -- units behind units
-begun_on : {M : Type 0} (Spells : List M → List ℕ → Type 0) (front : List ℕ) (ms : List M) (held piece : List ℕ) (ns : List M) (rest : List ℕ) → Begins Spells front ms held → Begins Spells (held ++ piece) ns rest → Begins Spells (front ++ piece) (ms ++ ns) rest
+begun_on : {M : Type 0} (Spells : List M → List ℕ → Type 0) (front : List ℕ) (ms : List M) (held piece : List ℕ) (ns : List M) (rest : List ℕ)
+    → Begins Spells front ms held → Begins Spells (held ++ piece) ns rest → Begins Spells (front ++ piece) (ms ++ ns) rest
 begun_on {M} Spells front ms held piece ns rest a b =
-    let texts : octets_of (a.units ++ b.units) ≡ octets_of a.units ++ octets_of b.units = flat_map-append (λ (u : Spelled M). u.octets) a.units b.units in
-    let carried : messages_of (a.units ++ b.units) ≡ messages_of a.units ++ messages_of b.units = flat_map-append (λ (u : Spelled M). u.messages) a.units b.units in
+    let texts : octets_of (a.units ++ b.units) ≡ octets_of a.units ++ octets_of b.units =
+    flat_map-append (λ (u : Spelled M). u.octets) a.units b.units in
+    let carried : messages_of (a.units ++ b.units) ≡ messages_of a.units ++ messages_of b.units =
+    flat_map-append (λ (u : Spelled M). u.messages) a.units b.units in
     record {
       units = a.units ++ b.units;
       each = all_append (λ (u : Spelled M). Spells u.messages u.octets) a.units b.units a.each b.each;
-      parts = ap (λ (xs : List ℕ). xs ++ piece) a.parts ∙ append_assoc (octets_of a.units) held piece ∙ ap (λ (xs : List ℕ). octets_of a.units ++ xs) b.parts ∙ sym (append_assoc (octets_of a.units) (octets_of b.units) rest) ∙ ap (λ (xs : List ℕ). xs ++ rest) (sym texts);
+      parts = ap (λ (xs : List ℕ). xs ++ piece) a.parts ∙ append_assoc (octets_of a.units) held piece
+          ∙ ap (λ (xs : List ℕ). octets_of a.units ++ xs) b.parts ∙ sym (append_assoc (octets_of a.units) (octets_of b.units) rest)
+          ∙ ap (λ (xs : List ℕ). xs ++ rest) (sym texts);
       carried = ap (λ (xs : List M). xs ++ ns) a.carried ∙ ap (λ (xs : List M). messages_of a.units ++ xs) b.carried ∙ sym carried;
     }
 
 -- the octets behind whole units are no more than all
-held_le : {M : Type 0} (Spells : List M → List ℕ → Type 0) (octets : List ℕ) (ms : List M) (rest : List ℕ) → Begins Spells octets ms rest → length rest ≤ length octets
+held_le : {M : Type 0} (Spells : List M → List ℕ → Type 0) (octets : List ℕ) (ms : List M) (rest : List ℕ) → Begins Spells octets ms rest
+    → length rest ≤ length octets
 held_le Spells octets ms rest b = omega (arith, ap (λ (xs : List ℕ). length xs) b.parts, length-append (octets_of b.units) rest)
 
 -- a place further on in octets that are not too many
@@ -97,21 +116,32 @@ near_place : (place n : ℕ) → place + n < 2 ^ 64 → further place n ≡ plac
 near_place place n lt = omega (arith, lt)
 
 -- the text of what was told, with the messages that waited behind a feed
-text_more : {M : Type 0} (lines : M → List ℕ) (told new : List ℕ) (messages added old waiting : List M) → old ≡ [] → told ≡ flat_map lines messages → waiting ≡ old ++ added → new ≡ told ++ flat_map lines waiting → new ≡ flat_map lines (messages ++ added)
+text_more : {M : Type 0} (lines : M → List ℕ) (told new : List ℕ) (messages added old waiting : List M) → old ≡ [] → told ≡ flat_map lines messages
+    → waiting ≡ old ++ added → new ≡ told ++ flat_map lines waiting → new ≡ flat_map lines (messages ++ added)
 text_more {M} lines told new messages added old waiting none text more is =
-    is ∙ ap (λ (xs : List ℕ). xs ++ flat_map lines waiting) text ∙ ap (λ (ms : List M). flat_map lines messages ++ flat_map lines ms) (more ∙ ap (λ (ms : List M). ms ++ added) none) ∙ sym (flat_map-append lines messages added)
+    is ∙ ap (λ (xs : List ℕ). xs ++ flat_map lines waiting) text
+    ∙ ap (λ (ms : List M). flat_map lines messages ++ flat_map lines ms) (more ∙ ap (λ (ms : List M). ms ++ added) none)
+    ∙ sym (flat_map-append lines messages added)
 
 -- A piece that was taken is told.
-pub piece_told : {M E : Type 0} (s : Session M E) (limit : ℕ) (front : List ℕ) (old : Fed M E) (told piece : List ℕ) (fed new : Fed M E) (text : List ℕ) → length (front ++ piece) < 2 ^ 64 → ToldSoFar s front old told → Adds s.Spells s.Faulty limit old piece fed → new ≡ record fed { waiting = [] } → text ≡ told ++ flat_map s.lines fed.waiting → ToldSoFar s (front ++ piece) new text
+pub piece_told : {M E : Type 0} (s : Session M E) (limit : ℕ) (front : List ℕ) (old : Fed M E) (told piece : List ℕ) (fed new : Fed M E)
+    (text : List ℕ) → length (front ++ piece) < 2 ^ 64 → ToldSoFar s front old told → Adds s.Spells s.Faulty limit old piece fed
+    → new ≡ record fed { waiting = [] } → text ≡ told ++ flat_map s.lines fed.waiting → ToldSoFar s (front ++ piece) new text
 piece_told {M} {E} s limit front old told piece fed new text fits t a is more =
     let size = length-append front piece in
     let left = length-append old.held piece in
     let le = held_le s.Spells (old.held ++ piece) a.added fed.held a.splits.begins in
-    let further_on : old.before + (length (old.held ++ piece) - length fed.held) + length fed.held ≡ length (front ++ piece) = omega (arith, t.place, size, left, le) in
-    let before : fed.before ≡ old.before + (length (old.held ++ piece) - length fed.held) = a.before ∙ near_place old.before (length (old.held ++ piece) - length fed.held) (omega (arith, further_on, fits)) in
+    let further_on : old.before + (length (old.held ++ piece) - length fed.held) + length fed.held ≡ length (front ++ piece) =
+    omega (arith, t.place, size, left, le) in
+    let before : fed.before ≡ old.before + (length (old.held ++ piece) - length fed.held) =
+    a.before ∙ near_place old.before (length (old.held ++ piece) - length fed.held) (omega (arith, further_on, fits)) in
     subst (λ (d : Fed M E). ToldSoFar s (front ++ piece) d text) (sym is) (record {
       messages = t.messages ++ a.added;
-      splits = record { begins = begun_on s.Spells front t.messages old.held piece a.added fed.held t.splits.begins a.splits.begins; no_unit = a.splits.no_unit };
+      splits = record {
+        begins = begun_on s.Spells front t.messages old.held piece a.added fed.held t.splits.begins a.splits.begins;
+        no_unit =
+            a.splits.no_unit;
+      };
       sound = a.sound;
       place = omega (arith, before, further_on);
       none = refl;
@@ -119,14 +149,22 @@ piece_told {M} {E} s limit front old told piece fed new text fits t a is more =
     })
 
 -- Where a piece shows the first fault, the octets stop there.
-pub stop_in_piece : {M E : Type 0} (s : Session M E) (P : M → Type 0) → IsSession s.Spells s.Faulty P → (octets front : List ℕ) (old : Fed M E) (told piece behind : List ℕ) (fed : Fed M E) (place : ℕ) (fault : E) (text new : List ℕ) → length octets < 2 ^ 64 → IsOctets octets → octets ≡ (front ++ piece) ++ behind
-    → ToldSoFar s front old told → Stops s.Spells s.Faulty old piece fed place fault → text ≡ told ++ flat_map s.lines fed.waiting → new ≡ text ++ refused_line place (s.word fault) → TellsStop s octets new
+pub stop_in_piece : {M E : Type 0} (s : Session M E) (P : M → Type 0) → IsSession s.Spells s.Faulty P
+    → (octets front : List ℕ) (old : Fed M E) (told piece behind : List ℕ) (fed : Fed M E) (place : ℕ) (fault : E) (text new : List ℕ)
+    → length octets < 2 ^ 64 → IsOctets octets → octets ≡ (front ++ piece) ++ behind
+    → ToldSoFar s front old told → Stops s.Spells s.Faulty old piece fed place fault → text ≡ told ++ flat_map s.lines fed.waiting
+    → new ≡ text ++ refused_line place (s.word fault) → TellsStop s octets new
 stop_in_piece {M} {E} s P session octets front old told piece behind fed place fault text new fits are parts t f more is =
     let k = f.fails in
-    let begins : Begins s.Spells (front ++ piece) (t.messages ++ k.first) k.rest = begun_on s.Spells front t.messages old.held piece k.first k.rest t.splits.begins k.begins in
-    let all : Begins s.Spells octets (t.messages ++ k.first) (k.rest ++ behind) = subst (λ (xs : List ℕ). Begins s.Spells xs (t.messages ++ k.first) (k.rest ++ behind)) (sym parts) (begun_more s.Spells (front ++ piece) (t.messages ++ k.first) k.rest behind begins) in
+    let begins : Begins s.Spells (front ++ piece) (t.messages ++ k.first) k.rest =
+    begun_on s.Spells front t.messages old.held piece k.first k.rest t.splits.begins k.begins in
+    let all : Begins s.Spells octets (t.messages ++ k.first) (k.rest ++ behind) =
+    subst (λ (xs : List ℕ). Begins s.Spells xs (t.messages ++ k.first) (k.rest ++ behind)) (sym parts)
+    (begun_more s.Spells (front ++ piece) (t.messages ++ k.first) k.rest behind begins) in
     let rest_are : IsOctets (k.rest ++ behind) = IsOctets-behind (octets_of all.units) (k.rest ++ behind) (subst IsOctets all.parts are) in
-    let size : length octets ≡ length front + length piece + length behind = ap (λ (xs : List ℕ). length xs) parts ∙ length-append (front ++ piece) behind ∙ ap (λ (n : ℕ). n + length behind) (length-append front piece) in
+    let size : length octets ≡ length front + length piece + length behind =
+    ap (λ (xs : List ℕ). length xs) parts ∙ length-append (front ++ piece) behind
+    ∙ ap (λ (n : ℕ). n + length behind) (length-append front piece) in
     let left = length-append old.held piece in
     let there : place ≡ old.before + f.offset = f.at ∙ near_place old.before f.offset (omega (arith, t.place, size, left, f.near, fits)) in
     let fails : Fails s.Spells s.Faulty octets (t.messages ++ f.added) place fault = record {
@@ -144,27 +182,36 @@ stop_in_piece {M} {E} s P session octets front old told piece behind fed place f
       place = place;
       word = s.word fault;
       stop = faulty fault fails refl;
-      text = is ∙ ap (λ (xs : List ℕ). xs ++ refused_line place (s.word fault)) (text_more s.lines told text t.messages f.added old.waiting fed.waiting t.none t.text f.waiting more);
+      text = is ∙ ap (λ (xs : List ℕ). xs ++ refused_line place (s.word fault))
+          (text_more s.lines told text t.messages f.added old.waiting fed.waiting t.none t.text f.waiting more);
     }
 
 -- the octets in front of a rest that is cut in two
-pub cut_more : (octets front rest piece behind : List ℕ) (n : ℕ) → octets ≡ front ++ rest → piece ≡ take n rest → behind ≡ drop n rest → octets ≡ (front ++ piece) ++ behind
+pub cut_more : (octets front rest piece behind : List ℕ) (n : ℕ) → octets ≡ front ++ rest → piece ≡ take n rest → behind ≡ drop n rest
+    → octets ≡ (front ++ piece) ++ behind
 cut_more octets front rest piece behind n parts first last =
-    parts ∙ ap (λ (xs : List ℕ). front ++ xs) (sym (take-append-drop n rest) ∙ ap (λ (xs : List ℕ). xs ++ drop n rest) (sym first) ∙ ap (λ (xs : List ℕ). piece ++ xs) (sym last)) ∙ sym (append_assoc front piece behind)
+    parts ∙ ap (λ (xs : List ℕ). front ++ xs) (sym (take-append-drop n rest) ∙ ap (λ (xs : List ℕ). xs ++ drop n rest) (sym first)
+    ∙ ap (λ (xs : List ℕ). piece ++ xs) (sym last)) ∙ sym (append_assoc front piece behind)
 
 pub front_fits : (octets front behind : List ℕ) → octets ≡ front ++ behind → length octets < 2 ^ 64 → length front < 2 ^ 64
 front_fits octets front behind parts fits = omega (arith, ap (λ (xs : List ℕ). length xs) parts, length-append front behind, fits)
 
 -- Where a piece shows the first fault, and its line is told, the octets are.
-pub fault_told : (X : Type 0) {M E : Type 0} (s : Session M E) (P : M → Type 0) → IsSession s.Spells s.Faulty P → (limit : ℕ) (octets front : List ℕ) (old : Fed M E) (told piece behind : List ℕ) (fed : Fed M E) (fault : FeedFault E) (text : List ℕ) (refused : Bool) (new : List ℕ) → length octets < 2 ^ 64 → IsOctets octets → octets ≡ (front ++ piece) ++ behind
-    → ToldSoFar s front old told → Feeds {X = X} s.Spells s.Faulty limit old piece (Err fault) fed → text ≡ told ++ flat_map s.lines fed.waiting → TellsFault s.word fault refused text new → TellsSession s refused octets new
+pub fault_told : (X : Type 0) {M E : Type 0} (s : Session M E) (P : M → Type 0) → IsSession s.Spells s.Faulty P
+    → (limit : ℕ) (octets front : List ℕ) (old : Fed M E) (told piece behind : List ℕ) (fed : Fed M E) (fault : FeedFault E) (text : List ℕ)
+    (refused : Bool) (new : List ℕ) → length octets < 2 ^ 64 → IsOctets octets → octets ≡ (front ++ piece) ++ behind
+    → ToldSoFar s front old told → Feeds {X = X} s.Spells s.Faulty limit old piece (Err fault) fed → text ≡ told ++ flat_map s.lines fed.waiting
+    → TellsFault s.word fault refused text new → TellsSession s refused octets new
 fault_told X s P session limit octets front old told piece behind fed (faults.First place e) text refused new fits are parts t f more (is, line) =
-    subst (λ (b : Bool). TellsSession s b octets new) (sym is) (stop_in_piece s P session octets front old told piece behind fed place e text new fits are parts t f more line)
+    subst (λ (b : Bool). TellsSession s b octets new) (sym is)
+    (stop_in_piece s P session octets front old told piece behind fed place e text new fits are parts t f more line)
 fault_told X s P session limit octets front old told piece behind fed faults.Failed text refused new fits are parts t f more tells = absurd tells
 fault_told X s P session limit octets front old told piece behind fed faults.NoMemory text refused new fits are parts t f more tells = absurd tells
 
 -- what is told of all octets, by what is held back
-end_by : {M E : Type 0} (s : Session M E) (octets : List ℕ) (d : Fed M E) (told : List ℕ) (refused : Bool) (text : List ℕ) (held : List ℕ) → d.held ≡ held → ToldSoFar s octets d told → TellsEnd (unfinished (record d { held = held })) refused told text → TellsSession s refused octets text
+end_by : {M E : Type 0} (s : Session M E) (octets : List ℕ) (d : Fed M E) (told : List ℕ) (refused : Bool) (text : List ℕ) (held : List ℕ)
+    → d.held ≡ held → ToldSoFar s octets d told → TellsEnd (unfinished (record d { held = held })) refused told text
+    → TellsSession s refused octets text
 end_by s octets d told refused text [] none t e =
     subst (λ (b : Bool). TellsSession s b octets text) (sym e.0) (record {
       messages = t.messages;
@@ -176,29 +223,45 @@ end_by s octets d told refused text (b ∷ bs) some t e =
       messages = t.messages;
       place = d.before;
       word = codes "short";
-      stop = inside (record { rest = d.held; splits = t.splits; more = omega (arith, ap (λ (xs : List ℕ). length xs) some); sound = t.sound; at = t.place }) refl;
+      stop = inside (record {
+        rest = d.held;
+        splits = t.splits;
+        more = omega (arith, ap (λ (xs : List ℕ). length xs) some);
+        sound = t.sound;
+        at =
+            t.place;
+      }) refl;
       text = e.1 ∙ ap (λ (xs : List ℕ). xs ++ refused_line d.before (codes "short")) t.text;
     })
 
 -- Where all octets were taken, they are told.
-pub end_told : {M E : Type 0} (s : Session M E) (octets : List ℕ) (d : Fed M E) (told : List ℕ) (refused : Bool) (text : List ℕ) → ToldSoFar s octets d told → TellsEnd (unfinished d) refused told text → TellsSession s refused octets text
+pub end_told : {M E : Type 0} (s : Session M E) (octets : List ℕ) (d : Fed M E) (told : List ℕ) (refused : Bool) (text : List ℕ)
+    → ToldSoFar s octets d told → TellsEnd (unfinished d) refused told text → TellsSession s refused octets text
 end_told s octets d told refused text t e = end_by s octets d told refused text d.held refl t e
 
 -- ---- octets are whole, or they stop
 
 -- Octets that are whole units do not stop behind some.
-pub units_apart : {M E : Type 0} (front : List ℕ → Front M E) (s : Session M E) (limit : ℕ) → IsFormat front s.Spells s.Faulty limit → (octets : List ℕ) (ms ns : List M) (place : ℕ) (word : List ℕ) → IsOctets octets → AreUnits s octets ms → StopsAt s octets ns place word → ⊥
-units_apart front s limit format octets ms ns place word fits units (faulty e fails is) = whole_fails front s.Spells s.Faulty limit format octets ms ns place e fits units fails
+pub units_apart : {M E : Type 0} (front : List ℕ → Front M E) (s : Session M E) (limit : ℕ) → IsFormat front s.Spells s.Faulty limit
+    → (octets : List ℕ) (ms ns : List M) (place : ℕ) (word : List ℕ) → IsOctets octets → AreUnits s octets ms → StopsAt s octets ns place word → ⊥
+units_apart front s limit format octets ms ns place word fits units (faulty e fails is) =
+    whole_fails front s.Spells s.Faulty limit format octets ms ns place e fits units fails
 units_apart front s limit format octets ms ns place word fits units (inside ends is) =
     let none = whole_rest front s.Spells format.stream.framing octets ms ns ends.rest units ends.splits in
     absurd (omega (arith, ends.more, ap (λ (xs : List ℕ). length xs) none))
 
 -- Octets that are whole units are told so.
-pub units_told : {M E : Type 0} (front : List ℕ → Front M E) (s : Session M E) (limit : ℕ) → IsFormat front s.Spells s.Faulty limit → (refused : Bool) (octets told : List ℕ) (ms : List M) → IsOctets octets → AreUnits s octets ms → TellsSession s refused octets told → refused ≡ false
+pub units_told : {M E : Type 0} (front : List ℕ → Front M E) (s : Session M E) (limit : ℕ) → IsFormat front s.Spells s.Faulty limit
+    → (refused : Bool) (octets told : List ℕ) (ms : List M) → IsOctets octets → AreUnits s octets ms → TellsSession s refused octets told
+    → refused ≡ false
 units_told front s limit format false octets told ms fits units t = refl
-units_told front s limit format true octets told ms fits units t = absurd (units_apart front s limit format octets ms t.messages t.place t.word fits units t.stop)
+units_told front s limit format true octets told ms fits units t =
+    absurd (units_apart front s limit format octets ms t.messages t.place t.word fits units t.stop)
 
 -- Octets that stop are told so.
-pub stop_told : {M E : Type 0} (front : List ℕ → Front M E) (s : Session M E) (limit : ℕ) → IsFormat front s.Spells s.Faulty limit → (refused : Bool) (octets told : List ℕ) (ms : List M) (place : ℕ) (word : List ℕ) → IsOctets octets → StopsAt s octets ms place word → TellsSession s refused octets told → refused ≡ true
+pub stop_told : {M E : Type 0} (front : List ℕ → Front M E) (s : Session M E) (limit : ℕ) → IsFormat front s.Spells s.Faulty limit
+    → (refused : Bool) (octets told : List ℕ) (ms : List M) (place : ℕ) (word : List ℕ) → IsOctets octets → StopsAt s octets ms place word
+    → TellsSession s refused octets told → refused ≡ true
 stop_told front s limit format true octets told ms place word fits stop t = refl
-stop_told front s limit format false octets told ms place word fits stop t = absurd (units_apart front s limit format octets t.messages ms place word fits t.units stop)
+stop_told front s limit format false octets told ms place word fits stop t =
+    absurd (units_apart front s limit format octets t.messages ms place word fits t.units stop)

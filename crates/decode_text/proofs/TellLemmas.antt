@@ -41,10 +41,14 @@ pub one_passed : {T F : Type 0} (t : Telling T F) (octets told : List ℕ) (plac
 one_passed t octets told place value len p s =
     let rest = drop place octets in
     let behind : drop len rest ≡ drop (place + len) octets = drop-drop len place octets in
-    let parts : rest ≡ t.text value ++ drop (place + len) octets = sym (take-append-drop len rest) ∙ ap (λ (xs : List ℕ). xs ++ drop len rest) s.text ∙ ap (λ (xs : List ℕ). t.text value ++ xs) behind in
+    let parts : rest ≡ t.text value ++ drop (place + len) octets =
+    sym (take-append-drop len rest) ∙ ap (λ (xs : List ℕ). xs ++ drop len rest) s.text ∙ ap (λ (xs : List ℕ). t.text value ++ xs) behind in
     let whole : octets ≡ flat_map t.text (p.values ++ value ∷ []) ++ drop (place + len) octets =
-    p.front ∙ ap (λ (xs : List ℕ). flat_map t.text p.values ++ xs) parts ∙ sym (append_assoc (flat_map t.text p.values) (t.text value) (drop (place + len) octets)) ∙ ap (λ (xs : List ℕ). xs ++ drop (place + len) octets) (sym (one_more t.text p.values value)) in
-    let size : length (flat_map t.text (p.values ++ value ∷ [])) ≡ length (flat_map t.text p.values) + length (t.text value) = ap (λ (xs : List ℕ). length xs) (one_more t.text p.values value) ∙ length-append (flat_map t.text p.values) (t.text value) in
+    p.front ∙ ap (λ (xs : List ℕ). flat_map t.text p.values ++ xs) parts
+    ∙ sym (append_assoc (flat_map t.text p.values) (t.text value) (drop (place + len) octets))
+    ∙ ap (λ (xs : List ℕ). xs ++ drop (place + len) octets) (sym (one_more t.text p.values value)) in
+    let size : length (flat_map t.text (p.values ++ value ∷ [])) ≡ length (flat_map t.text p.values) + length (t.text value) =
+    ap (λ (xs : List ℕ). length xs) (one_more t.text p.values value) ∙ length-append (flat_map t.text p.values) (t.text value) in
     let len_is : length (t.text value) ≡ len = ap (λ (xs : List ℕ). length xs) (sym s.text) ∙ length-take-le len rest s.within in
     record {
       values = p.values ++ value ∷ [];
@@ -55,45 +59,66 @@ one_passed t octets told place value len p s =
     }
 
 -- Where all is passed, the octets are the values.
-pub all_passed : {T F : Type 0} (t : Telling T F) (octets told : List ℕ) (place : ℕ) → Passed t octets told place → length octets ≤ place → TellsWhole t octets told
+pub all_passed : {T F : Type 0} (t : Telling T F) (octets told : List ℕ) (place : ℕ) → Passed t octets told place → length octets ≤ place
+    → TellsWhole t octets told
 all_passed t octets told place p ends = record {
   values = p.values;
-  whole = record { spelled = p.spelled; whole = p.front ∙ ap (λ (xs : List ℕ). flat_map t.text p.values ++ xs) (drop_all place octets ends) ∙ append-nil (flat_map t.text p.values) };
+  whole = record {
+    spelled = p.spelled;
+    whole =
+        p.front ∙ ap (λ (xs : List ℕ). flat_map t.text p.values ++ xs) (drop_all place octets ends) ∙ append-nil (flat_map t.text p.values);
+  };
   lines = p.lines;
 }
 
 -- Where a fault stands behind what is passed, the octets stop there.
-pub fault_passed : {T F : Type 0} (t : Telling T F) (octets told : List ℕ) (place : ℕ) (fault : F) → Passed t octets told place → place < length octets
+pub fault_passed : {T F : Type 0} (t : Telling T F) (octets told : List ℕ) (place : ℕ) (fault : F) → Passed t octets told place
+    → place < length octets
     → t.First (drop place octets) fault → TellsStop t octets (told ++ t.refusal place fault)
 fault_passed t octets told place fault p more first = record {
   values = p.values;
   fault = fault;
-  stop = record { spelled = p.spelled; rest = drop place octets; whole = p.front; more = omega (arith, more, length-drop place octets); first = first };
+  stop = record {
+    spelled = p.spelled;
+    rest = drop place octets;
+    whole = p.front;
+    more = omega (arith, more, length-drop place octets);
+    first =
+        first;
+  };
   lines = ap (λ (xs : List ℕ). xs ++ t.refusal place fault) p.lines ∙ ap (λ (n : ℕ). flat_map t.line p.values ++ t.refusal n fault) p.passed;
 }
 
 -- Octets that are values end to end have no fault behind some.
-pub apart : {T F : Type 0} (t : Telling T F) → IsApart t → (octets : List ℕ) (values others : List T) (fault : F) → IsOctets octets → Whole t octets values → Stop t octets others fault → ⊥
+pub apart : {T F : Type 0} (t : Telling T F) → IsApart t → (octets : List ℕ) (values others : List T) (fault : F) → IsOctets octets
+    → Whole t octets values → Stop t octets others fault → ⊥
 apart t laws octets [] others fault fits are stop =
     absurd (omega (arith, stop.more, ap (λ (xs : List ℕ). length xs) (sym are.whole ∙ stop.whole), length-append (flat_map t.text others) stop.rest))
 apart t laws octets (v ∷ vs) [] fault fits are stop =
-    laws.not_both octets (flat_map t.text vs) v fault fits are.spelled.0 (are.whole ∙ flat_map-cons t.text v vs) (subst (λ (xs : List ℕ). t.First xs fault) (sym stop.whole) stop.first)
+    laws.not_both octets (flat_map t.text vs) v fault fits are.spelled.0 (are.whole ∙ flat_map-cons t.text v vs)
+    (subst (λ (xs : List ℕ). t.First xs fault) (sym stop.whole) stop.first)
 apart t laws octets (v ∷ vs) (w ∷ ws) fault fits are stop =
     let after : List ℕ = flat_map t.text ws ++ stop.rest in
     let left : octets ≡ t.text v ++ flat_map t.text vs = are.whole ∙ flat_map-cons t.text v vs in
-    let right : octets ≡ t.text w ++ after = stop.whole ∙ ap (λ (xs : List ℕ). xs ++ stop.rest) (flat_map-cons t.text w ws) ∙ append_assoc (t.text w) (flat_map t.text ws) stop.rest in
+    let right : octets ≡ t.text w ++ after =
+    stop.whole ∙ ap (λ (xs : List ℕ). xs ++ stop.rest) (flat_map-cons t.text w ws) ∙ append_assoc (t.text w) (flat_map t.text ws) stop.rest in
     let same : t.text v ≡ t.text w = laws.one v w (flat_map t.text vs) after are.spelled.0 stop.spelled.0 (sym left ∙ right) in
-    let rest : flat_map t.text vs ≡ after = append_cancel_left (t.text v) (flat_map t.text vs) after (sym left ∙ right ∙ ap (λ (xs : List ℕ). xs ++ after) (sym same)) in
-    let behind : drop (length (t.text v)) octets ≡ flat_map t.text vs = ap (λ (xs : List ℕ). drop (length (t.text v)) xs) left ∙ drop_at (t.text v) (flat_map t.text vs) (length (t.text v)) refl in
+    let rest : flat_map t.text vs ≡ after =
+    append_cancel_left (t.text v) (flat_map t.text vs) after (sym left ∙ right ∙ ap (λ (xs : List ℕ). xs ++ after) (sym same)) in
+    let behind : drop (length (t.text v)) octets ≡ flat_map t.text vs =
+    ap (λ (xs : List ℕ). drop (length (t.text v)) xs) left ∙ drop_at (t.text v) (flat_map t.text vs) (length (t.text v)) refl in
     let rest_fits : IsOctets (flat_map t.text vs) = subst IsOctets behind (octets_behind (length (t.text v)) octets fits) in
-    apart t laws (flat_map t.text vs) vs ws fault rest_fits (record { spelled = are.spelled.1; whole = refl }) (record { spelled = stop.spelled.1; rest = stop.rest; whole = rest; more = stop.more; first = stop.first })
+    apart t laws (flat_map t.text vs) vs ws fault rest_fits (record { spelled = are.spelled.1; whole = refl })
+    (record { spelled = stop.spelled.1; rest = stop.rest; whole = rest; more = stop.more; first = stop.first })
 
 -- Octets that are values end to end have no line of a fault.
-pub whole_told : {T F : Type 0} (t : Telling T F) → IsApart t → (refused : Bool) (octets told : List ℕ) → IsOctets octets → TellsEach t refused octets told → (values : List T) → Whole t octets values → refused ≡ false
+pub whole_told : {T F : Type 0} (t : Telling T F) → IsApart t → (refused : Bool) (octets told : List ℕ) → IsOctets octets
+    → TellsEach t refused octets told → (values : List T) → Whole t octets values → refused ≡ false
 whole_told t laws false octets told fits tells values are = refl
 whole_told t laws true octets told fits tells values are = absurd (apart t laws octets values tells.values tells.fault fits are tells.stop)
 
 -- Octets with a first fault have its line.
-pub fault_told : {T F : Type 0} (t : Telling T F) → IsApart t → (refused : Bool) (octets told : List ℕ) → IsOctets octets → TellsEach t refused octets told → (values : List T) (fault : F) → Stop t octets values fault → refused ≡ true
+pub fault_told : {T F : Type 0} (t : Telling T F) → IsApart t → (refused : Bool) (octets told : List ℕ) → IsOctets octets
+    → TellsEach t refused octets told → (values : List T) (fault : F) → Stop t octets values fault → refused ≡ true
 fault_told t laws true octets told fits tells values fault stop = refl
 fault_told t laws false octets told fits tells values fault stop = absurd (apart t laws octets tells.values values fault fits tells.whole stop)

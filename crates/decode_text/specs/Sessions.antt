@@ -62,12 +62,14 @@ TellsSession s true octets told = TellsStop s octets told
 
 -- What the words of a session meet: a first fault stays whatever comes behind it, no octets are no unit and have no
 -- fault, and the messages of units and those before a fault can be told.
-pub record IsSession {M E : Type 0} (Spells : List M → List ℕ → Type 0) (Faulty : List ℕ → List M → ℕ → E → Type 0) (IsTellable : M → Type 0) : Type 0 where
-  pub kept : (octets behind : List ℕ) (ms : List M) (offset : ℕ) (e : E) → IsOctets (octets ++ behind) → Faulty octets ms offset e → Faulty (octets ++ behind) ms offset e
-  pub no_unit : NoUnit Spells []
-  pub no_fault : NoFault Faulty []
-  pub tellable : (ms : List M) (text : List ℕ) → Spells ms text → AllByRecursion IsTellable ms
-  pub tellable_before : (octets : List ℕ) (ms : List M) (offset : ℕ) (e : E) → Faulty octets ms offset e → AllByRecursion IsTellable ms
+pub record IsSession {M E : Type 0} (Spells : List M → List ℕ → Type 0) (Faulty : List ℕ → List M → ℕ → E → Type 0) (IsTellable : M → Type 0) : Type 0
+  where
+    pub kept : (octets behind : List ℕ) (ms : List M) (offset : ℕ) (e : E) → IsOctets (octets ++ behind) → Faulty octets ms offset e
+        → Faulty (octets ++ behind) ms offset e
+    pub no_unit : NoUnit Spells []
+    pub no_fault : NoFault Faulty []
+    pub tellable : (ms : List M) (text : List ℕ) → Spells ms text → AllByRecursion IsTellable ms
+    pub tellable_before : (octets : List ℕ) (ms : List M) (offset : ℕ) (e : E) → Faulty octets ms offset e → AllByRecursion IsTellable ms
 
 -- the text before, and behind it the line of the first fault
 abbrev pub TellsFault : {E : Type 0} → (E → List ℕ) → FeedFault E → Bool → List ℕ → List ℕ → Type 0

@@ -42,7 +42,8 @@ all_at P (y ∷ xs) (suc place) x h e = all_at P xs place x h.1 e
 
 pub all_filter : {X : Type 0} (P : X → Type 0) (test : X → Bool) (xs : List X) → AllByRecursion P xs → AllByRecursion P (filter test xs)
 all_filter P test [] h = tt
-all_filter P test (x ∷ xs) h = cond_both (test x) (x ∷ filter test xs) (filter test xs) (AllByRecursion P) (λ t. (h.0, all_filter P test xs h.1)) (λ f. all_filter P test xs h.1)
+all_filter P test (x ∷ xs) h =
+    cond_both (test x) (x ∷ filter test xs) (filter test xs) (AllByRecursion P) (λ t. (h.0, all_filter P test xs h.1)) (λ f. all_filter P test xs h.1)
 
 -- a sum of what counts only if something holds
 pub sum-cond : {X : Type 0} (is : Bool) (f : X → ℕ) (xs : List X) → sum_by (λ x. cond is (f x) 0) xs ≡ cond is (sum_by f xs) 0
@@ -60,7 +61,8 @@ each_replaced P from to new copies h each u n =
     cond_both ((u.0 == from.0) && (n.0 == to.0)) new (copies u n) (AllByRecursion (P u n))
     (λ t.
     let parts = and_parts (u.0 == from.0) (n.0 == to.0) t in
-    subst (λ (x : NodeId). AllByRecursion (P x n) new) (sym (node_equal u from parts.0)) (subst (λ (y : NodeId). AllByRecursion (P from y) new) (sym (node_equal n to parts.1)) h))
+    subst (λ (x : NodeId). AllByRecursion (P x n) new) (sym (node_equal u from parts.0))
+    (subst (λ (y : NodeId). AllByRecursion (P from y) new) (sym (node_equal n to parts.1)) h))
     (λ f. each u n)
 
 -- ---- copies on branches
@@ -69,26 +71,38 @@ abbrev put_on : NodeId → ℕ → ℕ → Branch → World → World
 put_on node ttl number branch world = with_copies node branch.node (world.copies node branch.node ++ copy_on world ttl number branch ∷ []) world
 
 pub branches_each : (P : NodeId → NodeId → LinkCopy → Type 0) (node : NodeId) (ttl number : ℕ) (list : List Branch) (world : World)
-    → AllByRecursion (λ branch. P node branch.node (copy_on world ttl number branch)) list → EachCopy P world.copies → EachCopy P (with_branches node ttl number list world).copies
+    → AllByRecursion (λ branch. P node branch.node (copy_on world ttl number branch)) list → EachCopy P world.copies
+    → EachCopy P (with_branches node ttl number list world).copies
 branches_each P node ttl number [] world h each = each
 branches_each P node ttl number (branch ∷ more) world h each =
     let old = world.copies node branch.node in
     branches_each P node ttl number more (put_on node ttl number branch world) h.1
-    (each_replaced P node branch.node (old ++ copy_on world ttl number branch ∷ []) world.copies (each_append (P node branch.node) old (copy_on world ttl number branch ∷ []) (each node branch.node) (h.0, tt)) each)
+    (each_replaced P node branch.node (old ++ copy_on world ttl number branch ∷ []) world.copies
+    (each_append (P node branch.node) old (copy_on world ttl number branch ∷ []) (each node branch.node) (h.0, tt)) each)
 
-pub branches_total : (weight : NodeId → NodeId → LinkCopy → ℕ) (ways : List (NodeId × NodeId)) (node : NodeId) (ttl number : ℕ) (list : List Branch) (world : World)
+pub branches_total : (weight : NodeId → NodeId → LinkCopy → ℕ) (ways : List (NodeId × NodeId)) (node : NodeId) (ttl number : ℕ) (list : List Branch)
+    (world : World)
     → AllByRecursion (λ branch. count_by (is_way node branch.node) ways ≡ 1) list
-    → total weight ways (with_branches node ttl number list world).copies ≡ total weight ways world.copies + sum_by (λ branch. weight node branch.node (copy_on world ttl number branch)) list
+    → total weight ways (with_branches node ttl number list world).copies
+    ≡ total weight ways world.copies + sum_by (λ branch. weight node branch.node (copy_on world ttl number branch)) list
 branches_total weight ways node ttl number [] world h = omega arith
 branches_total weight ways node ttl number (branch ∷ more) world h =
     let old = world.copies node branch.node in
     let copy = copy_on world ttl number branch in
     let rest = branches_total weight ways node ttl number more (put_on node ttl number branch world) h.1 in
-    omega (arith, total-replaced weight node branch.node (old ++ copy ∷ []) world.copies ways h.0, sum_by-append (weight node branch.node) old (copy ∷ []), sum_by-cons (weight node branch.node) copy [], sum_by-cons (λ (b : Branch). weight node b.node (copy_on world ttl number b)) branch more, rest)
+    omega (
+      arith,
+      total-replaced weight node branch.node (old ++ copy ∷ []) world.copies ways h.0,
+      sum_by-append (weight node branch.node) old (copy ∷ []),
+      sum_by-cons (weight node branch.node) copy [],
+      sum_by-cons (λ (b : Branch). weight node b.node (copy_on world ttl number b)) branch more,
+      rest,
+    )
 
 -- ---- lines
 
-pub outs_written : (number own : ℕ) (iface : IfaceId) (octets : List ℕ) (ifaces : List IfaceId) → outs_in number iface (map (λ i. lines.Out own i octets) ifaces) ≡ cond (own == number) (times_at iface ifaces) 0
+pub outs_written : (number own : ℕ) (iface : IfaceId) (octets : List ℕ) (ifaces : List IfaceId)
+    → outs_in number iface (map (λ i. lines.Out own i octets) ifaces) ≡ cond (own == number) (times_at iface ifaces) 0
 outs_written number own iface octets [] = by (own == number)
   where
     by : (b : Bool) → 0 ≡ cond {A = ℕ} b 0 0
@@ -96,28 +110,39 @@ outs_written number own iface octets [] = by (own == number)
     by false = refl
 outs_written number own iface octets (first ∷ more) =
     let rest = outs_written number own iface octets more in
-    count-cons (is_out_at number iface) (lines.Out own first octets) (map (λ i. lines.Out own i octets) more) ∙ ap (λ n. cond ((own == number) && (first.0 == iface.0)) 1 0 + n) rest ∙ by (own == number)
+    count-cons (is_out_at number iface) (lines.Out own first octets) (map (λ i. lines.Out own i octets) more)
+    ∙ ap (λ n. cond ((own == number) && (first.0 == iface.0)) 1 0 + n) rest ∙ by (own == number)
   where
     by : (b : Bool) → cond {A = ℕ} (b && (first.0 == iface.0)) 1 0 + cond b (times_at iface more) 0 ≡ cond b (times_at iface (first ∷ more)) 0
     by true = sym (count-cons (λ (i : IfaceId). i.0 == iface.0) first more)
     by false = refl
 
-pub hops_write_nothing : (number : ℕ) (iface : IfaceId) (node : NodeId) (ttl own : ℕ) (list : List Branch) → outs_in number iface (map (hop_line node ttl own) list) ≡ 0
+pub hops_write_nothing : (number : ℕ) (iface : IfaceId) (node : NodeId) (ttl own : ℕ) (list : List Branch)
+    → outs_in number iface (map (hop_line node ttl own) list) ≡ 0
 hops_write_nothing number iface node ttl own [] = refl
-hops_write_nothing number iface node ttl own (branch ∷ more) = omega (arith, count-cons (is_out_at number iface) (hop_line node ttl own branch) (map (hop_line node ttl own) more), hops_write_nothing number iface node ttl own more)
+hops_write_nothing number iface node ttl own (branch ∷ more) =
+    omega (
+      arith,
+      count-cons (is_out_at number iface) (hop_line node ttl own branch) (map (hop_line node ttl own) more),
+      hops_write_nothing number iface node ttl own more,
+    )
 
 -- ---- a fate
 
 -- What is written and what is owed behind a fate: what was before, and what the fate writes and owes.
-pub fated_flow : (fates : Fates) (ways : List (NodeId × NodeId)) (number : ℕ) (iface : IfaceId) (world : World) (node : NodeId) (ttl own : ℕ) (octets : List ℕ) (before : List ReportLine) (fate : Fate)
+pub fated_flow : (fates : Fates) (ways : List (NodeId × NodeId)) (number : ℕ) (iface : IfaceId) (world : World) (node : NodeId) (ttl own : ℕ)
+    (octets : List ℕ) (before : List ReportLine) (fate : Fate)
     → AllByRecursion (λ branch. count_by (is_way node branch.node) ways ≡ 1) fate.branches
-    → outs_in number iface (fated world node ttl own octets before fate).lines + total (owed_by fates number iface) ways (fated world node ttl own octets before fate).world.copies
-    ≡ outs_in number iface before + (total (owed_by fates number iface) ways world.copies + cond (own == number) (times_at iface fate.outs + sum_by (λ branch. written_below fates iface ttl node branch.node branch.label) fate.branches) 0)
+    → outs_in number iface (fated world node ttl own octets before fate).lines + total (owed_by fates number iface) ways
+    (fated world node ttl own octets before fate).world.copies
+    ≡ outs_in number iface before + (total (owed_by fates number iface) ways world.copies + cond (own == number)
+    (times_at iface fate.outs + sum_by (λ branch. written_below fates iface ttl node branch.node branch.label) fate.branches) 0)
 fated_flow fates ways number iface world node ttl own octets before fate h =
     let outs = map (λ i. lines.Out own i octets) fate.outs in
     let hops = map (hop_line node ttl own) fate.branches in
     let below = sum_by (λ (branch : Branch). written_below fates iface ttl node branch.node branch.label) fate.branches in
-    let both : cond (own == number) (times_at iface fate.outs) 0 + cond (own == number) below 0 ≡ cond (own == number) (times_at iface fate.outs + below) 0 = by (own == number) below in
+    let both : cond (own == number) (times_at iface fate.outs) 0 + cond (own == number) below 0
+    ≡ cond (own == number) (times_at iface fate.outs + below) 0 = by (own == number) below in
     omega (
       arith,
       count-append (is_out_at number iface) before (outs ++ hops),

@@ -46,24 +46,39 @@ use Rattle.network_laws.proofs.ready_laws.RunsTell.{first_lines}
 
 -- ---- lists
 
-outs_first : (number : ℕ) (acts : List Happened) (rest : List Traced) (own : ℕ) (iface : IfaceId) → outs_at (report_of (traced number acts ++ rest)) own iface ≡ outs_in own iface (lines_in acts) + outs_at (report_of rest) own iface
-outs_first number acts rest own iface = ap (count_by (is_out_at own iface)) (first_lines number acts rest) ∙ count-append (is_out_at own iface) (lines_in acts) (lines_of (report_of rest))
+outs_first : (number : ℕ) (acts : List Happened) (rest : List Traced) (own : ℕ) (iface : IfaceId)
+    → outs_at (report_of (traced number acts ++ rest)) own iface ≡ outs_in own iface (lines_in acts) + outs_at (report_of rest) own iface
+outs_first number acts rest own iface =
+    ap (count_by (is_out_at own iface)) (first_lines number acts rest)
+    ∙ count-append (is_out_at own iface) (lines_in acts) (lines_of (report_of rest))
 
-outs_both : (first more : List Traced) (own : ℕ) (iface : IfaceId) → outs_at (report_of (first ++ more)) own iface ≡ outs_at (report_of first) own iface + outs_at (report_of more) own iface
+outs_both : (first more : List Traced) (own : ℕ) (iface : IfaceId)
+    → outs_at (report_of (first ++ more)) own iface ≡ outs_at (report_of first) own iface + outs_at (report_of more) own iface
 outs_both [] more own iface = omega arith
 outs_both (step ∷ first) more own iface =
     let rest = outs_both first more own iface in
     let own_lines = step.happened.lines in
-    omega (arith, rest, count-append (is_out_at own iface) own_lines (lines_of (report_of (first ++ more))), count-append (is_out_at own iface) own_lines (lines_of (report_of first)))
+    omega (
+      arith,
+      rest,
+      count-append (is_out_at own iface) own_lines (lines_of (report_of (first ++ more))),
+      count-append (is_out_at own iface) own_lines (lines_of (report_of first)),
+    )
 
 -- ---- one event of a window
 
-turned : (network : OctetNetwork Nodes) → OnLinks network → (old : World) → Ready network old.datagrams old → (timed : Timed) → (refusal old timed.event ≡ None → IsOfWindow timed.event) → (acts : List Happened) (next : World) → outcome old timed ≡ Done acts next → EventStep network old (lines_in acts) next
+turned : (network : OctetNetwork Nodes) → OnLinks network → (old : World) → Ready network old.datagrams old → (timed : Timed)
+    → (refusal old timed.event ≡ None → IsOfWindow timed.event) → (acts : List Happened) (next : World) → outcome old timed ≡ Done acts next
+    → EventStep network old (lines_in acts) next
 turned network links old r timed w acts next e = by (refusal old timed.event) refl e
   where
-    by : (o : Option Refusal) → refusal old timed.event ≡ o → (elim o [ None ↦ done old timed.event | Some reason ↦ Done (record { act = None; lines = lines.Refused timed.line reason ∷ [] } ∷ []) old ]) ≡ Done acts next → EventStep network old (lines_in acts) next
+    by : (o : Option Refusal) → refusal old timed.event ≡ o
+        → (elim o [ None ↦ done old timed.event | Some reason ↦ Done (record { act = None; lines = lines.Refused timed.line reason ∷ [] } ∷ []) old ])
+        ≡ Done acts next → EventStep network old (lines_in acts) next
     by None n is = event_step network links old r timed.event (w n) acts next is
-    by (Some reason) n is = quiet_step network links old r (Done (record { act = None; lines = lines.Refused timed.line reason ∷ [] } ∷ []) old) (λ number datagram iface among. record { ready = r; flow = omega arith }) acts next is
+    by (Some reason) n is =
+        quiet_step network links old r (Done (record { act = None; lines = lines.Refused timed.line reason ∷ [] } ∷ []) old)
+        (λ number datagram iface among. record { ready = r; flow = omega arith }) acts next is
 
 -- ---- the events of a window
 
@@ -73,9 +88,11 @@ pub record Windowed (network : OctetNetwork Nodes) (old : World) (trace : List T
   pub grows : new.datagrams ≡ old.datagrams ++ more
   pub ready : Ready network new.datagrams new
   pub flow : (number : ℕ) (datagram : Datagram) (iface : IfaceId) → 0 < number → IsAmong number datagram new.datagrams
-      → outs_at (report_of trace) number iface + (owed network number datagram iface new + had network number datagram iface old.datagrams) ≡ owed network number datagram iface old + had network number datagram iface new.datagrams
+      → outs_at (report_of trace) number iface + (owed network number datagram iface new + had network number datagram iface old.datagrams)
+      ≡ owed network number datagram iface old + had network number datagram iface new.datagrams
 
-among_first : (number : ℕ) (datagram : Datagram) (first more all : List Datagram) → all ≡ first ++ more → 0 < number → IsAmong number datagram all → IsAmong number datagram first
+among_first : (number : ℕ) (datagram : Datagram) (first more all : List Datagram) → all ≡ first ++ more → 0 < number → IsAmong number datagram all
+    → IsAmong number datagram first
 among_first number datagram first more all e some h le =
     let long : length all ≡ length first + length more = ap (λ (d : List Datagram). length d) e ∙ length-append first more in
     numbered_at first number some
@@ -84,9 +101,11 @@ among_first number datagram first more all e some h le =
     ∙ sym (numbered_at all number some)
     ∙ h (omega (arith, long, le))
 
-pub windowed : (network : OctetNetwork Nodes) → OnLinks network → (events : List Timed) (old : World) (start : ℕ) (trace : List Traced) (new : World) → Ready network old.datagrams old → AreOfWindow old events → Runs old start events trace new → Windowed network old trace new
+pub windowed : (network : OctetNetwork Nodes) → OnLinks network → (events : List Timed) (old : World) (start : ℕ) (trace : List Traced) (new : World)
+    → Ready network old.datagrams old → AreOfWindow old events → Runs old start events trace new → Windowed network old trace new
 windowed network links [] old start trace new r w run =
-    let stays : Windowed network old [] old = record { more = []; grows = sym (append-nil old.datagrams); ready = r; flow = λ number datagram iface some is. omega arith } in
+    let stays : Windowed network old [] old =
+    record { more = []; grows = sym (append-nil old.datagrams); ready = r; flow = λ number datagram iface some is. omega arith } in
     subst (λ (t : List Traced). Windowed network old t new) (sym run.0) (subst (λ (x : World). Windowed network old [] x) (sym run.1) stays)
 windowed network links (timed ∷ more) old start trace new r w run =
     let acts = run.0 in
@@ -106,71 +125,106 @@ windowed network links (timed ∷ more) old start trace new r w run =
 -- ---- no copies
 
 -- Without copies nothing is owed.
-owes_nothing : (network : OctetNetwork Nodes) (number : ℕ) (datagram : Datagram) (iface : IfaceId) (world : World) → ((u n : NodeId) → world.copies u n ≡ []) → owed network number datagram iface world ≡ 0
-owes_nothing network number datagram iface world h = sum-zero (λ (way : NodeId × NodeId). sum_by (owed_by (fates_in network datagram) number iface way.0 way.1) (world.copies way.0 way.1)) (λ way. ap (sum_by (owed_by (fates_in network datagram) number iface way.0 way.1)) (h way.0 way.1)) (link_ways network.state.scenario)
+owes_nothing : (network : OctetNetwork Nodes) (number : ℕ) (datagram : Datagram) (iface : IfaceId) (world : World)
+    → ((u n : NodeId) → world.copies u n ≡ []) → owed network number datagram iface world ≡ 0
+owes_nothing network number datagram iface world h =
+    sum-zero (λ (way : NodeId × NodeId). sum_by (owed_by (fates_in network datagram) number iface way.0 way.1) (world.copies way.0 way.1))
+    (λ way. ap (sum_by (owed_by (fates_in network datagram) number iface way.0 way.1)) (h way.0 way.1)) (link_ways network.state.scenario)
 
 -- Where no copy is on a link, none is anywhere.
-pub drained_empty : (network : OctetNetwork Nodes) (world : World) → Ready network world.datagrams world → IsDrained world → (u n : NodeId) → world.copies u n ≡ []
+pub drained_empty : (network : OctetNetwork Nodes) (world : World) → Ready network world.datagrams world → IsDrained world → (u n : NodeId)
+    → world.copies u n ≡ []
 drained_empty network world r d u n = by (world.copies u n) refl (r.sound u n)
   where
-    along : (ways : List (NodeId × NodeId)) → flat_map (λ (way : NodeId × NodeId). world.copies way.0 way.1) ways ≡ [] → count_by (is_way u n) ways ≡ 1 → world.copies u n ≡ []
+    along : (ways : List (NodeId × NodeId)) → flat_map (λ (way : NodeId × NodeId). world.copies way.0 way.1) ways ≡ []
+        → count_by (is_way u n) ways ≡ 1 → world.copies u n ≡ []
     along [] e h = absurd (omega (arith, h))
     along (way ∷ more) e h =
         let parts = both_none (world.copies way.0 way.1) (flat_map (λ (w : NodeId × NodeId). world.copies w.0 w.1) more) e in
         elim (cases_Bool (is_way u n way)) [
-          | inl t ↦ (let same = and_parts (way.0.0 == u.0) (way.1.0 == n.0) t in (λ i. world.copies (sym (node_equal way.0 u same.0) i) (sym (node_equal way.1 n same.1) i)) ∙ parts.0)
-          | inr f ↦ (let none : cond {A = ℕ} (is_way u n way) 1 0 ≡ 0 = cond-false (is_way u n way) 1 0 f in along more parts.1 (omega (arith, count-cons (is_way u n) way more, none, h)))
+          | inl t ↦ (let same = and_parts (way.0.0 == u.0) (way.1.0 == n.0) t in
+              (λ i. world.copies (sym (node_equal way.0 u same.0) i) (sym (node_equal way.1 n same.1) i)) ∙ parts.0)
+          | inr f ↦ (let none : cond {A = ℕ} (is_way u n way) 1 0 ≡ 0 = cond-false (is_way u n way) 1 0 f in
+              along more parts.1 (omega (arith, count-cons (is_way u n) way more, none, h)))
         ]
 
-    by : (list : List LinkCopy) → world.copies u n ≡ list → AllByRecursion (SoundCopy (link_ways network.state.scenario) (length world.datagrams) u n) list → world.copies u n ≡ []
+    by : (list : List LinkCopy) → world.copies u n ≡ list
+        → AllByRecursion (SoundCopy (link_ways network.state.scenario) (length world.datagrams) u n) list → world.copies u n ≡ []
     by [] e s = e
-    by (copy ∷ more) e s = along (link_ways (scenario_of world)) d (subst (λ (x : OctetNetwork Nodes). count_by (is_way u n) (link_ways x.state.scenario) ≡ 1) (sym r.network_is) s.0.on_way)
+    by (copy ∷ more) e s =
+        along (link_ways (scenario_of world)) d (subst (λ (x : OctetNetwork Nodes). count_by (is_way u n) (link_ways x.state.scenario) ≡ 1)
+        (sym r.network_is) s.0.on_way)
 
 -- ---- outside of the window
 
 -- What comes of an event that is not refused, and of one that is.
 pub record Came (old : World) (timed : Timed) (acts : List Happened) (next : World) : Type 0 where
-  pub is : (done old timed.event ≡ Done acts next) ⊎ ((reason : Refusal) × ((record { act = None; lines = lines.Refused timed.line reason ∷ [] } ∷ []) ≡ acts) × (old ≡ next))
+  pub is : (done old timed.event ≡ Done acts next)
+      ⊎ ((reason : Refusal) × ((record { act = None; lines = lines.Refused timed.line reason ∷ [] } ∷ []) ≡ acts) × (old ≡ next))
 
 pub came : (old : World) (timed : Timed) (acts : List Happened) (next : World) → outcome old timed ≡ Done acts next → Came old timed acts next
 came old timed acts next e = by (refusal old timed.event) e
   where
-    by : (o : Option Refusal) → (elim o [ None ↦ done old timed.event | Some reason ↦ Done (record { act = None; lines = lines.Refused timed.line reason ∷ [] } ∷ []) old ]) ≡ Done acts next → Came old timed acts next
+    by : (o : Option Refusal) → (elim o [
+      | None ↦ done old timed.event
+      | Some reason ↦
+          Done (record { act = None; lines = lines.Refused timed.line reason ∷ [] } ∷ []) old
+    ]) ≡ Done acts next → Came old timed acts next
     by None is = record { is = inl is }
     by (Some reason) is =
         let first : List Happened = record { act = None; lines = lines.Refused timed.line reason ∷ [] } ∷ [] in
         record { is = inr (reason, (let same : first ≡ acts = cc in same), (let world : old ≡ next = cc in world)) }
 
 -- the datagrams behind an event
-pub done_sends : (old : World) (event : Event) (acts : List Happened) (next : World) → done old event ≡ Done acts next → next.datagrams ≡ old.datagrams ++ brought_by event
+pub done_sends : (old : World) (event : Event) (acts : List Happened) (next : World) → done old event ≡ Done acts next
+    → next.datagrams ≡ old.datagrams ++ brought_by event
 done_sends old event acts next e =
     let all = old.datagrams ++ brought_by event in
-    (subst (Leads (λ l. ⊤) (Sent all)) e (event_leads (λ l. ⊤) any_lines (Sent all) (Sent all) (λ one k world s. act_sent all one world s) (λ one k world s. act_sent all one world s) (λ world s. s) old event (before event))).1
+    (subst (Leads (λ l. ⊤) (Sent all)) e (event_leads (λ l. ⊤) any_lines (Sent all) (Sent all) (λ one k world s. act_sent all one world s)
+    (λ one k world s. act_sent all one world s) (λ world s. s) old event (before event))).1
   where
-    before : (one : Event) → Before (λ l. ⊤) any_lines (Sent (old.datagrams ++ brought_by one)) (Sent (old.datagrams ++ brought_by one)) (λ a k world s. act_sent (old.datagrams ++ brought_by one) a world s) (λ a k world s. act_sent (old.datagrams ++ brought_by one) a world s) (λ world s. s) old one
+    before : (one : Event) → Before (λ l. ⊤) any_lines (Sent (old.datagrams ++ brought_by one)) (Sent (old.datagrams ++ brought_by one))
+        (λ a k world s. act_sent (old.datagrams ++ brought_by one) a world s) (λ a k world s. act_sent (old.datagrams ++ brought_by one) a world s)
+        (λ world s. s) old one
     before (events.Send site source group payload) = refl
     before (events.Packet site octets) = refl
     before other = sym (append-nil old.datagrams)
 
 -- Datagrams are never forgotten.
-not_fewer : (events : List Timed) (old : World) (start : ℕ) (trace : List Traced) (new : World) → Runs old start events trace new → length old.datagrams ≤ length new.datagrams
+not_fewer : (events : List Timed) (old : World) (start : ℕ) (trace : List Traced) (new : World) → Runs old start events trace new
+    → length old.datagrams ≤ length new.datagrams
 not_fewer [] old start trace new run = (let same = ap (λ (w : World). length w.datagrams) run.1 in omega (arith, same))
 not_fewer (timed ∷ more) old start trace new run =
     let rest = not_fewer more run.1 (start + 1) run.2 new run.5 in
     elim (came old timed run.0 run.1 run.3).is [
-      | inl is ↦ (let long = ap (λ (d : List Datagram). length d) (done_sends old timed.event run.0 run.1 is) in omega (arith, rest, long, length-append old.datagrams (brought_by timed.event)))
+      | inl is ↦ (let long = ap (λ (d : List Datagram). length d) (done_sends old timed.event run.0 run.1 is) in
+          omega (arith, rest, long, length-append old.datagrams (brought_by timed.event)))
       | inr r ↦ (let same = ap (λ (w : World). length w.datagrams) r.2 in omega (arith, rest, same))
     ]
 
 module _ (number : ℕ) (iface : IfaceId) where
-  before_silent : (world : World) (event : Event) → Silent number iface world → (length world.datagrams < length (world.datagrams ++ brought_by event) → length (world.datagrams ++ brought_by event) ≢ number)
-      → Before (WritesNothing number iface) (write_nothing number iface) (Silent number iface) (Entering number iface) (act_silent number iface) (entry_silent number iface) (λ w s. s.silent) world event
-  before_silent world (events.Send site source group payload) s h = record { not_last = h (omega (arith, length-append world.datagrams (brought_by (events.Send site source group payload)))); silent = record { no_copy = s.no_copy } }
-  before_silent world (events.Packet site octets) s h = record { not_last = h (omega (arith, length-append world.datagrams (brought_by (events.Packet site octets)))); silent = record { no_copy = s.no_copy } }
+  before_silent : (world : World) (event : Event) → Silent number iface world
+      → (length world.datagrams < length (world.datagrams ++ brought_by event) → length (world.datagrams ++ brought_by event) ≢ number)
+      → Before (WritesNothing number iface) (write_nothing number iface) (Silent number iface) (Entering number iface) (act_silent number iface)
+      (entry_silent number iface) (λ w s. s.silent) world event
+  before_silent world (events.Send site source group payload) s h =
+      record {
+        not_last = h (omega (arith, length-append world.datagrams (brought_by (events.Send site source group payload))));
+        silent =
+            record { no_copy = s.no_copy };
+      }
+  before_silent world (events.Packet site octets) s h =
+      record {
+        not_last = h (omega (arith, length-append world.datagrams (brought_by (events.Packet site octets))));
+        silent =
+            record { no_copy = s.no_copy };
+      }
   before_silent world other s h = s
 
   -- A datagram without copies that is not sent among these events leaves nowhere.
-  silent_runs : (events : List Timed) (old : World) (start : ℕ) (trace : List Traced) (new : World) → Silent number iface old → (number ≤ length old.datagrams) ⊎ (length new.datagrams < number) → Runs old start events trace new → outs_at (report_of trace) number iface ≡ 0
+  silent_runs : (events : List Timed) (old : World) (start : ℕ) (trace : List Traced) (new : World) → Silent number iface old
+      → (number ≤ length old.datagrams) ⊎ (length new.datagrams < number) → Runs old start events trace new
+      → outs_at (report_of trace) number iface ≡ 0
   silent_runs [] old start trace new s side run = ap (λ (t : List Traced). outs_at (report_of t) number iface) run.0
   silent_runs (timed ∷ more) old start trace new s side run =
       let acts = run.0 in
@@ -181,15 +235,21 @@ module _ (number : ℕ) (iface : IfaceId) where
             let sent : next.datagrams ≡ all = done_sends old timed.event acts next is in
             let long : length next.datagrams ≡ length all = ap (λ (d : List Datagram). length d) sent in
             let least = not_fewer more next (start + 1) run.2 new run.5 in
-            let not_last : length old.datagrams < length all → length all ≢ number = λ lt e. ⊎_elim (λ le. absurd (omega (arith, le, lt, e))) (λ gt. absurd (omega (arith, gt, least, long, e))) side in
+            let not_last : length old.datagrams < length all → length all ≢ number =
+            λ lt e. ⊎_elim (λ le. absurd (omega (arith, le, lt, e))) (λ gt. absurd (omega (arith, gt, least, long, e))) side in
             let leads = subst (Leads (WritesNothing number iface) (Silent number iface)) is
-            (event_leads (WritesNothing number iface) (write_nothing number iface) (Silent number iface) (Entering number iface) (act_silent number iface) (entry_silent number iface) (λ w x. x.silent) old timed.event (before_silent old timed.event s not_last)) in
+            (event_leads (WritesNothing number iface) (write_nothing number iface) (Silent number iface) (Entering number iface)
+            (act_silent number iface) (entry_silent number iface) (λ w x. x.silent) old timed.event (before_silent old timed.event s not_last)) in
             let none = leads.0 in
-            let rest = silent_runs more next (start + 1) run.2 new leads.1 (⊎_elim (λ le. inl (omega (arith, le, long, length-append old.datagrams (brought_by timed.event)))) (λ gt. inr gt) side) run.5 in
+            let rest =
+            silent_runs more next (start + 1) run.2 new leads.1
+            (⊎_elim (λ le. inl (omega (arith, le, long, length-append old.datagrams (brought_by timed.event)))) (λ gt. inr gt) side) run.5 in
             omega (arith, outs_first start acts run.2 number iface, none, rest)
         | inr r ↦
             let none : outs_in number iface (lines_in acts) ≡ 0 = ap (λ (a : List Happened). outs_in number iface (lines_in a)) (sym r.1) in
-            let rest = silent_runs more next (start + 1) run.2 new (subst (Silent number iface) r.2 s) (⊎_elim (λ le. inl (subst (λ (w : World). number ≤ length w.datagrams) r.2 le)) (λ gt. inr gt) side) run.5 in
+            let rest =
+            silent_runs more next (start + 1) run.2 new (subst (Silent number iface) r.2 s)
+            (⊎_elim (λ le. inl (subst (λ (w : World). number ≤ length w.datagrams) r.2 le)) (λ gt. inr gt) side) run.5 in
             omega (arith, outs_first start acts run.2 number iface, none, rest)
       ]
 
@@ -199,10 +259,18 @@ no_copies : (world : World) → ((u n : NodeId) → world.copies u n ≡ []) →
 no_copies world h P u n = subst (AllByRecursion (P u n)) (sym (h u n)) tt
 
 -- the copies of a calm network are sound, since there are none
-pub ready_calm : (receives : SiteId → Addr → Addr → IfaceId → Bool) (world : World) → CalmWorld receives world → Ready world.network world.datagrams world
-ready_calm receives world calm = record { network_is = refl; datagrams_are = refl; sound = no_copies world calm.empty (SoundCopy (link_ways world.network.state.scenario) (length world.datagrams)) }
+pub ready_calm : (receives : SiteId → Addr → Addr → IfaceId → Bool) (world : World) → CalmWorld receives world
+    → Ready world.network world.datagrams world
+ready_calm receives world calm =
+    record {
+      network_is = refl;
+      datagrams_are = refl;
+      sound =
+          no_copies world calm.empty (SoundCopy (link_ways world.network.state.scenario) (length world.datagrams));
+    }
 
-pub delivered_once : (receives : SiteId → Addr → Addr → IfaceId → Bool) (cores : Cores) (script : Script) (before within after : List Timed) (trace : List Traced) (calm last new : World)
+pub delivered_once : (receives : SiteId → Addr → Addr → IfaceId → Bool) (cores : Cores) (script : Script) (before within after : List Timed)
+    (trace : List Traced) (calm last new : World)
     → WindowRun receives cores script before within after trace calm last new → AreDeliveredOnce receives trace calm last
 delivered_once receives cores script before within after trace calm last new run place datagram iface le at =
     let network = calm.network in
@@ -213,16 +281,25 @@ delivered_once receives cores script before within after trace calm last new run
     let gone = drained_empty network last w.ready run.drained in
     let within_last = slice_get_within last.datagrams place datagram at in
     let here : number - 1 ≡ place = omega arith in
-    let flow = w.flow number datagram iface (omega arith) (λ x. numbered_at last.datagrams number (omega arith) ∙ ap (slice_get last.datagrams) here ∙ at) in
+    let flow =
+    w.flow number datagram iface (omega arith) (λ x. numbered_at last.datagrams number (omega arith) ∙ ap (slice_get last.datagrams) here ∙ at) in
     let none_before = owes_nothing network number datagram iface calm empty in
     let none_behind = owes_nothing network number datagram iface last gone in
-    let not_yet : had network number datagram iface calm.datagrams ≡ 0 = cond-false (nat_le number (length calm.datagrams)) (written_of network datagram iface) 0 (elim (cases_Bool (nat_le number (length calm.datagrams))) [
+    let not_yet : had network number datagram iface calm.datagrams ≡ 0 =
+    cond-false (nat_le number (length calm.datagrams)) (written_of network datagram iface) 0
+    (elim (cases_Bool (nat_le number (length calm.datagrams))) [
       | inl t ↦ (let less = leb-true number (length calm.datagrams) t in absurd (omega (arith, less, le)))
       | inr f ↦ f
     ]) in
-    let all_of_it : had network number datagram iface last.datagrams ≡ written_of network datagram iface = cond-true (nat_le number (length last.datagrams)) (written_of network datagram iface) 0 (le-leb number (length last.datagrams) (omega (arith, within_last))) in
-    let early = silent_runs number iface before (fresh_world script.scenario cores) 0 run.first calm (record { no_copy = λ u n. tt }) (inr (omega (arith, le))) run.up_to in
-    let late = silent_runs number iface after last (length before + length within) run.rest new (record { no_copy = no_copies last gone (λ u n copy. copy.number ≢ number) }) (inl (omega (arith, within_last))) run.later in
+    let all_of_it : had network number datagram iface last.datagrams ≡ written_of network datagram iface =
+    cond-true (nat_le number (length last.datagrams)) (written_of network datagram iface) 0
+    (le-leb number (length last.datagrams) (omega (arith, within_last))) in
+    let early =
+    silent_runs number iface before (fresh_world script.scenario cores) 0 run.first calm (record { no_copy = λ u n. tt })
+    (inr (omega (arith, le))) run.up_to in
+    let late =
+    silent_runs number iface after last (length before + length within) run.rest new
+    (record { no_copy = no_copies last gone (λ u n copy. copy.number ≢ number) }) (inl (omega (arith, within_last))) run.later in
     let written = flow_writes network (receives datagram.site datagram.source datagram.group) datagram (run.is_calm.flows datagram) iface in
     let split = ap (λ (t : List Traced). outs_at (report_of t) number iface) run.whole ∙ outs_both run.first (run.middle ++ run.rest) number iface in
     omega (arith, split, outs_both run.middle run.rest number iface, flow, none_before, none_behind, not_yet, all_of_it, early, late, written)

@@ -54,7 +54,8 @@ raises_enter_nothing list kind a b = by (find (is_session_of kind a b) list)
     by (Some session) = (tt, (tt, tt))
 
 notices_enter_nothing : (world : World) (session : Session) (n peer : NodeId) → AllByRecursion IsNoEntry (notices world session n peer)
-notices_enter_nothing world session n peer = cond_both (is_up world session.kind n peer) (Notice session.kind n peer ∷ []) [] (AllByRecursion IsNoEntry) (λ t. (tt, tt)) (λ f. tt)
+notices_enter_nothing world session n peer =
+    cond_both (is_up world session.kind n peer) (Notice session.kind n peer ∷ []) [] (AllByRecursion IsNoEntry) (λ t. (tt, tt)) (λ f. tt)
 
 timers_enter_nothing : (list : List NodeId) → AllByRecursion IsNoEntry (map (λ n. Timers n) list)
 timers_enter_nothing [] = tt
@@ -66,7 +67,9 @@ reroutes_enter_nothing (n ∷ more) = (tt, reroutes_enter_nothing more)
 
 landings_enter_nothing : (world : World) (ways : List (NodeId × NodeId)) → AllByRecursion IsNoEntry (flat_map (landings world) ways)
 landings_enter_nothing world [] = tt
-landings_enter_nothing world (way ∷ more) = each_append IsNoEntry (landings world way) (flat_map (landings world) more) (copies (length (world.copies way.0 way.1))) (landings_enter_nothing world more)
+landings_enter_nothing world (way ∷ more) =
+    each_append IsNoEntry (landings world way) (flat_map (landings world) more) (copies (length (world.copies way.0 way.1)))
+    (landings_enter_nothing world more)
   where
     copies : (count : ℕ) → AllByRecursion IsNoEntry (replicate count (Land way.0 way.1 1))
     copies zero = tt
@@ -77,7 +80,9 @@ entries_enter [] = tt
 entries_enter (vrf ∷ more) = (tt, entries_enter more)
 
 -- What each act keeps that lets no datagram in, and, while one is let in, what that keeps.
-module _ (L : List ReportLine → Type 0) (l : IsOfLines L) (W V : World → Type 0) (h : (one : Act) → IsNoEntry one → (world : World) → W world → Gives L W (act world one)) (e : (one : Act) → IsEntry one → (world : World) → V world → Gives L V (act world one)) (v : (world : World) → V world → W world) where
+module _ (L : List ReportLine → Type 0) (l : IsOfLines L) (W V : World → Type 0)
+    (h : (one : Act) → IsNoEntry one → (world : World) → W world → Gives L W (act world one))
+    (e : (one : Act) → IsEntry one → (world : World) → V world → Gives L V (act world one)) (v : (world : World) → V world → W world) where
   rows : (acts : List Act) → AllByRecursion IsNoEntry acts → (world : World) → W world → Leads L W (row acts world)
   rows acts k world w = row_leads L l W IsNoEntry h acts k world w
 
@@ -95,7 +100,8 @@ module _ (L : List ReportLine → Type 0) (l : IsOfLines L) (W V : World → Typ
   turn_leads : (over : Direction) (world : World) → W world → Leads L W (turn over world)
   turn_leads over world w = by (world.network.transit over)
     where
-      by : (octets : List ℕ) → Leads L W (elim octets [ [] ↦ Done [] world | octet ∷ more ↦ row (Move over.kind over.from over.to (length (octet ∷ more)) ∷ []) world ])
+      by : (octets : List ℕ) → Leads L W (elim octets
+          [ [] ↦ Done [] world | octet ∷ more ↦ row (Move over.kind over.from over.to (length (octet ∷ more)) ∷ []) world ])
       by [] = (l.none, w)
       by (octet ∷ more) = one_row (Move over.kind over.from over.to (length (octet ∷ more))) tt world w
 
@@ -103,12 +109,20 @@ module _ (L : List ReportLine → Type 0) (l : IsOfLines L) (W V : World → Typ
   healed_leads session world w =
       let acts = notices world session session.a session.b ++ (notices world session session.b session.a ++ raise_acts session) in
       cond_both (is_joined world session) (Done [] world) (row acts world) (Leads L W) (λ t. (l.none, w))
-      (λ f. rows acts (each_append IsNoEntry (notices world session session.a session.b) (notices world session session.b session.a ++ raise_acts session) (notices_enter_nothing world session session.a session.b) (each_append IsNoEntry (notices world session session.b session.a) (raise_acts session) (notices_enter_nothing world session session.b session.a) (tt, (tt, tt)))) world w)
+      (λ f. rows acts (each_append IsNoEntry (notices world session session.a session.b)
+      (notices world session session.b session.a ++ raise_acts session) (notices_enter_nothing world session session.a session.b)
+      (each_append IsNoEntry (notices world session session.b session.a) (raise_acts session)
+      (notices_enter_nothing world session session.b session.a) (tt, (tt, tt)))) world w)
 
-  sent_leads : (site : SiteId) (source group : Addr) (octets : List ℕ) (world : World) → V (record world { datagrams = world.datagrams ++ record { site = site; source = source; group = group; octets = octets } ∷ [] }) → Leads L W (sent site source group octets world)
+  sent_leads : (site : SiteId) (source group : Addr) (octets : List ℕ) (world : World)
+      → V (record world { datagrams = world.datagrams ++ record { site = site; source = source; group = group; octets = octets } ∷ [] })
+      → Leads L W (sent site source group octets world)
   sent_leads site source group octets world w =
-      let begins : World = record world { datagrams = world.datagrams ++ record { site = site; source = source; group = group; octets = octets } ∷ [] } in
-      leads_as L V W v (row (map (λ vrf. Enter vrf) (entered (scenario_of world) site)) begins) (row_leads L l V IsEntry e (map (λ vrf. Enter vrf) (entered (scenario_of world) site)) (entries_enter (entered (scenario_of world) site)) begins w)
+      let begins : World =
+      record world { datagrams = world.datagrams ++ record { site = site; source = source; group = group; octets = octets } ∷ [] } in
+      leads_as L V W v (row (map (λ vrf. Enter vrf) (entered (scenario_of world) site)) begins)
+      (row_leads L l V IsEntry e (map (λ vrf. Enter vrf) (entered (scenario_of world) site)) (entries_enter (entered (scenario_of world) site))
+      begins w)
 
   -- what is asked of the network before an event
   abbrev pub Before : World → Event → Type 0
@@ -125,7 +139,8 @@ module _ (L : List ReportLine → Type 0) (l : IsOfLines L) (W V : World → Typ
   event_leads world (events.Move kind from to count) w = one_row (Move kind from to count) tt world w
   event_leads world (events.Lose kind a b) w = one_row (Lose kind a b) tt world w
   event_leads world (events.Notice kind a b) w = one_row (Notice kind a b) tt world w
-  event_leads world (events.Raise kind a b) w = rows (raises (sessions (scenario_of world)) kind a b) (raises_enter_nothing (sessions (scenario_of world)) kind a b) world w
+  event_leads world (events.Raise kind a b) w =
+      rows (raises (sessions (scenario_of world)) kind a b) (raises_enter_nothing (sessions (scenario_of world)) kind a b) world w
   event_leads world (events.Join iface entry) w = message_leads (message_of (scenario_of world) (events.Join iface entry)) world w
   event_leads world (events.Prune iface entry) w = message_leads (message_of (scenario_of world) (events.Prune iface entry)) world w
   event_leads world (events.Pim iface octets) w = message_leads (message_of (scenario_of world) (events.Pim iface octets)) world w
@@ -135,10 +150,17 @@ module _ (L : List ReportLine → Type 0) (l : IsOfLines L) (W V : World → Typ
   event_leads world (events.Unselect vrf pattern) w = at_edge_leads (edge_of_vrf (scenario_of world) vrf) (steps.Unselect vrf pattern) world w
   event_leads world (events.Hop from to place) w = one_row (Land from to place) tt world w
   event_leads world (events.DropCopy from to place) w = one_row (Drop from to place) tt world w
-  event_leads world (events.Cost a b cost) w = rows (cost_acts (scenario_of world) a b cost) (tt, reroutes_enter_nothing (all_nodes (scenario_of world))) world w
+  event_leads world (events.Cost a b cost) w =
+      rows (cost_acts (scenario_of world) a b cost) (tt, reroutes_enter_nothing (all_nodes (scenario_of world))) world w
   event_leads world events.Heal w = each_leads L l W healed (λ session next v. healed_leads session next v) (sessions (scenario_of world)) world w
   event_leads world events.Settle w =
-      then_leads L l W W (row (map (λ n. Timers n) (all_nodes (scenario_of world))) world) (times (each turn (directions (scenario_of world))) (length (scenario_of world).nodes + 3)) (rows (map (λ n. Timers n) (all_nodes (scenario_of world))) (timers_enter_nothing (all_nodes (scenario_of world))) world w)
-      (λ next v. times_leads L l W (each turn (directions (scenario_of world))) (λ one q. each_leads L l W turn (λ over x r. turn_leads over x r) (directions (scenario_of world)) one q) (length (scenario_of world).nodes + 3) next v)
-  event_leads world events.Drain w = times_leads L l W drain_round (λ one q. rows (flat_map (landings one) (link_ways (scenario_of one))) (landings_enter_nothing one (link_ways (scenario_of one))) one q) 255 world w
+      then_leads L l W W (row (map (λ n. Timers n) (all_nodes (scenario_of world))) world)
+      (times (each turn (directions (scenario_of world))) (length (scenario_of world).nodes + 3))
+      (rows (map (λ n. Timers n) (all_nodes (scenario_of world))) (timers_enter_nothing (all_nodes (scenario_of world))) world w)
+      (λ next v. times_leads L l W (each turn (directions (scenario_of world)))
+      (λ one q. each_leads L l W turn (λ over x r. turn_leads over x r) (directions (scenario_of world)) one q)
+      (length (scenario_of world).nodes + 3) next v)
+  event_leads world events.Drain w =
+      times_leads L l W drain_round (λ one q. rows (flat_map (landings one) (link_ways (scenario_of one)))
+      (landings_enter_nothing one (link_ways (scenario_of one))) one q) 255 world w
   event_leads world events.State w = one_row Tell tt world w

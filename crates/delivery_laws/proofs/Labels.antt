@@ -27,7 +27,8 @@ use Rattle.label_defs.specs.Members.{in_order}
 -- ---- items
 
 -- what holds of those that pass holds of what is filtered
-of_passing : {X : Type 0} (P : X → Type 0) (test : X → Bool) (xs : List X) → AllByRecursion (λ x. test x ≡ true → P x) xs → AllByRecursion P (filter test xs)
+of_passing : {X : Type 0} (P : X → Type 0) (test : X → Bool) (xs : List X) → AllByRecursion (λ x. test x ≡ true → P x) xs
+    → AllByRecursion P (filter test xs)
 of_passing P test [] h = tt
 of_passing P test (x ∷ xs) h = by (test x) refl (of_passing P test xs h.1)
   where
@@ -36,11 +37,13 @@ of_passing P test (x ∷ xs) h = by (test x) refl (of_passing P test xs h.1)
     by false e rest = rest
 
 -- a count of what is filtered, by what each element is
-count_filtered : {X : Type 0} (test own meant : X → Bool) (xs : List X) → AllByRecursion (λ x. (test x && own x) ≡ meant x) xs → count_by own (filter test xs) ≡ count_by meant xs
+count_filtered : {X : Type 0} (test own meant : X → Bool) (xs : List X) → AllByRecursion (λ x. (test x && own x) ≡ meant x) xs
+    → count_by own (filter test xs) ≡ count_by meant xs
 count_filtered test own meant [] h = refl
 count_filtered test own meant (x ∷ xs) h = by (test x) refl (count_filtered test own meant xs h.1)
   where
-    by : (b : Bool) → test x ≡ b → count_by own (filter test xs) ≡ count_by meant xs → count_by own (cond b (x ∷ filter test xs) (filter test xs)) ≡ count_by meant (x ∷ xs)
+    by : (b : Bool) → test x ≡ b → count_by own (filter test xs) ≡ count_by meant xs
+        → count_by own (cond b (x ∷ filter test xs) (filter test xs)) ≡ count_by meant (x ∷ xs)
     by true e rest =
         let same : own x ≡ meant x = ap (λ t. t && own x) (sym e) ∙ h.0 in
         let counts : cond {A = ℕ} (own x) 1 0 ≡ cond (meant x) 1 0 = ap (λ t. cond t 1 0) same in
@@ -54,24 +57,33 @@ count_filtered test own meant (x ∷ xs) h = by (test x) refl (count_filtered te
 
 module _ (network : OctetNetwork Nodes) (fec : Fec) (root : NodeId) (labels : CalmLabels network fec root) where
   -- a branch of the tree is one of a label that is mapped
-  is_mapped : (u : NodeId) (branch : Branch) → sets.contains (part_at network u).branches branch ≡ true → same_fec branch.fec fec ≡ true → Maps (part_at network branch.node) fec branch.label u
+  is_mapped : (u : NodeId) (branch : Branch) → sets.contains (part_at network u).branches branch ≡ true → same_fec branch.fec fec ≡ true
+      → Maps (part_at network branch.node) fec branch.label u
   is_mapped u branch h f =
       let same : branch.fec ≡ fec = same_fec_equal branch.fec fec f in
       let own : branch ≡ branch_to branch.node fec branch.label = ap (λ (x : Fec). branch_to branch.node x branch.label) same in
       labels.told u branch.node branch.label (subst (λ (b : Branch). sets.contains (part_at network u).branches b ≡ true) own h)
 
-  mapped : (u : NodeId) → AllByRecursion (λ branch. use_of (part_at network branch.node) branch.label ≡ Some (uses.Mapped fec u)) (branches_in network fec u)
-  mapped u = of_passing (λ (branch : Branch). use_of (part_at network branch.node) branch.label ≡ Some (uses.Mapped fec u)) (λ branch. same_fec branch.fec fec) (in_order (part_at network u).branches)
-      (each_in_order branch_cmp_total (λ (branch : Branch). same_fec branch.fec fec ≡ true → use_of (part_at network branch.node) branch.label ≡ Some (uses.Mapped fec u)) (part_at network u).branches (λ branch h f. is_mapped u branch h f))
+  mapped : (u : NodeId) → AllByRecursion (λ branch. use_of (part_at network branch.node) branch.label ≡ Some (uses.Mapped fec u))
+      (branches_in network fec u)
+  mapped u =
+      of_passing (λ (branch : Branch). use_of (part_at network branch.node) branch.label ≡ Some (uses.Mapped fec u))
+      (λ branch. same_fec branch.fec fec) (in_order (part_at network u).branches)
+      (each_in_order branch_cmp_total (λ (branch : Branch). same_fec branch.fec fec ≡ true
+      → use_of (part_at network branch.node) branch.label ≡ Some (uses.Mapped fec u)) (part_at network u).branches
+      (λ branch h f. is_mapped u branch h f))
 
   -- none leads to a node that has mapped no label towards this one
   none_leads : (u n : NodeId) → ((label : ℕ) → Maps (part_at network n) fec label u → ⊥) → leading_to n (branches_in network fec u) ≡ 0
   none_leads u n h =
-      count_filtered (λ (branch : Branch). same_fec branch.fec fec) (λ branch. branch.node.0 == n.0) (λ branch. false) (in_order (part_at network u).branches)
-      (each_in_order branch_cmp_total (λ (branch : Branch). (same_fec branch.fec fec && (branch.node.0 == n.0)) ≡ false) (part_at network u).branches (λ branch is.
+      count_filtered (λ (branch : Branch). same_fec branch.fec fec) (λ branch. branch.node.0 == n.0) (λ branch. false)
+      (in_order (part_at network u).branches)
+      (each_in_order branch_cmp_total (λ (branch : Branch). (same_fec branch.fec fec && (branch.node.0 == n.0)) ≡ false) (part_at network u).branches
+      (λ branch is.
       false_from_ne_true (same_fec branch.fec fec && (branch.node.0 == n.0)) (λ t.
       let parts = and_parts (same_fec branch.fec fec) (branch.node.0 == n.0) t in
-      h branch.label (subst (λ (x : NodeId). Maps (part_at network x) fec branch.label u) (node_equal branch.node n parts.1) (is_mapped u branch is parts.0)))))
+      h branch.label (subst (λ (x : NodeId). Maps (part_at network x) fec branch.label u) (node_equal branch.node n parts.1)
+      (is_mapped u branch is parts.0)))))
       ∙ count_false (in_order (part_at network u).branches)
 
   -- one leads to a node that has mapped a label towards this one
@@ -80,19 +92,23 @@ module _ (network : OctetNetwork Nodes) (fec : Fec) (root : NodeId) (labels : Ca
       let own : Branch = branch_to n fec label in
       let items = in_order (part_at network u).branches in
       count_filtered (λ (branch : Branch). same_fec branch.fec fec) (λ branch. branch.node.0 == n.0) (eq_by_cmp branch_cmp own) items
-      (each_in_order branch_cmp_total (λ (branch : Branch). (same_fec branch.fec fec && (branch.node.0 == n.0)) ≡ eq_by_cmp branch_cmp own branch) (part_at network u).branches (λ branch there.
+      (each_in_order branch_cmp_total (λ (branch : Branch). (same_fec branch.fec fec && (branch.node.0 == n.0)) ≡ eq_by_cmp branch_cmp own branch)
+      (part_at network u).branches (λ branch there.
       both_ways (same_fec branch.fec fec && (branch.node.0 == n.0)) (eq_by_cmp branch_cmp own branch)
       (λ t.
       let parts = and_parts (same_fec branch.fec fec) (branch.node.0 == n.0) t in
       let tree : branch.fec ≡ fec = same_fec_equal branch.fec fec parts.0 in
       let node : branch.node ≡ n = node_equal branch.node n parts.1 in
-      let other : Maps (part_at network n) fec branch.label u = subst (λ (x : NodeId). Maps (part_at network x) fec branch.label u) node (is_mapped u branch there parts.0) in
+      let other : Maps (part_at network n) fec branch.label u =
+      subst (λ (x : NodeId). Maps (part_at network x) fec branch.label u) node (is_mapped u branch there parts.0) in
       let number : label ≡ branch.label = (labels.settled n).one label branch.label u u is other in
       ties branch_cmp branch_cmp_total own branch (λ i. branch_to (sym node i) (sym tree i) (number i)))
       (λ t.
       let same : own ≡ branch = branch_cmp_exact own branch ((Equal-is (branch_cmp own branch)).0 t) in
-      subst (λ (b : Branch). (same_fec b.fec fec && (b.node.0 == n.0)) ≡ true) same (and_from (same_fec fec fec) (n.0 == n.0) (same_fec_itself fec) (node_itself n n refl)))))
-      ∙ (once_in_order branch_cmp_total (part_at network u).branches own ∙ cond-true (sets.contains (part_at network u).branches own) 1 0 (labels.known u n label is))
+      subst (λ (b : Branch). (same_fec b.fec fec && (b.node.0 == n.0)) ≡ true) same
+      (and_from (same_fec fec fec) (n.0 == n.0) (same_fec_itself fec) (node_itself n n refl)))))
+      ∙ (once_in_order branch_cmp_total (part_at network u).branches own
+      ∙ cond-true (sets.contains (part_at network u).branches own) 1 0 (labels.known u n label is))
 
   -- a label is mapped towards the neighbour on the way to the root alone
   toward_above : (u n : NodeId) (label : ℕ) → Maps (part_at network n) fec label u → (label_place_of network.state n).upstream fec ≡ Some u
@@ -111,7 +127,8 @@ module _ (network : OctetNetwork Nodes) (fec : Fec) (root : NodeId) (labels : Ca
         once = λ u. elim (cases_Bool (u.0 == up.above.0)) [
           | inl t ↦
               let same : u ≡ up.above = node_equal u up.above t in
-              one_leads u n at.0 (subst (λ (x : NodeId). Maps (part_at network n) fec at.0 x) (sym same) at.1) ∙ sym (cond-true (u.0 == up.above.0) 1 0 t)
+              one_leads u n at.0 (subst (λ (x : NodeId). Maps (part_at network n) fec at.0 x) (sym same) at.1)
+              ∙ sym (cond-true (u.0 == up.above.0) 1 0 t)
           | inr f ↦
               none_leads u n (λ label is.
               let some : Some u ≡ Some up.above = sym (toward_above u n label is) ∙ up.toward in
@@ -119,7 +136,10 @@ module _ (network : OctetNetwork Nodes) (fec : Fec) (root : NodeId) (labels : Ca
               true≢false (sym (node_itself u up.above same) ∙ f))
               ∙ sym (cond-false (u.0 == up.above.0) 1 0 f)
         ];
-        on_tree = or_left (has_branch (part_at network up.above) fec) (sets.contains (part_at network up.above).leaves fec) (member_passes branch_cmp_total branch_cmp_exact (λ (b : Branch). same_fec b.fec fec) (part_at network up.above).branches (branch_to n fec at.0) branch (same_fec_itself fec));
+        on_tree =
+            or_left (has_branch (part_at network up.above) fec) (sets.contains (part_at network up.above).leaves fec)
+            (member_passes branch_cmp_total branch_cmp_exact (λ (b : Branch). same_fec b.fec fec) (part_at network up.above).branches
+            (branch_to n fec at.0) branch (same_fec_itself fec));
         nearer = up.nearer;
       }
 

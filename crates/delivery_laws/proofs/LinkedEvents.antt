@@ -63,12 +63,14 @@ module _ (scenario : Scenario) (once : LinksOnce scenario) where
   bgp_all [] = tt
   bgp_all (a ∷ later) = each_append OfLink (map (bgp_session a) later) (bgp_sessions later) (bgp_later a later) (bgp_all later)
 
-  ldp_all : (links : List Link) → AllByRecursion (λ link. IsLink scenario link.a link.b × IsLink scenario link.b link.a) links → AllByRecursion OfLink (map ldp_session links)
+  ldp_all : (links : List Link) → AllByRecursion (λ link. IsLink scenario link.a link.b × IsLink scenario link.b link.a) links
+      → AllByRecursion OfLink (map ldp_session links)
   ldp_all [] h = tt
   ldp_all (link ∷ more) h = (h.0, ldp_all more h.1)
 
   sessions_linked : AllByRecursion OfLink (sessions scenario)
-  sessions_linked = each_append OfLink (bgp_sessions (edges scenario)) (map ldp_session scenario.links) (bgp_all (edges scenario)) (ldp_all scenario.links once)
+  sessions_linked =
+      each_append OfLink (bgp_sessions (edges scenario)) (map ldp_session scenario.links) (bgp_all (edges scenario)) (ldp_all scenario.links once)
 
   sessions_of : (world : World) → Linked scenario world → AllByRecursion OfLink (sessions (scenario_of world))
   sessions_of world l = subst (λ (s : Scenario). AllByRecursion OfLink (sessions s)) (sym l.network.nodes.place) sessions_linked
@@ -81,7 +83,9 @@ module _ (scenario : Scenario) (once : LinksOnce scenario) where
     where
       by : (o : Option Session) → find (is_session_of kind a b) list ≡ o → Fine (elim o [ None ↦ [] | Some session ↦ raise_acts session ])
       by None e = tt
-      by (Some session) e = raise_fine session (all_at OfLink list (position_or_len (is_session_of kind a b) list) session h (sym (find_at (is_session_of kind a b) list) ∙ e))
+      by (Some session) e =
+          raise_fine session (all_at OfLink list (position_or_len (is_session_of kind a b) list) session h
+          (sym (find_at (is_session_of kind a b) list) ∙ e))
 
   notices_fine : (world : World) (session : Session) (n peer : NodeId) → Fine (notices world session n peer)
   notices_fine world session n peer = cond_both (is_up world session.kind n peer) (Notice session.kind n peer ∷ []) [] Fine (λ t. (tt, tt)) (λ f. tt)
@@ -96,7 +100,9 @@ module _ (scenario : Scenario) (once : LinksOnce scenario) where
 
   landings_fine : (world : World) (ways : List (NodeId × NodeId)) → Fine (flat_map (landings world) ways)
   landings_fine world [] = tt
-  landings_fine world (way ∷ more) = each_append (IsFine scenario) (landings world way) (flat_map (landings world) more) (copies (length (world.copies way.0 way.1))) (landings_fine world more)
+  landings_fine world (way ∷ more) =
+      each_append (IsFine scenario) (landings world way) (flat_map (landings world) more) (copies (length (world.copies way.0 way.1)))
+      (landings_fine world more)
     where
       copies : (count : ℕ) → Fine (replicate count (Land way.0 way.1 1))
       copies zero = tt
@@ -123,7 +129,8 @@ module _ (scenario : Scenario) (once : LinksOnce scenario) where
   call_fine n (steps.Label from message) c = absurd c
   call_fine n other c = tt
 
-  at_edge_linked : (o : Option NodeId) (call : steps.Call) → IsCustomers call → (world : World) → Linked scenario world → Leads Any (Linked scenario) (at_edge o call world)
+  at_edge_linked : (o : Option NodeId) (call : steps.Call) → IsCustomers call → (world : World) → Linked scenario world
+      → Leads Any (Linked scenario) (at_edge o call world)
   at_edge_linked None call c world l = (tt, l)
   at_edge_linked (Some n) call c world l = one_row (At n call) (call_fine n call c) world l
 
@@ -134,25 +141,35 @@ module _ (scenario : Scenario) (once : LinksOnce scenario) where
   turn_linked : (over : Direction) (world : World) → Linked scenario world → Leads Any (Linked scenario) (turn over world)
   turn_linked over world l = by (world.network.transit over)
     where
-      by : (octets : List ℕ) → Leads Any (Linked scenario) (elim octets [ [] ↦ Done [] world | octet ∷ more ↦ row (Move over.kind over.from over.to (length (octet ∷ more)) ∷ []) world ])
+      by : (octets : List ℕ) → Leads Any (Linked scenario)
+          (elim octets [ [] ↦ Done [] world | octet ∷ more ↦ row (Move over.kind over.from over.to (length (octet ∷ more)) ∷ []) world ])
       by [] = (tt, l)
       by (octet ∷ more) = one_row (Move over.kind over.from over.to (length (octet ∷ more))) tt world l
 
   turns_linked : (list : List Direction) (world : World) → Linked scenario world → Leads Any (Linked scenario) (each turn list world)
   turns_linked [] world l = (tt, l)
-  turns_linked (over ∷ more) world l = then_leads Any any_lines (Linked scenario) (Linked scenario) (turn over world) (each turn more) (turn_linked over world l) (λ next k. turns_linked more next k)
+  turns_linked (over ∷ more) world l =
+      then_leads Any any_lines (Linked scenario) (Linked scenario) (turn over world) (each turn more) (turn_linked over world l)
+      (λ next k. turns_linked more next k)
 
   healed_linked : (session : Session) → OfLink session → (world : World) → Linked scenario world → Leads Any (Linked scenario) (healed session world)
   healed_linked session h world l =
       let acts = notices world session session.a session.b ++ (notices world session session.b session.a ++ raise_acts session) in
       cond_both (is_joined world session) (Done [] world) (row acts world) (Leads Any (Linked scenario)) (λ t. (tt, l))
-      (λ f. rows acts (each_append (IsFine scenario) (notices world session session.a session.b) (notices world session session.b session.a ++ raise_acts session) (notices_fine world session session.a session.b) (each_append (IsFine scenario) (notices world session session.b session.a) (raise_acts session) (notices_fine world session session.b session.a) (raise_fine session h))) world l)
+      (λ f. rows acts (each_append (IsFine scenario) (notices world session session.a session.b)
+      (notices world session session.b session.a ++ raise_acts session) (notices_fine world session session.a session.b)
+      (each_append (IsFine scenario) (notices world session session.b session.a) (raise_acts session)
+      (notices_fine world session session.b session.a) (raise_fine session h))) world l)
 
-  all_healed : (list : List Session) → AllByRecursion OfLink list → (world : World) → Linked scenario world → Leads Any (Linked scenario) (each healed list world)
+  all_healed : (list : List Session) → AllByRecursion OfLink list → (world : World) → Linked scenario world
+      → Leads Any (Linked scenario) (each healed list world)
   all_healed [] h world l = (tt, l)
-  all_healed (session ∷ more) h world l = then_leads Any any_lines (Linked scenario) (Linked scenario) (healed session world) (each healed more) (healed_linked session h.0 world l) (λ next k. all_healed more h.1 next k)
+  all_healed (session ∷ more) h world l =
+      then_leads Any any_lines (Linked scenario) (Linked scenario) (healed session world) (each healed more) (healed_linked session h.0 world l)
+      (λ next k. all_healed more h.1 next k)
 
-  sent_linked : (site : SiteId) (source group : Addr) (octets : List ℕ) (world : World) → Linked scenario world → Leads Any (Linked scenario) (sent site source group octets world)
+  sent_linked : (site : SiteId) (source group : Addr) (octets : List ℕ) (world : World) → Linked scenario world
+      → Leads Any (Linked scenario) (sent site source group octets world)
   sent_linked site source group octets world l =
       let own : Datagram = record { site = site; source = source; group = group; octets = octets } in
       let all : List Datagram = world.datagrams ++ own ∷ [] in
@@ -161,10 +178,13 @@ module _ (scenario : Scenario) (once : LinksOnce scenario) where
       let vrfs = map (λ (vrf : VrfId). Enter vrf) (entered (scenario_of world) site) in
       let linked : Linked scenario begins = record {
         network = l.network;
-        sound = λ u n. each_weaker (SoundCopy (link_ways scenario) (length world.datagrams) u n) (SoundCopy (link_ways scenario) (length all) u n) (λ copy s. record { on_way = s.on_way; counted = s.counted; known = omega (arith, s.known, count); alive = s.alive; bounded = s.bounded }) (world.copies u n) (l.sound u n);
+        sound = λ u n. each_weaker (SoundCopy (link_ways scenario) (length world.datagrams) u n) (SoundCopy (link_ways scenario) (length all) u n)
+            (λ copy s. record { on_way = s.on_way; counted = s.counted; known = omega (arith, s.known, count); alive = s.alive; bounded = s.bounded })
+            (world.copies u n) (l.sound u n);
       } in
       leads_as Any (Entering scenario) (Linked scenario) (λ next e. e.linked) (row vrfs begins)
-      (row_leads Any any_lines (Entering scenario) (LetsIn scenario) (entry_linked scenario) vrfs (entries_fine (entered (scenario_of world) site)) begins (record { linked = linked; some = omega (arith, count) }))
+      (row_leads Any any_lines (Entering scenario) (LetsIn scenario) (entry_linked scenario) vrfs (entries_fine (entered (scenario_of world) site))
+      begins (record { linked = linked; some = omega (arith, count) }))
 
   event_linked : (world : World) (event : Event) → Linked scenario world → Leads Any (Linked scenario) (done world event)
   event_linked world (events.Send site source group payload) l = sent_linked site source group (packet source group payload) world l
@@ -175,27 +195,37 @@ module _ (scenario : Scenario) (once : LinksOnce scenario) where
   event_linked world (events.Move kind from to count) l = one_row (Move kind from to count) tt world l
   event_linked world (events.Lose kind a b) l = one_row (Lose kind a b) tt world l
   event_linked world (events.Notice kind a b) l = one_row (Notice kind a b) tt world l
-  event_linked world (events.Raise kind a b) l = rows (raises (sessions (scenario_of world)) kind a b) (raises_fine (sessions (scenario_of world)) (sessions_of world l) kind a b) world l
+  event_linked world (events.Raise kind a b) l =
+      rows (raises (sessions (scenario_of world)) kind a b) (raises_fine (sessions (scenario_of world)) (sessions_of world l) kind a b) world l
   event_linked world (events.Join iface entry) l = message_linked (message_of (scenario_of world) (events.Join iface entry)) world l
   event_linked world (events.Prune iface entry) l = message_linked (message_of (scenario_of world) (events.Prune iface entry)) world l
   event_linked world (events.Pim iface octets) l = message_linked (message_of (scenario_of world) (events.Pim iface octets)) world l
-  event_linked world (events.Active iface source group) l = at_edge_linked (edge_of (scenario_of world) iface) (steps.Active iface source group) tt world l
-  event_linked world (events.Idle iface source group) l = at_edge_linked (edge_of (scenario_of world) iface) (steps.Idle iface source group) tt world l
+  event_linked world (events.Active iface source group) l =
+      at_edge_linked (edge_of (scenario_of world) iface) (steps.Active iface source group) tt world l
+  event_linked world (events.Idle iface source group) l =
+      at_edge_linked (edge_of (scenario_of world) iface) (steps.Idle iface source group) tt world l
   event_linked world (events.Select vrf pattern) l = at_edge_linked (edge_of_vrf (scenario_of world) vrf) (steps.Select vrf pattern) tt world l
   event_linked world (events.Unselect vrf pattern) l = at_edge_linked (edge_of_vrf (scenario_of world) vrf) (steps.Unselect vrf pattern) tt world l
   event_linked world (events.Hop from to place) l = one_row (Land from to place) tt world l
   event_linked world (events.DropCopy from to place) l = one_row (Drop from to place) tt world l
-  event_linked world (events.Cost a b cost) l = rows (cost_acts (scenario_of world) a b cost) (tt, reroutes_fine (all_nodes (scenario_of world))) world l
+  event_linked world (events.Cost a b cost) l =
+      rows (cost_acts (scenario_of world) a b cost) (tt, reroutes_fine (all_nodes (scenario_of world))) world l
   event_linked world events.Heal l = all_healed (sessions (scenario_of world)) (sessions_of world l) world l
   event_linked world events.Settle l =
-      then_leads Any any_lines (Linked scenario) (Linked scenario) (row (map (λ n. Timers n) (all_nodes (scenario_of world))) world) (times (each turn (directions (scenario_of world))) (length (scenario_of world).nodes + 3)) (rows (map (λ n. Timers n) (all_nodes (scenario_of world))) (timers_fine (all_nodes (scenario_of world))) world l)
-      (λ next k. times_leads Any any_lines (Linked scenario) (each turn (directions (scenario_of world))) (λ one q. turns_linked (directions (scenario_of world)) one q) (length (scenario_of world).nodes + 3) next k)
-  event_linked world events.Drain l = times_leads Any any_lines (Linked scenario) drain_round (λ one q. rows (flat_map (landings one) (link_ways (scenario_of one))) (landings_fine one (link_ways (scenario_of one))) one q) 255 world l
+      then_leads Any any_lines (Linked scenario) (Linked scenario) (row (map (λ n. Timers n) (all_nodes (scenario_of world))) world)
+      (times (each turn (directions (scenario_of world))) (length (scenario_of world).nodes + 3))
+      (rows (map (λ n. Timers n) (all_nodes (scenario_of world))) (timers_fine (all_nodes (scenario_of world))) world l)
+      (λ next k. times_leads Any any_lines (Linked scenario) (each turn (directions (scenario_of world)))
+      (λ one q. turns_linked (directions (scenario_of world)) one q) (length (scenario_of world).nodes + 3) next k)
+  event_linked world events.Drain l =
+      times_leads Any any_lines (Linked scenario) drain_round
+      (λ one q. rows (flat_map (landings one) (link_ways (scenario_of one))) (landings_fine one (link_ways (scenario_of one))) one q) 255 world l
   event_linked world events.State l = one_row Tell tt world l
 
   -- ---- runs
 
-  runs_linked : (events : List Timed) (old : World) (number : ℕ) (trace : List Traced) (new : World) → Linked scenario old → Runs old number events trace new → Linked scenario new
+  runs_linked : (events : List Timed) (old : World) (number : ℕ) (trace : List Traced) (new : World) → Linked scenario old
+      → Runs old number events trace new → Linked scenario new
   runs_linked [] old number trace new l run = subst (Linked scenario) (sym run.1) l
   runs_linked (timed ∷ more) old number trace new l run =
       runs_linked more run.1 (number + 1) run.2 new (elim (came old timed run.0 run.1 run.3).is [
@@ -214,5 +244,7 @@ start_linked scenario cores = record {
 }
 
 -- Behind every run branches lead along links, and copies are sound.
-pub run_is_linked : (cores : Cores) (script : Script) (events : List Timed) (trace : List Traced) (new : World) → LinksOnce script.scenario → Run cores script events trace new → Linked script.scenario new
-run_is_linked cores script events trace new once run = runs_linked script.scenario once events (start script.scenario cores) 0 trace new (start_linked script.scenario cores) run
+pub run_is_linked : (cores : Cores) (script : Script) (events : List Timed) (trace : List Traced) (new : World) → LinksOnce script.scenario
+    → Run cores script events trace new → Linked script.scenario new
+run_is_linked cores script events trace new once run =
+    runs_linked script.scenario once events (start script.scenario cores) 0 trace new (start_linked script.scenario cores) run

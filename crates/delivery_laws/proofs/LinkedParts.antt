@@ -56,32 +56,45 @@ module _ (scenario : Scenario) (n : NodeId) where
   effect_has : (place : Place) (now : ℕ) (part : LabelData) (call : Call) → MayTake call → Has part → Has (effect place now part call).0.part
   effect_has place now part (Taken from (messages.Mapping fec label)) w h =
       cond_both (place.is_tree fec) (record part { branches = sets.insert part.branches (branch_to from fec label) }) part Has
-      (λ t branch is. elim (or_cases (eq_by_cmp branch_cmp branch (branch_to from fec label)) (sets.contains part.branches branch) (sym (sets.contains-insert branch_cmp_total part.branches (branch_to from fec label) branch) ∙ is)) [
-        | inl own ↦ (let same : branch ≡ branch_to from fec label = branch_cmp_exact branch (branch_to from fec label) ((Equal-is (branch_cmp branch (branch_to from fec label))).0 own) in subst (λ (b : Branch). IsLink scenario n b.node) (sym same) w)
+      (λ t branch is. elim (or_cases (eq_by_cmp branch_cmp branch (branch_to from fec label)) (sets.contains part.branches branch)
+      (sym (sets.contains-insert branch_cmp_total part.branches (branch_to from fec label) branch) ∙ is)) [
+        | inl own ↦ (let same : branch ≡ branch_to from fec label =
+            branch_cmp_exact branch (branch_to from fec label) ((Equal-is (branch_cmp branch (branch_to from fec label))).0 own) in
+            subst (λ (b : Branch). IsLink scenario n b.node) (sym same) w)
         | inr old ↦ h branch old
       ])
       (λ f. h)
-  effect_has place now part (Taken from (messages.Withdraw fec label)) w h = λ branch is. h branch (and_parts (not (eq_by_cmp branch_cmp branch (branch_to from fec label))) (sets.contains part.branches branch) (sym (sets.contains-remove branch_cmp_total part.branches (branch_to from fec label) branch) ∙ is)).1
+  effect_has place now part (Taken from (messages.Withdraw fec label)) w h =
+      λ branch is. h branch (and_parts (not (eq_by_cmp branch_cmp branch (branch_to from fec label))) (sets.contains part.branches branch)
+      (sym (sets.contains-remove branch_cmp_total part.branches (branch_to from fec label) branch) ∙ is)).1
   effect_has place now part (Taken from (messages.Release fec label)) w h = release_has part from fec label (now + place.life + 1) h
   effect_has place now part (Taken from (messages.Ignored kind)) w h = h
   effect_has place now part (Want fec) w h = h
   effect_has place now part (Unwant fec) w h = h
   effect_has place now part (Raised peer) w h = h
-  effect_has place now part (Noticed peer) w h = λ branch is. h branch (and_parts (sets.contains part.branches branch) (not (branch.node.0 == peer.0)) (sym (retained branch_cmp_total branch_cmp_exact part.branches (λ (b : Branch). not (b.node.0 == peer.0)) branch) ∙ is)).0
+  effect_has place now part (Noticed peer) w h =
+      λ branch is. h branch (and_parts (sets.contains part.branches branch) (not (branch.node.0 == peer.0))
+      (sym (retained branch_cmp_total branch_cmp_exact part.branches (λ (b : Branch). not (b.node.0 == peer.0)) branch) ∙ is)).0
   effect_has place now part Timers w h = h
   effect_has place now part Rerouted w h = h
 
-  step_has : (place : Place) (now : ℕ) (part : LabelData) (call : Call) → MayTake call → Has part → Holds (λ (new : Stepped). Has new.part) (label_step place now part call)
+  step_has : (place : Place) (now : ℕ) (part : LabelData) (call : Call) → MayTake call → Has part
+      → Holds (λ (new : Stepped). Has new.part) (label_step place now part call)
   step_has place now part call w h = holds_from (λ (new : Stepped). Has new.part) (label_step place now part call)
-      (λ new e. subst (λ (s : FinSet branch_cmp). (branch : Branch) → sets.contains s branch ≡ true → IsLink scenario n branch.node) (sym (same_branches place now part call new e)) (effect_has place now part call w h))
+      (λ new e. subst (λ (s : FinSet branch_cmp). (branch : Branch) → sets.contains s branch ≡ true → IsLink scenario n branch.node)
+      (sym (same_branches place now part call new e)) (effect_has place now part call w h))
 
-  row_has : (place : EdgePlace) (now : ℕ) (calls : List Call) (part : LabelData) → AllByRecursion MayTake calls → Has part → Holds (λ (row : List LabelStep). Has (part_after part row)) (label_row place now part calls)
+  row_has : (place : EdgePlace) (now : ℕ) (calls : List Call) (part : LabelData) → AllByRecursion MayTake calls → Has part
+      → Holds (λ (row : List LabelStep). Has (part_after part row)) (label_row place now part calls)
   row_has place now [] part w h = h
   row_has place now (call ∷ more) part w h =
       let at = label_place place.scenario place.core place.me in
-      holds_then (λ (new : Stepped). Has new.part) (λ (row : List LabelStep). Has (part_after part row)) (label_step at now part call) (λ new. label_row place now new.part more >>? λ behind. Some (record { old = part; call = call; new = new } ∷ behind))
+      holds_then (λ (new : Stepped). Has new.part) (λ (row : List LabelStep). Has (part_after part row)) (label_step at now part call)
+      (λ new. label_row place now new.part more >>? λ behind. Some (record { old = part; call = call; new = new } ∷ behind))
       (step_has at now part call w.0 h)
-      (λ new k. holds_then (λ (row : List LabelStep). Has (part_after new.part row)) (λ (row : List LabelStep). Has (part_after part row)) (label_row place now new.part more) (λ behind. Some (record { old = part; call = call; new = new } ∷ behind)) (row_has place now more new.part w.1 k) (λ row p. p))
+      (λ new k. holds_then (λ (row : List LabelStep). Has (part_after new.part row)) (λ (row : List LabelStep). Has (part_after part row))
+      (label_row place now new.part more) (λ behind. Some (record { old = part; call = call; new = new } ∷ behind))
+      (row_has place now more new.part w.1 k) (λ row p. p))
 
   -- ---- a node
 
@@ -107,12 +120,17 @@ module _ (scenario : Scenario) (n : NodeId) where
       along [] = tt
       along (fec ∷ more) = (cond_both (sets.contains new fec) (Want fec) (Unwant fec) MayTake (λ t. tt) (λ f. tt), along more)
 
-  edge_has : (place : EdgePlace) (now : ℕ) (edge : EdgeData) (call : steps.Call) → MayCall call → Has edge.part → Holds (λ (new : EdgeStepped). Has new.edge.part) (edge_step place now edge call)
+  edge_has : (place : EdgePlace) (now : ℕ) (edge : EdgeData) (call : steps.Call) → MayCall call → Has edge.part
+      → Holds (λ (new : EdgeStepped). Has new.edge.part) (edge_step place now edge call)
   edge_has place now edge call w h =
       let control = control_step place now edge.control call in
       let calls = one_call (own_label_call call) ++ changed_leaves (leaves place edge.control) (leaves place control) in
-      holds_then (λ (row : List LabelStep). Has (part_after edge.part row)) (λ (new : EdgeStepped). Has new.edge.part) (label_row place now edge.part calls) (λ row. Some (record { edge = record { control = control; part = part_after edge.part row; raised = raised_after now edge.raised call }; row = row }))
-      (row_has place now calls edge.part (each_append MayTake (one_call (own_label_call call)) (changed_leaves (leaves place edge.control) (leaves place control)) (own_may call w) (leaves_may (leaves place edge.control) (leaves place control))) h)
+      holds_then (λ (row : List LabelStep). Has (part_after edge.part row)) (λ (new : EdgeStepped). Has new.edge.part)
+      (label_row place now edge.part calls) (λ row. Some
+      (record { edge = record { control = control; part = part_after edge.part row; raised = raised_after now edge.raised call }; row = row }))
+      (row_has place now calls edge.part (each_append MayTake (one_call (own_label_call call))
+      (changed_leaves (leaves place edge.control) (leaves place control)) (own_may call w)
+      (leaves_may (leaves place edge.control) (leaves place control))) h)
       (λ row p. p)
 
 -- ---- all nodes
@@ -125,30 +143,39 @@ fresh_linked scenario own n = by (is_edge own n)
     by true branch is = absurd (true≢false (sym is ∙ sets.contains-empty branch_cmp branch))
     by false branch is = absurd (true≢false (sym is ∙ sets.contains-empty branch_cmp branch))
 
-one_node : (scenario : Scenario) (nodes : Nodes) (n : NodeId) (new : NodeState) → NodesLinked scenario nodes → HasLinks scenario n (part_of new) → NodesLinked scenario (with_node nodes n new)
+one_node : (scenario : Scenario) (nodes : Nodes) (n : NodeId) (new : NodeState) → NodesLinked scenario nodes → HasLinks scenario n (part_of new)
+    → NodesLinked scenario (with_node nodes n new)
 one_node scenario nodes n new l h = record {
   place = l.place;
-  links = λ m. cond_both (m.0 == n.0) new (nodes.node m) (λ (node : NodeState). HasLinks scenario m (part_of node)) (λ t. subst (λ (x : NodeId). HasLinks scenario x (part_of new)) (sym (node_equal m n t)) h) (λ f. l.links m);
+  links = λ m. cond_both (m.0 == n.0) new (nodes.node m) (λ (node : NodeState). HasLinks scenario m (part_of node))
+      (λ t. subst (λ (x : NodeId). HasLinks scenario x (part_of new)) (sym (node_equal m n t)) h) (λ f. l.links m);
 }
 
-pub called_linked : (scenario : Scenario) (nodes : Nodes) (n : NodeId) (call : steps.Call) → NodesLinked scenario nodes → MayCall scenario n call → Holds (λ (new : SystemStepped Nodes). NodesLinked scenario new.state) (node_called nodes n (nodes.node n) call)
+pub called_linked : (scenario : Scenario) (nodes : Nodes) (n : NodeId) (call : steps.Call) → NodesLinked scenario nodes → MayCall scenario n call
+    → Holds (λ (new : SystemStepped Nodes). NodesLinked scenario new.state) (node_called nodes n (nodes.node n) call)
 called_linked scenario nodes n call l w = by (nodes.node n) (l.links n)
   where
-    core : (part : LabelData) → HasLinks scenario n part → (o : Option Call) → AllByRecursion (MayTake scenario n) (one_call o) → Holds (λ (new : SystemStepped Nodes). NodesLinked scenario new.state) (core_called nodes n part o)
+    core : (part : LabelData) → HasLinks scenario n part → (o : Option Call) → AllByRecursion (MayTake scenario n) (one_call o)
+        → Holds (λ (new : SystemStepped Nodes). NodesLinked scenario new.state) (core_called nodes n part o)
     core part h None m = l
     core part h (Some own) m =
-        holds_then (λ (new : Stepped). HasLinks scenario n new.part) (λ (new : SystemStepped Nodes). NodesLinked scenario new.state) (label_step (label_place_of nodes n) nodes.clock part own) _
+        holds_then (λ (new : Stepped). HasLinks scenario n new.part) (λ (new : SystemStepped Nodes). NodesLinked scenario new.state)
+        (label_step (label_place_of nodes n) nodes.clock part own) _
         (step_has scenario n (label_place_of nodes n) nodes.clock part own m.0 h) (λ new p. one_node scenario nodes n (CoreNode new.part) l p)
 
-    by : (node : NodeState) → HasLinks scenario n (part_of node) → Holds (λ (new : SystemStepped Nodes). NodesLinked scenario new.state) (node_called nodes n node call)
+    by : (node : NodeState) → HasLinks scenario n (part_of node)
+        → Holds (λ (new : SystemStepped Nodes). NodesLinked scenario new.state) (node_called nodes n node call)
     by (Edge edge) h =
-        holds_then (λ (new : EdgeStepped). HasLinks scenario n new.edge.part) (λ (new : SystemStepped Nodes). NodesLinked scenario new.state) (edge_step (place_of nodes n) nodes.clock edge call) _
+        holds_then (λ (new : EdgeStepped). HasLinks scenario n new.edge.part) (λ (new : SystemStepped Nodes). NodesLinked scenario new.state)
+        (edge_step (place_of nodes n) nodes.clock edge call) _
         (edge_has scenario n (place_of nodes n) nodes.clock edge call w h) (λ new p. one_node scenario nodes n (Edge new.edge) l p)
     by (CoreNode part) h = core part h (own_label_call call) (own_may scenario n call w)
 
 -- a node that takes over the present costs
-pub follow_linked : (scenario : Scenario) (nodes : Nodes) (n : NodeId) → NodesLinked scenario nodes → Holds (λ (new : SystemStepped Nodes). NodesLinked scenario new.state) (node_called (following nodes n) n (nodes.node n) steps.Rerouted)
+pub follow_linked : (scenario : Scenario) (nodes : Nodes) (n : NodeId) → NodesLinked scenario nodes
+    → Holds (λ (new : SystemStepped Nodes). NodesLinked scenario new.state) (node_called (following nodes n) n (nodes.node n) steps.Rerouted)
 follow_linked scenario nodes n l = called_linked scenario (following nodes n) n steps.Rerouted (record { place = l.place; links = l.links }) tt
 
-pub reset_linked : (scenario : Scenario) (nodes : Nodes) (n : NodeId) → NodesLinked scenario nodes → NodesLinked scenario (with_node nodes n (fresh_node nodes.scenario n))
+pub reset_linked : (scenario : Scenario) (nodes : Nodes) (n : NodeId) → NodesLinked scenario nodes
+    → NodesLinked scenario (with_node nodes n (fresh_node nodes.scenario n))
 reset_linked scenario nodes n l = one_node scenario nodes n (fresh_node nodes.scenario n) l (fresh_linked scenario nodes.scenario n)

@@ -10,5 +10,7 @@ use Rattle.label_defs.proofs.MemberLemmas.{each_in_order}
 use Rattle.label_defs.specs.Members.{in_order}
 use Rattle.delivery_laws.proofs.Copies.{all_filter}
 
-pub each_of_tree : (P : Branch → Type 0) (part : LabelData) → ((branch : Branch) → sets.contains part.branches branch ≡ true → P branch) → (fec : Fec) → AllByRecursion P (branches_of part fec)
-each_of_tree P part h fec = all_filter P (λ branch. same_fec branch.fec fec) (in_order part.branches) (each_in_order branch_cmp_total P part.branches h)
+pub each_of_tree : (P : Branch → Type 0) (part : LabelData) → ((branch : Branch) → sets.contains part.branches branch ≡ true → P branch) → (fec : Fec)
+    → AllByRecursion P (branches_of part fec)
+each_of_tree P part h fec =
+    all_filter P (λ branch. same_fec branch.fec fec) (in_order part.branches) (each_in_order branch_cmp_total P part.branches h)

@@ -65,17 +65,22 @@ rises_first number [] more h = tt
 rises_first number (timed ∷ first) more h = (h.0, rises_first timed.line first more h.1)
 
 -- the event that ends a window
-abbrev end_at : (events : List Timed) (trace : List Traced) (last : ℕ) → EndsWindow events (report_of trace) last → (timed : Timed) × (slice_get events last ≡ Some timed)
+abbrev end_at : (events : List Timed) (trace : List Traced) (last : ℕ) → EndsWindow events (report_of trace) last
+    → (timed : Timed) × (slice_get events last ≡ Some timed)
 end_at events trace last (inl (line, at)) = (record { line = line; event = event.Drain }, at)
 end_at events trace last (inr (bytes, buffers, due, unready, tells)) = (record { line = tells.line; event = event.State }, tells.at)
 
 module _ (cores : Cores) (script : Script) (events : List Timed) (trace : List Traced) (new : World) (run : Run cores script events trace new) where
   -- Behind the event that ends a window no copy is on a link.
-  end_drains : (last : ℕ) (closes : EndsWindow events (report_of trace) last) (early : List Traced) (world next : World) (acts : List Happened) → Run cores script (take last events) early world → (network : OctetNetwork Nodes) → OnLinks network → Ready network world.datagrams world
+  end_drains : (last : ℕ) (closes : EndsWindow events (report_of trace) last) (early : List Traced) (world next : World) (acts : List Happened)
+      → Run cores script (take last events) early world → (network : OctetNetwork Nodes) → OnLinks network → Ready network world.datagrams world
       → outcome world (end_at events trace last closes).0 ≡ Done acts next → IsDrained next
-  end_drains last (inl (line, at)) early world next acts before network links ready is = empty_drained next (drain_empties network world.datagrams links world ready acts next is)
+  end_drains last (inl (line, at)) early world next acts before network links ready is =
+      empty_drained next (drain_empties network world.datagrams links world ready acts next is)
   end_drains last (inr (bytes, buffers, due, unready, tells)) early world next acts before network links ready is =
-      subst IsDrained (sym (state_acts world tells.line acts next is).stays) (told_copies world bytes buffers due unready (state_at cores script events trace new run last bytes 0 buffers due unready tells early world before))
+      subst IsDrained (sym (state_acts world tells.line acts next is).stays)
+      (told_copies world bytes buffers due unready
+      (state_at cores script events trace new run last bytes 0 buffers due unready tells early world before))
 
   -- What is needed of a window: its worlds, and the runs before it, in it and behind it.
   record Cut (first last : ℕ) : Type 0 where
@@ -95,7 +100,8 @@ module _ (cores : Cores) (script : Script) (events : List Timed) (trace : List T
     long : length (take first events) ≡ first
     count : first + length within ≡ last + 1
 
-  module _ (rises : Rises 0 events) (zeros : ZerosAreCalm cores script events) (first last : ℕ) (window : IsWindow events (refused_lines (report_of trace)) (report_of trace) first last) (some : first ≤ last) where
+  module _ (rises : Rises 0 events) (zeros : ZerosAreCalm cores script events) (first last : ℕ)
+      (window : IsWindow events (refused_lines (report_of trace)) (report_of trace) first last) (some : first ≤ last) where
     end : (timed : Timed) × (slice_get events last ≡ Some timed)
     end = end_at events trace last window.closes
 
@@ -105,10 +111,13 @@ module _ (cores : Cores) (script : Script) (events : List Timed) (trace : List T
         let post = drop first events in
         let few = last - first + 1 in
         let long : length (take first events) ≡ first = long_take first events (omega (arith, lt, some)) in
-        let all : length events ≡ length (take first events) + length post = ap (λ (l : List Timed). length l) (cut_in_two first events) ∙ length-append (take first events) post in
-        let a = runs_split (take first events) post (start script.scenario cores) 0 trace new (subst (λ (l : List Timed). Run cores script l trace new) (cut_in_two first events) run) in
+        let all : length events ≡ length (take first events) + length post =
+        ap (λ (l : List Timed). length l) (cut_in_two first events) ∙ length-append (take first events) post in
+        let a = runs_split (take first events) post (start script.scenario cores) 0 trace new
+        (subst (λ (l : List Timed). Run cores script l trace new) (cut_in_two first events) run) in
         let onward = a.goes_on first (omega (arith, long)) in
-        let b = runs_split (take few post) (drop few post) a.middle first a.late new (subst (λ (l : List Timed). Runs a.middle first l a.late new) (cut_in_two few post) onward) in
+        let b = runs_split (take few post) (drop few post) a.middle first a.late new
+        (subst (λ (l : List Timed). Runs a.middle first l a.late new) (cut_in_two few post) onward) in
         record {
           within = take few post;
           after = drop few post;
@@ -128,7 +137,8 @@ module _ (cores : Cores) (script : Script) (events : List Timed) (trace : List T
         }
 
   -- What holds of a window, given where it is cut.
-  module _ (rises : Rises 0 events) (zeros : ZerosAreCalm cores script events) (first last : ℕ) (window : IsWindow events (refused_lines (report_of trace)) (report_of trace) first last) (some : first ≤ last) (c : Cut first last) where
+  module _ (rises : Rises 0 events) (zeros : ZerosAreCalm cores script events) (first last : ℕ)
+      (window : IsWindow events (refused_lines (report_of trace)) (report_of trace) first last) (some : first ≤ last) (c : Cut first last) where
     abbrev all_refused : List ℕ
     all_refused = refused_lines (report_of trace)
 
@@ -151,7 +161,8 @@ module _ (cores : Cores) (script : Script) (events : List Timed) (trace : List T
         let timed : Timed = record { line = told.line; event = event.State } in
         let next_place : first ≡ suc window.calm = omega (arith, window.opens) in
         let shape : before ≡ take window.calm events ++ timed ∷ [] = ap (λ n. take n events) next_place ∙ take_to events window.calm timed told.at in
-        let d = runs_split (take window.calm events) (timed ∷ []) begin 0 c.early c.calm (subst (λ (l : List Timed). Run cores script l c.early c.calm) shape c.begins) in
+        let d = runs_split (take window.calm events) (timed ∷ []) begin 0 c.early c.calm
+        (subst (λ (l : List Timed). Run cores script l c.early c.calm) shape c.begins) in
         let long = long_take window.calm events (let lt = slice_get_within events window.calm timed told.at in omega (arith, lt)) in
         let r = d.goes_on window.calm (omega (arith, long)) in
         let same : c.calm ≡ d.middle = r.5.1 ∙ (state_acts d.middle told.line r.0 r.1 r.3).stays in
@@ -161,16 +172,20 @@ module _ (cores : Cores) (script : Script) (events : List Timed) (trace : List T
     is_calm = zeros first c.early c.calm c.begins calm_zeros
 
     tells : TellsAccepted all_refused begin (before ++ (c.within ++ c.after))
-    tells = subst (λ (l : List Timed). TellsAccepted all_refused begin l) c.events_are (tells_accepted events begin 0 trace new 0 [] all_refused rises (λ line lt. refl) refl run)
+    tells = subst (λ (l : List Timed). TellsAccepted all_refused begin l) c.events_are
+        (tells_accepted events begin 0 trace new 0 [] all_refused rises (λ line lt. refl) refl run)
 
     tells_before : TellsAccepted all_refused begin before
     tells_before = tells_first all_refused before (c.within ++ c.after) begin tells
 
     tells_within : TellsAccepted all_refused c.calm c.within
-    tells_within = tells_first all_refused c.within c.after c.calm (tells_later all_refused before (c.within ++ c.after) begin 0 c.early c.calm tells c.begins)
+    tells_within =
+        tells_first all_refused c.within c.after c.calm (tells_later all_refused before (c.within ++ c.after) begin 0 c.early c.calm tells c.begins)
 
     tells_early : TellsAccepted early_refused begin before
-    tells_early = tells_accepted before begin 0 c.early c.calm 0 [] early_refused (rises_first 0 before (c.within ++ c.after) (subst (Rises 0) c.events_are rises)) (λ line lt. refl) refl c.begins
+    tells_early =
+        tells_accepted before begin 0 c.early c.calm 0 [] early_refused
+        (rises_first 0 before (c.within ++ c.after) (subst (Rises 0) c.events_are rises)) (λ line lt. refl) refl c.begins
 
     -- an event of the window by its place
     place_of : (place : ℕ) (timed : Timed) → slice_get c.within place ≡ Some timed → slice_get events (first + place) ≡ Some timed
@@ -207,20 +222,34 @@ module _ (cores : Cores) (script : Script) (events : List Timed) (trace : List T
         let size : length c.within ≡ suc n = omega (arith, count, some) in
         let here : last - length before ≡ n = omega (arith, long) in
         let last_one : slice_get c.within n ≡ Some e.0 =
-        sym (get_first c.within c.after n (omega (arith, size))) ∙ ap (slice_get (c.within ++ c.after)) (sym here) ∙ sym (get_behind before (c.within ++ c.after) last (omega (arith, long, some))) ∙ ap (λ (l : List Timed). slice_get l last) (sym c.events_are) ∙ e.1 in
+        sym (get_first c.within c.after n (omega (arith, size))) ∙ ap (slice_get (c.within ++ c.after)) (sym here)
+        ∙ sym (get_behind before (c.within ++ c.after) last (omega (arith, long, some)))
+        ∙ ap (λ (l : List Timed). slice_get l last) (sym c.events_are) ∙ e.1 in
         let shape : c.within ≡ take n c.within ++ (e.0 ∷ drop (suc n) c.within) = cut_at c.within n e.0 last_one in
         let few : length (take n c.within) ≡ n = long_take n c.within (omega (arith, size)) in
-        let total : length c.within ≡ length (take n c.within) + suc (length (drop (suc n) c.within)) = ap (λ (l : List Timed). length l) shape ∙ length-append (take n c.within) (e.0 ∷ drop (suc n) c.within) in
+        let total : length c.within ≡ length (take n c.within) + suc (length (drop (suc n) c.within)) =
+        ap (λ (l : List Timed). length l) shape ∙ length-append (take n c.within) (e.0 ∷ drop (suc n) c.within) in
         let nothing : drop (suc n) c.within ≡ [] = none_of_length (drop (suc n) c.within) (omega (arith, total, few, size)) in
-        let f = runs_split (take n c.within) (e.0 ∷ drop (suc n) c.within) c.calm first c.middle c.end (subst (λ (l : List Timed). Runs c.calm first l c.middle c.end) shape c.goes_on) in
+        let f = runs_split (take n c.within) (e.0 ∷ drop (suc n) c.within) c.calm first c.middle c.end
+        (subst (λ (l : List Timed). Runs c.calm first l c.middle c.end) shape c.goes_on) in
         let r = f.goes_on last (omega (arith, few, some)) in
         let rest : Runs r.1 (last + 1) [] r.2 c.end = subst (λ (l : List Timed). Runs r.1 (last + 1) l r.2 c.end) nothing r.5 in
-        let up_to : Run cores script (before ++ take n c.within) (c.early ++ f.early) f.middle = runs_join before (take n c.within) begin c.calm f.middle 0 c.early f.early c.begins first (omega (arith, long)) f.begins in
+        let up_to : Run cores script (before ++ take n c.within) (c.early ++ f.early) f.middle =
+        runs_join before (take n c.within) begin c.calm f.middle 0 c.early f.early c.begins first (omega (arith, long)) f.begins in
         let same_place : first + n ≡ last = omega (arith, some) in
-        let prefix : take last events ≡ before ++ take n c.within = ap (λ k. take k events) (sym same_place) ∙ take_two first n events ∙ ap (λ (l : List Timed). before ++ take n l) c.post_is ∙ ap (λ (l : List Timed). before ++ l) (take_within n c.within c.after (omega (arith, size))) in
-        let of_first : AreOfWindow c.calm (take n c.within) = are_of_window all_refused (take n c.within) c.calm (tells_first all_refused (take n c.within) (e.0 ∷ drop (suc n) c.within) c.calm (subst (λ (l : List Timed). TellsAccepted all_refused c.calm l) shape tells_within)) (all_take (IsWindowIf all_refused) n c.within all_window) in
-        let w = windowed c.calm.network is_calm.links (take n c.within) c.calm first f.early f.middle (ready_calm receives c.calm is_calm) of_first f.begins in
-        subst IsDrained (sym rest.1) (end_drains last window.closes (c.early ++ f.early) f.middle r.1 r.0 (subst (λ (l : List Timed). Run cores script l (c.early ++ f.early) f.middle) (sym prefix) up_to) c.calm.network is_calm.links w.ready r.3)
+        let prefix : take last events ≡ before ++ take n c.within =
+        ap (λ k. take k events) (sym same_place) ∙ take_two first n events ∙ ap (λ (l : List Timed). before ++ take n l) c.post_is
+        ∙ ap (λ (l : List Timed). before ++ l) (take_within n c.within c.after (omega (arith, size))) in
+        let of_first : AreOfWindow c.calm (take n c.within) =
+        are_of_window all_refused (take n c.within) c.calm
+        (tells_first all_refused (take n c.within) (e.0 ∷ drop (suc n) c.within) c.calm
+        (subst (λ (l : List Timed). TellsAccepted all_refused c.calm l) shape tells_within))
+        (all_take (IsWindowIf all_refused) n c.within all_window) in
+        let w = windowed c.calm.network is_calm.links (take n c.within) c.calm first f.early f.middle (ready_calm receives c.calm is_calm) of_first
+        f.begins in
+        subst IsDrained (sym rest.1) (end_drains last window.closes (c.early ++ f.early) f.middle r.1 r.0
+        (subst (λ (l : List Timed). Run cores script l (c.early ++ f.early) f.middle) (sym prefix) up_to) c.calm.network is_calm.links w.ready
+        r.3)
 
     window_run : WindowRun receives cores script before c.within c.after trace c.calm c.end new
     window_run =
@@ -240,12 +269,14 @@ module _ (cores : Cores) (script : Script) (events : List Timed) (trace : List T
 
     -- ---- the datagrams
 
-    datagrams_are_those : datagrams all_refused 0 events ≡ datagrams all_refused 0 before ++ (datagrams all_refused first c.within ++ datagrams all_refused (first + length c.within) c.after)
+    datagrams_are_those : datagrams all_refused 0 events ≡ datagrams all_refused 0 before
+        ++ (datagrams all_refused first c.within ++ datagrams all_refused (first + length c.within) c.after)
     datagrams_are_those =
         let long = c.long in
         ap (datagrams all_refused 0) c.events_are
         ∙ datagrams_both all_refused before (c.within ++ c.after) 0 first (omega (arith, long))
-        ∙ ap (λ (l : List Accepted). datagrams all_refused 0 before ++ l) (datagrams_both all_refused c.within c.after first (first + length c.within) refl)
+        ∙ ap (λ (l : List Accepted). datagrams all_refused 0 before ++ l)
+        (datagrams_both all_refused c.within c.after first (first + length c.within) refl)
 
     calm_datagrams : c.calm.datagrams ≡ in_networks (datagrams all_refused 0 before)
     calm_datagrams = runs_send all_refused before begin 0 c.early c.calm tells_before c.begins
@@ -254,18 +285,23 @@ module _ (cores : Cores) (script : Script) (events : List Timed) (trace : List T
     end_datagrams = runs_send all_refused c.within c.calm first c.middle c.end tells_within c.goes_on
 
     -- a datagram that was accepted in the window is one of those that were sent in it
-    sent_in_window : (place : ℕ) (accepted : Accepted) → slice_get (datagrams all_refused 0 events) place ≡ Some accepted → first ≤ accepted.event → accepted.event ≤ last → (length c.calm.datagrams ≤ place) × (slice_get c.end.datagrams place ≡ Some (in_network accepted))
+    sent_in_window : (place : ℕ) (accepted : Accepted) → slice_get (datagrams all_refused 0 events) place ≡ Some accepted → first ≤ accepted.event
+        → accepted.event ≤ last → (length c.calm.datagrams ≤ place) × (slice_get c.end.datagrams place ≡ Some (in_network accepted))
     sent_in_window place accepted at low high =
         let s0 = datagrams all_refused 0 before in
         let s1 = datagrams all_refused first c.within in
         let s2 = datagrams all_refused (first + length c.within) c.after in
         let long = c.long in
         let count = c.count in
-        let whole : slice_get (s0 ++ (s1 ++ s2)) place ≡ Some accepted = ap (λ (l : List Accepted). slice_get l place) (sym datagrams_are_those) ∙ at in
-        let sizes : length c.calm.datagrams ≡ length s0 = ap (λ (l : List Datagram). length l) calm_datagrams ∙ length_map (λ (s : Accepted). in_network s) s0 in
+        let whole : slice_get (s0 ++ (s1 ++ s2)) place ≡ Some accepted =
+        ap (λ (l : List Accepted). slice_get l place) (sym datagrams_are_those) ∙ at in
+        let sizes : length c.calm.datagrams ≡ length s0 =
+        ap (λ (l : List Datagram). length l) calm_datagrams ∙ length_map (λ (s : Accepted). in_network s) s0 in
         elim (cases_lt place (length s0)) [
           | inl lt ↦
-              let in_first = all_at (IsWithin 0 first) s0 place accepted (datagrams_within all_refused before 0 0 first (omega arith) (omega (arith, long))) (sym (get_first s0 (s1 ++ s2) place lt) ∙ whole) in
+              let in_first =
+              all_at (IsWithin 0 first) s0 place accepted (datagrams_within all_refused before 0 0 first (omega arith) (omega (arith, long)))
+              (sym (get_first s0 (s1 ++ s2) place lt) ∙ whole) in
               let early = in_first.1 in
               absurd (omega (arith, early, low))
           | inr le ↦
@@ -282,8 +318,12 @@ module _ (cores : Cores) (script : Script) (events : List Timed) (trace : List T
                           ∙ ap (option_map (λ (s : Accepted). in_network s)) own,
                     )
                 | inr more ↦
-                    let late : slice_get s2 (place - length s0 - length s1) ≡ Some accepted = sym (get_behind s1 s2 (place - length s0) more) ∙ behind in
-                    let in_last = all_at (IsWithin (first + length c.within) (first + length c.within + length c.after)) s2 (place - length s0 - length s1) accepted (datagrams_within all_refused c.after (first + length c.within) (first + length c.within) (first + length c.within + length c.after) (omega arith) (omega arith)) late in
+                    let late : slice_get s2 (place - length s0 - length s1) ≡ Some accepted =
+                    sym (get_behind s1 s2 (place - length s0) more) ∙ behind in
+                    let in_last =
+                    all_at (IsWithin (first + length c.within) (first + length c.within + length c.after)) s2 (place - length s0 - length s1)
+                    accepted (datagrams_within all_refused c.after (first + length c.within) (first + length c.within)
+                    (first + length c.within + length c.after) (omega arith) (omega arith)) late in
                     let after = in_last.0 in
                     absurd (omega (arith, after, high, count))
               ]
@@ -291,22 +331,30 @@ module _ (cores : Cores) (script : Script) (events : List Timed) (trace : List T
 
     -- ---- the receivers
 
-    still_receives : (number : ℕ) → first ≤ number → number ≤ last → (site : SiteId) (source group : Addr) (iface : IfaceId) → receives site source group iface ≡ receives_by (past_at script.scenario events all_refused number) site source group iface
+    still_receives : (number : ℕ) → first ≤ number → number ≤ last → (site : SiteId) (source group : Addr) (iface : IfaceId)
+        → receives site source group iface ≡ receives_by (past_at script.scenario events all_refused number) site source group iface
     still_receives number low high site source group iface =
         let k = number - first in
         let count = c.count in
         let told = tell_same early_refused all_refused before begin 0 c.early c.calm tells_early tells_before c.begins in
-        let still : (k : ℕ) → AllByRecursion (IsWindowIf all_refused) (take k c.within) = λ k. all_take (IsWindowIf all_refused) k c.within all_window in
+        let still : (k : ℕ) → AllByRecursion (IsWindowIf all_refused) (take k c.within) =
+        λ k. all_take (IsWindowIf all_refused) k c.within all_window in
         let place : first + k ≡ number = omega (arith, low) in
-        let prefix : take number events ≡ before ++ take k c.within = ap (λ n. take n events) (sym place) ∙ take_two first k events ∙ ap (λ (l : List Timed). before ++ take k l) c.post_is ∙ ap (λ (l : List Timed). before ++ l) (take_within k c.within c.after (omega (arith, low, high, count))) in
+        let prefix : take number events ≡ before ++ take k c.within =
+        ap (λ n. take n events) (sym place) ∙ take_two first k events ∙ ap (λ (l : List Timed). before ++ take k l) c.post_is
+        ∙ ap (λ (l : List Timed). before ++ l) (take_within k c.within c.after (omega (arith, low, high, count))) in
         same_receivers script.scenario before (before ++ take k c.within) early_refused all_refused
         (λ own entry. window_standing script.scenario own entry early_refused all_refused before (take k c.within) told (still k))
         (λ own s g. window_noted script.scenario own s g early_refused all_refused before (take k c.within) told (still k))
         site source group iface
-        ∙ ap (λ (l : List Timed). receives_by (record { scenario = script.scenario; events = l; refused = all_refused }) site source group iface) (sym prefix)
+        ∙ ap (λ (l : List Timed). receives_by (record { scenario = script.scenario; events = l; refused = all_refused }) site source group iface)
+        (sym prefix)
 
-    window_once : (place : ℕ) (accepted : Accepted) → slice_get (datagrams all_refused 0 events) place ≡ Some accepted → first ≤ accepted.event → accepted.event ≤ last
-        → (iface : IfaceId) → outs_at (report_of trace) (place + 1) iface ≡ (if receives_by (past_at script.scenario events all_refused accepted.event) accepted.site accepted.source accepted.group iface then 1 else 0)
+    window_once : (place : ℕ) (accepted : Accepted) → slice_get (datagrams all_refused 0 events) place ≡ Some accepted → first ≤ accepted.event
+        → accepted.event ≤ last
+        → (iface : IfaceId) → outs_at (report_of trace) (place + 1) iface
+        ≡ (if receives_by (past_at script.scenario events all_refused accepted.event) accepted.site accepted.source accepted.group iface then 1
+        else 0)
     window_once place accepted at low high iface =
         let s = sent_in_window place accepted at low high in
         delivered_once receives cores script before c.within c.after trace c.calm c.end new window_run place (in_network accepted) iface s.0 s.1
@@ -314,30 +362,44 @@ module _ (cores : Cores) (script : Script) (events : List Timed) (trace : List T
 
 -- ---- the whole
 
-pub once : (cores : Cores) (script : Script) (events : List Timed) (trace : List Traced) (new : World) → Rises 0 events → ZerosAreCalm cores script events → Run cores script events trace new → Once script.scenario events (refused_lines (report_of trace)) (report_of trace)
+pub once : (cores : Cores) (script : Script) (events : List Timed) (trace : List Traced) (new : World) → Rises 0 events
+    → ZerosAreCalm cores script events → Run cores script events trace new
+    → Once script.scenario events (refused_lines (report_of trace)) (report_of trace)
 once cores script events trace new rises zeros run first last window place accepted at low high iface =
     let some : first ≤ last = omega (arith, low, high) in
-    window_once cores script events trace new run rises zeros first last window some (cut cores script events trace new run rises zeros first last window some) place accepted at low high iface
+    window_once cores script events trace new run rises zeros first last window some
+    (cut cores script events trace new run rises zeros first last window some) place accepted at low high iface
 
 -- Where flows are calm, the network is: no copy is on a link, and branches lead along links, in every run.
-zeros_are_calm : (cores : Cores) (script : Script) (events : List Timed) → LinksOnce script.scenario → FlowsAreCalm cores script events → ZerosAreCalm cores script events
+zeros_are_calm : (cores : Cores) (script : Script) (events : List Timed) → LinksOnce script.scenario → FlowsAreCalm cores script events
+    → ZerosAreCalm cores script events
 zeros_are_calm cores script events links flows count trace world run zeros =
     let l = run_is_linked cores script (take count events) trace world links run in
-    let sound = subst (λ (s : Scenario). EachCopy (SoundCopy (link_ways s) (length world.datagrams)) world.copies) (sym l.network.nodes.place) l.sound in
+    let sound =
+    subst (λ (s : Scenario). EachCopy (SoundCopy (link_ways s) (length world.datagrams)) world.copies) (sym l.network.nodes.place) l.sound in
     record {
       empty = drained_empty world.network world (record { network_is = refl; datagrams_are = refl; sound = sound }) (told_copies world 0 0 0 0 zeros);
       links = on_links script.scenario world l;
       flows = flows count trace world run zeros;
     }
 
-pub calm_flows_once : (cores : Cores) (script : Script) (events : List Timed) (trace : List Traced) (new : World) → Rules script.scenario → Rises 0 events → FlowsAreCalm cores script events → Run cores script events trace new → Once script.scenario events (refused_lines (report_of trace)) (report_of trace)
-calm_flows_once cores script events trace new rules rises flows run = once cores script events trace new rises (zeros_are_calm cores script events (links_once script.scenario rules) flows) run
+pub calm_flows_once : (cores : Cores) (script : Script) (events : List Timed) (trace : List Traced) (new : World) → Rules script.scenario
+    → Rises 0 events → FlowsAreCalm cores script events → Run cores script events trace new
+    → Once script.scenario events (refused_lines (report_of trace)) (report_of trace)
+calm_flows_once cores script events trace new rules rises flows run =
+    once cores script events trace new rises (zeros_are_calm cores script events (links_once script.scenario rules) flows) run
 
-pub copies_sound : (cores : Cores) (script : Script) (events : List Timed) (trace : List Traced) (new : World) → Rules script.scenario → Run cores script events trace new → OnLinks new.network × AreSound script.scenario new
-copies_sound cores script events trace new rules run = (let l = run_is_linked cores script events trace new (links_once script.scenario rules) run in (on_links script.scenario new l, l.sound))
+pub copies_sound : (cores : Cores) (script : Script) (events : List Timed) (trace : List Traced) (new : World) → Rules script.scenario
+    → Run cores script events trace new → OnLinks new.network × AreSound script.scenario new
+copies_sound cores script events trace new rules run =
+    (let l = run_is_linked cores script events trace new (links_once script.scenario rules) run in (on_links script.scenario new l, l.sound))
 
-pub calm_choices_once : (cores : Cores) (script : Script) (events : List Timed) (trace : List Traced) (new : World) → Rules script.scenario → Rises 0 events → ChoicesAreCalm cores script events → Run cores script events trace new → Once script.scenario events (refused_lines (report_of trace)) (report_of trace)
+pub calm_choices_once : (cores : Cores) (script : Script) (events : List Timed) (trace : List Traced) (new : World) → Rules script.scenario
+    → Rises 0 events → ChoicesAreCalm cores script events → Run cores script events trace new
+    → Once script.scenario events (refused_lines (report_of trace)) (report_of trace)
 calm_choices_once cores script events trace new rules rises choices run =
     calm_flows_once cores script events trace new rules rises
-    (λ count early world before zeros datagram. calm_flow world.network (receives_by (record { scenario = script.scenario; events = take count events; refused = refused_lines (report_of early) }) datagram.site datagram.source datagram.group) datagram (choices count early world before zeros datagram))
+    (λ count early world before zeros datagram. calm_flow world.network
+    (receives_by (record { scenario = script.scenario; events = take count events; refused = refused_lines (report_of early) }) datagram.site
+    datagram.source datagram.group) datagram (choices count early world before zeros datagram))
     run

@@ -37,17 +37,22 @@ module _ (weight : NodeId → NodeId → LinkCopy → ℕ) (from to : NodeId) (n
   other : (way : NodeId × NodeId) → is_way from to way ≡ false → on (replaced from to new copies) way ≡ on copies way
   other way e = ap (λ b. sum_by (weight way.0 way.1) (cond b new (copies way.0 way.1))) e
 
-  own : (way : NodeId × NodeId) → is_way from to way ≡ true → (on (replaced from to new copies) way ≡ sum_by (weight from to) new) × (on copies way ≡ sum_by (weight from to) (copies from to))
+  own : (way : NodeId × NodeId) → is_way from to way ≡ true
+      → (on (replaced from to new copies) way ≡ sum_by (weight from to) new) × (on copies way ≡ sum_by (weight from to) (copies from to))
   own way e =
       let parts = and_parts (way.0.0 == from.0) (way.1.0 == to.0) e in
       let near : way.0 ≡ from = node_equal way.0 from parts.0 in
-      let far : way.1 ≡ to = node_equal way.1 to parts.1 in
-      (ap (λ b. sum_by (weight way.0 way.1) (cond b new (copies way.0 way.1))) e ∙ (λ i. sum_by (weight (near i) (far i)) new), λ i. sum_by (weight (near i) (far i)) (copies (near i) (far i)))
+      let far : way.1 ≡ to = node_equal way.1 to parts.1 in (
+        ap (λ b. sum_by (weight way.0 way.1) (cond b new (copies way.0 way.1))) e ∙ (λ i. sum_by (weight (near i) (far i)) new),
+        λ i. sum_by (weight (near i) (far i)) (copies (near i) (far i)),
+      )
 
-  none : (ways : List (NodeId × NodeId)) → count_by (is_way from to) ways ≡ 0 → total weight ways (replaced from to new copies) ≡ total weight ways copies
+  none : (ways : List (NodeId × NodeId)) → count_by (is_way from to) ways ≡ 0
+      → total weight ways (replaced from to new copies) ≡ total weight ways copies
   none [] h = refl
   none (way ∷ more) h = elim (cases_Bool (is_way from to way)) [
-    | inl t ↦ (let one : cond {A = ℕ} (is_way from to way) 1 0 ≡ 1 = ap (λ b. cond b 1 0) t in absurd (omega (arith, count-cons (is_way from to) way more, one, h)))
+    | inl t ↦ (let one : cond {A = ℕ} (is_way from to way) 1 0 ≡ 1 = ap (λ b. cond b 1 0) t in
+        absurd (omega (arith, count-cons (is_way from to) way more, one, h)))
     | inr f ↦
         let zero_here : cond {A = ℕ} (is_way from to way) 1 0 ≡ 0 = ap (λ b. cond b 1 0) f in
         let rest = none more (omega (arith, count-cons (is_way from to) way more, zero_here, h)) in
@@ -56,7 +61,8 @@ module _ (weight : NodeId → NodeId → LinkCopy → ℕ) (from to : NodeId) (n
 
   -- Other copies on one direction, which stands once in the list.
   pub total-replaced : (ways : List (NodeId × NodeId)) → count_by (is_way from to) ways ≡ 1 →
-      total weight ways (replaced from to new copies) + sum_by (weight from to) (copies from to) ≡ total weight ways copies + sum_by (weight from to) new
+      total weight ways (replaced from to new copies) + sum_by (weight from to) (copies from to)
+      ≡ total weight ways copies + sum_by (weight from to) new
   total-replaced [] h = absurd (omega (arith, h))
   total-replaced (way ∷ more) h = elim (cases_Bool (is_way from to way)) [
     | inl t ↦

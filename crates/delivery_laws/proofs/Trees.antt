@@ -65,7 +65,8 @@ sum-once_one test count (x ∷ xs) h = elim (cases_Bool (test x)) [
       omega (arith, sum_by-cons (λ y. cond (test y) count 0) x xs, own, rest)
 ]
 
-sum-once : {X : Type 0} (test : X → Bool) (count : ℕ) (xs : List X) (is : Bool) → count_by test xs ≡ cond is 1 0 → sum_by (λ x. cond (test x) count 0) xs ≡ cond is count 0
+sum-once : {X : Type 0} (test : X → Bool) (count : ℕ) (xs : List X) (is : Bool) → count_by test xs ≡ cond is 1 0
+    → sum_by (λ x. cond (test x) count 0) xs ≡ cond is count 0
 sum-once test count xs true h = sum-once_one test count xs h
 sum-once test count xs false h = sum-once_none test count xs h
 
@@ -76,11 +77,17 @@ above_writes : (branches : NodeId → List Branch) (n above : NodeId) (count : �
     → sum_by (λ branch. flood branches (only_at n count) steps branch.node) (branches u) ≡ flood branches (only_at above count) steps u
 above_writes branches n above count h zero u = sum-zero (λ (branch : Branch). 0) (λ branch. refl) (branches u)
 above_writes branches n above count h (suc steps) u =
-    let own : sum_by (λ (branch : Branch). only_at n count branch.node) (branches u) ≡ only_at above count u = sum-once (λ (branch : Branch). branch.node.0 == n.0) count (branches u) (u.0 == above.0) (h u) in
-    let below : sum_by (λ (branch : Branch). sum_by (λ (next : Branch). flood branches (only_at n count) steps next.node) (branches branch.node)) (branches u) ≡ sum_by (λ (branch : Branch). flood branches (only_at above count) steps branch.node) (branches u) =
-    sum-same (λ (branch : Branch). sum_by (λ (next : Branch). flood branches (only_at n count) steps next.node) (branches branch.node)) (λ branch. flood branches (only_at above count) steps branch.node) (λ branch. above_writes branches n above count h steps branch.node) (branches u) in
-    sum-two (λ (branch : Branch). only_at n count branch.node) (λ branch. sum_by (λ (next : Branch). flood branches (only_at n count) steps next.node) (branches branch.node)) (branches u)
-    ∙ ap (λ x. x + sum_by (λ (branch : Branch). sum_by (λ (next : Branch). flood branches (only_at n count) steps next.node) (branches branch.node)) (branches u)) own
+    let own : sum_by (λ (branch : Branch). only_at n count branch.node) (branches u) ≡ only_at above count u =
+    sum-once (λ (branch : Branch). branch.node.0 == n.0) count (branches u) (u.0 == above.0) (h u) in
+    let below : sum_by (λ (branch : Branch). sum_by (λ (next : Branch). flood branches (only_at n count) steps next.node) (branches branch.node))
+    (branches u) ≡ sum_by (λ (branch : Branch). flood branches (only_at above count) steps branch.node) (branches u) =
+    sum-same (λ (branch : Branch). sum_by (λ (next : Branch). flood branches (only_at n count) steps next.node) (branches branch.node))
+    (λ branch. flood branches (only_at above count) steps branch.node) (λ branch. above_writes branches n above count h steps branch.node)
+    (branches u) in
+    sum-two (λ (branch : Branch). only_at n count branch.node)
+    (λ branch. sum_by (λ (next : Branch). flood branches (only_at n count) steps next.node) (branches branch.node)) (branches u)
+    ∙ ap (λ x. x + sum_by (λ (branch : Branch). sum_by (λ (next : Branch). flood branches (only_at n count) steps next.node) (branches branch.node))
+    (branches u)) own
     ∙ ap (λ x. only_at above count u + x) below
 
 -- no branch leads to the root
@@ -92,10 +99,19 @@ pub root_writes : (branches : NodeId → List Branch) (root : NodeId) (count : �
     → sum_by (λ branch. flood branches (only_at root count) steps branch.node) (branches u) ≡ 0
 root_writes branches root count h zero u = sum-zero (λ (branch : Branch). 0) (λ branch. refl) (branches u)
 root_writes branches root count h (suc steps) u =
-    let own : sum_by (λ (branch : Branch). only_at root count branch.node) (branches u) ≡ 0 = sum-once_none (λ (branch : Branch). branch.node.0 == root.0) count (branches u) (h u) in
-    let below : sum_by (λ (branch : Branch). sum_by (λ (next : Branch). flood branches (only_at root count) steps next.node) (branches branch.node)) (branches u) ≡ 0 =
-    sum-zero (λ (branch : Branch). sum_by (λ (next : Branch). flood branches (only_at root count) steps next.node) (branches branch.node)) (λ branch. root_writes branches root count h steps branch.node) (branches u) in
-    omega (arith, sum-two (λ (branch : Branch). only_at root count branch.node) (λ branch. sum_by (λ (next : Branch). flood branches (only_at root count) steps next.node) (branches branch.node)) (branches u), own, below)
+    let own : sum_by (λ (branch : Branch). only_at root count branch.node) (branches u) ≡ 0 =
+    sum-once_none (λ (branch : Branch). branch.node.0 == root.0) count (branches u) (h u) in
+    let below : sum_by (λ (branch : Branch). sum_by (λ (next : Branch). flood branches (only_at root count) steps next.node) (branches branch.node))
+    (branches u) ≡ 0 =
+    sum-zero (λ (branch : Branch). sum_by (λ (next : Branch). flood branches (only_at root count) steps next.node) (branches branch.node))
+    (λ branch. root_writes branches root count h steps branch.node) (branches u) in
+    omega (
+      arith,
+      sum-two (λ (branch : Branch). only_at root count branch.node)
+          (λ branch. sum_by (λ (next : Branch). flood branches (only_at root count) steps next.node) (branches branch.node)) (branches u),
+      own,
+      below,
+    )
 
 -- ---- from the root
 
@@ -110,12 +126,15 @@ not_root branches root n above r h = elim (cases_Bool (root.0 == n.0)) [
 ]
 
 -- What a node that hangs on the tree writes is written once from the root, over steps enough.
-pub flood_from_root : (branches : NodeId → List Branch) (root : NodeId) (count : ℕ) → IsRootOf branches root → (depth : ℕ) (n : NodeId) → Hangs branches root depth n → (steps : ℕ) → depth ≤ steps
+pub flood_from_root : (branches : NodeId → List Branch) (root : NodeId) (count : ℕ) → IsRootOf branches root → (depth : ℕ) (n : NodeId)
+    → Hangs branches root depth n → (steps : ℕ) → depth ≤ steps
     → flood branches (only_at n count) (suc steps) root ≡ count
 flood_from_root branches root count r zero n h steps le =
     let same : (root.0 == n.0) ≡ true = eq-eqb root.0 n.0 (ap (λ (x : NodeId). x.0) (sym h)) in
     let own : only_at n count root ≡ count = cond-true (root.0 == n.0) count 0 same in
-    let below = subst (λ (x : NodeId). sum_by (λ (branch : Branch). flood branches (only_at x count) steps branch.node) (branches root) ≡ 0) (sym h) (root_writes branches root count r steps root) in
+    let below =
+    subst (λ (x : NodeId). sum_by (λ (branch : Branch). flood branches (only_at x count) steps branch.node) (branches root) ≡ 0) (sym h)
+    (root_writes branches root count r steps root) in
     omega (arith, own, below)
 flood_from_root branches root count r (suc depth) n h zero le = absurd (omega (arith, le))
 flood_from_root branches root count r (suc depth) n h (suc steps) le =
@@ -125,6 +144,8 @@ flood_from_root branches root count r (suc depth) n h (suc steps) le =
     omega (arith, own, below, rest)
 
 -- the same, below the root
-pub flood_below_root : (branches : NodeId → List Branch) (root : NodeId) (count : ℕ) → IsRootOf branches root → (depth : ℕ) (n : NodeId) → Hangs branches root (suc depth) n → (steps : ℕ) → depth ≤ steps
+pub flood_below_root : (branches : NodeId → List Branch) (root : NodeId) (count : ℕ) → IsRootOf branches root → (depth : ℕ) (n : NodeId)
+    → Hangs branches root (suc depth) n → (steps : ℕ) → depth ≤ steps
     → sum_by (λ branch. flood branches (only_at n count) (suc steps) branch.node) (branches root) ≡ count
-flood_below_root branches root count r depth n h steps le = above_writes branches n h.0 count h.1 (suc steps) root ∙ flood_from_root branches root count r depth h.0 h.2 steps le
+flood_below_root branches root count r depth n h steps le =
+    above_writes branches n h.0 count h.1 (suc steps) root ∙ flood_from_root branches root count r depth h.0 h.2 steps le

@@ -54,7 +54,8 @@ module _ (kept : Kept) (sound : IsSound kept) (place : ℕ) (test : OwnVrf → B
   pub wanted_at : slice_get (trees_of wanted) place ≡ Some wanted_it
   wanted_at =
       let as_it : OwnTree → OwnTree = λ other. with other (as_wanted other.tree) in
-      ap (λ (l : List OwnTree). slice_get l place) (all_its kept as_wanted) ∙ slice_get-map as_it (trees_of kept) place ∙ ap (option_map as_it) here.at
+      ap (λ (l : List OwnTree). slice_get l place) (all_its kept as_wanted) ∙ slice_get-map as_it (trees_of kept) place
+      ∙ ap (option_map as_it) here.at
 
   pub tree_here : slice_get kept.trees place ≡ Some (it.tree)
   tree_here = tree_is kept (sound_full kept sound) place test is
@@ -90,14 +91,16 @@ module _ (kept : Kept) (sound : IsSound kept) (place : ℕ) (test : OwnVrf → B
     pub made : (control : Control) → Makes (with_tree place (change (as_wanted it.tree)) wanted) control → IsSingle (change it.tree)
         → IsMade kept (changed_at place change kept.trees) control
     made control makes single =
-        subst (λ (trees : List TreeData). IsMade kept trees control) (sym (changed_is kept (sound_full kept sound) place test is change)) (made_new control makes single)
+        subst (λ (trees : List TreeData). IsMade kept trees control) (sym (changed_is kept (sound_full kept sound) place test is change))
+        (made_new control makes single)
 
   pub single_here : IsSingle it.tree
   single_here = all_at IsSingle kept.trees place it.tree sound.single tree_here
 
 -- ---- interfaces
 
-module _ (kept : Kept) (sound : IsSound kept) (place : ℕ) (iface : IfaceId) (is : IsPlace kept.home place (λ own. is_iface_of kept.home.scenario own.id iface)) where
+module _ (kept : Kept) (sound : IsSound kept) (place : ℕ) (iface : IfaceId)
+    (is : IsPlace kept.home place (λ own. is_iface_of kept.home.scenario own.id iface)) where
   abbrev its : OwnVrf → Bool
   its own = is_iface_of kept.home.scenario own.id iface
 
@@ -108,27 +111,39 @@ module _ (kept : Kept) (sound : IsSound kept) (place : ℕ) (iface : IfaceId) (i
   again f = ap f (wanted_control kept)
 
   pub pim_made : (message : JoinPrune) (now : ℕ) (core : Core)
-      → IsMade kept (changed_at place (pim_taken iface message now) kept.trees) (effect (place_of kept.home core) now (control_of kept) (Pim iface message))
+      → IsMade kept (changed_at place (pim_taken iface message now) kept.trees)
+      (effect (place_of kept.home core) now (control_of kept) (Pim iface message))
   pim_made message now core =
-      subst (IsMade kept (changed_at place (pim_taken iface message now) kept.trees)) (again (λ c. effect (place_of kept.home core) now c (Pim iface message)))
-      (made kept sound place its is (pim_taken iface message now) (λ tree. refl) (effect (place_of kept.home core) now (control_of (with_trees as_wanted kept)) (Pim iface message))
-      (pim_makes (with_trees as_wanted kept) sound.trees place (wanted_it kept sound place its is) (wanted_at kept sound place its is) iface passes message now core)
+      subst (IsMade kept (changed_at place (pim_taken iface message now) kept.trees))
+      (again (λ c. effect (place_of kept.home core) now c (Pim iface message)))
+      (made kept sound place its is (pim_taken iface message now) (λ tree. refl)
+      (effect (place_of kept.home core) now (control_of (with_trees as_wanted kept)) (Pim iface message))
+      (pim_makes (with_trees as_wanted kept) sound.trees place (wanted_it kept sound place its is) (wanted_at kept sound place its is) iface passes
+      message now core)
       (single_here kept sound place its is))
 
   pub noted_made : (source group : Addr) (now : ℕ) (core : Core)
-      → IsMade kept (changed_at place (noted iface source group) kept.trees) (effect (place_of kept.home core) now (control_of kept) (Active iface source group))
+      → IsMade kept (changed_at place (noted iface source group) kept.trees)
+      (effect (place_of kept.home core) now (control_of kept) (Active iface source group))
   noted_made source group now core =
-      subst (IsMade kept (changed_at place (noted iface source group) kept.trees)) (again (λ c. effect (place_of kept.home core) now c (Active iface source group)))
-      (made kept sound place its is (noted iface source group) (λ tree. refl) (effect (place_of kept.home core) now (control_of (with_trees as_wanted kept)) (Active iface source group))
-      (noted_makes (with_trees as_wanted kept) sound.trees place (wanted_it kept sound place its is) (wanted_at kept sound place its is) iface passes source group core now)
+      subst (IsMade kept (changed_at place (noted iface source group) kept.trees))
+      (again (λ c. effect (place_of kept.home core) now c (Active iface source group)))
+      (made kept sound place its is (noted iface source group) (λ tree. refl)
+      (effect (place_of kept.home core) now (control_of (with_trees as_wanted kept)) (Active iface source group))
+      (noted_makes (with_trees as_wanted kept) sound.trees place (wanted_it kept sound place its is) (wanted_at kept sound place its is) iface passes
+      source group core now)
       (single_here kept sound place its is))
 
   pub unnoted_made : (source group : Addr) (now : ℕ) (core : Core)
-      → IsMade kept (changed_at place (unnoted iface source group) kept.trees) (effect (place_of kept.home core) now (control_of kept) (Idle iface source group))
+      → IsMade kept (changed_at place (unnoted iface source group) kept.trees)
+      (effect (place_of kept.home core) now (control_of kept) (Idle iface source group))
   unnoted_made source group now core =
-      subst (IsMade kept (changed_at place (unnoted iface source group) kept.trees)) (again (λ c. effect (place_of kept.home core) now c (Idle iface source group)))
-      (made kept sound place its is (unnoted iface source group) (λ tree. refl) (effect (place_of kept.home core) now (control_of (with_trees as_wanted kept)) (Idle iface source group))
-      (unnoted_makes (with_trees as_wanted kept) sound.trees place (wanted_it kept sound place its is) (wanted_at kept sound place its is) iface passes source group core now)
+      subst (IsMade kept (changed_at place (unnoted iface source group) kept.trees))
+      (again (λ c. effect (place_of kept.home core) now c (Idle iface source group)))
+      (made kept sound place its is (unnoted iface source group) (λ tree. refl)
+      (effect (place_of kept.home core) now (control_of (with_trees as_wanted kept)) (Idle iface source group))
+      (unnoted_makes (with_trees as_wanted kept) sound.trees place (wanted_it kept sound place its is) (wanted_at kept sound place its is) iface
+      passes source group core now)
       (single_here kept sound place its is))
 
   -- ---- how many entries
@@ -144,27 +159,33 @@ module _ (kept : Kept) (sound : IsSound kept) (place : ℕ) (iface : IfaceId) (i
         ≡ maps.len (control_of kept).entries + maps.len (applied tree.vrf.entries iface message now)
     more =
         sym (again (λ c. maps.len (applied c.entries iface message now) + maps.len tree.vrf.entries))
-        ∙ applied_more (with_trees as_wanted kept) sound.trees place (wanted_it kept sound place its is) (wanted_at kept sound place its is) iface passes message now
+        ∙ applied_more (with_trees as_wanted kept) sound.trees place (wanted_it kept sound place its is) (wanted_at kept sound place its is) iface
+        passes message now
         ∙ again (λ c. maps.len c.entries + maps.len (applied tree.vrf.entries iface message now))
 
     own_le : maps.len tree.vrf.entries ≤ sum_by size kept.trees
     own_le =
         let at : get_or kept.trees place tree ≡ tree =
-        (let one : Some (get_or kept.trees place tree) ≡ Some tree = sym (get_at kept.trees place tree (is_there kept sound place its is)) ∙ tree_here kept sound place its is in cc) in
+        (let one : Some (get_or kept.trees place tree) ≡ Some tree =
+        sym (get_at kept.trees place tree (is_there kept sound place its is)) ∙ tree_here kept sound place its is in cc) in
         subst (λ (t : TreeData). size t ≤ sum_by size kept.trees) at (get_or-le-sum_by size kept.trees place tree (is_there kept sound place its is))
 
-    pub over_is : (first second : TreeData) (all own behind : ℕ) → first ≡ get_or kept.trees place first → second ≡ get_or kept.trees place second → all ≡ min (sum_by size kept.trees) most
+    pub over_is : (first second : TreeData) (all own behind : ℕ) → first ≡ get_or kept.trees place first → second ≡ get_or kept.trees place second
+        → all ≡ min (sum_by size kept.trees) most
         → own ≡ maps.len second.vrf.entries → own ≤ 1024 → behind ≡ maps.len (applied first.vrf.entries iface message now)
         → nat_lt (own + 1024) (all + behind) ≡ are_too_many (applied (control_of kept).entries iface message now)
     over_is first second all own part one two is_all is_own few is_part =
         let own_is : own ≡ maps.len tree.vrf.entries = is_own ∙ ap size (is_it kept sound place its is second two) in
-        let part_is : part ≡ maps.len (applied tree.vrf.entries iface message now) = is_part ∙ ap (λ (t : TreeData). maps.len (applied t.vrf.entries iface message now)) (is_it kept sound place its is first one) in
+        let part_is : part ≡ maps.len (applied tree.vrf.entries iface message now) =
+        is_part ∙ ap (λ (t : TreeData). maps.len (applied t.vrf.entries iface message now)) (is_it kept sound place its is first one) in
         let total : maps.len (applied (control_of kept).entries iface message now) + own ≡ sum_by size kept.trees + part =
         (λ i. maps.len (applied (control_of kept).entries iface message now) + own_is i) ∙ more
         ∙ (λ i. entries_counted kept (sound_full kept sound) (sound_parts kept sound) i + sym part_is i) in
-        over_told (sum_by size kept.trees) (maps.len (applied (control_of kept).entries iface message now)) own part all total (subst (λ (n : ℕ). n ≤ sum_by size kept.trees) (sym own_is) own_le) few is_all
+        over_told (sum_by size kept.trees) (maps.len (applied (control_of kept).entries iface message now)) own part all total
+        (subst (λ (n : ℕ). n ≤ sum_by size kept.trees) (sym own_is) own_le) few is_all
 
-    pub tree_fits : are_too_many (applied (control_of kept).entries iface message now) ≡ false → (other : TreeData) → slice_get kept.trees place ≡ Some other
+    pub tree_fits : are_too_many (applied (control_of kept).entries iface message now) ≡ false → (other : TreeData)
+        → slice_get kept.trees place ≡ Some other
         → are_too_many (applied other.vrf.entries iface message now) ≡ false
     tree_fits fits other at =
         let same : tree ≡ other = (let one : Some tree ≡ Some other = sym (tree_here kept sound place its is) ∙ at in cc) in
@@ -177,22 +198,27 @@ module _ (kept : Kept) (sound : IsSound kept) (place : ℕ) (iface : IfaceId) (i
 
   -- ---- how many notes
 
-  pub noted_told : (source group : Addr) (tree : TreeData) (noted_there : Bool) (count : ℕ) → tree ≡ get_or kept.trees place tree → noted_there ≡ sets.contains tree.vrf.notes (note_of iface source group)
-      → count ≡ min (sum_by (λ (t : TreeData). sets.len t.vrf.notes) kept.trees) most → (not noted_there && nat_le 256 count) ≡ is_note_too_many (control_of kept) iface source group
+  pub noted_told : (source group : Addr) (tree : TreeData) (noted_there : Bool) (count : ℕ) → tree ≡ get_or kept.trees place tree
+      → noted_there ≡ sets.contains tree.vrf.notes (note_of iface source group)
+      → count ≡ min (sum_by (λ (t : TreeData). sets.len t.vrf.notes) kept.trees) most
+      → (not noted_there && nat_le 256 count) ≡ is_note_too_many (control_of kept) iface source group
   noted_told source group tree noted_there count at is_noted is_count =
       let own : OwnTree = it kept sound place its is in
       let among : Among own (trees_of kept) = it_among kept place own (here kept sound place its is).at in
       let there : noted_there ≡ sets.contains (control_of kept).notes (edge_note (note_of iface source group)) =
       is_noted ∙ ap (λ (t : TreeData). sets.contains t.vrf.notes (note_of iface source group)) (is_it kept sound place its is tree at)
       ∙ sym (note_at kept (sound_parts kept sound) own among (note_of iface source group) passes) in
-      let counted : sets.len (control_of kept).notes ≡ sum_by (λ (t : TreeData). sets.len t.vrf.notes) kept.trees = notes_counted kept (sound_full kept sound) (sound_parts kept sound) in
-      let few : nat_le 256 count ≡ nat_le 256 (sets.len (control_of kept).notes) = at_least 256 count (sets.len (control_of kept).notes) (is_count ∙ ap (λ (n : ℕ). min n most) (sym counted)) (omega arith) in
+      let counted : sets.len (control_of kept).notes ≡ sum_by (λ (t : TreeData). sets.len t.vrf.notes) kept.trees =
+      notes_counted kept (sound_full kept sound) (sound_parts kept sound) in
+      let few : nat_le 256 count ≡ nat_le 256 (sets.len (control_of kept).notes) =
+      at_least 256 count (sets.len (control_of kept).notes) (is_count ∙ ap (λ (n : ℕ). min n most) (sym counted)) (omega arith) in
       λ i. not (there i) && few i
 
 -- ---- answers
 
 -- changed where the call is made, and as before otherwise
-pub sound_either : {X E : Type 0} (result : Result X E) (kept : Kept) (trees next : List TreeData) → IsSound kept → IsSound (record kept { trees = next })
+pub sound_either : {X E : Type 0} (result : Result X E) (kept : Kept) (trees next : List TreeData) → IsSound kept
+    → IsSound (record kept { trees = next })
     → OnOk result (trees ≡ next) → OnErr result (trees ≡ kept.trees) → IsSound (record kept { trees = trees })
 sound_either (Ok x) kept trees next old then_sound ok err = subst (λ (ts : List TreeData). IsSound (record kept { trees = ts })) (sym ok) then_sound
 sound_either (Err e) kept trees next old then_sound ok err = subst (λ (ts : List TreeData). IsSound (record kept { trees = ts })) (sym err) old

@@ -11,13 +11,15 @@ most = 4294967295
 min_more : (a b : ℕ) → min (min a most + b) most ≡ min (a + b) most
 min_more a b = omega arith
 
-pub count_more : {X : Type 0} (f : X → ℕ) (xs : List X) (i : ℕ) (d : X) (count size : ℕ) → i < length xs → count ≡ min (sum_by f (take i xs)) most → size ≡ f (get_or xs i d)
+pub count_more : {X : Type 0} (f : X → ℕ) (xs : List X) (i : ℕ) (d : X) (count size : ℕ) → i < length xs → count ≡ min (sum_by f (take i xs)) most
+    → size ≡ f (get_or xs i d)
     → min (count + size) most ≡ min (sum_by f (take (i + 1) xs)) most
 count_more f xs i d count size lt h k =
     (λ j. min (h j + k j) most) ∙ min_more (sum_by f (take i xs)) (f (get_or xs i d)) ∙ ap (λ (n : ℕ). min n most) (sym (sum_by_more f xs i d lt))
 
 -- whether they are too many behind a change of one part
-pub over_told : (sum behind own part all : ℕ) → behind + own ≡ sum + part → own ≤ sum → own ≤ 1024 → all ≡ min sum most → nat_lt (own + 1024) (all + part) ≡ nat_lt 1024 behind
+pub over_told : (sum behind own part all : ℕ) → behind + own ≡ sum + part → own ≤ sum → own ≤ 1024 → all ≡ min sum most
+    → nat_lt (own + 1024) (all + part) ≡ nat_lt 1024 behind
 over_told sum behind own part all total le few is =
     both_ways _ _ (λ h. let lt = ltb-true (own + 1024) (all + part) h in lt-ltb 1024 behind (omega (arith, lt, total, le, few, is)))
     (λ h. let lt = ltb-true 1024 behind h in lt-ltb (own + 1024) (all + part) (omega (arith, lt, total, le, few, is)))

@@ -45,7 +45,8 @@ use Rattle.edge_control.proofs.PeerTurns.{turned_each}
 -- a key that is put, and was not there, is removed
 absent : (m : Taken) (k : Key) (x : TakenRoute) → maps.get m k ≡ None → maps.remove (maps.insert m k x) k ≡ m
 absent m k x none = maps.same_map key_total key_exact (maps.remove (maps.insert m k x) k) m
-    (λ q. maps.get-remove key_total (maps.insert m k x) k q ∙ ap (cond (eq_by_cmp key_cmp q k) None) (maps.get-insert key_total m k x q) ∙ by q (eq_by_cmp key_cmp q k) refl)
+    (λ q. maps.get-remove key_total (maps.insert m k x) k q ∙ ap (cond (eq_by_cmp key_cmp q k) None) (maps.get-insert key_total m k x q)
+    ∙ by q (eq_by_cmp key_cmp q k) refl)
   where
     by : (q : Key) (b : Bool) → eq_by_cmp key_cmp q k ≡ b → cond b None (cond b (Some x) (maps.get m q)) ≡ maps.get m q
     by q true e = sym none ∙ ap (maps.get m) (sym (one_by key_cmp key_exact q k e))
@@ -58,19 +59,25 @@ no_route : (m : Taken) (k : Key) → maps.get (maps.remove m k) k ≡ None
 no_route m k = maps.get-remove key_total m k k ∙ ap (λ b. cond b None (maps.get m k)) (itself_by key_cmp key_total k)
 
 own_table : (peers : FinMap node_cmp Taken) (peer : NodeId) (taken : Taken) → maps.get (maps.insert peers peer taken) peer ≡ Some taken
-own_table peers peer taken = maps.get-insert node_cmp_total peers peer taken peer ∙ ap (λ b. cond b (Some taken) (maps.get peers peer)) (itself_by node_cmp node_cmp_total peer)
+own_table peers peer taken =
+    maps.get-insert node_cmp_total peers peer taken peer
+    ∙ ap (λ b. cond b (Some taken) (maps.get peers peer)) (itself_by node_cmp node_cmp_total peer)
 
 -- the table that is put last stands
-last_table : (peers : FinMap node_cmp Taken) (peer : NodeId) (one other : Taken) → maps.insert (maps.insert peers peer one) peer other ≡ maps.insert peers peer other
+last_table : (peers : FinMap node_cmp Taken) (peer : NodeId) (one other : Taken)
+    → maps.insert (maps.insert peers peer one) peer other ≡ maps.insert peers peer other
 last_table peers peer one other =
     sym (put_map node_cmp_total node_cmp_exact (maps.insert peers peer one) peer other)
     ∙ ap (λ (m : FinMap node_cmp Taken). maps.insert m peer other) (gone_map node_cmp_total node_cmp_exact peers peer one)
     ∙ put_map node_cmp_total node_cmp_exact peers peer other
 
 -- a change of the table that was put
-changed_put : (peers : FinMap node_cmp Taken) (peer : NodeId) (change : Taken → Taken) (taken : Taken) → changed_at peer change (maps.insert peers peer taken) ≡ maps.insert peers peer (change taken)
+changed_put : (peers : FinMap node_cmp Taken) (peer : NodeId) (change : Taken → Taken) (taken : Taken)
+    → changed_at peer change (maps.insert peers peer taken) ≡ maps.insert peers peer (change taken)
 changed_put peers peer change taken =
-    ap (λ (o : Option Taken). elim o as (λ x. FinMap node_cmp Taken) [ None ↦ maps.insert peers peer taken | Some table ↦ maps.insert (maps.insert peers peer taken) peer (change table) ]) (own_table peers peer taken)
+    ap (λ (o : Option Taken). elim o as (λ x. FinMap node_cmp Taken)
+    [ None ↦ maps.insert peers peer taken | Some table ↦ maps.insert (maps.insert peers peer taken) peer (change table) ])
+    (own_table peers peer taken)
     ∙ last_table peers peer taken (change taken)
 
 module _ (tables : FinMap node_cmp Taken) (peer : NodeId) (key : Key) (value : Value) (now : ℕ) where
@@ -89,7 +96,8 @@ module _ (tables : FinMap node_cmp Taken) (peer : NodeId) (key : Key) (value : V
   abbrev behind : (Taken → Taken) → Option Taken → FinMap node_cmp Taken
   behind change o = elim o as (λ x. FinMap node_cmp Taken) [ None ↦ tables | Some taken ↦ maps.insert tables peer (change taken) ]
 
-  same_taken : (taken : Taken) (r : Option TakenRoute) → maps.get taken key ≡ r → is_news value r ≡ false → maps.insert taken key (learned now value r) ≡ taken
+  same_taken : (taken : Taken) (r : Option TakenRoute) → maps.get taken key ≡ r → is_news value r ≡ false
+      → maps.insert taken key (learned now value r) ≡ taken
   same_taken taken None at h = absurd (let bad : true ≡ false = h in cc)
   same_taken taken (Some old) at h = by (same_value old.value value) h
     where
@@ -107,13 +115,15 @@ module _ (tables : FinMap node_cmp Taken) (peer : NodeId) (key : Key) (value : V
 
   stays_of : (o : Option Taken) → maps.get tables peer ≡ o → is_news value (route_in o) ≡ false → behind reached o ≡ tables
   stays_of None up h = refl
-  stays_of (Some taken) up h = ap (maps.insert tables peer) (same_taken taken (maps.get taken key) refl h) ∙ put_itself node_cmp_total node_cmp_exact tables peer taken up
+  stays_of (Some taken) up h =
+      ap (maps.insert tables peer) (same_taken taken (maps.get taken key) refl h) ∙ put_itself node_cmp_total node_cmp_exact tables peer taken up
 
   -- an equal route changes nothing
   pub table_stays : is_news value (route_at tables peer key) ≡ false → changed_at peer reached tables ≡ tables
   table_stays = stays_of (maps.get tables peer) refl
 
-  anew_of : (o : Option Taken) → maps.get tables peer ≡ o → is_news value (route_in o) ≡ true → changed_at peer reached (behind unreached o) ≡ behind reached o
+  anew_of : (o : Option Taken) → maps.get tables peer ≡ o → is_news value (route_in o) ≡ true
+      → changed_at peer reached (behind unreached o) ≡ behind reached o
   anew_of None up h = ap (behind reached) up
   anew_of (Some taken) up h =
       changed_put tables peer reached (maps.remove taken key)
@@ -122,7 +132,8 @@ module _ (tables : FinMap node_cmp Taken) (peer : NodeId) (key : Key) (value : V
       ∙ put_map key_total key_exact taken key route ∙ ap (maps.insert taken key) (sym (fresh_route (maps.get taken key) h)))
 
   -- one that says something else may be withdrawn first
-  pub table_anew : is_news value (route_at tables peer key) ≡ true → changed_at peer reached (changed_at peer unreached tables) ≡ changed_at peer reached tables
+  pub table_anew : is_news value (route_at tables peer key) ≡ true
+      → changed_at peer reached (changed_at peer unreached tables) ≡ changed_at peer reached tables
   table_anew = anew_of (maps.get tables peer) refl
 
   left_of : (o : Option Taken) → maps.get tables peer ≡ o → route_at (behind unreached o) peer key ≡ None
@@ -135,7 +146,8 @@ module _ (tables : FinMap node_cmp Taken) (peer : NodeId) (key : Key) (value : V
   back_of : (o : Option Taken) → maps.get tables peer ≡ o → route_in o ≡ None → changed_at peer unreached (behind reached o) ≡ tables
   back_of None up none = ap (behind unreached) up
   back_of (Some taken) up none =
-      changed_put tables peer unreached (reached taken) ∙ ap (maps.insert tables peer) (absent taken key (learned now value (maps.get taken key)) none)
+      changed_put tables peer unreached (reached taken)
+      ∙ ap (maps.insert tables peer) (absent taken key (learned now value (maps.get taken key)) none)
       ∙ put_itself node_cmp_total node_cmp_exact tables peer taken up
 
   -- one that comes where none stood, and goes
@@ -144,7 +156,8 @@ module _ (tables : FinMap node_cmp Taken) (peer : NodeId) (key : Key) (value : V
 
 -- ---- trees
 
-module _ (kept : Kept) (sound : IsSound kept) (peer : NodeId) (key : Key) (writable : IsWritableKey key) (value : Value) (now : ℕ) (trees : List TreeData) where
+module _ (kept : Kept) (sound : IsSound kept) (peer : NodeId) (key : Key) (writable : IsWritableKey key) (value : Value) (now : ℕ)
+    (trees : List TreeData) where
   abbrev owns : List OwnVrf
   owns = vrfs_from kept.home.me 0 kept.home.scenario.vrfs
 
@@ -176,19 +189,24 @@ module _ (kept : Kept) (sound : IsSound kept) (peer : NodeId) (key : Key) (writa
     at_peer = ap (λ (o : Option Taken). o >>? λ table. maps.get table key) (own_table kept.peers peer with_it) ∙ there
 
     module _ (are : (core : Core) → trees ≡ turned_all (coming kept.home core peer now key (Some anew)) owns kept.trees) where
-      came_made : MakesBetween (record kept { trees = trees; peers = maps.insert kept.peers peer with_it }) (record (control_of kept) { peers = maps.insert kept.peers peer with_it })
+      came_made : MakesBetween (record kept { trees = trees; peers = maps.insert kept.peers peer with_it })
+          (record (control_of kept) { peers = maps.insert kept.peers peer with_it })
       came_made = update_makes kept (sound_between kept sound) peer now trees taken (reach key value ∷ []) up sound.spelled one_writable
           (λ core. are core
-          ∙ ap (λ (o : Option TakenRoute). turned_all (λ own tree. tree_change (place_of kept.home core) own peer now key o (route_behind now (reach key value) o) tree) owns kept.trees) (sym none))
+          ∙ ap (λ (o : Option TakenRoute). turned_all
+          (λ own tree. tree_change (place_of kept.home core) own peer now key o (route_behind now (reach key value) o) tree) owns kept.trees)
+          (sym none))
 
       came_single : AllByRecursion IsSingle trees
       came_single = subst (AllByRecursion IsSingle) (sym (are no_core))
           (turned_each IsSingle (coming kept.home no_core peer now key (Some anew))
-          (λ own tree h. subst AreSingle (sym (ap (λ (c : Customers). c.2) (change_customers (place_of kept.home no_core) own peer now key None (Some anew) tree))) h) owns kept.trees sound.single)
+          (λ own tree h. subst AreSingle (sym (ap (λ (c : Customers). c.2)
+          (change_customers (place_of kept.home no_core) own peer now key None (Some anew) tree))) h) owns kept.trees sound.single)
 
       came_ends : Ends (maps.insert kept.peers peer with_it)
       came_ends = (
-        sound_with kept sound trees (maps.insert kept.peers peer with_it) came_made came_single (change_spelled (control_of kept) peer taken now (reach key value) up sound.spelled writable)
+        sound_with kept sound trees (maps.insert kept.peers peer with_it) came_made came_single
+            (change_spelled (control_of kept) peer taken now (reach key value) up sound.spelled writable)
             (more_nodes kept sound peer with_it (sound.peers peer (ap is_some up))),
         came_made.is,
       )
@@ -201,62 +219,86 @@ module _ (kept : Kept) (sound : IsSound kept) (peer : NodeId) (key : Key) (writa
           ≡ dropping kept.home core peer now key (Some anew) own (coming kept.home core peer now key (Some anew) own tree)
       split_back core own tree =
           sym (with_back (place_of kept.home core) own peer now now key (Some anew) tree)
-          ∙ ap (tree_with (place_of kept.home core) own peer now key (Some anew) None) (sym (with_split (place_of kept.home core) own peer now key (Some anew) tree))
+          ∙ ap (tree_with (place_of kept.home core) own peer now key (Some anew) None)
+          (sym (with_split (place_of kept.home core) own peer now key (Some anew) tree))
 
-      went_made : MakesBetween (record kept { trees = trees; peers = maps.insert kept.peers peer without_it }) (record (control_of kept) { peers = maps.insert kept.peers peer without_it })
+      went_made : MakesBetween (record kept { trees = trees; peers = maps.insert kept.peers peer without_it })
+          (record (control_of kept) { peers = maps.insert kept.peers peer without_it })
       went_made = update_makes kept (sound_between kept sound) peer now trees taken (reach key value ∷ Unreach key ∷ []) up sound.spelled two_writable
           (λ core. are core
           ∙ (λ i. turned_all (λ own tree. split_back core own tree i) owns kept.trees)
-          ∙ ap (λ (o : Option TakenRoute). turned_all (λ own tree. dropping kept.home core peer now key o own (coming kept.home core peer now key (Some anew) own tree)) owns kept.trees) (sym there)
+          ∙ ap (λ (o : Option TakenRoute). turned_all
+          (λ own tree. dropping kept.home core peer now key o own (coming kept.home core peer now key (Some anew) own tree)) owns kept.trees)
+          (sym there)
           ∙ ap (λ (o : Option TakenRoute). turned_all (λ own tree. dropping kept.home core peer now key (maps.get with_it key) own
           (tree_change (place_of kept.home core) own peer now key o (route_behind now (reach key value) o) tree)) owns kept.trees) (sym none))
 
       went_single : AllByRecursion IsSingle trees
       went_single = subst (AllByRecursion IsSingle) (sym (are no_core))
           (turned_each IsSingle (dropping kept.home no_core peer now key (Some anew))
-          (λ own tree h. subst AreSingle (sym (ap (λ (c : Customers). c.2) (change_customers (place_of kept.home no_core) own peer now key (Some anew) None tree))) h) owns kept.trees sound.single)
+          (λ own tree h. subst AreSingle (sym (ap (λ (c : Customers). c.2)
+          (change_customers (place_of kept.home no_core) own peer now key (Some anew) None tree))) h) owns kept.trees sound.single)
 
       as_before : maps.insert kept.peers peer without_it ≡ kept.peers
       as_before =
-          ap (maps.insert kept.peers peer) (absent taken key (learned now value (maps.get taken key)) none) ∙ put_itself node_cmp_total node_cmp_exact kept.peers peer taken up
+          ap (maps.insert kept.peers peer) (absent taken key (learned now value (maps.get taken key)) none)
+          ∙ put_itself node_cmp_total node_cmp_exact kept.peers peer taken up
 
       went_ends : Ends kept.peers
       went_ends =
           let made : MakesBetween (record kept { trees = trees; peers = kept.peers }) (record (control_of kept) { peers = kept.peers }) =
-          subst (λ (tables : FinMap node_cmp Taken). MakesBetween (record kept { trees = trees; peers = tables }) (record (control_of kept) { peers = tables })) as_before went_made in
+          subst (λ (tables : FinMap node_cmp Taken). MakesBetween (record kept { trees = trees; peers = tables })
+          (record (control_of kept) { peers = tables })) as_before went_made in
           (sound_with kept sound trees kept.peers made went_single sound.spelled sound.peers, made.is)
 
   -- the trees stay as they are
   stay : trees ≡ kept.trees → Ends kept.peers
-  stay same = subst (λ (xs : List TreeData). IsSound (kept_of kept.home xs kept.peers) × (control_of (kept_of kept.home xs kept.peers) ≡ record (control_of kept) { peers = kept.peers })) (sym same) (sound, refl)
+  stay same =
+      subst (λ (xs : List TreeData). IsSound (kept_of kept.home xs kept.peers)
+      × (control_of (kept_of kept.home xs kept.peers) ≡ record (control_of kept) { peers = kept.peers })) (sym same) (sound, refl)
 
   abbrev route_of : Option Taken → Option TakenRoute
   route_of o = o >>? λ taken. maps.get taken key
 
   abbrev tables_of : Option Taken → FinMap node_cmp Taken
-  tables_of o = elim o as (λ x. FinMap node_cmp Taken) [ None ↦ kept.peers | Some taken ↦ maps.insert kept.peers peer (taken_change now taken (reach key value)) ]
+  tables_of o =
+      elim o as (λ x. FinMap node_cmp Taken) [
+        | None ↦ kept.peers
+        | Some taken ↦
+            maps.insert kept.peers peer (taken_change now taken (reach key value))
+      ]
 
   came_of : (o : Option Taken) → maps.get kept.peers peer ≡ o → route_of o ≡ None → length kept.trees ≡ length owns
-      → ((core : Core) → trees ≡ turned_all (coming kept.home core peer now key (route_at (tables_of o) peer key)) owns kept.trees) → Ends (tables_of o)
+      → ((core : Core) → trees ≡ turned_all (coming kept.home core peer now key (route_at (tables_of o) peer key)) owns kept.trees)
+      → Ends (tables_of o)
   came_of None up none many are =
-      stay (are no_core ∙ ap (λ (r : Option TakenRoute). turned_all (coming kept.home no_core peer now key r) owns kept.trees) (ap route_of up) ∙ none_turned owns kept.trees many)
+      stay (are no_core ∙ ap (λ (r : Option TakenRoute). turned_all (coming kept.home no_core peer now key r) owns kept.trees) (ap route_of up)
+      ∙ none_turned owns kept.trees many)
   came_of (Some taken) up none many are =
-      came_ends taken up none (λ core. are core ∙ ap (λ (r : Option TakenRoute). turned_all (coming kept.home core peer now key r) owns kept.trees) (at_peer taken up none))
+      came_ends taken up none (λ core. are core ∙ ap (λ (r : Option TakenRoute). turned_all (coming kept.home core peer now key r) owns kept.trees)
+      (at_peer taken up none))
 
   went_of : (o : Option Taken) → maps.get kept.peers peer ≡ o → route_of o ≡ None → length kept.trees ≡ length owns
-      → ((core : Core) → trees ≡ turned_all (dropping kept.home core peer now key (route_at (tables_of o) peer key)) owns kept.trees) → Ends kept.peers
+      → ((core : Core) → trees ≡ turned_all (dropping kept.home core peer now key (route_at (tables_of o) peer key)) owns kept.trees)
+      → Ends kept.peers
   went_of None up none many are =
-      stay (are no_core ∙ ap (λ (r : Option TakenRoute). turned_all (dropping kept.home no_core peer now key r) owns kept.trees) (ap route_of up) ∙ none_turned owns kept.trees many)
+      stay (are no_core ∙ ap (λ (r : Option TakenRoute). turned_all (dropping kept.home no_core peer now key r) owns kept.trees) (ap route_of up)
+      ∙ none_turned owns kept.trees many)
   went_of (Some taken) up none many are =
-      went_ends taken up none (λ core. are core ∙ ap (λ (r : Option TakenRoute). turned_all (dropping kept.home core peer now key r) owns kept.trees) (at_peer taken up none))
+      went_ends taken up none (λ core. are core ∙ ap (λ (r : Option TakenRoute). turned_all (dropping kept.home core peer now key r) owns kept.trees)
+      (at_peer taken up none))
 
   module _ (none : route_at kept.peers peer key ≡ None) (many : length kept.trees ≡ length owns) where
     -- the trees took the route that the table has anew
-    pub came : ((core : Core) → trees ≡ turned_all (coming kept.home core peer now key (route_at (changed_at peer (λ taken. taken_change now taken (reach key value)) kept.peers) peer key)) owns kept.trees)
+    pub came : ((core : Core) → trees ≡ turned_all
+        (coming kept.home core peer now key (route_at (changed_at peer (λ taken. taken_change now taken (reach key value)) kept.peers) peer key)) owns
+        kept.trees)
         → Ends (changed_at peer (λ taken. taken_change now taken (reach key value)) kept.peers)
     came = came_of (maps.get kept.peers peer) refl none many
 
     -- and they forgot it
-    pub went : ((core : Core) → trees ≡ turned_all (dropping kept.home core peer now key (route_at (changed_at peer (λ taken. taken_change now taken (reach key value)) kept.peers) peer key)) owns kept.trees)
+    pub went : ((core : Core) → trees ≡ turned_all
+        (dropping kept.home core peer now key (route_at (changed_at peer (λ taken. taken_change now taken (reach key value)) kept.peers) peer key))
+        owns kept.trees)
         → Ends kept.peers
     went = went_of (maps.get kept.peers peer) refl none many

@@ -36,7 +36,8 @@ use Rattle.edge_control.specs.Taking.{more_actives, more_learned, tree_learning,
 module _ {K X : Type 0} {R : K → K → Ordering} (total : IsTotalOrder R) (exact : IsAntisymmetric R) (m : FinMap R X) (k : K) where
   pub put_map : (x : X) → maps.insert (maps.remove m k) k x ≡ maps.insert m k x
   put_map x = maps.same_map total exact (maps.insert (maps.remove m k) k x) (maps.insert m k x)
-      (λ q. maps.get-insert total (maps.remove m k) k x q ∙ ap (cond (eq_by_cmp R q k) (Some x)) (maps.get-remove total m k q) ∙ by (eq_by_cmp R q k) (maps.get m q) ∙ sym (maps.get-insert total m k x q))
+      (λ q. maps.get-insert total (maps.remove m k) k x q ∙ ap (cond (eq_by_cmp R q k) (Some x)) (maps.get-remove total m k q)
+      ∙ by (eq_by_cmp R q k) (maps.get m q) ∙ sym (maps.get-insert total m k x q))
     where
       by : (b : Bool) (o : Option X) → cond b (Some x) (cond b None o) ≡ cond b (Some x) o
       by true o = refl
@@ -44,7 +45,8 @@ module _ {K X : Type 0} {R : K → K → Ordering} (total : IsTotalOrder R) (exa
 
   pub gone_map : (x : X) → maps.remove (maps.insert m k x) k ≡ maps.remove m k
   gone_map x = maps.same_map total exact (maps.remove (maps.insert m k x) k) (maps.remove m k)
-      (λ q. maps.get-remove total (maps.insert m k x) k q ∙ ap (cond (eq_by_cmp R q k) None) (maps.get-insert total m k x q) ∙ by (eq_by_cmp R q k) (maps.get m q) ∙ sym (maps.get-remove total m k q))
+      (λ q. maps.get-remove total (maps.insert m k x) k q ∙ ap (cond (eq_by_cmp R q k) None) (maps.get-insert total m k x q)
+      ∙ by (eq_by_cmp R q k) (maps.get m q) ∙ sym (maps.get-remove total m k q))
     where
       by : (b : Bool) (o : Option X) → cond b None (cond b (Some x) o) ≡ cond b None o
       by true o = refl
@@ -52,7 +54,8 @@ module _ {K X : Type 0} {R : K → K → Ordering} (total : IsTotalOrder R) (exa
 
   twice_map : maps.remove (maps.remove m k) k ≡ maps.remove m k
   twice_map = maps.same_map total exact (maps.remove (maps.remove m k) k) (maps.remove m k)
-      (λ q. maps.get-remove total (maps.remove m k) k q ∙ ap (cond (eq_by_cmp R q k) None) (maps.get-remove total m k q) ∙ by (eq_by_cmp R q k) (maps.get m q) ∙ sym (maps.get-remove total m k q))
+      (λ q. maps.get-remove total (maps.remove m k) k q ∙ ap (cond (eq_by_cmp R q k) None) (maps.get-remove total m k q)
+      ∙ by (eq_by_cmp R q k) (maps.get m q) ∙ sym (maps.get-remove total m k q))
     where
       by : (b : Bool) (o : Option X) → cond b None (cond b None o) ≡ cond b None o
       by true o = refl
@@ -61,7 +64,8 @@ module _ {K X : Type 0} {R : K → K → Ordering} (total : IsTotalOrder R) (exa
 module _ {K : Type 0} {R : K → K → Ordering} (total : IsTotalOrder R) (exact : IsAntisymmetric R) (s : FinSet R) (k : K) where
   put_set : sets.insert (sets.remove s k) k ≡ sets.insert s k
   put_set = sets.same_set total exact (sets.insert (sets.remove s k) k) (sets.insert s k)
-      (λ q. sets.contains-insert total (sets.remove s k) k q ∙ ap (λ b. eq_by_cmp R q k || b) (sets.contains-remove total s k q) ∙ by (eq_by_cmp R q k) (sets.contains s q) ∙ sym (sets.contains-insert total s k q))
+      (λ q. sets.contains-insert total (sets.remove s k) k q ∙ ap (λ b. eq_by_cmp R q k || b) (sets.contains-remove total s k q)
+      ∙ by (eq_by_cmp R q k) (sets.contains s q) ∙ sym (sets.contains-insert total s k q))
     where
       by : (b o : Bool) → (b || (not b && o)) ≡ (b || o)
       by true o = refl
@@ -69,7 +73,8 @@ module _ {K : Type 0} {R : K → K → Ordering} (total : IsTotalOrder R) (exact
 
   gone_set : sets.remove (sets.insert s k) k ≡ sets.remove s k
   gone_set = sets.same_set total exact (sets.remove (sets.insert s k) k) (sets.remove s k)
-      (λ q. sets.contains-remove total (sets.insert s k) k q ∙ ap (λ b. not (eq_by_cmp R q k) && b) (sets.contains-insert total s k q) ∙ by (eq_by_cmp R q k) (sets.contains s q) ∙ sym (sets.contains-remove total s k q))
+      (λ q. sets.contains-remove total (sets.insert s k) k q ∙ ap (λ b. not (eq_by_cmp R q k) && b) (sets.contains-insert total s k q)
+      ∙ by (eq_by_cmp R q k) (sets.contains s q) ∙ sym (sets.contains-remove total s k q))
     where
       by : (b o : Bool) → (not b && (b || o)) ≡ (not b && o)
       by true o = refl
@@ -77,7 +82,8 @@ module _ {K : Type 0} {R : K → K → Ordering} (total : IsTotalOrder R) (exact
 
   twice_set : sets.remove (sets.remove s k) k ≡ sets.remove s k
   twice_set = sets.same_set total exact (sets.remove (sets.remove s k) k) (sets.remove s k)
-      (λ q. sets.contains-remove total (sets.remove s k) k q ∙ ap (λ b. not (eq_by_cmp R q k) && b) (sets.contains-remove total s k q) ∙ by (eq_by_cmp R q k) (sets.contains s q) ∙ sym (sets.contains-remove total s k q))
+      (λ q. sets.contains-remove total (sets.remove s k) k q ∙ ap (λ b. not (eq_by_cmp R q k) && b) (sets.contains-remove total s k q)
+      ∙ by (eq_by_cmp R q k) (sets.contains s q) ∙ sym (sets.contains-remove total s k q))
     where
       by : (b o : Bool) → (not b && (not b && o)) ≡ (not b && o)
       by true o = refl
@@ -85,11 +91,13 @@ module _ {K : Type 0} {R : K → K → Ordering} (total : IsTotalOrder R) (exact
 
 -- ---- a route that comes where none stood
 
-learned_split : (key : RouteKey) (told : Option Held) (learned : FinMap unicast_order.key_cmp Held) → learned_with key told learned ≡ more_learned key told learned
+learned_split : (key : RouteKey) (told : Option Held) (learned : FinMap unicast_order.key_cmp Held)
+    → learned_with key told learned ≡ more_learned key told learned
 learned_split key None learned = refl
 learned_split key (Some held) learned = put_map unicast_order.key_total unicast_lemmas.key_exact learned key held
 
-actives_split : (route : ActiveRoute) (told : Option FlowRoute) (actives : FinSet active_cmp) → actives_with route told actives ≡ more_actives route told actives
+actives_split : (route : ActiveRoute) (told : Option FlowRoute) (actives : FinSet active_cmp)
+    → actives_with route told actives ≡ more_actives route told actives
 actives_split route None actives = refl
 actives_split route (Some flow) actives = put_set active_total active_exact actives route
 
@@ -98,7 +106,8 @@ pub with_split : (place : EdgePlace) (own : OwnVrf) (peer : NodeId) (now : ℕ) 
 with_split place own peer now (Unicast rd prefix) new tree =
     ap (λ next. with_learned next tree) (learned_split (key_from peer rd prefix) (told_unicast place own peer new) tree.vrf.routes.learned)
 with_split place own peer now (Mcast afi (routes.Active rd source group)) new tree =
-    ap (λ next. with_actives next tree) (actives_split (active_of peer rd source group) (told_active own (Mcast afi (routes.Active rd source group)) new) tree.vrf.actives)
+    ap (λ next. with_actives next tree) (actives_split (active_of peer rd source group)
+    (told_active own (Mcast afi (routes.Active rd source group)) new) tree.vrf.actives)
 with_split place own peer now (Mcast afi (routes.SourceJoin rd source_as source group)) new tree = refl
 with_split place own peer now (Mcast afi (routes.Selective rd source group originator)) new tree = refl
 with_split place own peer now (Mcast afi (routes.Intra rd originator)) new tree = refl
@@ -109,19 +118,23 @@ with_split place own peer now (Mcast afi (routes.Other kind octets)) new tree = 
 
 -- ---- a route that came and goes
 
-learned_back : (key : RouteKey) (told : Option Held) (learned : FinMap unicast_order.key_cmp Held) → maps.remove (more_learned key told learned) key ≡ maps.remove learned key
+learned_back : (key : RouteKey) (told : Option Held) (learned : FinMap unicast_order.key_cmp Held)
+    → maps.remove (more_learned key told learned) key ≡ maps.remove learned key
 learned_back key None learned = twice_map unicast_order.key_total unicast_lemmas.key_exact learned key
 learned_back key (Some held) learned = gone_map unicast_order.key_total unicast_lemmas.key_exact learned key held
 
-actives_back : (route : ActiveRoute) (told : Option FlowRoute) (actives : FinSet active_cmp) → sets.remove (more_actives route told actives) route ≡ sets.remove actives route
+actives_back : (route : ActiveRoute) (told : Option FlowRoute) (actives : FinSet active_cmp)
+    → sets.remove (more_actives route told actives) route ≡ sets.remove actives route
 actives_back route None actives = twice_set active_total active_exact actives route
 actives_back route (Some flow) actives = gone_set active_total active_exact actives route
 
-joined_back : (peer : NodeId) (told : Option FlowRoute) (joined : FinSet join_cmp) → left_with peer told (joined_with peer told joined) ≡ left_with peer told joined
+joined_back : (peer : NodeId) (told : Option FlowRoute) (joined : FinSet join_cmp)
+    → left_with peer told (joined_with peer told joined) ≡ left_with peer told joined
 joined_back peer None joined = refl
 joined_back peer (Some flow) joined = gone_set join_total join_exact joined (join_of peer flow.source flow.group)
 
-selective_back : (peer : NodeId) (now : ℕ) (told : Option ImportedSelective) (all : leaves.Routes) → selective_without peer told (selective_with peer now told all) ≡ selective_without peer told all
+selective_back : (peer : NodeId) (now : ℕ) (told : Option ImportedSelective) (all : leaves.Routes)
+    → selective_without peer told (selective_with peer now told all) ≡ selective_without peer told all
 selective_back peer now None all = refl
 selective_back peer now (Some new) all =
     gone_map route_total route_exact all (leaves.key_of peer new.route.rd (pattern_of new.route.source new.route.group)) (learned_now new.fec now)
@@ -131,11 +144,14 @@ pub with_back : (place : EdgePlace) (own : OwnVrf) (peer : NodeId) (now at : ℕ
 with_back place own peer now at (Unicast rd prefix) new tree =
     ap (λ next. with_learned next tree) (learned_back (key_from peer rd prefix) (told_unicast place own peer new) tree.vrf.routes.learned)
 with_back place own peer now at (Mcast afi (routes.Active rd source group)) new tree =
-    ap (λ next. with_actives next tree) (actives_back (active_of peer rd source group) (told_active own (Mcast afi (routes.Active rd source group)) new) tree.vrf.actives)
+    ap (λ next. with_actives next tree) (actives_back (active_of peer rd source group)
+    (told_active own (Mcast afi (routes.Active rd source group)) new) tree.vrf.actives)
 with_back place own peer now at (Mcast afi (routes.SourceJoin rd source_as source group)) new tree =
-    ap (λ next. with_joined next tree) (joined_back peer (told_join place own (Mcast afi (routes.SourceJoin rd source_as source group)) new) tree.joined)
+    ap (λ next. with_joined next tree) (joined_back peer (told_join place own (Mcast afi (routes.SourceJoin rd source_as source group)) new)
+    tree.joined)
 with_back place own peer now at (Mcast afi (routes.Selective rd source group originator)) new tree =
-    ap (λ next. with_selective next tree) (selective_back peer at (told_selective place own peer (Mcast afi (routes.Selective rd source group originator)) new) tree.leaf.routes)
+    ap (λ next. with_selective next tree) (selective_back peer at
+    (told_selective place own peer (Mcast afi (routes.Selective rd source group originator)) new) tree.leaf.routes)
 with_back place own peer now at (Mcast afi (routes.Intra rd originator)) new tree = refl
 with_back place own peer now at (Mcast afi (routes.Inter rd source_as)) new tree = refl
 with_back place own peer now at (Mcast afi (routes.Leaf leaf originator)) new tree = refl
@@ -144,7 +160,8 @@ with_back place own peer now at (Mcast afi (routes.Other kind octets)) new tree 
 
 -- ---- a peer that is lost
 
-pub losing_is : (place : EdgePlace) (own : OwnVrf) (peer : NodeId) (key : Key) (taken : TakenRoute) (tree : TreeData) → tree_losing place own peer key (Some taken) tree ≡ tree_without place own peer tree (key, taken)
+pub losing_is : (place : EdgePlace) (own : OwnVrf) (peer : NodeId) (key : Key) (taken : TakenRoute) (tree : TreeData)
+    → tree_losing place own peer key (Some taken) tree ≡ tree_without place own peer tree (key, taken)
 losing_is place own peer (Unicast rd prefix) taken tree = refl
 losing_is place own peer (Mcast afi (routes.Active rd source group)) taken tree = refl
 losing_is place own peer (Mcast afi (routes.SourceJoin rd source_as source group)) taken tree = refl

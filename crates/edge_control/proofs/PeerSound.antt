@@ -42,11 +42,14 @@ module _ (kept : Kept) where
   pub wanted_of : AreTreesBetween kept → AreTrees (with_trees as_wanted kept)
   wanted_of between = record {
     each = λ core.
-        subst (AllByRecursion (λ (it : OwnTree). IsTreeOf (place_of kept.home core) (control_of (with_trees as_wanted kept)) it.own it.tree)) (sym theirs)
-        (subst (λ control. AllByRecursion (λ (it : OwnTree). IsTreeOf (place_of kept.home core) control it.own it.tree) (map wanted (trees_of kept))) (sym (wanted_control kept))
+        subst (AllByRecursion (λ (it : OwnTree). IsTreeOf (place_of kept.home core) (control_of (with_trees as_wanted kept)) it.own it.tree))
+        (sym theirs)
+        (subst (λ control. AllByRecursion (λ (it : OwnTree). IsTreeOf (place_of kept.home core) control it.own it.tree) (map wanted (trees_of kept)))
+        (sym (wanted_control kept))
         (of_each (λ it. IsTreeOf (place_of kept.home core) (control_of kept) it.own it.tree) (trees_of kept) (between.each core)));
     full =
-        ap (map (λ (it : OwnTree). it.tree)) theirs ∙ map_twice (λ (it : OwnTree). it.tree) wanted (trees_of kept) ∙ sym (map_twice as_wanted (λ (it : OwnTree). it.tree) (trees_of kept)) ∙ ap (map as_wanted) between.full;
+        ap (map (λ (it : OwnTree). it.tree)) theirs ∙ map_twice (λ (it : OwnTree). it.tree) wanted (trees_of kept)
+        ∙ sym (map_twice as_wanted (λ (it : OwnTree). it.tree) (trees_of kept)) ∙ ap (map as_wanted) between.full;
     all = ap (map (λ (it : OwnTree). it.own)) theirs ∙ all_wanted (λ (it : OwnTree). it.own) (λ it. refl) (trees_of kept) ∙ between.all;
   }
 
@@ -54,4 +57,5 @@ module _ (kept : Kept) where
 pub as_many : (kept : Kept) → IsSound kept → length kept.trees ≡ length (vrfs_from kept.home.me 0 kept.home.scenario.vrfs)
 as_many kept sound =
     let between = sound_between kept sound in
-    sym (ap length between.full) ∙ length-map (trees_of kept) (λ (it : OwnTree). it.tree) ∙ sym (length-map (trees_of kept) (λ (it : OwnTree). it.own)) ∙ ap length between.all
+    sym (ap length between.full) ∙ length-map (trees_of kept) (λ (it : OwnTree). it.tree)
+    ∙ sym (length-map (trees_of kept) (λ (it : OwnTree). it.own)) ∙ ap length between.all

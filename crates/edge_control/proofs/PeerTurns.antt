@@ -5,7 +5,8 @@ use Rattle.vrf_words.specs.tree_defs.Trees.{TreeData}
 use Rattle.edge_defs.specs.Place.{OwnVrf}
 use Rattle.edge_control.specs.Taking.{turned, turned_all}
 
-pub turned_length : (change : OwnVrf → TreeData → TreeData) (n : ℕ) (owns : List OwnVrf) (trees : List TreeData) → length (turned n change owns trees) ≡ length trees
+pub turned_length : (change : OwnVrf → TreeData → TreeData) (n : ℕ) (owns : List OwnVrf) (trees : List TreeData)
+    → length (turned n change owns trees) ≡ length trees
 turned_length change zero owns trees = refl
 turned_length change (suc n) [] trees = refl
 turned_length change (suc n) (own ∷ owns) [] = refl
@@ -35,7 +36,8 @@ turned_more change n owns trees now own d s lt at is one =
     ∙ ap (λ m. turned m change owns trees) next
 
 -- all of them are
-pub turned_end : (change : OwnVrf → TreeData → TreeData) (n : ℕ) (owns : List OwnVrf) (trees : List TreeData) → length trees ≤ n → length trees ≡ length owns
+pub turned_end : (change : OwnVrf → TreeData → TreeData) (n : ℕ) (owns : List OwnVrf) (trees : List TreeData) → length trees ≤ n
+    → length trees ≡ length owns
     → turned n change owns trees ≡ turned_all change owns trees
 turned_end change zero [] [] le same = refl
 turned_end change zero (own ∷ owns) [] le same = refl

@@ -17,7 +17,8 @@ use Rattle.edge_control.specs.Places.{IsPlace, IsTreeAt, changed_at, vrfs_of}
 
 -- ---- lists
 
-pub get_mapped : {X Y : Type 0} (f : X → Y) (xs : List X) (n : ℕ) (y : Y) → slice_get (map f xs) n ≡ Some y → (x : X) × (slice_get xs n ≡ Some x) × (f x ≡ y)
+pub get_mapped : {X Y : Type 0} (f : X → Y) (xs : List X) (n : ℕ) (y : Y) → slice_get (map f xs) n ≡ Some y
+    → (x : X) × (slice_get xs n ≡ Some x) × (f x ≡ y)
 get_mapped f [] n y h = absurd cc
 get_mapped f (x ∷ xs) zero y h = (let same : f x ≡ y = cc in (x, refl, same))
 get_mapped f (x ∷ xs) (suc n) y h = get_mapped f xs n y h
@@ -42,7 +43,8 @@ all_set P [] n x h new = tt
 all_set P (y ∷ xs) zero x h new = (new, h.1)
 all_set P (y ∷ xs) (suc n) x h new = (h.0, all_set P xs n x h.1 new)
 
-before_by : {X : Type 0} (p : X → Bool) (x : X) (xs : List X) → (list_any p xs ≡ true → position_or_len p xs < length xs) → (b : Bool) → p x ≡ b → list_any p (x ∷ xs) ≡ true
+before_by : {X : Type 0} (p : X → Bool) (x : X) (xs : List X) → (list_any p xs ≡ true → position_or_len p xs < length xs) → (b : Bool) → p x ≡ b
+    → list_any p (x ∷ xs) ≡ true
     → position_or_len p (x ∷ xs) < length (x ∷ xs)
 before_by p x xs rest true e h =
     let first : position_or_len p (x ∷ xs) ≡ 0 = ap (λ (b : Bool). cond (not b) (1 + position_or_len p xs) 0) e in
@@ -80,7 +82,8 @@ module _ (home : Home) (vrfs : List OwnVrf) (own : AreOwn home vrfs) (test : pla
           let found = position-Some passes vrfs place d h in
           record {
             own = as_own (get_or vrfs place d);
-            at = ap (λ (l : List places.OwnVrf). slice_get l place) (sym (own.vrfs no_core)) ∙ mapped as_own vrfs place (get_or vrfs place d) (get_at vrfs place d found.0);
+            at = ap (λ (l : List places.OwnVrf). slice_get l place) (sym (own.vrfs no_core))
+                ∙ mapped as_own vrfs place (get_or vrfs place d) (get_at vrfs place d found.0);
             passes = found.1;
           }
 
@@ -103,7 +106,8 @@ pub record Stands (kept : Kept) (place : ℕ) (test : places.OwnVrf → Bool) : 
 module _ (kept : Kept) (full : AreFull kept) (place : ℕ) (test : places.OwnVrf → Bool) (is : IsPlace kept.home place test) where
   pub stands : Stands kept place test
   stands =
-      let found = get_mapped (λ (it : OwnTree). it.own) (trees_of kept) place is.own (ap (λ (l : List places.OwnVrf). slice_get l place) full.all ∙ is.at) in
+      let found =
+      get_mapped (λ (it : OwnTree). it.own) (trees_of kept) place is.own (ap (λ (l : List places.OwnVrf). slice_get l place) full.all ∙ is.at) in
       record { it = found.0; at = found.1; passes = ap test found.2 ∙ is.passes }
 
   pub tree_is : slice_get kept.trees place ≡ Some (stands.it.tree)
@@ -121,7 +125,8 @@ module _ (kept : Kept) (full : AreFull kept) (place : ℕ) (test : places.OwnVrf
       let one : Some tree ≡ Some (stands.it.tree) = ap Some e ∙ sym (get_at kept.trees place tree there) ∙ tree_is in cc
 
 -- the tree of a VRF
-pub tree_at : (kept : Kept) → AreFull kept → (place : ℕ) (vrf : VrfId) → IsPlace kept.home place (λ own. own.id.0 == vrf.0) → (tree : TreeData) → tree ≡ get_or kept.trees place tree
+pub tree_at : (kept : Kept) → AreFull kept → (place : ℕ) (vrf : VrfId) → IsPlace kept.home place (λ own. own.id.0 == vrf.0) → (tree : TreeData)
+    → tree ≡ get_or kept.trees place tree
     → IsTreeAt kept vrf tree
 tree_at kept full place vrf is tree e =
     let here = stands kept full place (λ own. own.id.0 == vrf.0) is in

@@ -29,7 +29,8 @@ use Rattle.edge_control.specs.Refreshing.{AreMoved, tree_join}
 same_up : (own up : Upstream) → Some own ≡ Some up → own ≡ up
 same_up own up e = cc
 
-first_joined : (join : TreeJoin) (more : List TreeJoin) (q : Flow) (up : Upstream) → (joined_at more q ≡ Some up → Among (join_of (q, up)) more) → (b : Bool) → same_flow q (flow_in join) ≡ b
+first_joined : (join : TreeJoin) (more : List TreeJoin) (q : Flow) (up : Upstream) → (joined_at more q ≡ Some up → Among (join_of (q, up)) more)
+    → (b : Bool) → same_flow q (flow_in join) ≡ b
     → cond b (Some (up_in join)) (joined_at more q) ≡ Some up → Among (join_of (q, up)) (join ∷ more)
 first_joined join more q up rest true e h =
     let flow : q ≡ flow_in join = same_flow_equal q (flow_in join) e in
@@ -43,12 +44,16 @@ joined_among [] q up h = absurd cc
 joined_among (join ∷ more) q up h = first_joined join more q up (joined_among more q up) (same_flow q (flow_in join)) refl h
 
 -- a join of the list is that of its flow
-joined_own : (joins : List TreeJoin) → IsDistinct same_flow (map flow_in joins) → (join : TreeJoin) → Among join joins → joined_at joins (flow_in join) ≡ Some (up_in join)
+joined_own : (joins : List TreeJoin) → IsDistinct same_flow (map flow_in joins) → (join : TreeJoin) → Among join joins
+    → joined_at joins (flow_in join) ≡ Some (up_in join)
 joined_own [] once join a = absurd a
 joined_own (first ∷ more) once join (inl e) =
-    subst (λ (j : TreeJoin). joined_at (first ∷ more) (flow_in j) ≡ Some (up_in j)) (sym e) (ap (λ (b : Bool). cond b (Some (up_in first)) (joined_at more (flow_in first))) (same_flow_itself (flow_in first)))
+    subst (λ (j : TreeJoin). joined_at (first ∷ more) (flow_in j) ≡ Some (up_in j)) (sym e)
+    (ap (λ (b : Bool). cond b (Some (up_in first)) (joined_at more (flow_in first))) (same_flow_itself (flow_in first)))
 joined_own (first ∷ more) once join (inr a) =
-    let apart = of_each (λ (q : Flow). same_flow (flow_in first) q ≡ false) (map flow_in more) (IsDistinct-head same_flow (flow_in first) (map flow_in more) once) (flow_in join) (among_map flow_in join more a) in
+    let apart =
+    of_each (λ (q : Flow). same_flow (flow_in first) q ≡ false) (map flow_in more)
+    (IsDistinct-head same_flow (flow_in first) (map flow_in more) once) (flow_in join) (among_map flow_in join more a) in
     ap (λ (b : Bool). cond b (Some (up_in first)) (joined_at more (flow_in join))) (same_flow_symmetric (flow_in join) (flow_in first) ∙ apart)
     ∙ joined_own more (IsDistinct-tail same_flow (flow_in first) (map flow_in more) once) join a
 
@@ -73,7 +78,8 @@ abbrev join_by : Flow → Option Upstream → Option TreeJoin
 join_by flow up = option_map (λ u. join_of (flow, u)) up
 
 -- A join that is there behind was there before, or it is listed.
-moved : (flow : Flow) (before after : Option Upstream) (joins : List TreeJoin) → joined_at joins flow ≡ gained before after → (join : TreeJoin) → join_by flow after ≡ Some join
+moved : (flow : Flow) (before after : Option Upstream) (joins : List TreeJoin) → joined_at joins flow ≡ gained before after → (join : TreeJoin)
+    → join_by flow after ≡ Some join
     → (join_by flow before ≡ Some join) ⊎ Among join joins
 moved flow before None joins at join h = absurd cc
 moved flow before (Some up) joins at join h = elim (kept_or_gained before up) [
@@ -115,11 +121,13 @@ module _ (old new : TreeData) (after : Flow → Option Choice) (flows : (q : Flo
 
   pub made_here : (join : TreeJoin) → Among join joins → tree_join new (flow_in join) ≡ Some join
   made_here join a =
-      let up = gained_is (up_before (flow_in join)) (up_then (flow_in join)) (up_in join) (sym (told_made (flow_in join)) ∙ joined_own joins made.once join a) in ap (join_by (flow_in join)) up
+      let up = gained_is (up_before (flow_in join)) (up_then (flow_in join)) (up_in join)
+      (sym (told_made (flow_in join)) ∙ joined_own joins made.once join a) in ap (join_by (flow_in join)) up
 
   pub left_here : (join : TreeJoin) → Among join leaves → tree_join old (flow_in join) ≡ Some join
   left_here join a =
-      let up = gained_is (up_then (flow_in join)) (up_before (flow_in join)) (up_in join) (sym (told_left (flow_in join)) ∙ joined_own leaves left.once join a) in ap (join_by (flow_in join)) up
+      let up = gained_is (up_then (flow_in join)) (up_before (flow_in join)) (up_in join)
+      (sym (told_left (flow_in join)) ∙ joined_own leaves left.once join a) in ap (join_by (flow_in join)) up
 
 -- ---- tunnels
 
@@ -137,16 +145,19 @@ any_is : (fec : Fec) (fecs : List Fec) → is_in fec fecs ≡ list_any (same_fec
 any_is fec fecs = λ i. list_any (λ other. fec_ties fec other i) fecs
 
 -- behind those that are listed already
-pub told_here : (old new : TreeData) (all wants unwants : List Fec) → AreNew wants old.wants new.wants → AreNew unwants new.wants old.wants → Tells ((all ++ wants) ++ unwants) old new
+pub told_here : (old new : TreeData) (all wants unwants : List Fec) → AreNew wants old.wants new.wants → AreNew unwants new.wants old.wants
+    → Tells ((all ++ wants) ++ unwants) old new
 told_here old new all wants unwants came went fec h =
     let both = or_parts _ _ (sym (list_any-append (same_fec fec) (all ++ wants) unwants) ∙ h) in
     let first = or_parts _ _ (sym (list_any-append (same_fec fec) all wants) ∙ both.0) in
-    agree (sets.contains old.wants fec) (sets.contains new.wants fec) (sym (came.each fec) ∙ any_is fec wants ∙ first.1) (sym (went.each fec) ∙ any_is fec unwants ∙ both.1)
+    agree (sets.contains old.wants fec) (sets.contains new.wants fec) (sym (came.each fec) ∙ any_is fec wants ∙ first.1)
+    (sym (went.each fec) ∙ any_is fec unwants ∙ both.1)
 
 -- and those of a longer list too
 pub tells_more : (old new : TreeData) (all wants unwants : List Fec) → Tells all old new → Tells ((all ++ wants) ++ unwants) old new
 tells_more old new all wants unwants told fec h =
-    let both = or_parts _ _ (sym (list_any-append (same_fec fec) (all ++ wants) unwants) ∙ h) in told fec ((or_parts _ _ (sym (list_any-append (same_fec fec) all wants) ∙ both.0)).0)
+    let both = or_parts _ _ (sym (list_any-append (same_fec fec) (all ++ wants) unwants) ∙ h) in
+    told fec ((or_parts _ _ (sym (list_any-append (same_fec fec) all wants) ∙ both.0)).0)
 
 pub moved_more : (old new : TreeData) (all joins leaves : List TreeJoin) → AreMoved all old new → AreMoved ((all ++ joins) ++ leaves) old new
 moved_more old new all joins leaves h = record {

@@ -56,23 +56,28 @@ owns_of kept = vrfs_from kept.home.me 0 kept.home.scenario.vrfs
 
 -- ---- what the trees are asked for
 
-route_told : (o : Option Taken) (key : Key) (f : TakenRoute → Option Held) (held : Held) → (maps.get (elim o as (λ _. Taken) [ None ↦ maps.empty | Some taken ↦ taken ]) key >>? f) ≡ Some held
+route_told : (o : Option Taken) (key : Key) (f : TakenRoute → Option Held) (held : Held)
+    → (maps.get (elim o as (λ _. Taken) [ None ↦ maps.empty | Some taken ↦ taken ]) key >>? f) ≡ Some held
     → is_some o ≡ true
 route_told None key f held h =
-    let none : (maps.get maps.empty key >>? f) ≡ None = ap (λ (r : Option TakenRoute). r >>? f) (maps.get-empty key_cmp key) in absurd (let bad : None ≡ Some held = sym none ∙ h in cc)
+    let none : (maps.get maps.empty key >>? f) ≡ None = ap (λ (r : Option TakenRoute). r >>? f) (maps.get-empty key_cmp key) in
+    absurd (let bad : None ≡ Some held = sym none ∙ h in cc)
 route_told (Some taken) key f held h = refl
 
 module _ (kept : Kept) (sound : IsSound kept) where
-  from_peer : (own : OwnVrf) (prefix : Prefix) (place : Place) (held : Held) → held_at (place_of kept.home no_core) (control_of kept) own prefix place ≡ Some held
+  from_peer : (own : OwnVrf) (prefix : Prefix) (place : Place) (held : Held)
+      → held_at (place_of kept.home no_core) (control_of kept) own prefix place ≡ Some held
       → (peer_of place).0 < length kept.home.scenario.nodes
   from_peer own prefix (From peer rd) held h =
-      sound.peers peer (route_told (maps.get kept.peers peer) (Unicast rd prefix) (λ taken. held_from (place_of kept.home no_core) own.vrf peer taken.value) held h)
+      sound.peers peer (route_told (maps.get kept.peers peer) (Unicast rd prefix)
+      (λ taken. held_from (place_of kept.home no_core) own.vrf peer taken.value) held h)
   from_peer own prefix Here held h = absurd cc
   from_peer own prefix First held h = absurd cc
   from_peer own prefix Last held h = absurd cc
 
   -- each route that a tree learned is one of a node
-  pub are_of_core : (nodes : ℕ) → nodes ≡ length kept.home.scenario.nodes → AllByRecursion (λ (tree : TreeData). AreOfCore nodes tree.vrf.routes.learned) kept.trees
+  pub are_of_core : (nodes : ℕ) → nodes ≡ length kept.home.scenario.nodes
+      → AllByRecursion (λ (tree : TreeData). AreOfCore nodes tree.vrf.routes.learned) kept.trees
   are_of_core nodes count = each_of (λ (tree : TreeData). AreOfCore nodes tree.vrf.routes.learned) kept.trees (λ tree a key held h.
       let full = sound_full kept sound in
       let found = map_among (λ (it : OwnTree). it.tree) tree (trees_of kept) (subst (Among tree) (sym full.full) a) in
@@ -83,7 +88,9 @@ module _ (kept : Kept) (sound : IsSound kept) where
 
   -- the edge is one of the nodes
   pub is_node : (nodes : ℕ) → nodes ≡ length kept.home.scenario.nodes → kept.home.me.0 < nodes
-  is_node nodes count = subst (λ (n : ℕ). kept.home.me.0 < n) (sym count) (slice_get_within kept.home.scenario.nodes kept.home.me.0 sound.home.edge.node sound.home.edge.at)
+  is_node nodes count =
+      subst (λ (n : ℕ). kept.home.me.0 < n) (sym count)
+      (slice_get_within kept.home.scenario.nodes kept.home.me.0 sound.home.edge.node sound.home.edge.at)
 
 -- ---- trees that are others but for flows and wants
 
@@ -94,7 +101,8 @@ zip_forth R (y ∷ xs) [] h x a = absurd h
 zip_forth R (y ∷ xs) (z ∷ ys) h x (inl e) = (z, inl refl, subst (λ w. R w z) (sym e) h.0)
 zip_forth R (y ∷ xs) (z ∷ ys) h x (inr a) = let (found, among, is) = zip_forth R xs ys h.1 x a in (found, inr among, is)
 
-zip_each : {A : Type 0} (R : A → A → Type 0) (P : A → Type 0) → ((x y : A) → R x y → P x → P y) → (xs ys : List A) → AllZip R xs ys → AllByRecursion P xs → AllByRecursion P ys
+zip_each : {A : Type 0} (R : A → A → Type 0) (P : A → Type 0) → ((x y : A) → R x y → P x → P y) → (xs ys : List A) → AllZip R xs ys
+    → AllByRecursion P xs → AllByRecursion P ys
 zip_each R P keeps [] [] h k = tt
 zip_each R P keeps [] (y ∷ ys) h k = absurd h
 zip_each R P keeps (x ∷ xs) [] h k = absurd h
@@ -105,7 +113,8 @@ module _ (kept : Kept) (full : AreFull kept) (R : TreeData → TreeData → Type
   By it new = R it.tree new
 
   by_trees : AllZip By (trees_of kept) others
-  by_trees = zip_map R (λ (it : OwnTree). it.tree) (trees_of kept) others (subst (λ (trees : List TreeData). AllZip R trees others) (sym full.full) zip)
+  by_trees =
+      zip_map R (λ (it : OwnTree). it.tree) (trees_of kept) others (subst (λ (trees : List TreeData). AllZip R trees others) (sym full.full) zip)
 
   -- each of the VRFs has a tree still, that stands so to its own
   pub still_full : AreFull (record kept { trees = others })
@@ -135,13 +144,15 @@ module _ (kept : Kept) (sound : IsSound kept) (others : List TreeData) (zip : Al
   behind_parts new a =
       let (it, among, s) = zip_back Rest (trees_of kept) (trees_of behind) rest_pairs new a in
       let part = sound_parts kept sound it among in
-      subst (IsPart kept.home kept.peers) (is_with it new s) (record { entries = part.entries; notes = part.notes; selections = part.selections; derived = part.derived })
+      subst (IsPart kept.home kept.peers) (is_with it new s)
+      (record { entries = part.entries; notes = part.notes; selections = part.selections; derived = part.derived })
 
   pub behind_sound : IsSound behind
   behind_sound = record {
     home = sound.home;
     trees = wanted_of behind (between_together behind behind_full behind_parts);
-    single = zip_each IsRestOf IsSingle (λ old new is h. subst AreSingle (sym (ap (λ (t : TreeData). t.root.selections) is)) h) kept.trees others zip sound.single;
+    single = zip_each IsRestOf IsSingle (λ old new is h. subst AreSingle (sym (ap (λ (t : TreeData). t.root.selections) is)) h) kept.trees others zip
+        sound.single;
     spelled = sound.spelled;
     peers = sound.peers;
   }
@@ -151,7 +162,8 @@ module _ (kept : Kept) (sound : IsSound kept) (others : List TreeData) (zip : Al
   behind_rest = same_control _ _
       (same_entries _ _ (λ at.
       entries_gathered behind at
-      ∙ gathered_zip None option_or Rest (entry_in at) (entry_in at) (λ it new s i. maps.get ((s.is i).vrf.entries) at) (trees_of kept) (trees_of behind) rest_pairs
+      ∙ gathered_zip None option_or Rest (entry_in at) (entry_in at) (λ it new s i. maps.get ((s.is i).vrf.entries) at) (trees_of kept)
+      (trees_of behind) rest_pairs
       ∙ sym (entries_gathered kept at)))
       (same_notes _ _ (λ note.
       notes_gathered behind note
@@ -161,7 +173,8 @@ module _ (kept : Kept) (sound : IsSound kept) (others : List TreeData) (zip : Al
       (same_selections _ _ (λ key.
       selections_gathered behind key
       ∙ gathered_zip None option_or Rest (selected_in key) (selected_in key)
-      (λ it new s i. cond (((s.own i).id.0) == key.vrf.0) (option_map selected_of (find (is_of key.pattern) ((s.is i).root.selections))) None) (trees_of kept) (trees_of behind) rest_pairs
+      (λ it new s i. cond (((s.own i).id.0) == key.vrf.0) (option_map selected_of (find (is_of key.pattern) ((s.is i).root.selections))) None)
+      (trees_of kept) (trees_of behind) rest_pairs
       ∙ sym (selections_gathered kept key)))
       refl
       refl
@@ -169,23 +182,27 @@ module _ (kept : Kept) (sound : IsSound kept) (others : List TreeData) (zip : Al
 -- ---- the joins of all flows
 
 -- the join of a flow of the edge is that of the tree's flow
-told_at : (key : VrfFlow) (choice : Option Choice) → join_at key (option_map upstream_by choice) ≡ option_map (λ up. join_of (flow_of key, up)) (upstream_of choice)
+told_at : (key : VrfFlow) (choice : Option Choice)
+    → join_at key (option_map upstream_by choice) ≡ option_map (λ up. join_of (flow_of key, up)) (upstream_of choice)
 told_at key None = refl
 told_at key (Some choices.None) = refl
 told_at key (Some (choices.Local site)) = refl
 told_at key (Some (choices.Remote edge rd import source_as)) = refl
 
 module _ (kept : Kept) (full : AreFull kept) (parts : AreParts kept) where
-  own_join : (it : OwnTree) → Among it (trees_of kept) → (key : VrfFlow) → it.own.id.0 ≡ key.vrf.0 → join_at key (maps.get (control_of kept).flows key) ≡ tree_join it.tree (flow_of key)
+  own_join : (it : OwnTree) → Among it (trees_of kept) → (key : VrfFlow) → it.own.id.0 ≡ key.vrf.0
+      → join_at key (maps.get (control_of kept).flows key) ≡ tree_join it.tree (flow_of key)
   own_join it a key number =
       let here : flow_in it.own.id (flow_of key) ≡ key = λ i. record { vrf = record { 0 = number i }; source = key.source; group = key.group } in
-      ap (λ (k : VrfFlow). join_at key (maps.get (control_of kept).flows k)) (sym here) ∙ ap (join_at key) (flow_at kept parts it a (flow_of key)) ∙ told_at key (maps.get it.tree.vrf.flows (flow_of key))
+      ap (λ (k : VrfFlow). join_at key (maps.get (control_of kept).flows k)) (sym here) ∙ ap (join_at key) (flow_at kept parts it a (flow_of key))
+      ∙ told_at key (maps.get it.tree.vrf.flows (flow_of key))
 
   -- a join that one of the trees has is one of a flow
   has_flow : (join : TreeJoin) → HasJoin kept.trees join → (key : VrfFlow) × (join_at key (maps.get (control_of kept).flows key) ≡ Some join)
   has_flow join h =
       let found = map_among (λ (it : OwnTree). it.tree) h.tree (trees_of kept) (subst (Among h.tree) (sym full.full) h.among) in
-      let key : VrfFlow = flow_in found.0.own.id h.flow in (key, own_join found.0 found.1 key refl ∙ ap (λ (t : TreeData). tree_join t h.flow) (sym found.2) ∙ h.has)
+      let key : VrfFlow = flow_in found.0.own.id h.flow in
+      (key, own_join found.0 found.1 key refl ∙ ap (λ (t : TreeData). tree_join t h.flow) (sym found.2) ∙ h.has)
 
 -- A flow is one of a VRF, with the joins of the VRF's tree before and behind; or it is none, before and behind.
 record IsFlowOf (joins : List TreeJoin) (old new : Control) (key : VrfFlow) : Type 0 where
@@ -199,7 +216,8 @@ record IsNoFlow (old new : Control) (key : VrfFlow) : Type 0 where
   before : maps.get old.flows key ≡ None
   then_none : maps.get new.flows key ≡ None
 
-module _ (kept : Kept) (sound : IsSound kept) (others : List TreeData) (zip : AllZip IsRestOf kept.trees others) (joins : List TreeJoin) (all : AreAllMoved kept.trees others joins) where
+module _ (kept : Kept) (sound : IsSound kept) (others : List TreeData) (zip : AllZip IsRestOf kept.trees others) (joins : List TreeJoin)
+    (all : AreAllMoved kept.trees others joins) where
   abbrev then_kept : Kept
   then_kept = behind kept sound others zip
 
@@ -218,7 +236,8 @@ module _ (kept : Kept) (sound : IsSound kept) (others : List TreeData) (zip : Al
       same_ids : (it new : OwnTree) → Moved it new → it.own.id.0 ≡ new.own.id.0
       same_ids it new s = ap (λ (own : OwnVrf). own.id.0) (sym s.own)
 
-      found_at : (new : OwnTree) → Among new (trees_of then_kept) → (new.own.id.0 == key.vrf.0) ≡ true → IsFlowOf joins (control_of kept) (control_of then_kept) key
+      found_at : (new : OwnTree) → Among new (trees_of then_kept) → (new.own.id.0 == key.vrf.0) ≡ true
+          → IsFlowOf joins (control_of kept) (control_of then_kept) key
       found_at new a e =
           let (it, among, s) = zip_back Moved (trees_of kept) (trees_of then_kept) moved_pairs new a in
           let number = eqb-true new.own.id.0 key.vrf.0 e in
@@ -230,7 +249,8 @@ module _ (kept : Kept) (sound : IsSound kept) (others : List TreeData) (zip : Al
             is_then = own_join then_kept (behind_full kept sound others zip) parts_then new a key number;
           }
 
-      by : ((new : OwnTree) × Among new (trees_of then_kept) × ((new.own.id.0 == key.vrf.0) ≡ true)) ⊎ ((new : OwnTree) → Among new (trees_of then_kept) → (new.own.id.0 == key.vrf.0) ≡ false)
+      by : ((new : OwnTree) × Among new (trees_of then_kept) × ((new.own.id.0 == key.vrf.0) ≡ true))
+          ⊎ ((new : OwnTree) → Among new (trees_of then_kept) → (new.own.id.0 == key.vrf.0) ≡ false)
           → IsFlowOf joins (control_of kept) (control_of then_kept) key ⊎ IsNoFlow (control_of kept) (control_of then_kept) key
       by (inl found) = inl (found_at found.0 found.1 found.2)
       by (inr none) = inr (record {
@@ -261,7 +281,8 @@ module _ (kept : Kept) (sound : IsSound kept) (others : List TreeData) (zip : Al
 
 -- ---- the flows of the edge
 
-spelled_in : (o : Option Taken) (key : Key) (route : TakenRoute) → maps.get (elim o as (λ _. Taken) [ None ↦ maps.empty | Some taken ↦ taken ]) key ≡ Some route
+spelled_in : (o : Option Taken) (key : Key) (route : TakenRoute)
+    → maps.get (elim o as (λ _. Taken) [ None ↦ maps.empty | Some taken ↦ taken ]) key ≡ Some route
     → ((taken : Taken) → o ≡ Some taken → IsSpelled taken) → IsSpelledKey key
 spelled_in None key route h spelled = absurd (let bad : None ≡ Some route = sym (maps.get-empty key_cmp key) ∙ h in cc)
 spelled_in (Some taken) key route h spelled = spelled taken refl key (ap is_some h)
@@ -271,12 +292,15 @@ have_spellings kept spelled peer key route h =
     let is = spelled_in (maps.get kept.peers peer) key route h (spelled peer) in (writable_key key is, octets_key key is)
 
 -- Behind a refresh of each tree the flows are those of the edge at the clock.
-pub refresh_makes : (kept : Kept) → IsSound kept → HasPrefixes kept.home.scenario → AreSpelled kept.peers → (core : Core) (now : ℕ) (others : List TreeData)
-    → AllZip (IsRefreshed (core.cost kept.home.me) now) kept.trees others → Makes (record kept { trees = others }) (refreshed (place_of kept.home core) now (control_of kept))
+pub refresh_makes : (kept : Kept) → IsSound kept → HasPrefixes kept.home.scenario → AreSpelled kept.peers
+    → (core : Core) (now : ℕ) (others : List TreeData)
+    → AllZip (IsRefreshed (core.cost kept.home.me) now) kept.trees others
+    → Makes (record kept { trees = others }) (refreshed (place_of kept.home core) now (control_of kept))
 refresh_makes kept sound octets spelled core now others zip =
     trees_refreshed kept core now others zip (sound_full kept sound) (sound_between kept sound) sound.home.rules sound.peers
     (λ own a. prefixes_whole (place_of kept.home core) (control_of kept) own sound.home.rules octets (have_spellings kept spelled))
 
 -- the costs of a core as nodes know it are least
-pub least_costs : (topology : Topology) (core : Core) → IsCoreOf topology.nodes topology.links core → (me : NodeId) → me.0 < topology.nodes → AreCosts topology me (core.cost me)
+pub least_costs : (topology : Topology) (core : Core) → IsCoreOf topology.nodes topology.links core → (me : NodeId) → me.0 < topology.nodes
+    → AreCosts topology me (core.cost me)
 least_costs topology core is me lt node within = is.least me node lt within

@@ -78,7 +78,8 @@ zip_weaker Is May weaker (x ∷ xs) [] h = absurd h
 zip_weaker Is May weaker (x ∷ xs) (y ∷ ys) h = (weaker x y h.0, zip_weaker Is May weaker xs ys h.1)
 
 -- where one more has become another one or is as before, and no other one has
-pub way_cut : {A : Type 0} (Is May : A → A → Type 0) → ((x y : A) → Is x y → May x y) → ((x : A) → May x x) → (n : ℕ) (xs ys : List A) (d s : A) → n < length ys → OnWay Is n xs ys
+pub way_cut : {A : Type 0} (Is May : A → A → Type 0) → ((x y : A) → Is x y → May x y) → ((x : A) → May x x) → (n : ℕ) (xs ys : List A) (d s : A)
+    → n < length ys → OnWay Is n xs ys
     → May (get_or ys n d) s → AllZip May xs (set ys n s)
 way_cut Is May weaker same zero xs [] d s lt h k = absurd (omega (arith, lt))
 way_cut Is May weaker same zero xs (y ∷ ys) d s lt h k = subst (λ (zs : List _). AllZip May zs (s ∷ ys)) h (k, zip_itself May same ys)
@@ -120,7 +121,8 @@ none_moved trees = record {
 }
 
 -- one tree more is refreshed
-pub moved_on : (old now : List TreeData) (all joins leaves : List TreeJoin) (n : ℕ) (d s : TreeData) → n < length now → n < length old → d ≡ get_or now n d → get_or now n d ≡ get_or old n d
+pub moved_on : (old now : List TreeData) (all joins leaves : List TreeJoin) (n : ℕ) (d s : TreeData) → n < length now → n < length old
+    → d ≡ get_or now n d → get_or now n d ≡ get_or old n d
     → AreAllMoved old now all → AreMoved ((all ++ joins) ++ leaves) d s
     → ((join : TreeJoin) → Among join joins → HasJoin (s ∷ []) join) → ((join : TreeJoin) → Among join leaves → HasJoin (d ∷ []) join)
     → AreAllMoved old (set now n s) ((all ++ joins) ++ leaves)
@@ -164,7 +166,13 @@ moved_on old now all joins leaves n d s lt there read same before here made left
     moved_still join (inl h) = inl h
     moved_still join (inr h) = elim (still_among now n d s h.tree h.among) [
       | inl a ↦ inr (record { tree = h.tree; among = a; flow = h.flow; has = h.has })
-      | inr e ↦ inl (record { tree = h.tree; among = subst (λ (tree : TreeData). Among tree old) (sym (e ∙ sym read)) old_among; flow = h.flow; has = h.has })
+      | inr e ↦ inl (record {
+        tree = h.tree;
+        among = subst (λ (tree : TreeData). Among tree old) (sym (e ∙ sym read)) old_among;
+        flow = h.flow;
+        has =
+            h.has;
+      })
     ]
 
 -- ---- tunnels
@@ -176,7 +184,8 @@ all_told fecs (x ∷ xs) [] h fec none = absurd h
 all_told fecs (x ∷ xs) (y ∷ ys) h fec none = λ i. h.0 fec none i || all_told fecs xs ys h.1 fec none i
 
 -- one tree more is refreshed
-pub told_on : (old now : List TreeData) (all wants unwants : List Fec) (n : ℕ) (d s : TreeData) → n < length now → d ≡ get_or old n d → AllZip (Tells all) old now
+pub told_on : (old now : List TreeData) (all wants unwants : List Fec) (n : ℕ) (d s : TreeData) → n < length now → d ≡ get_or old n d
+    → AllZip (Tells all) old now
     → AreNew wants d.wants s.wants → AreNew unwants s.wants d.wants → AllZip (Tells ((all ++ wants) ++ unwants)) old (set now n s)
 told_on old now all wants unwants n d s lt same before came went =
     zip_set (Tells ((all ++ wants) ++ unwants)) n old now d s lt

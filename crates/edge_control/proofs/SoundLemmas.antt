@@ -23,7 +23,8 @@ use Rattle.edge_control.specs.Sound.{IsSound}
 -- the edge keeps the same with it
 pub wanted_control : (kept : Kept) → control_of (with_trees as_wanted kept) ≡ control_of kept
 wanted_control kept =
-    same_control _ _ (all_entries_stay kept as_wanted (λ tree. refl)) (all_notes_stay kept as_wanted (λ tree. refl)) (all_selections_stay kept as_wanted (λ tree. refl))
+    same_control _ _ (all_entries_stay kept as_wanted (λ tree. refl)) (all_notes_stay kept as_wanted (λ tree. refl))
+    (all_selections_stay kept as_wanted (λ tree. refl))
     (all_flows_stay kept as_wanted (λ tree. refl)) refl
 
 wanted_parts : (kept : Kept) → AreParts (with_trees as_wanted kept) → AreParts kept
@@ -33,7 +34,8 @@ wanted_parts kept parts it a =
     record { entries = part.entries; notes = part.notes; selections = part.selections; derived = part.derived }
 
 pub sound_full : (kept : Kept) → IsSound kept → AreFull kept
-sound_full kept sound = still_full (with_trees as_wanted kept) kept.trees (full_of (with_trees as_wanted kept) sound.trees) (sym (length-map kept.trees as_wanted))
+sound_full kept sound =
+    still_full (with_trees as_wanted kept) kept.trees (full_of (with_trees as_wanted kept) sound.trees) (sym (length-map kept.trees as_wanted))
 
 pub sound_parts : (kept : Kept) → IsSound kept → AreParts kept
 sound_parts kept sound = wanted_parts kept (parts_of (with_trees as_wanted kept) sound.trees)
@@ -42,11 +44,14 @@ pub sound_between : (kept : Kept) → IsSound kept → AreTreesBetween kept
 sound_between kept sound = between_together kept (sound_full kept sound) (sound_parts kept sound)
 
 -- the tree of a VRF of the edge is what the edge keeps of it between two refreshes
-pub tree_between : (kept : Kept) (core : Core) (vrf : VrfId) (tree : TreeData) (own : OwnVrf) → IsSound kept → IsTreeAt kept vrf tree → Among own (own_vrfs (place_of kept.home core)) → own.id ≡ vrf
+pub tree_between : (kept : Kept) (core : Core) (vrf : VrfId) (tree : TreeData) (own : OwnVrf) → IsSound kept → IsTreeAt kept vrf tree
+    → Among own (own_vrfs (place_of kept.home core)) → own.id ≡ vrf
     → IsTreeOf (place_of kept.home core) (control_of kept) own (as_wanted tree)
 tree_between kept core vrf tree own sound at a e =
     let place = place_of kept.home core in
-    let other : Among at.it.own (own_vrfs place) = subst (Among at.it.own) (sound_full kept sound).all (among_map (λ (it : OwnTree). it.own) at.it (trees_of kept) at.among) in
+    let other : Among at.it.own (own_vrfs place) =
+    subst (Among at.it.own) (sound_full kept sound).all (among_map (λ (it : OwnTree). it.own) at.it (trees_of kept) at.among) in
     let same : own ≡ at.it.own = one_number place own at.it.own a other (ap (λ (v : VrfId). v.0) (e ∙ sym at.id)) in
     subst (λ (t : TreeData). IsTreeOf place (control_of kept) own (as_wanted t)) at.is
-    (subst (λ (o : OwnVrf). IsTreeOf place (control_of kept) o (as_wanted at.it.tree)) (sym same) (between_at kept (sound_between kept sound) core at.it at.among))
+    (subst (λ (o : OwnVrf). IsTreeOf place (control_of kept) o (as_wanted at.it.tree)) (sym same)
+    (between_at kept (sound_between kept sound) core at.it at.among))

@@ -60,15 +60,18 @@ use Rattle.vrf_trees.specs.Trees.{no_tree}
 
 -- ---- loops
 
-pub folded_more : {X Y : Type 0} (f : Y → X → Y) (start now next : Y) (xs : List X) (i : ℕ) (x : X) → i < length xs → now ≡ fold f start (take i xs) → x ≡ get_or xs i x → next ≡ f now x
+pub folded_more : {X Y : Type 0} (f : Y → X → Y) (start now next : Y) (xs : List X) (i : ℕ) (x : X) → i < length xs → now ≡ fold f start (take i xs)
+    → x ≡ get_or xs i x → next ≡ f now x
     → next ≡ fold f start (take (i + 1) xs)
 folded_more f start now next xs i x lt h e is = is ∙ (λ j. f (h j) (e j)) ∙ sym (fold_more f start xs i x lt)
 
 -- ---- what the steps make
 
-ifaces_all : (tree : TreeData) (xs : List SiteIface) → fold with_iface tree xs ≡ record tree { vrf = record tree.vrf { ifaces = tree.vrf.ifaces ++ xs } }
+ifaces_all : (tree : TreeData) (xs : List SiteIface)
+    → fold with_iface tree xs ≡ record tree { vrf = record tree.vrf { ifaces = tree.vrf.ifaces ++ xs } }
 ifaces_all tree [] = λ i. record tree { vrf = record tree.vrf { ifaces = sym (append-nil tree.vrf.ifaces) i } }
-ifaces_all tree (x ∷ xs) = ifaces_all (with_iface tree x) xs ∙ (λ i. record tree { vrf = record tree.vrf { ifaces = append_assoc tree.vrf.ifaces (x ∷ []) xs i } })
+ifaces_all tree (x ∷ xs) =
+    ifaces_all (with_iface tree x) xs ∙ (λ i. record tree { vrf = record tree.vrf { ifaces = append_assoc tree.vrf.ifaces (x ∷ []) xs i } })
 
 abbrev pub Attached : Type 0
 Attached = FinMap key_cmp SiteId
@@ -77,14 +80,18 @@ abbrev pub attach : Attached → Route → Attached
 attach attached route = maps.insert attached (key_here route.prefix) route.site
 
 routes_all : (tree : TreeData) (routes : List Route)
-    → fold with_route tree routes ≡ record tree { vrf = record tree.vrf { routes = record tree.vrf.routes { attached = fold attach tree.vrf.routes.attached routes } } }
+    → fold with_route tree routes ≡ record tree {
+      vrf =
+          record tree.vrf { routes = record tree.vrf.routes { attached = fold attach tree.vrf.routes.attached routes } };
+    }
 routes_all tree [] = refl
 routes_all tree (route ∷ routes) = routes_all (with_route tree route) routes
 
 abbrev pub attached_of : Scenario → OwnVrf → Attached
 attached_of scenario own = fold attach maps.empty (local_routes scenario own.id)
 
-pub first_is : (home : Home) (core : Core) (own : OwnVrf) → first_tree home.scenario own ≡ start_tree (place_of home core) own (attached_of home.scenario own)
+pub first_is : (home : Home) (core : Core) (own : OwnVrf)
+    → first_tree home.scenario own ≡ start_tree (place_of home core) own (attached_of home.scenario own)
 first_is home core own =
     let bare = no_tree own.vrf.number own.vrf.rule home.scenario.delay in
     ap (λ (tree : TreeData). fold with_route tree (local_routes home.scenario own.id)) (ifaces_all bare (site_ifaces own.id 0 home.scenario.ifaces))
@@ -93,25 +100,32 @@ first_is home core own =
 -- ---- local routes of one prefix are of one site
 
 module _ (scenario : Scenario) (rules : Rules scenario) where
-  prefixes_at : (vrf : VrfId) (route : Route) (site : SiteId) → route.site.0 ≡ site.0 → Among route (local_routes scenario vrf) → Among route.prefix (prefixes_of scenario site)
+  prefixes_at : (vrf : VrfId) (route : Route) (site : SiteId) → route.site.0 ≡ site.0 → Among route (local_routes scenario vrf)
+      → Among route.prefix (prefixes_of scenario site)
   prefixes_at vrf route site e a =
       let r = route_of (is_attached_at scenario vrf) 0 scenario.sites route a in
       let id : site.0 ≡ r.place = sym e ∙ r.id ∙ omega arith in
-      subst (λ (ps : List Prefix). Among route.prefix ps) (sym (ap (λ (o : Option Site). elim o [ None ↦ [] | Some found ↦ found.prefixes ]) (ap (slice_get scenario.sites) id ∙ r.at))) r.prefix
+      subst (λ (ps : List Prefix). Among route.prefix ps)
+      (sym (ap (λ (o : Option Site). elim o [ None ↦ [] | Some found ↦ found.prefixes ]) (ap (slice_get scenario.sites) id ∙ r.at))) r.prefix
 
-  shared : (i j : ℕ) (own other : Iface) → i < j → slice_get scenario.ifaces i ≡ Some own → slice_get scenario.ifaces j ≡ Some other → own.site.0 ≢ other.site.0 → same_vpn scenario own.vrf other.vrf ≡ true
+  shared : (i j : ℕ) (own other : Iface) → i < j → slice_get scenario.ifaces i ≡ Some own → slice_get scenario.ifaces j ≡ Some other
+      → own.site.0 ≢ other.site.0 → same_vpn scenario own.vrf other.vrf ≡ true
       → (p : Prefix) → Among p (prefixes_of scenario other.site) → Among p (prefixes_of scenario own.site) → ⊥
   shared i j own other less e d ne vpn p a b =
-      let same : same_prefix p p ≡ true = and_from (same_addr p.addr p.addr) (p.bits == p.bits) (same_addr_equiv.refl p.addr) (eq-eqb p.bits p.bits refl) in
-      true≢false (sym (any_from (λ (prefix : Prefix). list_any (same_prefix prefix) (prefixes_of scenario own.site)) p (prefixes_of scenario other.site) a (any_from (same_prefix p) p (prefixes_of scenario own.site) b same))
+      let same : same_prefix p p ≡ true =
+      and_from (same_addr p.addr p.addr) (p.bits == p.bits) (same_addr_equiv.refl p.addr) (eq-eqb p.bits p.bits refl) in
+      true≢false (sym (any_from (λ (prefix : Prefix). list_any (same_prefix prefix) (prefixes_of scenario own.site)) p
+      (prefixes_of scenario other.site) a (any_from (same_prefix p) p (prefixes_of scenario own.site) b same))
       ∙ (vpns_at scenario rules i j own other less e d).taken ne vpn)
 
-  pub one_site : (vrf : VrfId) (own other : Route) → Among own (local_routes scenario vrf) → Among other (local_routes scenario vrf) → own.prefix ≡ other.prefix → own.site ≡ other.site
+  pub one_site : (vrf : VrfId) (own other : Route) → Among own (local_routes scenario vrf) → Among other (local_routes scenario vrf)
+      → own.prefix ≡ other.prefix → own.site ≡ other.site
   one_site vrf own other a b same =
       let ia = enters-at scenario own.site vrf (route_of (is_attached_at scenario vrf) 0 scenario.sites own a).passed in
       let ib = enters-at scenario other.site vrf (route_of (is_attached_at scenario vrf) 0 scenario.sites other b).passed in
       let pa : Among own.prefix (prefixes_of scenario ia.iface.site) = prefixes_at vrf own ia.iface.site (sym ia.of_site) a in
-      let pb : Among own.prefix (prefixes_of scenario ib.iface.site) = subst (λ (p : Prefix). Among p (prefixes_of scenario ib.iface.site)) (sym same) (prefixes_at vrf other ib.iface.site (sym ib.of_site) b) in
+      let pb : Among own.prefix (prefixes_of scenario ib.iface.site) =
+      subst (λ (p : Prefix). Among p (prefixes_of scenario ib.iface.site)) (sym same) (prefixes_at vrf other ib.iface.site (sym ib.of_site) b) in
       let ab : same_vpn scenario ia.iface.vrf ib.iface.vrf ≡ true = vpn_of_one scenario ia.iface.vrf ib.iface.vrf (ia.in_vrf ∙ sym ib.in_vrf) in
       let ba : same_vpn scenario ib.iface.vrf ia.iface.vrf ≡ true = vpn_of_one scenario ib.iface.vrf ia.iface.vrf (ib.in_vrf ∙ sym ia.in_vrf) in
       let numbers : own.site.0 ≡ other.site.0 = elim (cases_eq own.site.0 other.site.0) [
@@ -139,25 +153,38 @@ is_tied key p h = key_exact key (key_here p) ((Equal-is (key_cmp key (key_here p
 attached_from : (routes : List Route) (attached : Attached) (key : RouteKey) (site : SiteId) → maps.get (fold attach attached routes) key ≡ Some site
     → (maps.get attached key ≡ Some site) ⊎ ((route : Route) × Among route routes × (key ≡ key_here route.prefix) × (route.site ≡ site))
 attached_from [] attached key site h = inl h
-attached_from (route ∷ routes) attached key site h = by (attached_from routes (attach attached route) key site h) (eq_by_cmp key_cmp key (key_here route.prefix)) refl
+attached_from (route ∷ routes) attached key site h =
+    by (attached_from routes (attach attached route) key site h) (eq_by_cmp key_cmp key (key_here route.prefix)) refl
   where
-    by : (maps.get (attach attached route) key ≡ Some site) ⊎ ((other : Route) × Among other routes × (key ≡ key_here other.prefix) × (other.site ≡ site)) → (b : Bool) → eq_by_cmp key_cmp key (key_here route.prefix) ≡ b
+    by : (maps.get (attach attached route) key ≡ Some site)
+        ⊎ ((other : Route) × Among other routes × (key ≡ key_here other.prefix) × (other.site ≡ site)) → (b : Bool)
+        → eq_by_cmp key_cmp key (key_here route.prefix) ≡ b
         → (maps.get attached key ≡ Some site) ⊎ ((other : Route) × Among other (route ∷ routes) × (key ≡ key_here other.prefix) × (other.site ≡ site))
     by (inr found) b e = inr (found.0, inr found.1, found.2, found.3)
     by (inl here) true e =
-        let value : Some route.site ≡ Some site = sym (maps.get-insert key_total attached (key_here route.prefix) route.site key ∙ ap (λ (c : Bool). cond c (Some route.site) (maps.get attached key)) e) ∙ here in
+        let value : Some route.site ≡ Some site =
+        sym (maps.get-insert key_total attached (key_here route.prefix) route.site key
+        ∙ ap (λ (c : Bool). cond c (Some route.site) (maps.get attached key)) e) ∙ here in
         inr (route, inl refl, is_tied key route.prefix e, same_Some route.site site value)
     by (inl here) false e =
-        inl (sym (maps.get-insert key_total attached (key_here route.prefix) route.site key ∙ ap (λ (c : Bool). cond c (Some route.site) (maps.get attached key)) e) ∙ here)
+        inl (sym (maps.get-insert key_total attached (key_here route.prefix) route.site key
+        ∙ ap (λ (c : Bool). cond c (Some route.site) (maps.get attached key)) e) ∙ here)
 
-attached_to : (routes : List Route) (attached : Attached) (p : Prefix) (site : SiteId) → ((route : Route) → Among route routes → route.prefix ≡ p → route.site ≡ site)
-    → (maps.get attached (key_here p) ≡ Some site) ⊎ ((route : Route) × Among route routes × (route.prefix ≡ p)) → maps.get (fold attach attached routes) (key_here p) ≡ Some site
+attached_to : (routes : List Route) (attached : Attached) (p : Prefix) (site : SiteId)
+    → ((route : Route) → Among route routes → route.prefix ≡ p → route.site ≡ site)
+    → (maps.get attached (key_here p) ≡ Some site) ⊎ ((route : Route) × Among route routes × (route.prefix ≡ p))
+    → maps.get (fold attach attached routes) (key_here p) ≡ Some site
 attached_to [] attached p site one (inl h) = h
 attached_to [] attached p site one (inr found) = absurd found.1
-attached_to (route ∷ routes) attached p site one either = attached_to routes (attach attached route) p site (λ other a. one other (inr a)) (by (eq_by_cmp key_cmp (key_here p) (key_here route.prefix)) refl either)
+attached_to (route ∷ routes) attached p site one either =
+    attached_to routes (attach attached route) p site (λ other a. one other (inr a))
+    (by (eq_by_cmp key_cmp (key_here p) (key_here route.prefix)) refl either)
   where
-    put : (b : Bool) → eq_by_cmp key_cmp (key_here p) (key_here route.prefix) ≡ b → maps.get (attach attached route) (key_here p) ≡ cond b (Some route.site) (maps.get attached (key_here p))
-    put b e = maps.get-insert key_total attached (key_here route.prefix) route.site (key_here p) ∙ ap (λ (c : Bool). cond c (Some route.site) (maps.get attached (key_here p))) e
+    put : (b : Bool) → eq_by_cmp key_cmp (key_here p) (key_here route.prefix) ≡ b
+        → maps.get (attach attached route) (key_here p) ≡ cond b (Some route.site) (maps.get attached (key_here p))
+    put b e =
+        maps.get-insert key_total attached (key_here route.prefix) route.site (key_here p)
+        ∙ ap (λ (c : Bool). cond c (Some route.site) (maps.get attached (key_here p))) e
 
     by : (b : Bool) → eq_by_cmp key_cmp (key_here p) (key_here route.prefix) ≡ b
         → (maps.get attached (key_here p) ≡ Some site) ⊎ ((other : Route) × Among other (route ∷ routes) × (other.prefix ≡ p))
@@ -166,7 +193,8 @@ attached_to (route ∷ routes) attached p site one either = attached_to routes (
     by false e (inl h) = inl (put false e ∙ h)
     by false e (inr (other, inl is, same)) =
         let key : key_here route.prefix ≡ key_here p = ap (λ (r : Route). key_here r.prefix) (sym is) ∙ ap key_here same in
-        let tied : eq_by_cmp key_cmp (key_here p) (key_here route.prefix) ≡ true = ap (eq_by_cmp key_cmp (key_here p)) key ∙ ap is_eq (tied_itself key_total (key_here p)) in
+        let tied : eq_by_cmp key_cmp (key_here p) (key_here route.prefix) ≡ true =
+        ap (eq_by_cmp key_cmp (key_here p)) key ∙ ap is_eq (tied_itself key_total (key_here p)) in
         absurd (true≢false (sym tied ∙ e))
     by false e (inr (other, inr a, same)) = inr (other, a, same)
 
@@ -182,8 +210,12 @@ sites_attached scenario rules own key site = (there, back key.place refl)
           (subst (λ (s : SiteId). Among (record { prefix = found.0.prefix; site = s }) (local_routes scenario own.id)) found.3 found.1)
     ]
 
-    here : (p : Prefix) → Among (record { prefix = p; site = site }) (local_routes scenario own.id) → maps.get (attached_of scenario own) (key_here p) ≡ Some site
-    here p a = attached_to (local_routes scenario own.id) maps.empty p site (λ route b e. one_site scenario rules own.id route (record { prefix = p; site = site }) b a e) (inr (record { prefix = p; site = site }, a, refl))
+    here : (p : Prefix) → Among (record { prefix = p; site = site }) (local_routes scenario own.id)
+        → maps.get (attached_of scenario own) (key_here p) ≡ Some site
+    here p a =
+        attached_to (local_routes scenario own.id) maps.empty p site
+        (λ route b e. one_site scenario rules own.id route (record { prefix = p; site = site }) b a e)
+        (inr (record { prefix = p; site = site }, a, refl))
 
     back : (at : Place) → key.place ≡ at → IsAttachedAt scenario own key.prefix key.place site → maps.get (attached_of scenario own) key ≡ Some site
     back Here e h =
@@ -199,7 +231,8 @@ vrf_among : (me : NodeId) (number : ℕ) (vrfs : List Vrf) (own : OwnVrf) → Am
 vrf_among me number [] own a = absurd a
 vrf_among me number (vrf ∷ more) own a = by (vrf.edge.0 == me.0) a (vrf_among me (number + 1) more own)
   where
-    by : (b : Bool) → Among own (cond b (record { id = record { 0 = number }; vrf = vrf } ∷ vrfs_from me (number + 1) more) (vrfs_from me (number + 1) more))
+    by : (b : Bool) → Among own (cond b (record { id = record { 0 = number }; vrf = vrf } ∷ vrfs_from me (number + 1) more)
+        (vrfs_from me (number + 1) more))
         → (Among own (vrfs_from me (number + 1) more) → Among own.vrf more) → Among own.vrf (vrf ∷ more)
     by true (inl e) rest = inl (ap (λ (o : OwnVrf). o.vrf) e)
     by true (inr b) rest = inr (rest b)
@@ -210,14 +243,17 @@ at_among [] i d lt = absurd (omega (arith, lt))
 at_among (x ∷ xs) zero d lt = inl refl
 at_among (x ∷ xs) (suc i) d lt = inr (at_among xs i d (omega (arith, lt)))
 
-pub own_rules : (home : Home) (vrfs : List own_vrfs.OwnVrf) → Rules home.scenario → AreOwn home vrfs → (i : ℕ) (d : own_vrfs.OwnVrf) → i < length vrfs → IsVrf home.scenario (get_or vrfs i d).local.vrf
+pub own_rules : (home : Home) (vrfs : List own_vrfs.OwnVrf) → Rules home.scenario → AreOwn home vrfs → (i : ℕ) (d : own_vrfs.OwnVrf) → i < length vrfs
+    → IsVrf home.scenario (get_or vrfs i d).local.vrf
 own_rules home vrfs rules own i d lt =
     let one : own_vrfs.OwnVrf = get_or vrfs i d in
-    let among : Among (as_own one) (vrfs_of home) = subst (Among (as_own one)) (own.vrfs no_core) (among_map as_own one vrfs (at_among vrfs i d lt)) in
+    let among : Among (as_own one) (vrfs_of home) =
+    subst (Among (as_own one)) (own.vrfs no_core) (among_map as_own one vrfs (at_among vrfs i d lt)) in
     let found = place_among one.local.vrf home.scenario.vrfs (vrf_among home.me 0 home.scenario.vrfs (as_own one) among) in
     vrf_rules_at home.scenario rules found.0 one.local.vrf found.1
 
-pub trees_are : (home : Home) (vrfs : List own_vrfs.OwnVrf) (scenario : Scenario) (trees : List TreeData) → AreOwn home vrfs → scenario ≡ home.scenario
+pub trees_are : (home : Home) (vrfs : List own_vrfs.OwnVrf) (scenario : Scenario) (trees : List TreeData) → AreOwn home vrfs
+    → scenario ≡ home.scenario
     → trees ≡ map (λ own. first_tree scenario (as_own own)) vrfs → trees ≡ map (first_tree home.scenario) (vrfs_of home)
 trees_are home vrfs scenario trees own same is =
     is ∙ ap (λ (s : Scenario). map (λ own. first_tree s (as_own own)) vrfs) same ∙ twice vrfs ∙ ap (map (first_tree home.scenario)) (own.vrfs no_core)
@@ -255,7 +291,8 @@ module _ (home : Home) (is_home : IsHome home.scenario home.me) where
   single_map (own ∷ owns) = (subst IsSingle (sym (first_is home no_core own)) tt, single_map owns)
 
   made : Makes kept no_control
-  made = first_makes kept (record { trees = first_map (vrfs_of home); peers = refl }) (record { full = full_map (vrfs_of home); all = all_map (vrfs_of home) })
+  made = first_makes kept (record { trees = first_map (vrfs_of home); peers = refl })
+      (record { full = full_map (vrfs_of home); all = all_map (vrfs_of home) })
 
   no_peer : (peer : NodeId) → maps.get kept.peers peer ≡ None
   no_peer peer = maps.get-empty node_cmp peer
@@ -267,16 +304,20 @@ module _ (home : Home) (is_home : IsHome home.scenario home.me) where
     single = single_map (vrfs_of home);
     spelled = λ peer key h.
         let none : maps.get (taken_from (control_of kept) peer) key ≡ None =
-        ap (λ (o : Option Taken). maps.get (elim o as (λ _. Taken) [ None ↦ maps.empty | Some taken ↦ taken ]) key) (no_peer peer) ∙ maps.get-empty taken_key_cmp key in
+        ap (λ (o : Option Taken). maps.get (elim o as (λ _. Taken) [ None ↦ maps.empty | Some taken ↦ taken ]) key) (no_peer peer)
+        ∙ maps.get-empty taken_key_cmp key in
         absurd (true≢false (sym h ∙ ap is_some none));
     peers = λ peer h. absurd (true≢false (sym h ∙ ap is_some (no_peer peer)));
   }
 
-  pub sound_first : (trees : List TreeData) (peers : FinMap node_cmp Taken) → trees ≡ map make (vrfs_of home) → peers ≡ maps.empty → IsSound (kept_of home trees peers)
+  pub sound_first : (trees : List TreeData) (peers : FinMap node_cmp Taken) → trees ≡ map make (vrfs_of home) → peers ≡ maps.empty
+      → IsSound (kept_of home trees peers)
   sound_first trees peers is none = subst IsSound (λ i. kept_of home (sym is i) (sym none i)) first_sound
 
-  pub control_first : (trees : List TreeData) (peers : FinMap node_cmp Taken) → trees ≡ map make (vrfs_of home) → peers ≡ maps.empty → control_of (kept_of home trees peers) ≡ no_control
+  pub control_first : (trees : List TreeData) (peers : FinMap node_cmp Taken) → trees ≡ map make (vrfs_of home) → peers ≡ maps.empty
+      → control_of (kept_of home trees peers) ≡ no_control
   control_first trees peers is none = ap control_of (λ i. kept_of home (is i) (none i)) ∙ made.is
 
-  pub wanted_first : (trees : List TreeData) (peers : FinMap node_cmp Taken) → trees ≡ map make (vrfs_of home) → peers ≡ maps.empty → AreTrees (kept_of home trees peers)
+  pub wanted_first : (trees : List TreeData) (peers : FinMap node_cmp Taken) → trees ≡ map make (vrfs_of home) → peers ≡ maps.empty
+      → AreTrees (kept_of home trees peers)
   wanted_first trees peers is none = subst AreTrees (λ i. kept_of home (sym is i) (sym none i)) made.trees

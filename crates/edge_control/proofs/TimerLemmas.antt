@@ -33,7 +33,8 @@ use Rattle.edge_control.proofs.SoundLemmas.{sound_full, sound_between, wanted_co
 
 -- ---- the loop
 
-pub trees_more : (now : ℕ) (xs ys : List TreeData) (i : ℕ) (d new : TreeData) → length ys ≡ length xs → i < length xs → ys ≡ map (all_run now) (take i xs) ++ drop i xs → d ≡ get_or ys i d
+pub trees_more : (now : ℕ) (xs ys : List TreeData) (i : ℕ) (d new : TreeData) → length ys ≡ length xs → i < length xs
+    → ys ≡ map (all_run now) (take i xs) ++ drop i xs → d ≡ get_or ys i d
     → new ≡ all_run now (get_or ys i d) → set ys i new ≡ map (all_run now) (take (i + 1) xs) ++ drop (i + 1) xs
 trees_more now xs ys i d new same low so read e = ap (set ys i) (e ∙ ap (all_run now) (sym read)) ∙ map_over_more (all_run now) xs ys i d low so read
 
@@ -49,7 +50,8 @@ same_vrfs : (own : List own_vrfs.OwnVrf)
 same_vrfs [] = refl
 same_vrfs (o ∷ own) = ap (λ (vrfs : List Vrf). o.local.vrf ∷ vrfs) (same_vrfs own)
 
-pub is_of : (home : Home) (own : List own_vrfs.OwnVrf) (locals : List Local) (nodes : List Node) (delay : ℕ) (tables : FinMap node_cmp Taken) → AreOwn home own
+pub is_of : (home : Home) (own : List own_vrfs.OwnVrf) (locals : List Local) (nodes : List Node) (delay : ℕ) (tables : FinMap node_cmp Taken)
+    → AreOwn home own
     → locals ≡ map (λ (o : own_vrfs.OwnVrf). o.local) own → nodes ≡ home.scenario.nodes → delay ≡ home.scenario.delay
     → ((peer : NodeId) → is_some (maps.get tables peer) ≡ true → peer.0 < length home.scenario.nodes) → (core : Core)
     → IsOf (place_of home core) locals nodes delay tables

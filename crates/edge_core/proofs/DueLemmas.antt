@@ -27,7 +27,8 @@ most = 18446744073709551615
 min_once : (a b : ℕ) → min (a + min b most) most ≡ min (a + b) most
 min_once a b = omega arith
 
-module _ (routing : EdgeRouting) (own : NodeData) (streams : FinMap peer_cmp Stream) (live : IsLive routing own streams) (sound : IsSound routing.control) (walks : Core) (now : ℕ) (raised : FinMap node_cmp ℕ) where
+module _ (routing : EdgeRouting) (own : NodeData) (streams : FinMap peer_cmp Stream) (live : IsLive routing own streams)
+    (sound : IsSound routing.control) (walks : Core) (now : ℕ) (raised : FinMap node_cmp ℕ) where
   abbrev part : LabelData
   part = own.node.part
 
@@ -39,8 +40,10 @@ module _ (routing : EdgeRouting) (own : NodeData) (streams : FinMap peer_cmp Str
       ∙ ap (λ (place : Place). labels.due place now part + sum_by (tree_due now) routing.control.trees)
       (one_place routing.control.home.scenario walks routing.control.home.me ∙ ap (λ (place : NodePlace). place_in place walks) (sym live.place))
 
-  pub all_due : (of_labels of_trees count : ℕ) → of_labels ≡ labels.due (place_in own.place walks) now part → of_trees ≡ min (sum_by (tree_due now) routing.control.trees) most
-      → count ≡ min (of_labels + of_trees) most → count ≡ min (due (place_of routing.control.home walks) now (record { control = control_of routing.control; part = part; raised = raised })) most
+  pub all_due : (of_labels of_trees count : ℕ) → of_labels ≡ labels.due (place_in own.place walks) now part
+      → of_trees ≡ min (sum_by (tree_due now) routing.control.trees) most
+      → count ≡ min (of_labels + of_trees) most → count
+      ≡ min (due (place_of routing.control.home walks) now (record { control = control_of routing.control; part = part; raised = raised })) most
   all_due of_labels of_trees count a b is =
       is ∙ (λ i. min (a i + b i) most)
       ∙ min_once (labels.due (place_in own.place walks) now part) (sum_by (tree_due now) routing.control.trees)

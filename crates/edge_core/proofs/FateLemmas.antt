@@ -40,7 +40,8 @@ use Rattle.edge_core.specs.State.{IsFate}
 
 -- ---- order
 
-then_less : (node label rest : Ordering) → ordering_then node (ordering_then label Equal) ≡ Less → ordering_then node (ordering_then label rest) ≡ Less
+then_less : (node label rest : Ordering) → ordering_then node (ordering_then label Equal) ≡ Less
+    → ordering_then node (ordering_then label rest) ≡ Less
 then_less Less label rest e = refl
 then_less Equal Less rest e = refl
 then_less Equal Equal rest e = absurd cc
@@ -52,7 +53,8 @@ module _ (fec : Fec) where
   rises : (a b : Branch) → hop_cmp a b ≡ Less → branch_cmp (branch_in fec a) (branch_in fec b) ≡ Less
   rises a b e = then_less (nat_cmp a.node.0 b.node.0) (nat_cmp a.label b.label) (slice_cmp nat_cmp (fec_key fec) (fec_key fec)) e
 
-  all_rise : (a : Branch) (hops : List Branch) → AllByRecursion (λ b. hop_cmp a b ≡ Less) hops → AllByRecursion (λ b. branch_cmp (branch_in fec a) b ≡ Less) (map (branch_in fec) hops)
+  all_rise : (a : Branch) (hops : List Branch) → AllByRecursion (λ b. hop_cmp a b ≡ Less) hops
+      → AllByRecursion (λ b. branch_cmp (branch_in fec a) b ≡ Less) (map (branch_in fec) hops)
   all_rise a [] h = tt
   all_rise a (b ∷ more) h = (rises a b h.0, all_rise a more h.1)
 
@@ -71,7 +73,8 @@ module _ (fec : Fec) where
   nothing true = refl
   nothing false = refl
 
-  among : (own : TreeBranch) (hops : List Branch) → list_any (eq_by_cmp branch_cmp own) (map (branch_in fec) hops) ≡ (same_fec own.fec fec && list_any (eq_by_cmp hop_cmp (hop_of own)) hops)
+  among : (own : TreeBranch) (hops : List Branch)
+      → list_any (eq_by_cmp branch_cmp own) (map (branch_in fec) hops) ≡ (same_fec own.fec fec && list_any (eq_by_cmp hop_cmp (hop_of own)) hops)
   among own [] = nothing (same_fec own.fec fec)
   among own (a ∷ more) =
       (λ i. (branch-ties own fec a ∙ ap (λ (t : Bool). t && eq_by_cmp hop_cmp (hop_of own) a) (fec-ties own.fec fec)) i || among own more i)
@@ -80,22 +83,28 @@ module _ (fec : Fec) where
   abbrev is_of : TreeBranch → Bool
   is_of own = same_fec own.fec fec
 
-  among_all : (branches : FinSet branch_cmp) (own : TreeBranch) → list_any (eq_by_cmp branch_cmp own) (filter is_of (in_order branches)) ≡ (is_of own && sets.contains branches own)
+  among_all : (branches : FinSet branch_cmp) (own : TreeBranch)
+      → list_any (eq_by_cmp branch_cmp own) (filter is_of (in_order branches)) ≡ (is_of own && sets.contains branches own)
   among_all branches own =
-      any-filter_same (eq_by_cmp branch_cmp own) is_of (is_of own) (λ k e. ap is_of (sym (branch_cmp_exact own k ((Equal-is (branch_cmp own k)).0 e)))) (in_order branches)
+      any-filter_same (eq_by_cmp branch_cmp own) is_of (is_of own)
+      (λ k e. ap is_of (sym (branch_cmp_exact own k ((Equal-is (branch_cmp own k)).0 e)))) (in_order branches)
       ∙ ap (λ (t : Bool). is_of own && t) (sym (contains_in_order branch_cmp_total branches own))
 
   -- ---- both lists are one
 
-  pub tree_branches : (part : LabelData) (fib : FibData) (hops : List Branch) → IsFibOfPart part fib → AreHops fib fec hops → map (branch_in fec) hops ≡ branches_of part fec
+  pub tree_branches : (part : LabelData) (fib : FibData) (hops : List Branch) → IsFibOfPart part fib → AreHops fib fec hops
+      → map (branch_in fec) hops ≡ branches_of part fec
   tree_branches part fib hops is are =
       let own : List TreeBranch = map (branch_in fec) hops in
-      is_in_order branch_cmp_total branch_cmp_exact (sets.from_list own) own (sorted hops are.ordered) (λ q. sym (sets.contains-from_list branch_cmp_total own q))
+      is_in_order branch_cmp_total branch_cmp_exact (sets.from_list own) own (sorted hops are.ordered)
+      (λ q. sym (sets.contains-from_list branch_cmp_total own q))
       ∙ sym (is_in_order branch_cmp_total branch_cmp_exact (sets.from_list own) (branches_of part fec) in_turn (λ q.
       among_all part.branches q ∙ (by q (is_of q) refl ∙ (sym (among q hops) ∙ sym (sets.contains-from_list branch_cmp_total own q)))))
     where
       in_turn : IsStrictlySortedBy branch_cmp (branches_of part fec)
-      in_turn = IsStrictlySortedBy-filter branch_cmp is_of (in_order part.branches) (map_sorted branch_cmp (maps.from_entries {R = branch_cmp} (map (λ k. (k, tt {0})) (sets.items part.branches))))
+      in_turn =
+          IsStrictlySortedBy-filter branch_cmp is_of (in_order part.branches)
+          (map_sorted branch_cmp (maps.from_entries {R = branch_cmp} (map (λ k. (k, tt {0})) (sets.items part.branches))))
 
       by : (q : TreeBranch) (t : Bool) → is_of q ≡ t → (t && sets.contains part.branches q) ≡ (t && list_any (eq_by_cmp hop_cmp (hop_of q)) hops)
       by q false e = refl
@@ -118,7 +127,8 @@ module _ (place : EdgePlace) (now : ℕ) (edge : EdgeData) (source group : Addr)
   fate_by (Some fec) = record { outs = outs_of place now edge fec source group; branches = branches_of edge.part fec }
 
   -- what becomes of a copy whose label is one of the tree
-  pub arrives : (from : NodeId) (label : ℕ) (fec : Fec) (fate : Fate) → tree_of from (use_of edge.part label) ≡ Some fec → fate.outs ≡ outs_of place now edge fec source group
+  pub arrives : (from : NodeId) (label : ℕ) (fec : Fec) (fate : Fate) → tree_of from (use_of edge.part label) ≡ Some fec
+      → fate.outs ≡ outs_of place now edge fec source group
       → fate.branches ≡ branches_of edge.part fec → IsFate (arriving_fate place now edge from label source group) fate
   arrives from label fec fate tree outs branches =
       subst (λ (o : Option Fec). IsFate (fate_by o) fate) (sym tree) (record { outs = outs; branches = branches })

@@ -58,27 +58,32 @@ first_data scenario me addrs =
 
 module _ (scenario : Scenario) (me : NodeId) (addrs : List Addr) (are : addrs ≡ map addr_of_node scenario.nodes) where
   -- no end is up
-  none_up : (routing : EdgeRouting) (labels : NodeData) → labels ≡ first_data scenario me addrs → control_of routing.control ≡ no_control → (kind : Kind) (peer : NodeId)
+  none_up : (routing : EdgeRouting) (labels : NodeData) → labels ≡ first_data scenario me addrs → control_of routing.control ≡ no_control
+      → (kind : Kind) (peer : NodeId)
       → is_up_in routing labels kind peer ≡ false
   none_up routing labels is nothing kinds.Bgp peer =
       ap (λ (c : Control). is_some (maps.get c.peers peer)) nothing ∙ ap (λ (o : Option Taken). is_some o) (maps.get-empty {X = Taken} node_cmp peer)
   none_up routing labels is nothing kinds.Ldp peer =
       ap (λ (l : NodeData). is_some (maps.get l.node.part.ends peer)) is ∙ ap (λ (o : Option End). is_some o) (maps.get-empty {X = End} node_cmp peer)
 
-  live_first : (labels : NodeData) → labels ≡ first_data scenario me addrs → (routing : EdgeRouting) → IsInStep routing → routing.control.home ≡ homes.home_of scenario me
+  live_first : (labels : NodeData) → labels ≡ first_data scenario me addrs → (routing : EdgeRouting) → IsInStep routing
+      → routing.control.home ≡ homes.home_of scenario me
       → control_of routing.control ≡ no_control → IsLive routing labels maps.empty
   live_first labels is routing step home nothing = record {
     step = step;
-    place = ap (λ (l : NodeData). l.place) is ∙ ((λ i. record { me = me; addrs = are i; life = scenario.life }) ∙ ap (λ (h : Home). node_place h.scenario h.me) (sym home));
+    place = ap (λ (l : NodeData). l.place) is ∙ ((λ i. record { me = me; addrs = are i; life = scenario.life })
+        ∙ ap (λ (h : Home). node_place h.scenario h.me) (sym home));
     unspent = ap (λ (l : NodeData). l.node.spent) is;
     leaves = λ core. ap (λ (l : NodeData). l.node.part.leaves) is
-        ∙ (fresh_leaves (place_of routing.control.home core) scenario.labels ∙ ap (λ (c : Control). leaves (place_of routing.control.home core) c) (sym nothing));
+        ∙ (fresh_leaves (place_of routing.control.home core) scenario.labels
+        ∙ ap (λ (c : Control). leaves (place_of routing.control.home core) c) (sym nothing));
     up = λ kind peer. no_stream (session kind peer) ∙ sym (none_up routing labels is nothing kind peer);
     quiet = λ own. ap waiting_of (maps.get-empty {X = Stream} peer_cmp own);
   }
 
   pub labels_live : (result : Result NodeData NoMemory) → IfOk result (λ labels. labels ≡ first_data scenario me addrs)
-      → IfOk result (λ labels. (routing : EdgeRouting) → IsInStep routing → routing.control.home ≡ homes.home_of scenario me → control_of routing.control ≡ no_control → IsLive routing labels maps.empty)
+      → IfOk result (λ labels. (routing : EdgeRouting) → IsInStep routing → routing.control.home ≡ homes.home_of scenario me
+      → control_of routing.control ≡ no_control → IsLive routing labels maps.empty)
   labels_live (Ok labels) is = live_first labels is
   labels_live (Err fault) is = tt
 
@@ -89,15 +94,19 @@ octets_or None = []
 octets_or (Some octets) = octets
 
 -- it is the one of the definitions in which nothing has happened
-pub first_in : (count : ℕ) (routing : EdgeRouting) (labels : NodeData) (streams : FinMap peer_cmp Stream) (raised : FinMap node_cmp ℕ) → labels.node ≡ fresh_node count → control_of routing.control ≡ no_control
-    → ((peer : NodeId) → waiting_at routing.tables peer ≡ []) → streams ≡ maps.empty → raised ≡ maps.empty → IsIn (fresh_state count) (record { routing = routing; labels = labels; streams = streams; raised = raised; spent = None })
+pub first_in : (count : ℕ) (routing : EdgeRouting) (labels : NodeData) (streams : FinMap peer_cmp Stream) (raised : FinMap node_cmp ℕ)
+    → labels.node ≡ fresh_node count → control_of routing.control ≡ no_control
+    → ((peer : NodeId) → waiting_at routing.tables peer ≡ []) → streams ≡ maps.empty → raised ≡ maps.empty
+    → IsIn (fresh_state count) (record { routing = routing; labels = labels; streams = streams; raised = raised; spent = None })
 first_in count routing labels streams raised fresh nothing silent is none_raised = record {
   parts = λ core. record {
     unspent = refl;
     keeps = sym nothing;
     label = record {
       part = ap (λ (n : LabelNode). n.part) fresh;
-      waiting = λ peer. none (label_session peer) ∙ sym (ap (λ (n : LabelNode). octets_or (maps.get n.waiting peer)) fresh ∙ ap octets_or (maps.get-empty {X = List ℕ} node_cmp peer));
+      waiting =
+          λ peer. none (label_session peer) ∙ sym (ap (λ (n : LabelNode). octets_or (maps.get n.waiting peer)) fresh
+          ∙ ap octets_or (maps.get-empty {X = List ℕ} node_cmp peer));
       raises = ap (λ (n : LabelNode). n.raises) fresh;
       spent = ap (λ (n : LabelNode). n.spent) fresh;
     };

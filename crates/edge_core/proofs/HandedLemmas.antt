@@ -46,7 +46,8 @@ bgp_is_not_ldp peer other e = absurd (let k : kinds.Bgp ≡ kinds.Ldp = ap (λ (
 ldp_is_not_bgp : (peer other : NodeId) → label_session peer ≢ bgp_session other
 ldp_is_not_bgp peer other e = bgp_is_not_ldp other peer (sym e)
 
-pub some_unspent : (parts : Parts) (spent : Option NodeFault) (edge : EdgeView) → seen parts spent ≡ edge → true ≡ is_some spent → edge.spent ≡ None → ⊥
+pub some_unspent : (parts : Parts) (spent : Option NodeFault) (edge : EdgeView) → seen parts spent ≡ edge → true ≡ is_some spent → edge.spent ≡ None
+    → ⊥
 some_unspent parts None edge is e none = absurd cc
 some_unspent parts (Some fault) edge is e none = absurd (none-some (cause fault) (sym none ∙ sym (ap (λ (v : EdgeView). v.spent) is)))
 
@@ -75,7 +76,8 @@ module _ (before after : Tables) (peer : NodeId) (taken : AtPeer peer IsEmptied 
       let same : table ≡ record old { waiting = [] } = one_table table new (sym e) ∙ b in
       (old, refl, (ap (λ (t : PeerTable). t.up) same, ap (λ (t : PeerTable). t.set) same, ap (λ (t : PeerTable). t.told) same))
 
-  was : (other : NodeId) (table : PeerTable) → maps.get after other ≡ Some table → (t : PeerTable) × (maps.get before other ≡ Some t) × SaysAlike t table
+  was : (other : NodeId) (table : PeerTable) → maps.get after other ≡ Some table
+      → (t : PeerTable) × (maps.get before other ≡ Some t) × SaysAlike t table
   was other table at = by (other.0 == peer.0) refl
     where
       by : (b : Bool) → (other.0 == peer.0) ≡ b → (t : PeerTable) × (maps.get before other ≡ Some t) × SaysAlike t table
@@ -95,7 +97,9 @@ module _ (before after : Tables) (peer : NodeId) (taken : AtPeer peer IsEmptied 
       both (Some old) (Some new) b = refl
 
       by : (b : Bool) → (other.0 == peer.0) ≡ b → is_some (maps.get after other) ≡ is_some (maps.get before other)
-      by true e = subst (λ (n : NodeId). is_some (maps.get after n) ≡ is_some (maps.get before n)) (sym (one_node other peer e)) (both (maps.get before peer) (maps.get after peer) taken.0)
+      by true e =
+          subst (λ (n : NodeId). is_some (maps.get after n) ≡ is_some (maps.get before n)) (sym (one_node other peer e))
+          (both (maps.get before peer) (maps.get after peer) taken.0)
       by false e = ap (λ (o : Option PeerTable). is_some o) (taken.1 other (other_node other peer e))
 
   none_waits : waiting_at after peer ≡ []
@@ -108,7 +112,8 @@ module _ (before after : Tables) (peer : NodeId) (taken : AtPeer peer IsEmptied 
       by (Some old) (Some new) b = ap (λ (t : PeerTable). t.waiting) b
 
   -- what the edge tells its peers is in step still
-  pub handed_step : (control : Kept) → IsInStep (record { control = control; tables = before }) → IsInStep (record { control = control; tables = after })
+  pub handed_step : (control : Kept) → IsInStep (record { control = control; tables = before })
+      → IsInStep (record { control = control; tables = after })
   handed_step control step = record {
     trees = step.trees;
     groups = step.groups;
@@ -116,7 +121,12 @@ module _ (before after : Tables) (peer : NodeId) (taken : AtPeer peer IsEmptied 
     tables = λ core other table at.
         let t = was other table at in
         let is = step.tables core other t.0 t.1 in
-        record { up = t.2.0 ∙ is.up; set = t.2.1 ∙ is.set; told = t.2.2 ∙ (is.told ∙ ap (λ (b : Bool). cond b (told (place_of control.home core) (control_of control) other) maps.empty) (sym t.2.0)) };
+        record {
+          up = t.2.0 ∙ is.up;
+          set = t.2.1 ∙ is.set;
+          told =
+              t.2.2 ∙ (is.told ∙ ap (λ (b : Bool). cond b (told (place_of control.home core) (control_of control) other) maps.empty) (sym t.2.0));
+        };
     peers = λ other. (λ h. (step.peers other).0 (sym (still_there other) ∙ h), λ h. still_there other ∙ (step.peers other).1 h);
     up = λ other h. still_there other ∙ step.up other h;
   }
@@ -147,12 +157,15 @@ module _ (before after : Tables) (peer : NodeId) (taken : AtPeer peer IsEmptied 
       left core other among own apart =
           (in_old.parts core).peers other among own ∙ (ap (λ (t : Tables). waiting_at t other) is ∙ ap waiting_of (sym (taken.1 other apart)))
 
-      by : (core : Core) (other : NodeId) → Among other (edges (home_of edge).scenario) → other ≢ (home_of edge).me → (b : Bool) → (other.0 == peer.0) ≡ b
+      by : (core : Core) (other : NodeId) → Among other (edges (home_of edge).scenario) → other ≢ (home_of edge).me → (b : Bool)
+          → (other.0 == peer.0) ≡ b
           → waiting_at_session (handed_out (bgp_session peer) state) other ≡ waiting_at after other
       by core other among own true e =
-          subst (λ (n : NodeId). waiting_at_session (handed_out (bgp_session peer) state) n ≡ waiting_at after n) (sym (one_node other peer e)) (none_left (bgp_session peer) state ∙ sym none_waits)
+          subst (λ (n : NodeId). waiting_at_session (handed_out (bgp_session peer) state) n ≡ waiting_at after n) (sym (one_node other peer e))
+          (none_left (bgp_session peer) state ∙ sym none_waits)
       by core other among own false e =
-          others_left (bgp_session peer) (bgp_session other) state (λ k. other_node other peer e (ap (λ (s : PeerSession). s.peer) k)) ∙ left core other among own (other_node other peer e)
+          others_left (bgp_session peer) (bgp_session other) state (λ k. other_node other peer e (ap (λ (s : PeerSession). s.peer) k))
+          ∙ left core other among own (other_node other peer e)
 
 pub bgp_peer : (edge : EdgeView) (kind : Kind) (peer : NodeId) → kind ≡ kinds.Bgp → IsPeer edge kind peer → Among peer (peers_of (home_of edge))
 bgp_peer edge kind peer is h = subst (λ (k : Kind). IsPeer edge k peer) is h
@@ -168,7 +181,8 @@ bgp_octets state edge peer any in_old among =
 
 -- ---- LDP
 
-pub ldp_handed : (state : EdgeState) (edge : EdgeView) (new : NodeData) (peer : NodeId) → new ≡ record edge.labels { node = nodes.handed_out peer edge.labels.node } → IsIn state edge
+pub ldp_handed : (state : EdgeState) (edge : EdgeView) (new : NodeData) (peer : NodeId)
+    → new ≡ record edge.labels { node = nodes.handed_out peer edge.labels.node } → IsIn state edge
     → IsIn (handed_out (label_session peer) state) (record edge { labels = new })
 ldp_handed state edge new peer is in_old =
     subst (λ (l : NodeData). IsIn (handed_out (label_session peer) state) (record edge { labels = l })) (sym is) (record {
@@ -183,13 +197,16 @@ ldp_handed state edge new peer is in_old =
               raises = has.label.raises;
               spent = has.label.spent;
             };
-            peers = λ other among own. others_left (label_session peer) (bgp_session other) state (bgp_is_not_ldp other peer) ∙ has.peers other among own;
+            peers = λ other among own. others_left (label_session peer) (bgp_session other) state (bgp_is_not_ldp other peer)
+                ∙ has.peers other among own;
           };
       streams = in_old.streams;
       raised = in_old.raised;
     })
 
-pub ldp_octets : (state : EdgeState) (edge : EdgeView) (peer : NodeId) (any : Core) → IsIn state edge → nodes.handed peer edge.labels.node ≡ handed (label_session peer) state
+pub ldp_octets : (state : EdgeState) (edge : EdgeView) (peer : NodeId) (any : Core) → IsIn state edge
+    → nodes.handed peer edge.labels.node ≡ handed (label_session peer) state
 ldp_octets state edge peer any in_old =
     let has = in_old.parts any in
-    (λ i. nodes.handed_unless ((has.label.spent ∙ has.unspent) i) peer edge.labels.node) ∙ (sym (has.label.waiting peer) ∙ sym (unspent_hands (label_session peer) state has.unspent))
+    (λ i. nodes.handed_unless ((has.label.spent ∙ has.unspent) i) peer edge.labels.node)
+    ∙ (sym (has.label.waiting peer) ∙ sym (unspent_hands (label_session peer) state has.unspent))

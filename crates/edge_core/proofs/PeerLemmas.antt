@@ -11,7 +11,8 @@ abbrev pub node_at : ℕ → NodeId
 node_at number = record { 0 = number }
 
 -- each other edge is a peer
-pub peer_among : (me peer : NodeId) (number : ℕ) (nodes : List Node) → peer ≢ me → Among peer (edges_from number nodes) → Among peer (peers_from me number nodes)
+pub peer_among : (me peer : NodeId) (number : ℕ) (nodes : List Node) → peer ≢ me → Among peer (edges_from number nodes)
+    → Among peer (peers_from me number nodes)
 peer_among me peer number [] other among = absurd among
 peer_among me peer number (node ∷ more) other among = by (peer_among me peer (number + 1) more other) node.edge (number == me.0) refl among
   where

@@ -46,7 +46,8 @@ none_among (x ∷ more) none = absurd (none x (inl refl))
 
 -- leaves that stay are no change
 none_changed : (own : FinSet fec_cmp) → changed_leaves own own ≡ []
-none_changed own = none_among (changed_leaves own own) (λ call among. let from = changed_from own own call among in by (sets.contains own from.0) from.2 from.3)
+none_changed own =
+    none_among (changed_leaves own own) (λ call among. let from = changed_from own own call among in by (sets.contains own from.0) from.2 from.3)
   where
     by : (b : Bool) → not (b && b) ≡ true → (b || b) ≡ true → ⊥
     by true differs one = absurd cc
@@ -72,7 +73,8 @@ pub record ChangesNoLeaf (now : ℕ) (call : Call) : Type 0 where
       is_some (maps.get (control_step place now control call).peers peer) ≡ is_some (maps.get control.peers peer)
   pub raised : (raised : FinMap node_cmp ℕ) → raised_after now raised call ≡ raised
 
-module _ (now : ℕ) (call : Call) (calm : ChangesNoLeaf now call) (old : Parts) (routing : EdgeRouting) (told : LeafCandidates) (live : IsLive old.routing old.labels old.streams)
+module _ (now : ℕ) (call : Call) (calm : ChangesNoLeaf now call) (old : Parts) (routing : EdgeRouting) (told : LeafCandidates)
+    (live : IsLive old.routing old.labels old.streams)
     (home : routing.control.home ≡ old.routing.control.home) (stepped : (core : Topology) → IsStepped core now call old.routing routing told) where
   abbrev control : Control
   control = control_of old.routing.control
@@ -107,14 +109,19 @@ module _ (now : ℕ) (call : Call) (calm : ChangesNoLeaf now call) (old : Parts)
       → IsIn (called (place_of old.routing.control.home is) now state call) (going new)
   edge_made core is told_so state in_old =
       let place = place_of old.routing.control.home is in
-      let has = parts_made place now call state control old.labels.node (waiting_at old.routing.tables) (in_old.parts is) (control_of routing.control) old.labels.node (waiting_at routing.tables)
+      let has =
+      parts_made place now call state control old.labels.node (waiting_at old.routing.tables) (in_old.parts is) (control_of routing.control)
+      old.labels.node (waiting_at routing.tables)
       ((stepped core).control is told_so)
       (ap (all_called (node_place place.scenario place.me) is now old.labels.node) (sym (no_calls place))) live.unspent
       (λ peer among other. (stepped core).waiting is peer (peer_among place.me peer 0 place.scenario.nodes other among)) in
       record {
-        parts = λ any. subst (λ (h : Home). HasParts (place_of h any) (called place now state call) (control_of routing.control) old.labels.node (waiting_at routing.tables)) (sym home)
+        parts = λ any. subst (λ (h : Home). HasParts (place_of h any) (called place now state call) (control_of routing.control) old.labels.node
+            (waiting_at routing.tables)) (sym home)
             (record { unspent = has.unspent; keeps = has.keeps; label = has.label; peers = has.peers });
-        streams = unspent_streams place now call state (in_old.parts is).unspent ∙ (ap (λ (s : EdgeState). s.streams) (calm.prepared state) ∙ in_old.streams);
+        streams =
+            unspent_streams place now call state (in_old.parts is).unspent
+            ∙ (ap (λ (s : EdgeState). s.streams) (calm.prepared state) ∙ in_old.streams);
         raised = raises_made place now call state (in_old.parts is).unspent has.unspent ∙ (calm.raised state.edge.raised ∙ in_old.raised);
       }
 
@@ -136,7 +143,8 @@ module _ (now : ℕ) (call : Call) (calm : ChangesNoLeaf now call) (old : Parts)
 -- ---- limits
 
 -- an edge that would hold too many stays as it is
-pub stays_full : (core : Topology) (now : ℕ) (call : Call) (old : Parts) (routing : EdgeRouting) → routing ≡ old.routing → IsLive old.routing old.labels old.streams
+pub stays_full : (core : Topology) (now : ℕ) (call : Call) (old : Parts) (routing : EdgeRouting) → routing ≡ old.routing
+    → IsLive old.routing old.labels old.streams
     → SettlesCall core now call (going old) (record old { routing = routing }) (Err faults.Full)
 stays_full core now call old routing same live = record {
   answers = record {

@@ -46,8 +46,10 @@ step_as core now old new call (Ok told) same kept stepped = record {
 }
 
 -- The routing of a call is stepped, and its streams and the moments of raises are changed: the call is midway.
-pub midway_raised : (core : Topology) (now : ℕ) (own : OwnCall) (call : Call) (old : Parts) (routing : EdgeRouting) (streams : FinMap peer_cmp Stream) (raised : FinMap node_cmp ℕ)
-    (told : Result LeafCandidates NoMemory) → raised ≡ raised_after now old.raised call → IsLive old.routing old.labels old.streams → core.nodes ≡ length old.routing.control.home.scenario.nodes
+pub midway_raised : (core : Topology) (now : ℕ) (own : OwnCall) (call : Call) (old : Parts) (routing : EdgeRouting) (streams : FinMap peer_cmp Stream)
+    (raised : FinMap node_cmp ℕ)
+    (told : Result LeafCandidates NoMemory) → raised ≡ raised_after now old.raised call → IsLive old.routing old.labels old.streams
+    → core.nodes ≡ length old.routing.control.home.scenario.nodes
     → own_call own ≡ own_label_call call → MayMake old.labels own → streams ≡ streams_behind call old.streams
     → routing.control.home ≡ old.routing.control.home → IfOk told (IsStepped core now call old.routing routing)
     → IsMidway core now own call (going old) told (record old { routing = routing; streams = streams; raised = raised })
@@ -66,7 +68,8 @@ midway_raised core now own call old routing streams raised told clocks live node
 
 -- the same of a call by which no BGP session comes up or is lost
 pub midway : (core : Topology) (now : ℕ) (own : OwnCall) (call : Call) (old : Parts) (routing : EdgeRouting) (streams : FinMap peer_cmp Stream)
-    (told : Result LeafCandidates NoMemory) → old.raised ≡ raised_after now old.raised call → IsLive old.routing old.labels old.streams → core.nodes ≡ length old.routing.control.home.scenario.nodes
+    (told : Result LeafCandidates NoMemory) → old.raised ≡ raised_after now old.raised call → IsLive old.routing old.labels old.streams
+    → core.nodes ≡ length old.routing.control.home.scenario.nodes
     → own_call own ≡ own_label_call call → MayMake old.labels own → streams ≡ streams_behind call old.streams
     → routing.control.home ≡ old.routing.control.home → IfOk told (IsStepped core now call old.routing routing)
     → IsMidway core now own call (going old) told (record old { routing = routing; streams = streams })

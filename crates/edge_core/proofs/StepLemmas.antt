@@ -76,7 +76,8 @@ module _ (new : FinSet fec_cmp) where
   same_want a b e = cc
 
   -- a tree that is to be wanted is one of the new leaves
-  want_is_new : (fecs : List Fec) (call : steps.Call) (fec : Fec) → call ≡ Want fec → Among call (map (λ own. if sets.contains new own then Want own else Unwant own) fecs) → sets.contains new fec ≡ true
+  want_is_new : (fecs : List Fec) (call : steps.Call) (fec : Fec) → call ≡ Want fec
+      → Among call (map (λ own. if sets.contains new own then Want own else Unwant own) fecs) → sets.contains new fec ≡ true
   want_is_new [] call fec e among = absurd among
   want_is_new (own ∷ more) call fec e (inr a) = want_is_new more call fec e a
   want_is_new (own ∷ more) call fec e (inl s) = by (sets.contains new own) refl (sym s ∙ e)
@@ -93,9 +94,11 @@ module _ (new : FinSet fec_cmp) where
   want_call : (change : LeafChange) → change.wanted ≡ true → leaf_call change ≡ Want change.fec
   want_call change e = λ i. cond (e i) (Want change.fec) (Unwant change.fec)
 
-  pub new_leaf : (old : FinSet fec_cmp) (changes : List LeafChange) → map leaf_call changes ≡ changed_leaves old new → (change : LeafChange) → Among change changes → change.wanted ≡ true → sets.contains new change.fec ≡ true
+  pub new_leaf : (old : FinSet fec_cmp) (changes : List LeafChange) → map leaf_call changes ≡ changed_leaves old new → (change : LeafChange)
+      → Among change changes → change.wanted ≡ true → sets.contains new change.fec ≡ true
   new_leaf old changes are change among wanted =
-      want_is_new _ (leaf_call change) change.fec (want_call change wanted) (subst (λ (calls : List steps.Call). Among (leaf_call change) calls) are (among_map change changes among))
+      want_is_new _ (leaf_call change) change.fec (want_call change wanted)
+      (subst (λ (calls : List steps.Call). Among (leaf_call change) calls) are (among_map change changes among))
 
 -- ---- streams
 
@@ -110,10 +113,12 @@ either true o p e f = e
 either false o p e f = f
 
 -- a session that comes up or is lost has nothing that waits in its stream
-still_quiet : (call : Call) (streams : FinMap peer_cmp Stream) → ((own : PeerSession) → (stream_at streams own).waiting ≡ []) → (own : PeerSession) → (stream_at (streams_behind call streams) own).waiting ≡ []
+still_quiet : (call : Call) (streams : FinMap peer_cmp Stream) → ((own : PeerSession) → (stream_at streams own).waiting ≡ []) → (own : PeerSession)
+    → (stream_at (streams_behind call streams) own).waiting ≡ []
 still_quiet (Raised kind peer) streams quiet own =
     let raised : PeerSession = record { kind = kind; peer = peer } in
-    ap waiting_of (maps.get-insert peer_total streams raised unfed own) ∙ either (eq_by_cmp peer_cmp own raised) (Some unfed) (maps.get streams own) refl (quiet own)
+    ap waiting_of (maps.get-insert peer_total streams raised unfed own)
+    ∙ either (eq_by_cmp peer_cmp own raised) (Some unfed) (maps.get streams own) refl (quiet own)
 still_quiet (Noticed kind peer) streams quiet own =
     let lost : PeerSession = record { kind = kind; peer = peer } in
     ap waiting_of (maps.get-remove peer_total streams lost own) ∙ either (eq_by_cmp peer_cmp own lost) None (maps.get streams own) refl (quiet own)
@@ -155,7 +160,8 @@ lacks_memory core now call old parts fault is unspent home = record {
 pub by_memory : (refusals : List EdgeFault) (fault : EdgeFault) → fault ≡ faults.NoMemory → IsOneOf refusals (Err fault)
 by_memory refusals fault is = λ other e. inr (inl (sym (one_fault fault other e) ∙ is))
 
-pub by_node : (refusals : List EdgeFault) (fault : EdgeFault) (cause_of : NodeFault) → fault ≡ fault_of (cause cause_of) → IsOneOf refusals (Err fault)
+pub by_node : (refusals : List EdgeFault) (fault : EdgeFault) (cause_of : NodeFault) → fault ≡ fault_of (cause cause_of)
+    → IsOneOf refusals (Err fault)
 by_node refusals fault node_faults.NoLabel is = λ other e. inl (sym (one_fault fault other e) ∙ is)
 by_node refusals fault node_faults.NoMemory is = λ other e. inr (inl (sym (one_fault fault other e) ∙ is))
 
@@ -163,7 +169,8 @@ by_node refusals fault node_faults.NoMemory is = λ other e. inr (inl (sym (one_
 
 module _ (core : Topology) (now : ℕ) (own : OwnCall) (call : Call) (old : EdgeView) (parts : Parts) where
   -- what was told is known
-  pub told_is : (told : Result LeafCandidates NoMemory) (known : LeafCandidates) → told ≡ Ok known → IsMidway core now own call old told parts → IsMidway core now own call old (Ok known) parts
+  pub told_is : (told : Result LeafCandidates NoMemory) (known : LeafCandidates) → told ≡ Ok known → IsMidway core now own call old told parts
+      → IsMidway core now own call old (Ok known) parts
   told_is told known is mid = subst (λ (t : Result LeafCandidates NoMemory). IsMidway core now own call old t parts) is mid
 
   module _ (told : LeafCandidates) (mid : IsMidway core now own call old (Ok told) parts) where
@@ -175,35 +182,45 @@ module _ (core : Topology) (now : ℕ) (own : OwnCall) (call : Call) (old : Edge
 
     -- each tree that is to be wanted may be
     pub wantable : IsHome parts.routing.control.home.scenario parts.routing.control.home.me → (any : Core) (changes : List LeafChange)
-        → map leaf_call changes ≡ changed_leaves parts.labels.node.part.leaves (leaves (place_of parts.routing.control.home any) new_control) → All (IsWantable parts.labels.place) changes
+        → map leaf_call changes ≡ changed_leaves parts.labels.node.part.leaves (leaves (place_of parts.routing.control.home any) new_control)
+        → All (IsWantable parts.labels.place) changes
     wantable home any changes are = all_of (IsWantable parts.labels.place) changes (λ change among wanted.
-        subst (λ p. MayWant p change.fec) (sym (ap (λ (l : NodeData). l.place) mid.labels ∙ mid.live.place ∙ ap (λ (h : Home). node_place h.scenario h.me) (sym mid.home)))
+        subst (λ p. MayWant p change.fec) (sym (ap (λ (l : NodeData). l.place) mid.labels ∙ mid.live.place
+        ∙ ap (λ (h : Home). node_place h.scenario h.me) (sym mid.home)))
         (leaf_wanted (place_of parts.routing.control.home any) new_control home.rules peers change.fec
         (new_leaf (leaves (place_of parts.routing.control.home any) new_control) parts.labels.node.part.leaves changes are change among wanted)))
       where
-        peers : (peer : NodeId) → is_some (maps.get new_control.peers peer) ≡ true → (peer.0 < length parts.routing.control.home.scenario.nodes) × (peer ≢ parts.routing.control.home.me)
+        peers : (peer : NodeId) → is_some (maps.get new_control.peers peer) ≡ true
+            → (peer.0 < length parts.routing.control.home.scenario.nodes) × (peer ≢ parts.routing.control.home.me)
         peers peer up =
             let among = (mid.stepped.step.peers peer).0 (mid.stepped.step.up peer up) in (
               is_node parts.routing.control.home peer among,
-              λ e. never_own parts.routing.control.home.me 0 parts.routing.control.home.scenario.nodes (subst (λ (p : NodeId). Among p (peers_of parts.routing.control.home)) e among),
+              λ e. never_own parts.routing.control.home.me 0 parts.routing.control.home.scenario.nodes
+                  (subst (λ (p : NodeId). Among p (peers_of parts.routing.control.home)) e among),
             )
 
     -- the candidates, by what the label part is a leaf of
-    pub candidates : (any : Core) → AreCandidates parts.labels.node.part.leaves (leaves (place_of parts.routing.control.home any) new_control) told.candidates.items told.leaves.items
+    pub candidates : (any : Core) → AreCandidates parts.labels.node.part.leaves (leaves (place_of parts.routing.control.home any) new_control)
+        told.candidates.items told.leaves.items
     candidates any =
-        subst (λ (h : Home). AreCandidates parts.labels.node.part.leaves (leaves (place_of h any) new_control) told.candidates.items told.leaves.items) (sym mid.home)
+        subst (λ (h : Home). AreCandidates parts.labels.node.part.leaves (leaves (place_of h any) new_control) told.candidates.items
+        told.leaves.items) (sym mid.home)
         (subst (λ (s : FinSet fec_cmp). AreCandidates s (leaves (place_of (home_of old) any) new_control) told.candidates.items told.leaves.items)
         (sym (ap (λ (l : NodeData). l.node.part.leaves) mid.labels ∙ mid.live.leaves any)) (mid.stepped.leaves any))
 
     -- the changes of the candidates are those of the leaves
     pub changes_of : (leaves_told : List Fec) (changes : List LeafChange) → leaves_told ≡ told.leaves.items
-        → ((new : FinSet fec_cmp) → AreCandidates parts.labels.node.part.leaves new told.candidates.items leaves_told → map leaf_call changes ≡ changed_leaves parts.labels.node.part.leaves new)
-        → (any : Core) → map leaf_call changes ≡ changed_leaves parts.labels.node.part.leaves (leaves (place_of parts.routing.control.home any) new_control)
+        → ((new : FinSet fec_cmp) → AreCandidates parts.labels.node.part.leaves new told.candidates.items leaves_told
+        → map leaf_call changes ≡ changed_leaves parts.labels.node.part.leaves new)
+        → (any : Core) → map leaf_call changes ≡ changed_leaves parts.labels.node.part.leaves
+        (leaves (place_of parts.routing.control.home any) new_control)
     changes_of leaves_told changes same found any = found (leaves (place_of parts.routing.control.home any) new_control)
-        (subst (λ (fecs : List Fec). AreCandidates parts.labels.node.part.leaves (leaves (place_of parts.routing.control.home any) new_control) told.candidates.items fecs) (sym same) (candidates any))
+        (subst (λ (fecs : List Fec). AreCandidates parts.labels.node.part.leaves (leaves (place_of parts.routing.control.home any) new_control)
+        told.candidates.items fecs) (sym same) (candidates any))
 
     module _ (labels : NodeData) (changes : List LeafChange) (result : Result (Unit {0}) NodeFault)
-        (are : (any : Core) → map leaf_call changes ≡ changed_leaves parts.labels.node.part.leaves (leaves (place_of parts.routing.control.home any) new_control))
+        (are : (any : Core) → map leaf_call changes
+        ≡ changed_leaves parts.labels.node.part.leaves (leaves (place_of parts.routing.control.home any) new_control))
         (row : AnswersAll core now (calls_of own changes) parts.labels labels result) where
       abbrev after : EdgeView
       after = going (record parts { labels = labels })
@@ -212,25 +229,35 @@ module _ (core : Topology) (now : ℕ) (own : OwnCall) (call : Call) (old : Edge
       calls_are : (is : Core) → IsCoreOf core.nodes core.links is → calls_of own changes ≡ label_calls (place_of (home_of old) is) now control call
       calls_are is told_so = λ i. one_call (mid.is_own i) ++ (leaf_calls i)
         where
-          leaf_calls : map leaf_call changes ≡ changed_leaves (leaves (place_of (home_of old) is) control) (leaves (place_of (home_of old) is) (control_step (place_of (home_of old) is) now control call))
-          leaf_calls = are is ∙ (λ i. changed_leaves ((ap (λ (l : NodeData). l.node.part.leaves) mid.labels ∙ mid.live.leaves is) i) (leaves (place_of (mid.home i) is) (mid.stepped.control is told_so i)))
+          leaf_calls : map leaf_call changes ≡ changed_leaves (leaves (place_of (home_of old) is) control)
+              (leaves (place_of (home_of old) is) (control_step (place_of (home_of old) is) now control call))
+          leaf_calls =
+              are is ∙ (λ i. changed_leaves ((ap (λ (l : NodeData). l.node.part.leaves) mid.labels ∙ mid.live.leaves is) i)
+              (leaves (place_of (mid.home i) is) (mid.stepped.control is told_so i)))
 
       row_is : (is : Core) → IsCoreOf core.nodes core.links is
-          → all_called parts.labels.place is now parts.labels.node (calls_of own changes) ≡ all_called (node_place (home_of old).scenario (home_of old).me) is now old.labels.node (label_calls (place_of (home_of old) is) now control call)
-      row_is is told_so = λ i. all_called ((ap (λ (l : NodeData). l.place) mid.labels ∙ mid.live.place) i) is now (mid.labels i).node (calls_are is told_so i)
+          → all_called parts.labels.place is now parts.labels.node (calls_of own changes)
+          ≡ all_called (node_place (home_of old).scenario (home_of old).me) is now old.labels.node
+          (label_calls (place_of (home_of old) is) now control call)
+      row_is is told_so =
+          λ i. all_called ((ap (λ (l : NodeData). l.place) mid.labels ∙ mid.live.place) i) is now (mid.labels i).node (calls_are is told_so i)
 
       -- each tree that waits does so towards its root
-      toward_made : result ≡ Ok tt → (known : Core) → IsCoreOf core.nodes core.links known → WaitedBefore (calls_of own changes) parts.labels.place known parts.labels.awaited → IsWaitingTowardRoots known labels
+      toward_made : result ≡ Ok tt → (known : Core) → IsCoreOf core.nodes core.links known
+          → WaitedBefore (calls_of own changes) parts.labels.place known parts.labels.awaited → IsWaitingTowardRoots known labels
       toward_made e known told_so waits = by result row.toward e
         where
           by : (r : Result (Unit {0}) NodeFault)
-              → OnOk r ((k : Core) → IsCoreOf core.nodes core.links k → WaitedBefore (calls_of own changes) parts.labels.place k parts.labels.awaited → WaitTowardRoots parts.labels.place k labels.awaited)
+              → OnOk r ((k : Core) → IsCoreOf core.nodes core.links k → WaitedBefore (calls_of own changes) parts.labels.place k parts.labels.awaited
+              → WaitTowardRoots parts.labels.place k labels.awaited)
               → r ≡ Ok tt → IsWaitingTowardRoots known labels
           by (Ok done) toward e = subst (λ (p : NodePlace). WaitTowardRoots p known labels.awaited) (sym row.place) (toward known told_so waits)
           by (Err fault) toward e = absurd cc
 
-      streams_made : (place : EdgePlace) (state : EdgeState) → IsIn state old → state.spent ≡ None → (called place now state call).streams ≡ parts.streams
-      streams_made place state in_old unspent = unspent_streams place now call state unspent ∙ (by_call call ∙ (ap (streams_behind call) in_old.streams ∙ sym mid.streams))
+      streams_made : (place : EdgePlace) (state : EdgeState) → IsIn state old → state.spent ≡ None
+          → (called place now state call).streams ≡ parts.streams
+      streams_made place state in_old unspent =
+          unspent_streams place now call state unspent ∙ (by_call call ∙ (ap (streams_behind call) in_old.streams ∙ sym mid.streams))
         where
           by_call : (c : Call) → (prepared c state).streams ≡ streams_behind c state.streams
           by_call (Update peer message) = refl
@@ -249,54 +276,66 @@ module _ (core : Topology) (now : ℕ) (own : OwnCall) (call : Call) (old : Edge
         abbrev place : EdgePlace
         place = place_of (home_of old) is
 
-        node_made : result ≡ Ok tt → labels.node ≡ all_called (node_place place.scenario place.me) place.core now old.labels.node (label_calls place now control call)
+        node_made : result ≡ Ok tt → labels.node ≡ all_called (node_place place.scenario place.me) place.core now old.labels.node
+            (label_calls place now control call)
         node_made e = on_ok result e row.made is told_so ∙ row_is is told_so
           where
             on_ok : {P : Type 0} (r : Result (Unit {0}) NodeFault) → r ≡ Ok tt → OnOk r P → P
             on_ok (Ok done) e h = h
             on_ok (Err fault) e h = absurd cc
 
-        ends_made : result ≡ Ok tt → labels.node.spent ≡ None → (kind : Kind) (peer : NodeId) → is_up_in parts.routing labels kind peer ≡ up_by kind call peer (is_up_in old.routing old.labels kind peer)
+        ends_made : result ≡ Ok tt → labels.node.spent ≡ None → (kind : Kind) (peer : NodeId)
+            → is_up_in parts.routing labels kind peer ≡ up_by kind call peer (is_up_in old.routing old.labels kind peer)
         ends_made e unspent kinds.Bgp peer =
             ap (λ (c : Control). is_some (maps.get c.peers peer)) (mid.stepped.control is told_so) ∙ peers_up place now control call peer
         ends_made e unspent kinds.Ldp peer =
             ap (λ (n : LabelNode). is_some (maps.get n.part.ends peer)) (node_made e)
-            ∙ ends_up place now call (leaves place control) (leaves place (control_step place now control call)) old.labels.node peer mid.live.unspent (ap (λ (n : LabelNode). n.spent) (sym (node_made e)) ∙ unspent)
+            ∙ ends_up place now call (leaves place control) (leaves place (control_step place now control call)) old.labels.node peer mid.live.unspent
+            (ap (λ (n : LabelNode). n.spent) (sym (node_made e)) ∙ unspent)
 
         live_made : result ≡ Ok tt → labels.node.spent ≡ None → IsLive parts.routing labels parts.streams
         live_made e unspent = record {
           step = mid.stepped.step;
-          place = row.place ∙ (ap (λ (l : NodeData). l.place) mid.labels ∙ (mid.live.place ∙ ap (λ (h : Home). node_place h.scenario h.me) (sym mid.home)));
+          place = row.place ∙ (ap (λ (l : NodeData). l.place) mid.labels
+              ∙ (mid.live.place ∙ ap (λ (h : Home). node_place h.scenario h.me) (sym mid.home)));
           unspent = unspent;
           leaves = λ any. leaves_made place now call control old.labels.node labels.node mid.live.unspent (mid.live.leaves is) (node_made e) unspent
               ∙ sym (λ i. leaves (place_of (mid.home i) is) (mid.stepped.control is told_so i));
           up = λ kind peer.
               ap (λ (s : FinMap peer_cmp Stream). is_some (maps.get s (session kind peer))) mid.streams
               ∙ (streams_up kind call old.streams peer ∙ (ap (up_by kind call peer) (mid.live.up kind peer) ∙ sym (ends_made e unspent kind peer)));
-          quiet = λ own_session. subst (λ (s : FinMap peer_cmp Stream). (stream_at s own_session).waiting ≡ []) (sym mid.streams) (still_quiet call old.streams mid.live.quiet own_session);
+          quiet = λ own_session. subst (λ (s : FinMap peer_cmp Stream). (stream_at s own_session).waiting ≡ []) (sym mid.streams)
+              (still_quiet call old.streams mid.live.quiet own_session);
         }
 
         edge_made : result ≡ Ok tt → labels.node.spent ≡ None → (state : EdgeState) → IsIn state old → IsIn (called place now state call) after
         edge_made e unspent state in_old =
-            let has = parts_made place now call state control old.labels.node (waiting_at old.routing.tables) (in_old.parts is) new_control labels.node (waiting_at parts.routing.tables)
+            let has =
+            parts_made place now call state control old.labels.node (waiting_at old.routing.tables) (in_old.parts is) new_control labels.node
+            (waiting_at parts.routing.tables)
             (mid.stepped.control is told_so) (node_made e) unspent
             (λ peer among other. mid.stepped.waiting is peer (peer_among (home_of old).me peer 0 (home_of old).scenario.nodes other among)) in
             record {
-              parts = λ any. subst (λ (h : Home). HasParts (place_of h any) (called place now state call) new_control labels.node (waiting_at parts.routing.tables)) (sym mid.home)
+              parts = λ any. subst (λ (h : Home). HasParts (place_of h any) (called place now state call) new_control labels.node
+                  (waiting_at parts.routing.tables)) (sym mid.home)
                   (record { unspent = has.unspent; keeps = has.keeps; label = has.label; peers = has.peers });
               streams = streams_made place state in_old (in_old.parts is).unspent;
-              raised = raises_made place now call state (in_old.parts is).unspent has.unspent ∙ (ap (λ (r : FinMap node_cmp ℕ). raised_after now r call) in_old.raised ∙ sym mid.raised);
+              raised = raises_made place now call state (in_old.parts is).unspent has.unspent
+                  ∙ (ap (λ (r : FinMap node_cmp ℕ). raised_after now r call) in_old.raised ∙ sym mid.raised);
             }
 
         edge_lacks : result ≡ Err node_faults.NoLabel → (state : EdgeState) → IsIn state old → (called place now state call).spent ≡ Some LacksLabel
         edge_lacks e state in_old =
             parts_lack place now call state control old.labels.node (waiting_at old.routing.tables) (in_old.parts is)
-            (sym (ap (λ (n : LabelNode). n.spent) (row_is is told_so)) ∙ row.lacks e (ap (λ (l : NodeData). l.node.spent) mid.labels ∙ mid.live.unspent) is told_so)
+            (sym (ap (λ (n : LabelNode). n.spent) (row_is is told_so))
+            ∙ row.lacks e (ap (λ (l : NodeData). l.node.spent) mid.labels ∙ mid.live.unspent) is told_so)
 
     -- the label step was made
     pub has_settled : (labels : NodeData) (changes : List LeafChange) → (some : (is : Core) × IsCoreOf core.nodes core.links is)
-        → ((any : Core) → map leaf_call changes ≡ changed_leaves parts.labels.node.part.leaves (leaves (place_of parts.routing.control.home any) new_control))
-        → AnswersAll core now (calls_of own changes) parts.labels labels (Ok tt) → SettlesCall core now call old (record parts { labels = labels }) (Ok tt)
+        → ((any : Core) → map leaf_call changes ≡ changed_leaves parts.labels.node.part.leaves
+        (leaves (place_of parts.routing.control.home any) new_control))
+        → AnswersAll core now (calls_of own changes) parts.labels labels (Ok tt)
+        → SettlesCall core now call old (record parts { labels = labels }) (Ok tt)
     has_settled labels changes some are row = record {
       answers = record {
         home = mid.home;
@@ -304,7 +343,8 @@ module _ (core : Topology) (now : ℕ) (own : OwnCall) (call : Call) (old : Edge
         unspent = mid.unspent;
         made = λ is told_so state in_old. edge_made labels changes (Ok tt) are row is told_so refl row.goes_on state in_old;
         goes_on = refl;
-        toward = λ none known told_so waits. toward_made labels changes (Ok tt) are row refl known told_so (waited (calls_of own changes) parts.labels.place known parts.labels
+        toward = λ none known told_so waits. toward_made labels changes (Ok tt) are row refl known told_so
+            (waited (calls_of own changes) parts.labels.place known parts.labels
             (subst (IsWaitingTowardRoots known) (sym mid.labels) waits));
         lacks = λ e. absurd cc;
         spends = λ fault e. absurd cc;
@@ -314,7 +354,8 @@ module _ (core : Topology) (now : ℕ) (own : OwnCall) (call : Call) (old : Edge
 
     -- where costs of links changed, they do so by the new ones
     pub has_rerouted : (labels : NodeData) (changes : List LeafChange)
-        → ((any : Core) → map leaf_call changes ≡ changed_leaves parts.labels.node.part.leaves (leaves (place_of parts.routing.control.home any) new_control))
+        → ((any : Core) → map leaf_call changes ≡ changed_leaves parts.labels.node.part.leaves
+        (leaves (place_of parts.routing.control.home any) new_control))
         → AnswersAll core now (calls_of own changes) parts.labels labels (Ok tt) → own ≡ owns.Reroute → WaitsTowardRootsOf core labels
     has_rerouted labels changes are row e known told_so =
         toward_made labels changes (Ok tt) are row refl known told_so
@@ -322,8 +363,10 @@ module _ (core : Topology) (now : ℕ) (own : OwnCall) (call : Call) (old : Edge
 
     -- it lacked a label, or memory
     pub has_stopped : (labels : NodeData) (changes : List LeafChange) (fault : NodeFault) (told_as : EdgeFault) → told_as ≡ fault_of (cause fault)
-        → ((any : Core) → map leaf_call changes ≡ changed_leaves parts.labels.node.part.leaves (leaves (place_of parts.routing.control.home any) new_control))
-        → AnswersAll core now (calls_of own changes) parts.labels labels (Err fault) → SettlesCall core now call old (record parts { labels = labels }) (Err told_as)
+        → ((any : Core) → map leaf_call changes ≡ changed_leaves parts.labels.node.part.leaves
+        (leaves (place_of parts.routing.control.home any) new_control))
+        → AnswersAll core now (calls_of own changes) parts.labels labels (Err fault)
+        → SettlesCall core now call old (record parts { labels = labels }) (Err told_as)
     has_stopped labels changes fault told_as as_fault are row = record {
       answers = record {
         home = mid.home;
@@ -332,7 +375,8 @@ module _ (core : Topology) (now : ℕ) (own : OwnCall) (call : Call) (old : Edge
         made = tt;
         goes_on = tt;
         toward = λ none. absurd (spends_some fault (sym (ap spent_by as_fault) ∙ none));
-        lacks = λ e none is told_so state in_old. edge_lacks labels changes (Err fault) are row is told_so (ap (λ (f : NodeFault). Err f) (label_lacking fault (sym as_fault ∙ one_fault told_as faults.NoLabel e))) state in_old;
+        lacks = λ e none is told_so state in_old. edge_lacks labels changes (Err fault) are row is told_so
+            (ap (λ (f : NodeFault). Err f) (label_lacking fault (sym as_fault ∙ one_fault told_as faults.NoLabel e))) state in_old;
         spends = λ other e none. ap spent_after e;
       };
       live = λ e. absurd (spends_some fault (sym (ap spent_by as_fault) ∙ e));

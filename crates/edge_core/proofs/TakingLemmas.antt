@@ -48,39 +48,51 @@ give_ok : {P : Type 0} (result : Result (Unit {0}) EdgeFault) → P → OnOk res
 give_ok (Ok done) h = h
 give_ok (Err fault) h = tt
 
-pub all_left : (core : Topology) (now : ℕ) (peer : NodeId) (all : List SessionMessage) (parts : Parts) → IsLive parts.routing parts.labels parts.streams → AreLeft core now peer all all parts parts
+pub all_left : (core : Topology) (now : ℕ) (peer : NodeId) (all : List SessionMessage) (parts : Parts)
+    → IsLive parts.routing parts.labels parts.streams → AreLeft core now peer all all parts parts
 all_left core now peer all parts live = record { home = refl; live = live; whole = λ new result h. h }
 
 module _ (core : Topology) (now : ℕ) (peer : NodeId) (message : SessionMessage) (more : List SessionMessage) (parts : Parts) where
   -- taking a message is its call
   then_is : (is : Core) (state : EdgeState)
-      → all_taken (place_of parts.routing.control.home is) now peer more (called (place_of parts.routing.control.home is) now state (call_of peer message)) ≡ taken_by (going parts) now peer (message ∷ more) is state
+      → all_taken (place_of parts.routing.control.home is) now peer more
+      (called (place_of parts.routing.control.home is) now state (call_of peer message))
+      ≡ taken_by (going parts) now peer (message ∷ more) is state
   then_is is state =
-      ap (λ (s : EdgeState). all_taken (place_of parts.routing.control.home is) now peer more s) (sym (message_called (place_of parts.routing.control.home is) now peer message state))
+      ap (λ (s : EdgeState). all_taken (place_of parts.routing.control.home is) now peer more s)
+      (sym (message_called (place_of parts.routing.control.home is) now peer message state))
 
   -- the first message was taken, and then the others
   pub then_taken : (mid new : Parts) (result : Result (Unit {0}) EdgeFault) → SettlesCall core now (call_of peer message) (going parts) mid (Ok tt)
-      → Settles core (taken_by (going mid) now peer more) (going mid) new result → Settles core (taken_by (going parts) now peer (message ∷ more)) (going parts) new result
+      → Settles core (taken_by (going mid) now peer more) (going mid) new result
+      → Settles core (taken_by (going parts) now peer (message ∷ more)) (going parts) new result
   then_taken mid new result h k = record {
     answers = record {
       home = k.answers.home ∙ h.answers.home;
       before = λ spent e. absurd (none-some spent e);
       unspent = give_ok result refl;
       made = map_ok result (λ (made : Makes core (taken_by (going mid) now peer more) (going mid) (behind new result)) is told_so state in_old.
-          subst (λ (s : EdgeState). IsIn s (behind new result)) (along is state) (made is told_so (called (place_of parts.routing.control.home is) now state (call_of peer message)) (h.answers.made is told_so state in_old))) k.answers.made;
+          subst (λ (s : EdgeState). IsIn s (behind new result)) (along is state)
+          (made is told_so (called (place_of parts.routing.control.home is) now state (call_of peer message))
+          (h.answers.made is told_so state in_old))) k.answers.made;
       goes_on = k.answers.goes_on;
       toward = λ none known told_so waits. k.answers.toward none known told_so (h.answers.toward refl known told_so waits);
       lacks = λ e none is told_so state in_old.
-          ap (λ (s : EdgeState). s.spent) (sym (along is state)) ∙ k.answers.lacks e refl is told_so (called (place_of parts.routing.control.home is) now state (call_of peer message)) (h.answers.made is told_so state in_old);
+          ap (λ (s : EdgeState). s.spent) (sym (along is state))
+          ∙ k.answers.lacks e refl is told_so (called (place_of parts.routing.control.home is) now state (call_of peer message))
+          (h.answers.made is told_so state in_old);
       spends = λ fault e none. k.answers.spends fault e refl;
     };
     live = k.live;
   }
     where
       along : (is : Core) (state : EdgeState)
-          → all_taken (place_of mid.routing.control.home is) now peer more (called (place_of parts.routing.control.home is) now state (call_of peer message)) ≡ taken_by (going parts) now peer (message ∷ more) is state
+          → all_taken (place_of mid.routing.control.home is) now peer more
+          (called (place_of parts.routing.control.home is) now state (call_of peer message))
+          ≡ taken_by (going parts) now peer (message ∷ more) is state
       along is state =
-          (λ i. all_taken (place_of (h.answers.home i) is) now peer more (called (place_of parts.routing.control.home is) now state (call_of peer message))) ∙ then_is is state
+          (λ i. all_taken (place_of (h.answers.home i) is) now peer more
+          (called (place_of parts.routing.control.home is) now state (call_of peer message))) ∙ then_is is state
 
   -- the first message made the edge spent
   pub stopped : (new : Parts) (fault : EdgeFault) → SettlesCall core now (call_of peer message) (going parts) new (Err fault)
@@ -96,7 +108,8 @@ module _ (core : Topology) (now : ℕ) (peer : NodeId) (message : SessionMessage
       lacks = λ e none is told_so state in_old.
           let lacking = h.answers.lacks e none is told_so state in_old in
           ap (λ (s : EdgeState). s.spent) (sym (then_is is state)
-          ∙ spent_takes (place_of parts.routing.control.home is) now peer more (called (place_of parts.routing.control.home is) now state (call_of peer message)) LacksLabel lacking) ∙ lacking;
+          ∙ spent_takes (place_of parts.routing.control.home is) now peer more
+          (called (place_of parts.routing.control.home is) now state (call_of peer message)) LacksLabel lacking) ∙ lacking;
       spends = h.answers.spends;
     };
     live = h.live;
@@ -114,10 +127,12 @@ module _ (core : Topology) (now : ℕ) (peer : NodeId) (message : SessionMessage
         → Settles core (taken_by (going first) now peer all) (going first) new (Err fault)
     stopped_at new fault h = are.whole new (Err fault) (stopped new fault h)
 
-pub none_left : (core : Topology) (now : ℕ) (peer : NodeId) (all left : List SessionMessage) (first parts : Parts) → left ≡ [] → AreLeft core now peer all left first parts
+pub none_left : (core : Topology) (now : ℕ) (peer : NodeId) (all left : List SessionMessage) (first parts : Parts) → left ≡ []
+    → AreLeft core now peer all left first parts
     → Settles core (taken_by (going first) now peer all) (going first) parts (Ok tt)
 none_left core now peer all left first parts e are =
-    are.whole parts (Ok tt) (subst (λ (ms : List SessionMessage). Settles core (taken_by (going parts) now peer ms) (going parts) parts (Ok tt)) (sym e) (record {
+    are.whole parts (Ok tt) (subst (λ (ms : List SessionMessage). Settles core (taken_by (going parts) now peer ms) (going parts) parts (Ok tt))
+    (sym e) (record {
       answers = record {
         home = refl;
         before = λ spent s. absurd (none-some spent s);
@@ -138,21 +153,25 @@ map_none f [] e = refl
 map_none f (x ∷ xs) e = absurd (omega (arith, e))
 
 -- a session whose end is up has a stream
-pub up_there : (kind : Kind) (peer : NodeId) (parts : Parts) → IsLive parts.routing parts.labels parts.streams → is_up (going parts) kind peer ≡ true → is_some (maps.get parts.streams (session kind peer)) ≡ true
+pub up_there : (kind : Kind) (peer : NodeId) (parts : Parts) → IsLive parts.routing parts.labels parts.streams → is_up (going parts) kind peer ≡ true
+    → is_some (maps.get parts.streams (session kind peer)) ≡ true
 up_there kind peer parts live up = live.up kind peer ∙ up
 
-module _ (own : PeerSession) (octets : List ℕ) (old streams : FinMap peer_cmp Stream) (up : is_some (maps.get old own) ≡ true) (quiet : (other : PeerSession) → (stream_at old other).waiting ≡ [])
+module _ (own : PeerSession) (octets : List ℕ) (old streams : FinMap peer_cmp Stream) (up : is_some (maps.get old own) ≡ true)
+    (quiet : (other : PeerSession) → (stream_at old other).waiting ≡ [])
     (fed_so : streams ≡ with_octets own octets old) where
   abbrev whole_fed : Stream
   whole_fed = now_fed own octets old streams up fed_so
 
   -- the edge of the definitions takes them so
   pub took_is : (place : EdgePlace) (now : ℕ) (state : EdgeState) → state.spent ≡ None → state.streams ≡ old
-      → all_taken place now own.peer whole_fed.waiting (record state { streams = maps.insert old own (record whole_fed { waiting = [] }) }) ≡ took place now own octets state
+      → all_taken place now own.peer whole_fed.waiting (record state { streams = maps.insert old own (record whole_fed { waiting = [] }) })
+      ≡ took place now own octets state
   took_is place now state unspent are = by (fault_at old own) refl
     where
       by : (fault : Option (ℕ × SessionFault)) → fault_at old own ≡ fault
-          → all_taken place now own.peer whole_fed.waiting (record state { streams = maps.insert old own (record whole_fed { waiting = [] }) }) ≡ took place now own octets state
+          → all_taken place now own.peer whole_fed.waiting (record state { streams = maps.insert old own (record whole_fed { waiting = [] }) })
+          ≡ took place now own octets state
       by None e =
           sym ((λ i. took_unless (unspent i) ((ap (λ (s : FinMap peer_cmp Stream). fault_at s own) are ∙ e) i) place now own octets state)
           ∙ (λ i. all_taken place now own.peer (fed (front_of own.kind) (stream_at (are i) own) octets).waiting
@@ -161,14 +180,16 @@ module _ (own : PeerSession) (octets : List ℕ) (old streams : FinMap peer_cmp 
           let d = stream_at old own in
           let same : whole_fed ≡ d = λ i. fed_unless (front_of own.kind) (e i) d octets in
           (λ i. all_taken place now own.peer (same i).waiting (record state { streams = maps.insert old own (record (same i) { waiting = [] }) }))
-          ∙ ((λ i. all_taken place now own.peer (quiet own i) (record state { streams = maps.insert old own (record d { waiting = sym (quiet own) i }) }))
+          ∙ ((λ i. all_taken place now own.peer (quiet own i)
+          (record state { streams = maps.insert old own (record d { waiting = sym (quiet own) i }) }))
           ∙ ((λ i. record state { streams = put_same old own up i })
           ∙ ((λ i. record state { streams = sym are i })
           ∙ sym (λ i. took_unless (unspent i) ((ap (λ (s : FinMap peer_cmp Stream). fault_at s own) are ∙ e) i) place now own octets state))))
 
 -- the answer where the octets were fed, and all messages that wait then are taken
 module _ (core : Topology) (now : ℕ) (kind : Kind) (peer : NodeId) (octets : List ℕ) (old new : Parts) (streams drained : FinMap peer_cmp Stream)
-    (live : IsLive old.routing old.labels old.streams) (up : is_some (maps.get old.streams (session kind peer)) ≡ true) (fed_so : streams ≡ with_octets (session kind peer) octets old.streams)
+    (live : IsLive old.routing old.labels old.streams) (up : is_some (maps.get old.streams (session kind peer)) ≡ true)
+    (fed_so : streams ≡ with_octets (session kind peer) octets old.streams)
     (drained_so : drained ≡ maps.insert streams (session kind peer) (record (stream_at streams (session kind peer)) { waiting = [] })) where
   abbrev own : PeerSession
   own = session kind peer
@@ -191,23 +212,35 @@ module _ (core : Topology) (now : ℕ) (kind : Kind) (peer : NodeId) (octets : L
     up = λ other_kind other.
         ap (λ (s : FinMap peer_cmp Stream). is_some (maps.get s (session other_kind other))) are_drained
         ∙ (put_up old.streams own (record whole { waiting = [] }) up (session other_kind other) ∙ live.up other_kind other);
-    quiet = λ other. ap (λ (s : FinMap peer_cmp Stream). (stream_at s other).waiting) are_drained ∙ put_quiet old.streams own (record whole { waiting = [] }) refl live.quiet other;
+    quiet = λ other. ap (λ (s : FinMap peer_cmp Stream). (stream_at s other).waiting) are_drained
+        ∙ put_quiet old.streams own (record whole { waiting = [] }) refl live.quiet other;
   }
 
-  in_mid : (state : EdgeState) → IsIn state (going old) → IsIn (record state { streams = maps.insert old.streams own (record whole { waiting = [] }) }) (going mid)
+  in_mid : (state : EdgeState) → IsIn state (going old)
+      → IsIn (record state { streams = maps.insert old.streams own (record whole { waiting = [] }) }) (going mid)
   in_mid state in_old = record {
     parts = λ any.
         let has = in_old.parts any in
-        record { unspent = has.unspent; keeps = has.keeps; label = record { part = has.label.part; waiting = has.label.waiting; raises = has.label.raises; spent = has.label.spent }; peers = has.peers };
+        record {
+          unspent = has.unspent;
+          keeps = has.keeps;
+          label =
+              record { part = has.label.part; waiting = has.label.waiting; raises = has.label.raises; spent = has.label.spent };
+          peers = has.peers;
+        };
     streams = sym are_drained;
     raised = in_old.raised;
   }
 
   took_so : (is : Core) (state : EdgeState) → IsIn state (going old)
-      → taken_by (going mid) now peer whole.waiting is (record state { streams = maps.insert old.streams own (record whole { waiting = [] }) }) ≡ took_by (going old) now own octets is state
-  took_so is state in_old = took_is own octets old.streams streams up live.quiet fed_so (place_of old.routing.control.home is) now state (in_old.parts is).unspent in_old.streams
+      → taken_by (going mid) now peer whole.waiting is (record state { streams = maps.insert old.streams own (record whole { waiting = [] }) })
+      ≡ took_by (going old) now own octets is state
+  took_so is state in_old =
+      took_is own octets old.streams streams up live.quiet fed_so (place_of old.routing.control.home is) now state (in_old.parts is).unspent
+      in_old.streams
 
-  octets_made : Makes core (taken_by (going mid) now peer whole.waiting) (going mid) (going new) → Makes core (took_by (going old) now own octets) (going old) (going new)
+  octets_made : Makes core (taken_by (going mid) now peer whole.waiting) (going mid) (going new)
+      → Makes core (took_by (going old) now own octets) (going old) (going new)
   octets_made made is told_so state in_old =
       subst (λ (s : EdgeState). IsIn s (going new)) (took_so is state in_old)
       (made is told_so (record state { streams = maps.insert old.streams own (record whole { waiting = [] }) }) (in_mid state in_old))
@@ -216,7 +249,8 @@ module _ (core : Topology) (now : ℕ) (kind : Kind) (peer : NodeId) (octets : L
     whole_is : messages ≡ whole.waiting
     whole_is = are ∙ ap (λ (s : Stream). s.waiting) (stream_fed own octets old.streams streams up fed_so)
 
-    settled_whole : (result : Result (Unit {0}) EdgeFault) → Settles core (taken_by (going mid) now peer messages) (going mid) new result → Settles core (taken_by (going mid) now peer whole.waiting) (going mid) new result
+    settled_whole : (result : Result (Unit {0}) EdgeFault) → Settles core (taken_by (going mid) now peer messages) (going mid) new result
+        → Settles core (taken_by (going mid) now peer whole.waiting) (going mid) new result
     settled_whole result h = subst (λ (ms : List SessionMessage). Settles core (taken_by (going mid) now peer ms) (going mid) new result) whole_is h
 
     spends_some : (fault : EdgeFault) → Among fault (faults.NoLabel ∷ faults.NoMemory ∷ []) → spent_after (Err fault) ≡ None → ⊥
@@ -225,7 +259,8 @@ module _ (core : Topology) (now : ℕ) (kind : Kind) (peer : NodeId) (octets : L
     spends_some fault (inr (inr a)) none = a
 
     -- a message made the edge spent
-    pub octets_stopped : (fault : EdgeFault) → Among fault (faults.NoLabel ∷ faults.NoMemory ∷ []) → Settles core (taken_by (going mid) now peer messages) (going mid) new (Err fault)
+    pub octets_stopped : (fault : EdgeFault) → Among fault (faults.NoLabel ∷ faults.NoMemory ∷ [])
+        → Settles core (taken_by (going mid) now peer messages) (going mid) new (Err fault)
         → AnswersOctets core now own octets (going old) (behind new (Err fault)) (Err fault)
     octets_stopped fault one h =
         let k = settled_whole (Err fault) h in
@@ -239,7 +274,8 @@ module _ (core : Topology) (now : ℕ) (kind : Kind) (peer : NodeId) (octets : L
             toward = λ none. absurd (spends_some fault one none);
             lacks = λ e none is told_so state in_old.
                 ap (λ (s : EdgeState). s.spent) (sym (took_so is state in_old))
-                ∙ k.answers.lacks e refl is told_so (record state { streams = maps.insert old.streams own (record whole { waiting = [] }) }) (in_mid state in_old);
+                ∙ k.answers.lacks e refl is told_so (record state { streams = maps.insert old.streams own (record whole { waiting = [] }) })
+                (in_mid state in_old);
             spends = λ other e none. ap spent_after e;
           };
           sound = tt;
@@ -248,8 +284,10 @@ module _ (core : Topology) (now : ℕ) (kind : Kind) (peer : NodeId) (octets : L
         }
 
     -- all messages were taken; then the stream's fault is answered, if it has had one
-    pub octets_taken : (result : Result (Unit {0}) EdgeFault) → OnOk result (fault_at new.streams own ≡ None) → ((fault : EdgeFault) → result ≡ Err fault → IsSessionFault own (going new) fault)
-        → Settles core (taken_by (going mid) now peer messages) (going mid) new (Ok tt) → AnswersOctets core now own octets (going old) (behind new result) result
+    pub octets_taken : (result : Result (Unit {0}) EdgeFault) → OnOk result (fault_at new.streams own ≡ None)
+        → ((fault : EdgeFault) → result ≡ Err fault → IsSessionFault own (going new) fault)
+        → Settles core (taken_by (going mid) now peer messages) (going mid) new (Ok tt)
+        → AnswersOctets core now own octets (going old) (behind new result) result
     octets_taken (Ok done) sound faulty h =
         let k = settled_whole (Ok tt) h in
         record {
@@ -282,7 +320,8 @@ module _ (core : Topology) (now : ℕ) (kind : Kind) (peer : NodeId) (octets : L
             spends = λ other e none. ap spent_after e;
           };
           sound = tt;
-          taken = λ other e none goes. subst (Makes core (took_by (going old) now own octets) (going old)) (λ i. record (going new) { spent = sym goes i }) (octets_made k.answers.made);
+          taken = λ other e none goes. subst (Makes core (took_by (going old) now own octets) (going old))
+              (λ i. record (going new) { spent = sym goes i }) (octets_made k.answers.made);
           only = λ other e. inr (told_fault_is fault other (one_fault fault other e) is);
         }
       where

@@ -21,11 +21,13 @@ among_own it [] among = absurd among
 among_own it (x ∷ its) (inl same) = inl (ap own_of same)
 among_own it (x ∷ its) (inr among) = inr (among_own it its among)
 
-pub tree_in : (edge : EdgeView) (vrf : VrfId) (tree : TreeData) → AreTrees edge.routing.control → IsTreeAt edge.routing.control vrf tree → IsTreeIn edge vrf tree
+pub tree_in : (edge : EdgeView) (vrf : VrfId) (tree : TreeData) → AreTrees edge.routing.control → IsTreeAt edge.routing.control vrf tree
+    → IsTreeIn edge vrf tree
 tree_in edge vrf tree trees at = record {
   own = at.it.own;
   of_edge = subst (λ (vrfs : List OwnVrf). Among at.it.own vrfs) trees.all (among_own at.it (trees_of edge.routing.control) at.among);
   id = at.id;
   is = λ core. subst (λ (t : TreeData). IsTreeOf (place_of (home_of edge) core) (control_of edge.routing.control) at.it.own t) at.is
-      (of_each (λ (it : OwnTree). IsTreeOf (place_of (home_of edge) core) (control_of edge.routing.control) it.own it.tree) (trees_of edge.routing.control) (trees.each core) at.it at.among);
+      (of_each (λ (it : OwnTree). IsTreeOf (place_of (home_of edge) core) (control_of edge.routing.control) it.own it.tree)
+      (trees_of edge.routing.control) (trees.each core) at.it at.among);
 }

@@ -87,12 +87,16 @@ streams_up kind Rerouted streams q = refl
 
 -- ---- BGP
 
-peers_put : (peers : FinMap node_cmp Taken) (peer q : NodeId) (taken : Taken) → is_some (maps.get (maps.insert peers peer taken) q) ≡ cond (eq_by_cmp node_cmp q peer) true (is_some (maps.get peers q))
+peers_put : (peers : FinMap node_cmp Taken) (peer q : NodeId) (taken : Taken)
+    → is_some (maps.get (maps.insert peers peer taken) q) ≡ cond (eq_by_cmp node_cmp q peer) true (is_some (maps.get peers q))
 peers_put peers peer q taken =
-    ap (λ (o : Option Taken). is_some o) (maps.get-insert node_cmp_total peers peer taken q) ∙ some_either (eq_by_cmp node_cmp q peer) taken (maps.get peers q)
+    ap (λ (o : Option Taken). is_some o) (maps.get-insert node_cmp_total peers peer taken q)
+    ∙ some_either (eq_by_cmp node_cmp q peer) taken (maps.get peers q)
 
-peers_lost : (peers : FinMap node_cmp Taken) (peer q : NodeId) → is_some (maps.get (maps.remove peers peer) q) ≡ cond (eq_by_cmp node_cmp q peer) false (is_some (maps.get peers q))
-peers_lost peers peer q = ap (λ (o : Option Taken). is_some o) (maps.get-remove node_cmp_total peers peer q) ∙ none_either (eq_by_cmp node_cmp q peer) (maps.get peers q)
+peers_lost : (peers : FinMap node_cmp Taken) (peer q : NodeId)
+    → is_some (maps.get (maps.remove peers peer) q) ≡ cond (eq_by_cmp node_cmp q peer) false (is_some (maps.get peers q))
+peers_lost peers peer q =
+    ap (λ (o : Option Taken). is_some o) (maps.get-remove node_cmp_total peers peer q) ∙ none_either (eq_by_cmp node_cmp q peer) (maps.get peers q)
 
 updated : (now : ℕ) (peer : NodeId) (message : Message) (control : Control) (q : NodeId) (o : Option Taken) → maps.get control.peers peer ≡ o
     → is_some (maps.get (elim o as (λ _. Control) [
@@ -104,13 +108,16 @@ updated now peer message control q (Some taken) e =
     peers_put control.peers peer q (fold (taken_change now) taken (changes_of message)) ∙ by (eq_by_cmp node_cmp q peer) refl
   where
     by : (b : Bool) → eq_by_cmp node_cmp q peer ≡ b → cond b true (is_some (maps.get control.peers q)) ≡ is_some (maps.get control.peers q)
-    by true t = sym (ap (λ (n : NodeId). is_some (maps.get control.peers n)) (one_key node_cmp_exact q peer t) ∙ ap (λ (p : Option Taken). is_some p) e)
+    by true t =
+        sym (ap (λ (n : NodeId). is_some (maps.get control.peers n)) (one_key node_cmp_exact q peer t) ∙ ap (λ (p : Option Taken). is_some p) e)
     by false t = refl
 
-peers_updated : (now : ℕ) (peer : NodeId) (message : Message) (control : Control) (q : NodeId) → is_some (maps.get (with_update now peer message control).peers q) ≡ is_some (maps.get control.peers q)
+peers_updated : (now : ℕ) (peer : NodeId) (message : Message) (control : Control) (q : NodeId)
+    → is_some (maps.get (with_update now peer message control).peers q) ≡ is_some (maps.get control.peers q)
 peers_updated now peer message control q = updated now peer message control q (maps.get control.peers peer) refl
 
-peers_timed : (place : EdgePlace) (now : ℕ) (peers : FinMap node_cmp Taken) (q : NodeId) → is_some (maps.get (peers_run place now peers) q) ≡ is_some (maps.get peers q)
+peers_timed : (place : EdgePlace) (now : ℕ) (peers : FinMap node_cmp Taken) (q : NodeId)
+    → is_some (maps.get (peers_run place now peers) q) ≡ is_some (maps.get peers q)
 peers_timed place now peers q = ap (λ (o : Option Taken). is_some o) (get-peers_run place now peers q) ∙ by (maps.get peers q)
   where
     by : (o : Option Taken) → is_some (option_map (table_run place now q) o) ≡ is_some o
@@ -151,14 +158,18 @@ kept_some f (Some x) = refl
 
 effect_up : (place : Place) (now : ℕ) (part : LabelData) (call : steps.Call) (q : NodeId)
     → is_some (maps.get (effect place now part call).0.part.ends q) ≡ up_in call q (is_some (maps.get part.ends q))
-effect_up place now part (steps.Taken from message) q = ap (λ (ends : FinMap node_cmp End). is_some (maps.get ends q)) (effect_ends place now part from message)
+effect_up place now part (steps.Taken from message) q =
+    ap (λ (ends : FinMap node_cmp End). is_some (maps.get ends q)) (effect_ends place now part from message)
 effect_up place now part (steps.Want fec) q = refl
 effect_up place now part (steps.Unwant fec) q = refl
 effect_up place now part (steps.Raised peer) q =
-    ap (λ (o : Option End). is_some o) (maps.get-insert node_cmp_total part.ends peer (raised_end now) q) ∙ some_either (eq_by_cmp node_cmp q peer) (raised_end now) (maps.get part.ends q)
+    ap (λ (o : Option End). is_some o) (maps.get-insert node_cmp_total part.ends peer (raised_end now) q)
+    ∙ some_either (eq_by_cmp node_cmp q peer) (raised_end now) (maps.get part.ends q)
 effect_up place now part (steps.Noticed peer) q =
-    ap (λ (o : Option End). is_some o) (maps.get-remove node_cmp_total part.ends peer q) ∙ none_either (eq_by_cmp node_cmp q peer) (maps.get part.ends q)
-effect_up place now part steps.Timers q = ap (λ (o : Option End). is_some o) (timed_end place now part q) ∙ kept_some (hold_run place.life now) (maps.get part.ends q)
+    ap (λ (o : Option End). is_some o) (maps.get-remove node_cmp_total part.ends peer q)
+    ∙ none_either (eq_by_cmp node_cmp q peer) (maps.get part.ends q)
+effect_up place now part steps.Timers q =
+    ap (λ (o : Option End). is_some o) (timed_end place now part q) ∙ kept_some (hold_run place.life now) (maps.get part.ends q)
 effect_up place now part steps.Rerouted q = refl
 
 step_up : (place : Place) (now : ℕ) (part : LabelData) (call : steps.Call) (new : Stepped) (q : NodeId) → label_step place now part call ≡ Some new
@@ -167,27 +178,35 @@ step_up place now part call new q e =
     ap (λ (o : Option End). is_some o) (step_end place now part call new q e)
     ∙ (kept_some (passed q new.puts) (maps.get (effect place now part call).0.part.ends q) ∙ effect_up place now part call q)
 
-row_up : (place : EdgePlace) (now : ℕ) (part : LabelData) (calls : List steps.Call) (row : List LabelStep) (q : NodeId) → label_row place now part calls ≡ Some row
+row_up : (place : EdgePlace) (now : ℕ) (part : LabelData) (calls : List steps.Call) (row : List LabelStep) (q : NodeId)
+    → label_row place now part calls ≡ Some row
     → is_some (maps.get (part_after part row).ends q) ≡ up_in_all calls q (is_some (maps.get part.ends q))
 row_up place now part [] row q e = ap (λ (r : List LabelStep). is_some (maps.get (part_after part r).ends q)) (sym (same_Some [] row e))
 row_up place now part (call ∷ more) row q e =
     let own = label_place place.scenario place.core place.me in
-    let first = bind_some (label_step own now part call) (λ new. label_row place now new.part more >>? λ behind. Some (record { old = part; call = call; new = new } ∷ behind)) row e in
-    let rest = bind_some (label_row place now first.0.part more) (λ behind. Some (record { old = part; call = call; new = first.0 } ∷ behind)) row first.2 in
-    let whole : record { old = part; call = call; new = first.0 } ∷ rest.0 ≡ row = same_Some (record { old = part; call = call; new = first.0 } ∷ rest.0) row rest.2 in
+    let first =
+    bind_some (label_step own now part call) (λ new. label_row place now new.part more >>? λ behind. Some
+    (record { old = part; call = call; new = new } ∷ behind)) row e in
+    let rest =
+    bind_some (label_row place now first.0.part more) (λ behind. Some (record { old = part; call = call; new = first.0 } ∷ behind)) row first.2 in
+    let whole : record { old = part; call = call; new = first.0 } ∷ rest.0 ≡ row =
+    same_Some (record { old = part; call = call; new = first.0 } ∷ rest.0) row rest.2 in
     ap (λ (r : List LabelStep). is_some (maps.get (part_after part r).ends q)) (sym whole)
     ∙ (row_up place now first.0.part more rest.0 q rest.1 ∙ ap (λ (b : Bool). up_in_all more q b) (step_up own now part call first.0 q first.1))
 
-leaves_up : (new : FinSet fec_cmp) (fecs : List Fec) (q : NodeId) (was : Bool) → up_in_all (map (λ fec. if sets.contains new fec then steps.Want fec else steps.Unwant fec) fecs) q was ≡ was
+leaves_up : (new : FinSet fec_cmp) (fecs : List Fec) (q : NodeId) (was : Bool)
+    → up_in_all (map (λ fec. if sets.contains new fec then steps.Want fec else steps.Unwant fec) fecs) q was ≡ was
 leaves_up new [] q was = refl
 leaves_up new (fec ∷ more) q was = by (sets.contains new fec) (leaves_up new more q)
   where
     by : (b : Bool) → ((x : Bool) → up_in_all (map (λ fec. if sets.contains new fec then steps.Want fec else steps.Unwant fec) more) q x ≡ x)
-        → up_in_all (map (λ fec. if sets.contains new fec then steps.Want fec else steps.Unwant fec) more) q (up_in (cond b (steps.Want fec) (steps.Unwant fec)) q was) ≡ was
+        → up_in_all (map (λ fec. if sets.contains new fec then steps.Want fec else steps.Unwant fec) more) q
+        (up_in (cond b (steps.Want fec) (steps.Unwant fec)) q was) ≡ was
     by true rest = rest was
     by false rest = rest was
 
-own_up : (call : Call) (changes : List steps.Call) (q : NodeId) (was : Bool) → ((x : Bool) → up_in_all changes q x ≡ x) → up_in_all (one_call (own_label_call call) ++ changes) q was ≡ up_by kinds.Ldp call q was
+own_up : (call : Call) (changes : List steps.Call) (q : NodeId) (was : Bool) → ((x : Bool) → up_in_all changes q x ≡ x)
+    → up_in_all (one_call (own_label_call call) ++ changes) q was ≡ up_by kinds.Ldp call q was
 own_up (Raised kinds.Bgp peer) changes q was none = none was
 own_up (Raised kinds.Ldp peer) changes q was none = none (cond (eq_by_cmp node_cmp q peer) true was)
 own_up (Noticed kinds.Bgp peer) changes q was none = none was
@@ -205,7 +224,8 @@ own_up Rerouted changes q was none = none was
 -- the ends of a label node behind the calls of a step
 pub ends_up : (place : EdgePlace) (now : ℕ) (call : Call) (old new : FinSet fec_cmp) (node : LabelNode) (q : NodeId) → node.spent ≡ None
     → (all_called (node_place place.scenario place.me) place.core now node (one_call (own_label_call call) ++ changed_leaves old new)).spent ≡ None
-    → is_some (maps.get (all_called (node_place place.scenario place.me) place.core now node (one_call (own_label_call call) ++ changed_leaves old new)).part.ends q)
+    → is_some (maps.get (all_called (node_place place.scenario place.me) place.core now node
+    (one_call (own_label_call call) ++ changed_leaves old new)).part.ends q)
     ≡ up_by kinds.Ldp call q (is_some (maps.get node.part.ends q))
 ends_up place now call old new node q e goes = by (label_row place now node.part calls) refl
   where
@@ -213,7 +233,8 @@ ends_up place now call old new node q e goes = by (label_row place now node.part
     calls = one_call (own_label_call call) ++ changed_leaves old new
 
     by : (o : Option (List LabelStep)) → label_row place now node.part calls ≡ o
-        → is_some (maps.get (all_called (node_place place.scenario place.me) place.core now node calls).part.ends q) ≡ up_by kinds.Ldp call q (is_some (maps.get node.part.ends q))
+        → is_some (maps.get (all_called (node_place place.scenario place.me) place.core now node calls).part.ends q)
+        ≡ up_by kinds.Ldp call q (is_some (maps.get node.part.ends q))
     by None h = absurd (none-some LacksLabel (sym goes ∙ lacks_behind place now node calls e h))
     by (Some row) h =
         ap (λ (part : LabelData). is_some (maps.get part.ends q)) (part_behind place now node calls row e h).part

@@ -16,7 +16,8 @@ one_step links from to next other h k = le_antisymm (h.lowest other k.first) (k.
 one_node : (node other : NodeId) → node.0 ≡ other.0 → node ≡ other
 one_node node other e = λ i. record { 0 = e i }
 
-one_toward : (count : ℕ) (links : List Link) (core other : Core) (from to : NodeId) → IsCoreOf count links core → IsCoreOf count links other → from.0 < count → to.0 < count → core.toward from to ≡ other.toward from to
+one_toward : (count : ℕ) (links : List Link) (core other : Core) (from to : NodeId) → IsCoreOf count links core → IsCoreOf count links other
+    → from.0 < count → to.0 < count → core.toward from to ≡ other.toward from to
 one_toward count links core other from to h k a b = elim (cases_eq from.0 to.0) [
   | inl e ↦ subst (λ (node : NodeId). core.toward from node ≡ other.toward from node) (one_node from to e) (h.itself from ∙ sym (k.itself from))
   | inr ne ↦ (let own = h.first from to a b (λ e. ne (ap (λ (node : NodeId). node.0) e)) in
@@ -25,7 +26,8 @@ one_toward count links core other from to h k a b = elim (cases_eq from.0 to.0) 
 ]
 
 -- Two cores of the same links have the same costs and neighbours, between the nodes and elsewhere.
-alike : (count : ℕ) (links : List Link) (core other : Core) (from to : NodeId) → IsCoreOf count links core → IsCoreOf count links other → (core.cost from to ≡ other.cost from to) × (core.toward from to ≡ other.toward from to)
+alike : (count : ℕ) (links : List Link) (core other : Core) (from to : NodeId) → IsCoreOf count links core → IsCoreOf count links other
+    → (core.cost from to ≡ other.cost from to) × (core.toward from to ≡ other.toward from to)
 alike count links core other from to h k = elim (cases_lt from.0 count) [
   | inr a ↦ (let own = h.outside from to (inl a) in let that = k.outside from to (inl a) in (own.0 ∙ sym that.0, own.1 ∙ sym that.1))
   | inl a ↦ elim (cases_lt to.0 count) [
@@ -38,4 +40,9 @@ alike count links core other from to h k = elim (cases_lt from.0 count) [
 ]
 
 pub one_core : (count : ℕ) (links : List Link) (core other : Core) → IsCoreOf count links core → IsCoreOf count links other → core ≡ other
-one_core count links core other h k = λ i. record { cost = λ from to. (alike count links core other from to h k).0 i; toward = λ from to. (alike count links core other from to h k).1 i }
+one_core count links core other h k =
+    λ i. record {
+      cost = λ from to. (alike count links core other from to h k).0 i;
+      toward =
+          λ from to. (alike count links core other from to h k).1 i;
+    }

@@ -46,7 +46,8 @@ no_items (x ∷ list) e = absurd (omega (arith, e))
 pub no_entries : {K : Type 0} (R : K → K → Ordering) (X : Type 0) → maps.entries (maps.empty {X = X} {R = R}) ≡ []
 no_entries R X = no_items (maps.entries maps.empty) (sym (maps.len-entries maps.empty) ∙ maps.len-empty R X)
 
-pub no_members : {K : Type 0} {R : K → K → Ordering} → IsTotalOrder R → (list : List K) → ((k : K) → list_any (eq_by_cmp R k) list ≡ false) → list ≡ []
+pub no_members : {K : Type 0} {R : K → K → Ordering} → IsTotalOrder R → (list : List K) → ((k : K) → list_any (eq_by_cmp R k) list ≡ false)
+    → list ≡ []
 no_members total [] none = refl
 no_members {R = R} total (k ∷ list) none = absurd (let itself = ap is_eq (tied_itself total k) in let other = none k in cc)
 
@@ -59,7 +60,10 @@ no_notes = none_in_order note_total
 abbrev originated_with : List (VrfPattern × Selected) → List Note → List (Key × Value)
 originated_with selections notes = flat_map (λ (own : OwnVrf).
     inclusive_route (place_of first) own ∷ (unicast_routes (place_of first) own
-    ++ (map (λ (entry : VrfPattern × Selected). (selective_key (place_of first) own.vrf entry.0.pattern, tunnel_value (place_of first) own.vrf (tunnel_number own.vrf entry.1.number)))
+    ++ (map (λ (entry : VrfPattern × Selected). (
+      selective_key (place_of first) own.vrf entry.0.pattern,
+      tunnel_value (place_of first) own.vrf (tunnel_number own.vrf entry.1.number),
+    ))
     (filter (λ (entry : VrfPattern × Selected). entry.0.vrf.0 == own.id.0) selections)
     ++ map (λ (note : Note). (active_key own.vrf note.source note.group, plain_value (place_of first) own.vrf))
     (filter (λ (note : Note). is_iface_of (place_of first).scenario own.id note.iface) notes))))
@@ -76,7 +80,8 @@ table_entries : maps.entries first_table ≡ (unicast_key, taken unicast_value) 
 table_entries =
     maps.entries-insert key_total (maps.insert maps.empty unicast_key (taken unicast_value)) inclusive_key (taken inclusive_value)
     ∙ ap (maps.put key_cmp inclusive_key (taken inclusive_value)) (maps.entries-insert key_total maps.empty unicast_key (taken unicast_value))
-    ∙ ap (λ (entries : List (Key × TakenRoute)). maps.put key_cmp inclusive_key (taken inclusive_value) (maps.put key_cmp unicast_key (taken unicast_value) entries)) (no_entries key_cmp TakenRoute)
+    ∙ ap (λ (entries : List (Key × TakenRoute)). maps.put key_cmp inclusive_key (taken inclusive_value)
+    (maps.put key_cmp unicast_key (taken unicast_value) entries)) (no_entries key_cmp TakenRoute)
 
 peers_entries : maps.entries second_control.peers ≡ (first, first_table) ∷ []
 peers_entries = maps.entries-insert node_cmp_total maps.empty first first_table ∙ ap (maps.put node_cmp first first_table) (no_entries node_cmp Taken)
@@ -99,7 +104,8 @@ own_routes = map of_site (local_routes (place_of second).scenario second_own.id)
 known : known_routes (place_of second) second_control second_own ≡ own_routes ++ remote ∷ []
 known =
     ap (λ (peers : List (NodeId × Taken)). own_routes ++ flat_map (known_from (place_of second) second_vrf) peers) peers_entries
-    ∙ ap (λ (entries : List (Key × TakenRoute)). own_routes ++ (found_in (known_route (place_of second) second_vrf first) entries ++ [])) table_entries
+    ∙ ap (λ (entries : List (Key × TakenRoute)). own_routes ++ (found_in (known_route (place_of second) second_vrf first) entries ++ []))
+    table_entries
 
 abbrev best_of : List KnownRoute → Option KnownRoute
 best_of routes = best_route (costs_of (place_of second) second_own routes source group) routes source
@@ -124,9 +130,11 @@ chooses = ap (λ (route : Option KnownRoute). route >>? upstream_by (place_of se
 -- the tunnels that it wants
 leaf_list : flat_map (tunnels_of (place_of second) second_control) (own_vrfs (place_of second)) ≡ inclusive_tunnel ∷ []
 leaf_list =
-    ap (λ (peers : List (NodeId × Taken)). (flat_map (inclusive_tunnels (place_of second) second_own) peers ++ flat_map (flow_tunnels (place_of second) second_control second_own)
+    ap (λ (peers : List (NodeId × Taken)). (flat_map (inclusive_tunnels (place_of second) second_own) peers
+    ++ flat_map (flow_tunnels (place_of second) second_control second_own)
     (filter (λ (entry : VrfFlow × Option Upstream). entry.0.vrf.0 == 1) (maps.entries no_control.flows))) ++ []) peers_entries
-    ∙ ap (λ (entries : List (Key × TakenRoute)). ((found_in (imported_inclusive second_vrf first_addr) entries ++ []) ++ flat_map (flow_tunnels (place_of second) second_control second_own)
+    ∙ ap (λ (entries : List (Key × TakenRoute)).
+    ((found_in (imported_inclusive second_vrf first_addr) entries ++ []) ++ flat_map (flow_tunnels (place_of second) second_control second_own)
     (filter (λ (entry : VrfFlow × Option Upstream). entry.0.vrf.0 == 1) (maps.entries no_control.flows))) ++ []) table_entries
     ∙ ap (λ (flows : List (VrfFlow × Option Upstream)). (inclusive_tunnel ∷ flat_map (flow_tunnels (place_of second) second_control second_own)
     (filter (λ (entry : VrfFlow × Option Upstream). entry.0.vrf.0 == 1) flows)) ++ []) (no_entries flow_cmp (Option Upstream))
@@ -139,7 +147,8 @@ leaf =
 -- before, it wants none
 no_leaf_list : flat_map (tunnels_of (place_of second) no_control) (own_vrfs (place_of second)) ≡ []
 no_leaf_list =
-    ap (λ (peers : List (NodeId × Taken)). (flat_map (inclusive_tunnels (place_of second) second_own) peers ++ flat_map (flow_tunnels (place_of second) no_control second_own)
+    ap (λ (peers : List (NodeId × Taken)). (flat_map (inclusive_tunnels (place_of second) second_own) peers
+    ++ flat_map (flow_tunnels (place_of second) no_control second_own)
     (filter (λ (entry : VrfFlow × Option Upstream). entry.0.vrf.0 == 1) (maps.entries no_control.flows))) ++ []) (no_entries node_cmp Taken)
     ∙ ap (λ (flows : List (VrfFlow × Option Upstream)). flat_map (flow_tunnels (place_of second) no_control second_own)
     (filter (λ (entry : VrfFlow × Option Upstream). entry.0.vrf.0 == 1) flows) ++ []) (no_entries flow_cmp (Option Upstream))
@@ -162,7 +171,8 @@ one_leaf fec e =
 wanted_call : (old new : FinSet fec_cmp) (fec : Fec) → sets.contains new fec ≡ true → call_for old new fec ≡ labels.Want fec
 wanted_call old new fec e = ap (λ b. cond b (labels.Want fec) (labels.Unwant fec)) e
 
-pub wants : (call : labels.Call) → Among call (changed_leaves (leaves (place_of second) no_control) (leaves (place_of second) second_control)) ↔ (call ≡ labels.Want inclusive_tunnel)
+pub wants : (call : labels.Call) → Among call (changed_leaves (leaves (place_of second) no_control) (leaves (place_of second) second_control)) ↔
+    (call ≡ labels.Want inclusive_tunnel)
 wants call =
     let old : FinSet fec_cmp = leaves (place_of second) no_control in
     let new : FinSet fec_cmp = leaves (place_of second) second_control in (

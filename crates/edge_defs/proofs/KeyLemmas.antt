@@ -109,13 +109,17 @@ ipv4_first own other = refl
 abbrev parts_by : Afi → Rd → Prefix → List (List ℕ)
 parts_by afi rd prefix = (0 ∷ afi_number afi ∷ []) ∷ vpn_text [] rd prefix ∷ rd.0 ∷ addr_key prefix.addr ∷ (prefix.bits ∷ []) ∷ []
 
-first_by : (a b : Afi) (rd other_rd : Rd) (prefix other : Prefix) → a ≡ Ipv4 → b ≡ Ipv6 → parts_cmp (parts_by a rd prefix) (parts_by b other_rd other) ≡ Less
+first_by : (a b : Afi) (rd other_rd : Rd) (prefix other : Prefix) → a ≡ Ipv4 → b ≡ Ipv6
+    → parts_cmp (parts_by a rd prefix) (parts_by b other_rd other) ≡ Less
 first_by a b rd other_rd prefix other h k =
-    ap (λ (x : Afi). parts_cmp (parts_by x rd prefix) (parts_by b other_rd other)) h ∙ ap (λ (y : Afi). parts_cmp (parts_by Ipv4 rd prefix) (parts_by y other_rd other)) k
+    ap (λ (x : Afi). parts_cmp (parts_by x rd prefix) (parts_by b other_rd other)) h
+    ∙ ap (λ (y : Afi). parts_cmp (parts_by Ipv4 rd prefix) (parts_by y other_rd other)) k
 
-pub ipv4_prefix_first : (rd other_rd : Rd) (prefix other : Prefix) (octets other_octets : List ℕ) → prefix.addr ≡ V4 octets → other.addr ≡ V6 other_octets
+pub ipv4_prefix_first : (rd other_rd : Rd) (prefix other : Prefix) (octets other_octets : List ℕ) → prefix.addr ≡ V4 octets
+    → other.addr ≡ V6 other_octets
     → key_cmp (Unicast rd prefix) (Unicast other_rd other) ≡ Less
-ipv4_prefix_first rd other_rd prefix other octets other_octets h k = first_by (afi_of prefix.addr) (afi_of other.addr) rd other_rd prefix other (ap afi_of h) (ap afi_of k)
+ipv4_prefix_first rd other_rd prefix other octets other_octets h k =
+    first_by (afi_of prefix.addr) (afi_of other.addr) rd other_rd prefix other (ap afi_of h) (ap afi_of k)
 
 -- what tells is told at once
 told : (order rest : Ordering) → order ≢ Equal → ordering_then order rest ≡ order
@@ -123,11 +127,13 @@ told Less rest differs = refl
 told Equal rest differs = absurd (differs refl)
 told Greater rest differs = refl
 
-pub routes_by_octets : (afi : Afi) (own other : Route) → slice_cmp nat_cmp (written own) (written other) ≢ Equal → key_cmp (Mcast afi own) (Mcast afi other) ≡ slice_cmp nat_cmp (written own) (written other)
+pub routes_by_octets : (afi : Afi) (own other : Route) → slice_cmp nat_cmp (written own) (written other) ≢ Equal
+    → key_cmp (Mcast afi own) (Mcast afi other) ≡ slice_cmp nat_cmp (written own) (written other)
 routes_by_octets Ipv4 own other differs = told (slice_cmp nat_cmp (written own) (written other)) _ differs
 routes_by_octets Ipv6 own other differs = told (slice_cmp nat_cmp (written own) (written other)) _ differs
 
-by_octets : (a b : Afi) (rd other_rd : Rd) (prefix other : Prefix) → a ≡ b → slice_cmp nat_cmp (vpn_text [] rd prefix) (vpn_text [] other_rd other) ≢ Equal
+by_octets : (a b : Afi) (rd other_rd : Rd) (prefix other : Prefix) → a ≡ b
+    → slice_cmp nat_cmp (vpn_text [] rd prefix) (vpn_text [] other_rd other) ≢ Equal
     → parts_cmp (parts_by a rd prefix) (parts_by b other_rd other) ≡ slice_cmp nat_cmp (vpn_text [] rd prefix) (vpn_text [] other_rd other)
 by_octets Ipv4 Ipv4 rd other_rd prefix other same differs = told (slice_cmp nat_cmp (vpn_text [] rd prefix) (vpn_text [] other_rd other)) _ differs
 by_octets Ipv6 Ipv6 rd other_rd prefix other same differs = told (slice_cmp nat_cmp (vpn_text [] rd prefix) (vpn_text [] other_rd other)) _ differs

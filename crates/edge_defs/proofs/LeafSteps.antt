@@ -47,7 +47,8 @@ none_of_each each none [] = refl
 none_of_each each none (x ∷ list) = ap (λ front. front ++ flat_map each list) (none x) ∙ none_of_each each none list
 
 pub fresh_leaves : (place : EdgePlace) (count : ℕ) → (fresh count).part.leaves ≡ leaves place (fresh count).control
-fresh_leaves place count = ap (λ (list : List Fec). sets.from_list {R = fec_cmp} list) (sym (none_of_each (tunnels_of place no_control) (no_tunnels place) (own_vrfs place)))
+fresh_leaves place count =
+    ap (λ (list : List Fec). sets.from_list {R = fec_cmp} list) (sym (none_of_each (tunnels_of place no_control) (no_tunnels place) (own_vrfs place)))
 
 -- ---- the call's own label step changes no leaf
 
@@ -55,12 +56,15 @@ mapped_leaves : (b : Bool) (part : LabelData) (new : LabelData) → new.leaves �
 mapped_leaves true part new e = e
 mapped_leaves false part new e = refl
 
-taken_leaves : (place : Place) (now : ℕ) (part : LabelData) (from : NodeId) (message : LabelMessage) → (labels.taken place now part from message).leaves ≡ part.leaves
-taken_leaves place now part from (messages.Mapping fec label) = mapped_leaves (place.is_tree fec) part (record part { branches = sets.insert part.branches (labels.branch_to from fec label) }) refl
+taken_leaves : (place : Place) (now : ℕ) (part : LabelData) (from : NodeId) (message : LabelMessage)
+    → (labels.taken place now part from message).leaves ≡ part.leaves
+taken_leaves place now part from (messages.Mapping fec label) =
+    mapped_leaves (place.is_tree fec) part (record part { branches = sets.insert part.branches (labels.branch_to from fec label) }) refl
 taken_leaves place now part from (messages.Withdraw fec label) = refl
 taken_leaves place now part from (messages.Release fec label) = by (use_of part label)
   where
-    by : (found : Option LabelUse) → (elim found as (λ (f : Option LabelUse). LabelData) [ None ↦ part | Some usage ↦ with_use part label (labels.released from fec (now + place.life + 1) usage) ]).leaves ≡ part.leaves
+    by : (found : Option LabelUse) → (elim found as (λ (f : Option LabelUse). LabelData)
+        [ None ↦ part | Some usage ↦ with_use part label (labels.released from fec (now + place.life + 1) usage) ]).leaves ≡ part.leaves
     by None = refl
     by (Some usage) = refl
 taken_leaves place now part from (messages.Ignored kind) = refl
@@ -87,12 +91,14 @@ own_leaves place now part (steps.Unselect vrf pattern) = tt
 
 -- ---- the call of a tree makes it a leaf exactly where it is wanted
 
-here : (place : Place) (now : ℕ) (part : LabelData) (fec : Fec) (b : Bool) → sets.contains (labels.effect place now part (cond b (labels.Want fec) (labels.Unwant fec))).0.part.leaves fec ≡ b
+here : (place : Place) (now : ℕ) (part : LabelData) (fec : Fec) (b : Bool)
+    → sets.contains (labels.effect place now part (cond b (labels.Want fec) (labels.Unwant fec))).0.part.leaves fec ≡ b
 here place now part fec true = inserted_here fec_cmp_total fec_cmp_exact part.leaves fec
 here place now part fec false = removed_here fec_cmp_total fec_cmp_exact part.leaves fec
 
 there : (place : Place) (now : ℕ) (part : LabelData) (fec other : Fec) (b : Bool) → (other ≡ fec → ⊥)
-    → sets.contains (labels.effect place now part (cond b (labels.Want fec) (labels.Unwant fec))).0.part.leaves other ≡ sets.contains part.leaves other
+    → sets.contains (labels.effect place now part (cond b (labels.Want fec) (labels.Unwant fec))).0.part.leaves other
+    ≡ sets.contains part.leaves other
 there place now part fec other true ne = inserted_other fec_cmp_total fec_cmp_exact part.leaves fec other ne
 there place now part fec other false ne = removed_other fec_cmp_total fec_cmp_exact part.leaves fec other ne
 
@@ -101,7 +107,8 @@ abbrev SameBut : List Fec → FinSet fec_cmp → FinSet fec_cmp → Type 0
 SameBut fecs own new = (fec : Fec) → (list_any (eq_by_cmp fec_cmp fec) fecs ≡ true) ⊎ (sets.contains own fec ≡ sets.contains new fec)
 
 -- A row of the calls of these trees makes them the same.
-row_leaves : (place : EdgePlace) (now : ℕ) (old new : FinSet fec_cmp) (fecs : List Fec) (part : LabelData) (row : List LabelStep) → SameBut fecs part.leaves new → label_row place now part (map (call_for old new) fecs) ≡ Some row
+row_leaves : (place : EdgePlace) (now : ℕ) (old new : FinSet fec_cmp) (fecs : List Fec) (part : LabelData) (row : List LabelStep)
+    → SameBut fecs part.leaves new → label_row place now part (map (call_for old new) fecs) ≡ Some row
     → (fec : Fec) → sets.contains (part_after part row).leaves fec ≡ sets.contains new fec
 row_leaves place now old new [] part row same e fec =
     subst (λ (made : List LabelStep). sets.contains (part_after part made).leaves fec ≡ sets.contains new fec) (same_Some [] row e)
@@ -109,24 +116,34 @@ row_leaves place now old new [] part row same e fec =
 row_leaves place now old new (next ∷ more) part row same e fec =
     let own : Place = label_place place.scenario place.core place.me in
     let call : labels.Call = call_for old new next in
-    let first = bind_some (label_step own now part call) (λ (step : Stepped). label_row place now step.part (map (call_for old new) more) >>? λ behind. Some (record { old = part; call = call; new = step } ∷ behind)) row e in
-    let rest = bind_some (label_row place now first.0.part (map (call_for old new) more)) (λ behind. Some (record { old = part; call = call; new = first.0 } ∷ behind)) row first.2 in
-    let is : (other : Fec) → sets.contains first.0.part.leaves other ≡ sets.contains (labels.effect own now part call).0.part.leaves other = λ other. ap (λ (s : FinSet fec_cmp). sets.contains s other) (same_leaves own now part call first.0 first.1) in
-    subst (λ (made : List LabelStep). sets.contains (part_after part made).leaves fec ≡ sets.contains new fec) (same_Some (record { old = part; call = call; new = first.0 } ∷ rest.0) row rest.2)
+    let first =
+    bind_some (label_step own now part call) (λ (step : Stepped). label_row place now step.part (map (call_for old new) more) >>? λ behind. Some
+    (record { old = part; call = call; new = step } ∷ behind)) row e in
+    let rest =
+    bind_some (label_row place now first.0.part (map (call_for old new) more))
+    (λ behind. Some (record { old = part; call = call; new = first.0 } ∷ behind)) row first.2 in
+    let is : (other : Fec) → sets.contains first.0.part.leaves other ≡ sets.contains (labels.effect own now part call).0.part.leaves other =
+    λ other. ap (λ (s : FinSet fec_cmp). sets.contains s other) (same_leaves own now part call first.0 first.1) in
+    subst (λ (made : List LabelStep). sets.contains (part_after part made).leaves fec ≡ sets.contains new fec)
+    (same_Some (record { old = part; call = call; new = first.0 } ∷ rest.0) row rest.2)
     (row_leaves place now old new more first.0.part rest.0 (λ other. elim (fec_cases other next) [
-      | inl one ↦ inr (subst (λ (x : Fec). sets.contains first.0.part.leaves x ≡ sets.contains new x) (sym one) (is next ∙ here own now part next (sets.contains new next)))
+      | inl one ↦ inr (subst (λ (x : Fec). sets.contains first.0.part.leaves x ≡ sets.contains new x) (sym one)
+          (is next ∙ here own now part next (sets.contains new next)))
       | inr ne ↦ elim (same other) [
-        | inl h ↦ elim (or_cases (eq_by_cmp fec_cmp other next) (list_any (eq_by_cmp fec_cmp other) more) h) [ inl tied ↦ absurd (ne (same_fec_equal other next tied)) | inr among ↦ inl among ]
+        | inl h ↦ elim (or_cases (eq_by_cmp fec_cmp other next) (list_any (eq_by_cmp fec_cmp other) more) h)
+            [ inl tied ↦ absurd (ne (same_fec_equal other next tied)) | inr among ↦ inl among ]
         | inr h ↦ inr (is other ∙ there own now part next other (sets.contains new next) ne ∙ h)
       ]
     ]) rest.1 fec)
 
 -- ---- the trees that change are all of those that differ
 
-kept_by : (passes : Fec → Bool) (fec : Fec) (list : List Fec) → passes fec ≡ true → list_any (eq_by_cmp fec_cmp fec) list ≡ true → list_any (eq_by_cmp fec_cmp fec) (filter passes list) ≡ true
+kept_by : (passes : Fec → Bool) (fec : Fec) (list : List Fec) → passes fec ≡ true → list_any (eq_by_cmp fec_cmp fec) list ≡ true
+    → list_any (eq_by_cmp fec_cmp fec) (filter passes list) ≡ true
 kept_by passes fec [] e h = h
 kept_by passes fec (other ∷ list) e h = elim (or_cases (eq_by_cmp fec_cmp fec other) (list_any (eq_by_cmp fec_cmp fec) list) h) [
-  | inl tied ↦ subst (λ b. list_any (eq_by_cmp fec_cmp fec) (cond b (other ∷ filter passes list) (filter passes list)) ≡ true) (sym e ∙ ap passes (same_fec_equal fec other tied))
+  | inl tied ↦ subst (λ b. list_any (eq_by_cmp fec_cmp fec) (cond b (other ∷ filter passes list) (filter passes list)) ≡ true)
+      (sym e ∙ ap passes (same_fec_equal fec other tied))
       (or_left (eq_by_cmp fec_cmp fec other) (list_any (eq_by_cmp fec_cmp fec) (filter passes list)) tied)
   | inr more ↦ elim (passes other) as (λ b. list_any (eq_by_cmp fec_cmp fec) (cond b (other ∷ filter passes list) (filter passes list)) ≡ true) [
     | true ↦ or_right (eq_by_cmp fec_cmp fec other) (list_any (eq_by_cmp fec_cmp fec) (filter passes list)) (kept_by passes fec list e more)
@@ -141,12 +158,14 @@ changing old new = filter (differs old new) (in_order (sets.union old new))
 same_but : (old new : FinSet fec_cmp) → SameBut (changing old new) old new
 same_but old new fec = by (sets.contains old fec) (sets.contains new fec) refl refl
   where
-    found : (a b : Bool) → sets.contains old fec ≡ a → sets.contains new fec ≡ b → not (a && b) ≡ true → (a || b) ≡ true → list_any (eq_by_cmp fec_cmp fec) (changing old new) ≡ true
+    found : (a b : Bool) → sets.contains old fec ≡ a → sets.contains new fec ≡ b → not (a && b) ≡ true → (a || b) ≡ true
+        → list_any (eq_by_cmp fec_cmp fec) (changing old new) ≡ true
     found a b p q apart one =
         kept_by (differs old new) fec (in_order (sets.union old new)) ((λ i. not (p i && q i)) ∙ apart)
         (sym (contains_in_order fec_cmp_total (sets.union old new) fec) ∙ sets.contains-union fec_cmp_total old new fec ∙ (λ i. p i || q i) ∙ one)
 
-    by : (a b : Bool) → sets.contains old fec ≡ a → sets.contains new fec ≡ b → (list_any (eq_by_cmp fec_cmp fec) (changing old new) ≡ true) ⊎ (sets.contains old fec ≡ sets.contains new fec)
+    by : (a b : Bool) → sets.contains old fec ≡ a → sets.contains new fec ≡ b
+        → (list_any (eq_by_cmp fec_cmp fec) (changing old new) ≡ true) ⊎ (sets.contains old fec ≡ sets.contains new fec)
     by true true p q = inr (p ∙ sym q)
     by true false p q = inl (found true false p q refl refl)
     by false true p q = inl (found false true p q refl refl)
@@ -154,28 +173,49 @@ same_but old new fec = by (sets.contains old fec) (sets.contains new fec) refl r
 
 -- ---- a step
 
-changed_row : (place : EdgePlace) (now : ℕ) (old new : FinSet fec_cmp) (part : LabelData) (row : List LabelStep) → part.leaves ≡ old → label_row place now part (changed_leaves old new) ≡ Some row
+changed_row : (place : EdgePlace) (now : ℕ) (old new : FinSet fec_cmp) (part : LabelData) (row : List LabelStep) → part.leaves ≡ old
+    → label_row place now part (changed_leaves old new) ≡ Some row
     → (fec : Fec) → sets.contains (part_after part row).leaves fec ≡ sets.contains new fec
 changed_row place now old new part row is e =
-    row_leaves place now old new (changing old new) part row (subst (λ (s : FinSet fec_cmp). SameBut (changing old new) s new) (sym is) (same_but old new)) e
+    row_leaves place now old new (changing old new) part row
+    (subst (λ (s : FinSet fec_cmp). SameBut (changing old new) s new) (sym is) (same_but old new)) e
 
 -- The row of a step: its own call, if it has one, and those of the trees that change.
-step_row : (place : EdgePlace) (now : ℕ) (old new : FinSet fec_cmp) (own : Option labels.Call) (part : LabelData) (row : List LabelStep) → part.leaves ≡ old → SameLeaves (label_place place.scenario place.core place.me) now part own
-    → label_row place now part (one_call own ++ changed_leaves old new) ≡ Some row → (fec : Fec) → sets.contains (part_after part row).leaves fec ≡ sets.contains new fec
+step_row : (place : EdgePlace) (now : ℕ) (old new : FinSet fec_cmp) (own : Option labels.Call) (part : LabelData) (row : List LabelStep)
+    → part.leaves ≡ old → SameLeaves (label_place place.scenario place.core place.me) now part own
+    → label_row place now part (one_call own ++ changed_leaves old new) ≡ Some row → (fec : Fec)
+    → sets.contains (part_after part row).leaves fec ≡ sets.contains new fec
 step_row place now old new None part row is keeps e = changed_row place now old new part row is e
 step_row place now old new (Some call) part row is keeps e =
     let own : Place = label_place place.scenario place.core place.me in
-    let first = bind_some (label_step own now part call) (λ (step : Stepped). label_row place now step.part (changed_leaves old new) >>? λ behind. Some (record { old = part; call = call; new = step } ∷ behind)) row e in
-    let rest = bind_some (label_row place now first.0.part (changed_leaves old new)) (λ behind. Some (record { old = part; call = call; new = first.0 } ∷ behind)) row first.2 in
-    subst (λ (made : List LabelStep). (fec : Fec) → sets.contains (part_after part made).leaves fec ≡ sets.contains new fec) (same_Some (record { old = part; call = call; new = first.0 } ∷ rest.0) row rest.2)
+    let first =
+    bind_some (label_step own now part call) (λ (step : Stepped). label_row place now step.part (changed_leaves old new) >>? λ behind. Some
+    (record { old = part; call = call; new = step } ∷ behind)) row e in
+    let rest =
+    bind_some (label_row place now first.0.part (changed_leaves old new))
+    (λ behind. Some (record { old = part; call = call; new = first.0 } ∷ behind)) row first.2 in
+    subst (λ (made : List LabelStep). (fec : Fec) → sets.contains (part_after part made).leaves fec ≡ sets.contains new fec)
+    (same_Some (record { old = part; call = call; new = first.0 } ∷ rest.0) row rest.2)
     (changed_row place now old new first.0.part rest.0 (same_leaves own now part call first.0 first.1 ∙ keeps ∙ is) rest.1)
 
-pub leaves_follow : (place : EdgePlace) (now : ℕ) (old : EdgeData) (call : steps.Call) (new : EdgeStepped) → old.part.leaves ≡ leaves place old.control → edge_step place now old call ≡ Some new
+pub leaves_follow : (place : EdgePlace) (now : ℕ) (old : EdgeData) (call : steps.Call) (new : EdgeStepped)
+    → old.part.leaves ≡ leaves place old.control → edge_step place now old call ≡ Some new
     → new.edge.part.leaves ≡ leaves place new.edge.control
 leaves_follow place now old call new is e =
     let control = control_step place now old.control call in
-    let made = bind_some (label_row place now old.part (one_call (own_label_call call) ++ changed_leaves (leaves place old.control) (leaves place control)))
-    (λ row. Some (record { edge = record { control = control; part = part_after old.part row; raised = raised_after now old.raised call }; row = row })) new e in
-    subst (λ (behind : EdgeStepped). behind.edge.part.leaves ≡ leaves place behind.edge.control) (same_Some (record { edge = record { control = control; part = part_after old.part made.0; raised = raised_after now old.raised call }; row = made.0 }) new made.2)
+    let made =
+    bind_some (label_row place now old.part (one_call (own_label_call call) ++ changed_leaves (leaves place old.control) (leaves place control)))
+    (λ row. Some (record {
+      edge = record { control = control; part = part_after old.part row; raised = raised_after now old.raised call };
+      row =
+          row;
+    })) new e in
+    subst (λ (behind : EdgeStepped). behind.edge.part.leaves ≡ leaves place behind.edge.control)
+    (same_Some (record {
+      edge = record { control = control; part = part_after old.part made.0; raised = raised_after now old.raised call };
+      row =
+          made.0;
+    }) new made.2)
     (sets.same_set fec_cmp_total fec_cmp_exact (part_after old.part made.0).leaves (leaves place control)
-    (step_row place now (leaves place old.control) (leaves place control) (own_label_call call) old.part made.0 is (own_leaves (label_place place.scenario place.core place.me) now old.part call) made.1))
+    (step_row place now (leaves place old.control) (leaves place control) (own_label_call call) old.part made.0 is
+    (own_leaves (label_place place.scenario place.core place.me) now old.part call) made.1))

@@ -64,7 +64,8 @@ route_back parts =
 route_again : (route : Route) → route_back (route_parts route) ≡ route
 route_again (routes.Intra rd originator) = λ i. routes.Intra rd (addr_again originator i)
 route_again (routes.Inter rd source_as) = refl
-route_again (routes.Selective rd source group originator) = λ i. routes.Selective rd (word_again source i) (word_again group i) (addr_again originator i)
+route_again (routes.Selective rd source group originator) =
+    λ i. routes.Selective rd (word_again source i) (word_again group i) (addr_again originator i)
 route_again (routes.Leaf key originator) = λ i. routes.Leaf (leaf_again key i) (addr_again originator i)
 route_again (routes.Active rd source group) = λ i. routes.Active rd (addr_again source i) (addr_again group i)
 route_again (routes.SharedJoin rd source_as source group) = λ i. routes.SharedJoin rd source_as (addr_again source i) (addr_again group i)
@@ -83,7 +84,8 @@ afi_again Ipv6 route = refl
 abbrev key_back : List (List ℕ) → Key
 key_back parts =
     let rest = more (more parts) in
-    cond (first (front parts) == 0) (Unicast (record { 0 = front rest }) (record { addr = addr_back (front (more rest)); bits = first (front (more (more rest))) }))
+    cond (first (front parts) == 0) (Unicast (record { 0 = front rest })
+    (record { addr = addr_back (front (more rest)); bits = first (front (more (more rest))) }))
     (Mcast (afi_back (first (behind (front parts)))) (route_back rest))
 
 key_again : (key : Key) → key_back (key_parts key) ≡ key
@@ -137,7 +139,8 @@ pmsi_back (number ∷ rest) own other = Some (record { leaf_info = first rest ==
 abbrev pmsi_front : List (List ℕ) → Option Pmsi
 pmsi_front parts = pmsi_back (front parts) (front (more parts)) (front (more (more parts)))
 
-tunnel_front : (tunnel : Tunnel) (rest : List (List ℕ)) → tunnel_back (front (tunnel_parts tunnel ++ rest)) (front (more (tunnel_parts tunnel ++ rest))) ≡ tunnel
+tunnel_front : (tunnel : Tunnel) (rest : List (List ℕ))
+    → tunnel_back (front (tunnel_parts tunnel ++ rest)) (front (more (tunnel_parts tunnel ++ rest))) ≡ tunnel
 tunnel_front tunnels.None rest = refl
 tunnel_front (tunnels.Mldp fec) rest = tunnel_again (tunnels.Mldp fec)
 tunnel_front (tunnels.Ingress addr) rest = tunnel_again (tunnels.Ingress addr)
@@ -151,7 +154,8 @@ tunnel_behind (tunnels.Other kind ident) rest = refl
 
 pmsi_again : (pmsi : Option Pmsi) (rest : List (List ℕ)) → pmsi_front (pmsi_parts pmsi ++ rest) ≡ pmsi
 pmsi_again None rest = refl
-pmsi_again (Some pmsi) rest = λ i. Some (record { leaf_info = flag_again pmsi.leaf_info i; tunnel = tunnel_front pmsi.tunnel rest i; label = label_again pmsi.label i })
+pmsi_again (Some pmsi) rest =
+    λ i. Some (record { leaf_info = flag_again pmsi.leaf_info i; tunnel = tunnel_front pmsi.tunnel rest i; label = label_again pmsi.label i })
 
 pmsi_behind : (pmsi : Option Pmsi) (rest : List (List ℕ)) → more (more (more (pmsi_parts pmsi ++ rest))) ≡ rest
 pmsi_behind None rest = refl
@@ -165,14 +169,16 @@ comms_again [] = refl
 comms_again (comm ∷ comms) = λ i. comm ∷ comms_again comms i
 
 abbrev value_back : List (List ℕ) → Value
-value_back parts = record { next_hop = addr_back (front parts); comms = map comm_of (more (more (more (more parts)))); pmsi = pmsi_front (more parts) }
+value_back parts =
+    record { next_hop = addr_back (front parts); comms = map comm_of (more (more (more (more parts)))); pmsi = pmsi_front (more parts) }
 
 abbrev octets_of : Value → List (List ℕ)
 octets_of value = map (λ (comm : ExtComm). comm.0) value.comms
 
 value_again : (value : Value) → value_back (value_parts value) ≡ value
 value_again value =
-    let comms : map comm_of (more (more (more (pmsi_parts value.pmsi ++ octets_of value)))) ≡ value.comms = ap (map comm_of) (pmsi_behind value.pmsi (octets_of value)) ∙ comms_again value.comms in
+    let comms : map comm_of (more (more (more (pmsi_parts value.pmsi ++ octets_of value)))) ≡ value.comms =
+    ap (map comm_of) (pmsi_behind value.pmsi (octets_of value)) ∙ comms_again value.comms in
     λ i. record { next_hop = addr_again value.next_hop i; comms = comms i; pmsi = pmsi_again value.pmsi (octets_of value) i }
 
 pub one_value : (a b : Value) → value_parts a ≡ value_parts b → a ≡ b

@@ -32,13 +32,15 @@ append_assoc : {A : Type 0} (xs ys zs : List A) → (xs ++ ys) ++ zs ≡ xs ++ (
 append_assoc [] ys zs = refl
 append_assoc (x ∷ xs) ys zs = ap (λ more. x ∷ more) (append_assoc xs ys zs)
 
-pub one_more : (old : FinSet fec_cmp) (leaves fecs : List Fec) (at : ℕ) (fec : Fec) (was wanted : Bool) (said again whole : List LeafChange) → at < length fecs → fec ≡ get_or fecs at fec
+pub one_more : (old : FinSet fec_cmp) (leaves fecs : List Fec) (at : ℕ) (fec : Fec) (was wanted : Bool) (said again whole : List LeafChange)
+    → at < length fecs → fec ≡ get_or fecs at fec
     → was ≡ sets.contains old fec → wanted ≡ list_any (same_fec fec) leaves → again ≡ said ++ change_at was wanted fec
     → said ++ changes_in old leaves (drop at fecs) ≡ whole → again ++ changes_in old leaves (drop (at + 1) fecs) ≡ whole
 one_more old leaves fecs at fec was wanted said again whole within is a b e h =
     ap (λ (xs : List LeafChange). xs ++ changes_in old leaves (drop (at + 1) fecs)) (e ∙ (λ i. said ++ change_at (a i) (b i) fec))
     ∙ append_assoc said (change_at (sets.contains old fec) (list_any (same_fec fec) leaves) fec) (changes_in old leaves (drop (at + 1) fecs))
-    ∙ ap (λ (xs : List Fec). said ++ changes_in old leaves xs) (sym (drop_more fecs at fec within ∙ ap (λ (x : Fec). x ∷ drop (at + 1) fecs) (sym is))) ∙ h
+    ∙ ap (λ (xs : List Fec). said ++ changes_in old leaves xs)
+    (sym (drop_more fecs at fec within ∙ ap (λ (x : Fec). x ∷ drop (at + 1) fecs) (sym is))) ∙ h
 
 pub same_any : (fec : Fec) (fecs : List Fec) → list_any (λ own. is_fec own fec) fecs ≡ list_any (same_fec fec) fecs
 same_any fec [] = refl
@@ -58,7 +60,8 @@ module _ (old new : FinSet fec_cmp) where
   abbrev call_for : Fec → Call
   call_for fec = cond (sets.contains new fec) (Want fec) (Unwant fec)
 
-  first_call : (a b : Bool) (fec : Fec) (rest : List LeafChange) (kept : List Fec) → sets.contains new fec ≡ b → map leaf_call rest ≡ map call_for kept
+  first_call : (a b : Bool) (fec : Fec) (rest : List LeafChange) (kept : List Fec) → sets.contains new fec ≡ b
+      → map leaf_call rest ≡ map call_for kept
       → map leaf_call (change_at a b fec ++ rest) ≡ map call_for (cond (one_alone a b) (fec ∷ kept) kept)
   first_call false true fec rest kept e h = λ i. cond (sym e i) (Want fec) (Unwant fec) ∷ h i
   first_call true false fec rest kept e h = λ i. cond (sym e i) (Want fec) (Unwant fec) ∷ h i
@@ -82,7 +85,8 @@ module _ (old new : FinSet fec_cmp) where
       ∙ ap (λ (b : Bool). p q && b) (sym (contains_in_order fec_cmp_total s q))
 
   rises : (p : Fec → Bool) (s : FinSet fec_cmp) → IsStrictlySortedBy fec_cmp (filter p (in_order s))
-  rises p s = IsStrictlySortedBy-filter fec_cmp p (in_order s) (map_sorted fec_cmp (maps.from_entries {R = fec_cmp} (map (λ k. (k, tt {0})) (sets.items s))))
+  rises p s =
+      IsStrictlySortedBy-filter fec_cmp p (in_order s) (map_sorted fec_cmp (maps.from_entries {R = fec_cmp} (map (λ k. (k, tt {0})) (sets.items s))))
 
   same_flags : (a b k : Bool) → (k ≡ false → a ≡ b) → (not (a && b) && (a || b)) ≡ (one_alone a b && k)
   same_flags true true k h = refl
@@ -93,20 +97,26 @@ module _ (old new : FinSet fec_cmp) where
   same_flags false true false h = absurd (let e : false ≡ true = h refl in cc)
 
   one_list : (candidates : List Fec) → ((fec : Fec) → list_any (same_fec fec) candidates ≡ false → sets.contains old fec ≡ sets.contains new fec)
-      → filter differs (in_order (sets.from_list {R = fec_cmp} candidates)) ≡ filter (λ fec. not (sets.contains old fec && sets.contains new fec)) (in_order (sets.union old new))
+      → filter differs (in_order (sets.from_list {R = fec_cmp} candidates))
+      ≡ filter (λ fec. not (sets.contains old fec && sets.contains new fec)) (in_order (sets.union old new))
   one_list candidates all =
       let own : List Fec = filter differs (in_order (sets.from_list {R = fec_cmp} candidates)) in
       let both : Fec → Bool = λ fec. not (sets.contains old fec && sets.contains new fec) in
-      is_in_order fec_cmp_total fec_cmp_exact (sets.from_list own) own (rises differs (sets.from_list candidates)) (λ q. sym (sets.contains-from_list fec_cmp_total own q))
-      ∙ sym (is_in_order fec_cmp_total fec_cmp_exact (sets.from_list own) (filter both (in_order (sets.union old new))) (rises both (sets.union old new)) (λ q.
+      is_in_order fec_cmp_total fec_cmp_exact (sets.from_list own) own (rises differs (sets.from_list candidates))
+      (λ q. sym (sets.contains-from_list fec_cmp_total own q))
+      ∙ sym (is_in_order fec_cmp_total fec_cmp_exact (sets.from_list own) (filter both (in_order (sets.union old new)))
+      (rises both (sets.union old new)) (λ q.
       among both (sets.union old new) q
       ∙ ap (λ (b : Bool). both q && b) (sets.contains-union fec_cmp_total old new q)
-      ∙ same_flags (sets.contains old q) (sets.contains new q) (sets.contains (sets.from_list {R = fec_cmp} candidates) q) (λ e. all q (sym (sets.contains-from_list fec_cmp_total candidates q) ∙ e))
+      ∙ same_flags (sets.contains old q) (sets.contains new q) (sets.contains (sets.from_list {R = fec_cmp} candidates) q)
+      (λ e. all q (sym (sets.contains-from_list fec_cmp_total candidates q) ∙ e))
       ∙ sym (among differs (sets.from_list candidates) q)
       ∙ sym (sets.contains-from_list fec_cmp_total own q)))
 
-  pub all_changes : (candidates leaves : List Fec) → AreCandidates old new candidates leaves → map leaf_call (changes_in old leaves (in_order (sets.from_list {R = fec_cmp} candidates))) ≡ changed_leaves old new
+  pub all_changes : (candidates leaves : List Fec) → AreCandidates old new candidates leaves
+      → map leaf_call (changes_in old leaves (in_order (sets.from_list {R = fec_cmp} candidates))) ≡ changed_leaves old new
   all_changes candidates leaves h =
       as_calls leaves (in_order (sets.from_list {R = fec_cmp} candidates)) (λ fec k.
-      h.listed fec (sym (sets.contains-from_list fec_cmp_total candidates fec) ∙ contains_in_order fec_cmp_total (sets.from_list {R = fec_cmp} candidates) fec ∙ k))
+      h.listed fec (sym (sets.contains-from_list fec_cmp_total candidates fec)
+      ∙ contains_in_order fec_cmp_total (sets.from_list {R = fec_cmp} candidates) fec ∙ k))
       ∙ ap (λ (fecs : List Fec). map call_for fecs) (one_list candidates h.all)

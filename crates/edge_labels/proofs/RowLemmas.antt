@@ -31,7 +31,8 @@ none_made core now old e = record {
   faults = λ fault k. absurd cc;
 }
 
-pub one_made : (core : Topology) (now : ℕ) (call : Call) (old new : NodeData) (result : Result (Unit {0}) NodeFault) → Answers core now call old new result → AnswersAll core now (call ∷ []) old new result
+pub one_made : (core : Topology) (now : ℕ) (call : Call) (old new : NodeData) (result : Result (Unit {0}) NodeFault)
+    → Answers core now call old new result → AnswersAll core now (call ∷ []) old new result
 one_made core now call old new result h = record {
   place = h.place;
   before = h.before;
@@ -44,7 +45,8 @@ one_made core now call old new result h = record {
 }
 
 -- a spent node stays
-pub spent_stays : (core : Topology) (now : ℕ) (calls : List Call) (old : NodeData) (fault : NodeFault) → old.node.spent ≡ Some (cause fault) → AnswersAll core now calls old old (Err fault)
+pub spent_stays : (core : Topology) (now : ℕ) (calls : List Call) (old : NodeData) (fault : NodeFault) → old.node.spent ≡ Some (cause fault)
+    → AnswersAll core now calls old old (Err fault)
 spent_stays core now calls old fault e = record {
   place = refl;
   before = λ other s. (ap (λ (f : NodeFault). Err f) (one_cause fault other (sym e ∙ s)), refl);
@@ -67,7 +69,8 @@ spent_stays core now calls old fault e = record {
 
 -- ---- one call more
 
-called_spent : (place : NodePlace) (own : Core) (now : ℕ) (calls : List Call) (node : LabelNode) (spent : Spent) → node.spent ≡ Some spent → all_called place own now node calls ≡ node
+called_spent : (place : NodePlace) (own : Core) (now : ℕ) (calls : List Call) (node : LabelNode) (spent : Spent) → node.spent ≡ Some spent
+    → all_called place own now node calls ≡ node
 called_spent place own now [] node spent e = refl
 called_spent place own now (call ∷ more) node spent e =
     let same : called place own now node call ≡ node = λ i. called_unless (e i) (addr_in place) (place_in place own) now node call in
@@ -81,7 +84,8 @@ give_ok : {P : Type 0} (result : Result (Unit {0}) NodeFault) → P → OnOk res
 give_ok (Ok value) h = h
 give_ok (Err fault) h = tt
 
-pub waited : (calls : List Call) (place : NodePlace) (own : Core) (old : NodeData) → WaitTowardRoots place own old.awaited → WaitedBefore calls place own old.awaited
+pub waited : (calls : List Call) (place : NodePlace) (own : Core) (old : NodeData) → WaitTowardRoots place own old.awaited
+    → WaitedBefore calls place own old.awaited
 waited [] place own old h = h
 waited (call ∷ more) place own old h = waited_one call place own old.awaited h
 
@@ -96,12 +100,14 @@ then_made core now call more old mid new result h k = record {
   goes_on = k.goes_on;
   toward = map_ok result (λ toward own is waits.
       subst (λ (p : NodePlace). WaitTowardRoots p own new.awaited) h.place
-      (toward own is (waited more mid.place own mid (subst (λ (p : NodePlace). WaitTowardRoots p own mid.awaited) (sym h.place) (h.toward own is waits))))) k.toward;
+      (toward own is (waited more mid.place own mid
+      (subst (λ (p : NodePlace). WaitTowardRoots p own mid.awaited) (sym h.place) (h.toward own is waits))))) k.toward;
   lacks = λ e none own is. sym (ap (λ (n : LabelNode). n.spent) (along own is)) ∙ k.lacks e h.goes_on own is;
   faults = k.faults;
 }
   where
-    along : (own : Core) → IsCoreOf core.nodes core.links own → all_called mid.place own now mid.node more ≡ all_called old.place own now old.node (call ∷ more)
+    along : (own : Core) → IsCoreOf core.nodes core.links own
+        → all_called mid.place own now mid.node more ≡ all_called old.place own now old.node (call ∷ more)
     along own is = λ i. all_called (h.place i) own now (h.made own is i) more
 
 -- the first call answered a fault
@@ -122,23 +128,29 @@ stopped core now call more old new fault h = record {
 
 -- ---- along a list
 
-pub made_to : (core : Topology) (now : ℕ) (changes : List LeafChange) (at : ℕ) (change : LeafChange) (first old mid : NodeData) → at < length changes → change ≡ get_or changes at change
-    → AreMade core now (map leaf_call changes) (map leaf_call (drop at changes)) first old → AnswersAll core now (leaf_call change ∷ []) old mid (Ok tt)
+pub made_to : (core : Topology) (now : ℕ) (changes : List LeafChange) (at : ℕ) (change : LeafChange) (first old mid : NodeData) → at < length changes
+    → change ≡ get_or changes at change
+    → AreMade core now (map leaf_call changes) (map leaf_call (drop at changes)) first old
+    → AnswersAll core now (leaf_call change ∷ []) old mid (Ok tt)
     → AreMade core now (map leaf_call changes) (map leaf_call (drop (at + 1) changes)) first mid
 made_to core now changes at change first old mid within is h k = record {
   place = k.place ∙ h.place;
   unspent = k.goes_on;
   whole = λ new result rest. h.whole new result
-      (subst (λ (xs : List LeafChange). AnswersAll core now (map leaf_call xs) old new result) (sym (drop_more changes at change within ∙ ap (λ (x : LeafChange). x ∷ drop (at + 1) changes) (sym is)))
+      (subst (λ (xs : List LeafChange). AnswersAll core now (map leaf_call xs) old new result)
+      (sym (drop_more changes at change within ∙ ap (λ (x : LeafChange). x ∷ drop (at + 1) changes) (sym is)))
       (then_made core now (leaf_call change) (map leaf_call (drop (at + 1) changes)) old mid new result k rest));
 }
 
-pub stopped_at : (core : Topology) (now : ℕ) (changes : List LeafChange) (at : ℕ) (change : LeafChange) (first old new : NodeData) (fault : NodeFault) → at < length changes → change ≡ get_or changes at change
-    → AreMade core now (map leaf_call changes) (map leaf_call (drop at changes)) first old → AnswersAll core now (leaf_call change ∷ []) old new (Err fault)
+pub stopped_at : (core : Topology) (now : ℕ) (changes : List LeafChange) (at : ℕ) (change : LeafChange) (first old new : NodeData) (fault : NodeFault)
+    → at < length changes → change ≡ get_or changes at change
+    → AreMade core now (map leaf_call changes) (map leaf_call (drop at changes)) first old
+    → AnswersAll core now (leaf_call change ∷ []) old new (Err fault)
     → AnswersAll core now (map leaf_call changes) first new (Err fault)
 stopped_at core now changes at change first old new fault within is h k =
     h.whole new (Err fault)
-    (subst (λ (xs : List LeafChange). AnswersAll core now (map leaf_call xs) old new (Err fault)) (sym (drop_more changes at change within ∙ ap (λ (x : LeafChange). x ∷ drop (at + 1) changes) (sym is)))
+    (subst (λ (xs : List LeafChange). AnswersAll core now (map leaf_call xs) old new (Err fault))
+    (sym (drop_more changes at change within ∙ ap (λ (x : LeafChange). x ∷ drop (at + 1) changes) (sym is)))
     (stopped core now (leaf_call change) (map leaf_call (drop (at + 1) changes)) old new fault k))
 
 drop_all : {A : Type 0} (xs : List A) (at : ℕ) → length xs ≤ at → drop at xs ≡ []
@@ -146,15 +158,18 @@ drop_all [] at le = drop-nil at
 drop_all (x ∷ xs) zero le = absurd (omega (arith, le))
 drop_all (x ∷ xs) (suc at) le = drop_all xs at (omega (arith, le))
 
-pub all_made : (core : Topology) (now : ℕ) (changes : List LeafChange) (at : ℕ) (first old : NodeData) → length changes ≤ at → AreMade core now (map leaf_call changes) (map leaf_call (drop at changes)) first old
+pub all_made : (core : Topology) (now : ℕ) (changes : List LeafChange) (at : ℕ) (first old : NodeData) → length changes ≤ at
+    → AreMade core now (map leaf_call changes) (map leaf_call (drop at changes)) first old
     → AnswersAll core now (map leaf_call changes) first old (Ok tt)
 all_made core now changes at first old le h = h.whole old (Ok tt)
-    (subst (λ (xs : List LeafChange). AnswersAll core now (map leaf_call xs) old old (Ok tt)) (sym (drop_all changes at le)) (none_made core now old h.unspent))
+    (subst (λ (xs : List LeafChange). AnswersAll core now (map leaf_call xs) old old (Ok tt)) (sym (drop_all changes at le))
+    (none_made core now old h.unspent))
 
 -- ---- the call itself, and then the others
 
 pub own_made : (core : Topology) (now : ℕ) (call : Option Call) (more : List Call) (old mid new : NodeData) (result : Result (Unit {0}) NodeFault)
-    → AnswersAll core now (one_call call) old mid (Ok tt) → (call ≡ None → mid ≡ old) → AnswersAll core now more mid new result → AnswersAll core now (one_call call ++ more) old new result
+    → AnswersAll core now (one_call call) old mid (Ok tt) → (call ≡ None → mid ≡ old) → AnswersAll core now more mid new result
+    → AnswersAll core now (one_call call ++ more) old new result
 own_made core now None more old mid new result h same k = subst (λ (n : NodeData). AnswersAll core now more n new result) (same refl) k
 own_made core now (Some call) more old mid new result h same k = then_made core now call more old mid new result h k
 

@@ -47,7 +47,8 @@ session_of session new peer place reason (inr is) =
     is.3 ∙ λ i. Some (sym places i, sym own i)
 
 -- a message for the interface itself, for which there is room, is not refused
-pub not_refused : (old : EdgeView) (iface : IfaceId) (octets : List ℕ) (message : JoinPrune) (fault : EdgeFault) → decoded octets ≡ Ok message → is_ours (home_of old).scenario iface message ≡ true → is_over old 0 iface message ≡ false
+pub not_refused : (old : EdgeView) (iface : IfaceId) (octets : List ℕ) (message : JoinPrune) (fault : EdgeFault) → decoded octets ≡ Ok message
+    → is_ours (home_of old).scenario iface message ≡ true → is_over old 0 iface message ≡ false
     → refusal old 0 iface (decoded octets) ≡ Some fault → ⊥
 not_refused old iface octets message fault read ours room refused =
     let none : refusal old 0 iface (decoded octets) ≡ None =
@@ -57,7 +58,9 @@ not_refused old iface octets message fault read ours room refused =
     none_some fault (sym none ∙ refused)
 
 -- a fault that is none of these two, and is no session's
-no_session : (session : PeerSession) (new : EdgeView) (fault : EdgeFault) → ((peer : NodeId) (place : ℕ) (reason : SessionReason) → fault ≡ faults.Session peer place reason → ⊥) → (fault ≡ faults.NoLabel → ⊥) → (fault ≡ faults.NoMemory → ⊥)
+no_session : (session : PeerSession) (new : EdgeView) (fault : EdgeFault)
+    → ((peer : NodeId) (place : ℕ) (reason : SessionReason) → fault ≡ faults.Session peer place reason → ⊥) → (fault ≡ faults.NoLabel → ⊥)
+    → (fault ≡ faults.NoMemory → ⊥)
     → Among fault (faults.NoLabel ∷ faults.NoMemory ∷ []) ⊎ IsSessionFault session new fault → ⊥
 no_session session new fault other label memory (inl (inl e)) = label e
 no_session session new fault other label memory (inl (inr (inl e))) = memory e
@@ -73,25 +76,31 @@ memory_alone fault (inr (inr e)) label = absurd e
 module _ (core : Topology) (peer : NodeId) (done : List ProbeLine) (old : EdgeView) (g : IsGiven core peer done old) where
   -- ---- a join
 
-  module _ (iface : IfaceId) (source group : Addr) (octets : List ℕ) (new : EdgeView) (read : decoded octets ≡ Ok (join_of (own_addr (home_of old).scenario iface) (Source source group))) where
+  module _ (iface : IfaceId) (source group : Addr) (octets : List ℕ) (new : EdgeView)
+      (read : decoded octets ≡ Ok (join_of (own_addr (home_of old).scenario iface) (Source source group))) where
     abbrev message : JoinPrune
     message = join_of (own_addr (home_of old).scenario iface) (Source source group)
 
-    pub join_given : (done_it : Unit {0}) → AnswersPim core 0 iface octets old new (Ok done_it) → IsGiven core peer (done ++ Join iface source group ∷ []) new
+    pub join_given : (done_it : Unit {0}) → AnswersPim core 0 iface octets old new (Ok done_it)
+        → IsGiven core peer (done ++ Join iface source group ∷ []) new
     join_given done_it answers =
         let a = answers.answers message read in
         next core peer done old g (Join iface source group) new a.home a.goes_on (fits_join core peer done old g iface source group) a.made
 
-    pub join_memory : (fault : EdgeFault) → length (joins_of done) < 1024 → AnswersPim core 0 iface octets old new (Err fault) → fault ≡ faults.NoMemory
+    pub join_memory : (fault : EdgeFault) → length (joins_of done) < 1024 → AnswersPim core 0 iface octets old new (Err fault)
+        → fault ≡ faults.NoMemory
     join_memory fault room answers = by fault answers
       where
         not_this : (fault : EdgeFault) → spent_by fault ≡ None → AnswersPim core 0 iface octets old new (Err fault) → ⊥
         not_this fault none answers =
-            not_refused old iface octets message fault read (same_addr_equiv.refl (own_addr (home_of old).scenario iface)) (has_room core peer done old g iface source group room) (answers.refused fault refl none).0
+            not_refused old iface octets message fault read (same_addr_equiv.refl (own_addr (home_of old).scenario iface))
+            (has_room core peer done old g iface source group room) (answers.refused fault refl none).0
 
         by : (fault : EdgeFault) → AnswersPim core 0 iface octets old new (Err fault) → fault ≡ faults.NoMemory
         by faults.NoMemory answers = refl
-        by faults.NoLabel answers = absurd (never_lacks core peer done old g (Join iface source group) (fits_join core peer done old g iface source group) ((answers.answers message read).lacks refl g.unspent))
+        by faults.NoLabel answers =
+            absurd (never_lacks core peer done old g (Join iface source group) (fits_join core peer done old g iface source group)
+            ((answers.answers message read).lacks refl g.unspent))
         by faults.Full answers = absurd (not_this faults.Full refl answers)
         by faults.NotOurs answers = absurd (not_this faults.NotOurs refl answers)
         by (faults.Pim place own) answers = absurd (not_this (faults.Pim place own) refl answers)
@@ -103,18 +112,21 @@ module _ (core : Topology) (peer : NodeId) (done : List ProbeLine) (old : EdgeVi
     fits : IsOctets (octets_of (done ++ Piece piece ∷ []))
     fits = fits_piece core peer done old g piece (both_octets (octets_of done) piece g.octets octets)
 
-    pub piece_told : (done_it : Unit {0}) → AnswersOctets core 0 (peer_session peer) piece old new (Ok done_it) → IsTold core peer (done ++ Piece piece ∷ []) None new
+    pub piece_told : (done_it : Unit {0}) → AnswersOctets core 0 (peer_session peer) piece old new (Ok done_it)
+        → IsTold core peer (done ++ Piece piece ∷ []) None new
     piece_told done_it e =
         let own = next core peer done old g (Piece piece) new e.answers.home e.answers.goes_on fits e.answers.made in
         record { given = own; fault_is = sym (none_given core peer (done ++ Piece piece ∷ []) new own e.sound) }
 
     -- an edge that answers another fault than the two by which it is spent took the octets
-    faulty_given : (fault : EdgeFault) → spent_by fault ≡ None → AnswersOctets core 0 (peer_session peer) piece old new (Err fault) → IsGiven core peer (done ++ Piece piece ∷ []) new
+    faulty_given : (fault : EdgeFault) → spent_by fault ≡ None → AnswersOctets core 0 (peer_session peer) piece old new (Err fault)
+        → IsGiven core peer (done ++ Piece piece ∷ []) new
     faulty_given fault none e =
         let unspent : new.spent ≡ None = e.answers.spends fault refl g.unspent ∙ none in
         next core peer done old g (Piece piece) new e.answers.home unspent fits (e.taken fault refl g.unspent unspent)
 
-    session_given : (other : NodeId) (place : ℕ) (reason : SessionReason) → AnswersOctets core 0 (peer_session peer) piece old new (Err (faults.Session other place reason))
+    session_given : (other : NodeId) (place : ℕ) (reason : SessionReason)
+        → AnswersOctets core 0 (peer_session peer) piece old new (Err (faults.Session other place reason))
         → (own : StreamFault) × (reason ≡ reasons.Bgp own) × (fault_in (octets_of (done ++ Piece piece ∷ [])) ≡ Some (place, own))
     session_given other place reason e =
         told_given core peer (done ++ Piece piece ∷ []) new (faulty_given (faults.Session other place reason) refl e) place reason
@@ -123,18 +135,28 @@ module _ (core : Topology) (peer : NodeId) (done : List ProbeLine) (old : EdgeVi
     pub piece_fault : (fault : EdgeFault) → AnswersOctets core 0 (peer_session peer) piece old new (Err fault) → IsPeerFault fault
     piece_fault faults.NoMemory e = inl refl
     piece_fault faults.NoLabel e = absurd (never_lacks core peer done old g (Piece piece) fits (e.answers.lacks refl g.unspent))
-    piece_fault faults.Full e = absurd (no_session (peer_session peer) new faults.Full (λ p q r h. absurd cc) (λ h. absurd cc) (λ h. absurd cc) (e.only faults.Full refl))
-    piece_fault faults.NotOurs e = absurd (no_session (peer_session peer) new faults.NotOurs (λ p q r h. absurd cc) (λ h. absurd cc) (λ h. absurd cc) (e.only faults.NotOurs refl))
-    piece_fault (faults.Pim place own) e = absurd (no_session (peer_session peer) new (faults.Pim place own) (λ p q r h. absurd cc) (λ h. absurd cc) (λ h. absurd cc) (e.only (faults.Pim place own) refl))
+    piece_fault faults.Full e =
+        absurd (no_session (peer_session peer) new faults.Full (λ p q r h. absurd cc) (λ h. absurd cc) (λ h. absurd cc) (e.only faults.Full refl))
+    piece_fault faults.NotOurs e =
+        absurd (no_session (peer_session peer) new faults.NotOurs (λ p q r h. absurd cc) (λ h. absurd cc) (λ h. absurd cc)
+        (e.only faults.NotOurs refl))
+    piece_fault (faults.Pim place own) e =
+        absurd (no_session (peer_session peer) new (faults.Pim place own) (λ p q r h. absurd cc) (λ h. absurd cc) (λ h. absurd cc)
+        (e.only (faults.Pim place own) refl))
     piece_fault (faults.Session other place (reasons.Bgp own)) e = inr refl
     piece_fault (faults.Session other place (reasons.Ldp own)) e = let same = (session_given other place (reasons.Ldp own) e).1 in absurd cc
 
-    pub first_told : (fault : EdgeFault) (first : Option (ℕ × StreamFault)) → AnswersOctets core 0 (peer_session peer) piece old new (Err fault) → first ≡ stream_fault fault → IsSome first
+    pub first_told : (fault : EdgeFault) (first : Option (ℕ × StreamFault)) → AnswersOctets core 0 (peer_session peer) piece old new (Err fault)
+        → first ≡ stream_fault fault → IsSome first
         → IsTold core peer (done ++ Piece piece ∷ []) first new
     first_told (faults.Session other place (reasons.Bgp own)) first e is some =
         let t = session_given other place (reasons.Bgp own) e in
         let same : own ≡ t.0 = (let h = t.1 in cc) in
-        record { given = faulty_given (faults.Session other place (reasons.Bgp own)) refl e; fault_is = is ∙ ap (λ (f : StreamFault). Some (place, f)) same ∙ sym t.2 }
+        record {
+          given = faulty_given (faults.Session other place (reasons.Bgp own)) refl e;
+          fault_is =
+              is ∙ ap (λ (f : StreamFault). Some (place, f)) same ∙ sym t.2;
+        }
     first_told (faults.Session other place (reasons.Ldp own)) first e is some = let none : false ≡ true = subst IsSome is some in absurd cc
     first_told faults.NoMemory first e is some = let none : false ≡ true = subst IsSome is some in absurd cc
     first_told faults.NoLabel first e is some = let none : false ≡ true = subst IsSome is some in absurd cc

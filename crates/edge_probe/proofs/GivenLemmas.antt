@@ -55,16 +55,19 @@ fold_snoc f b (y ∷ xs) x = fold_snoc f (f b y) xs x
 pub octets_piece : (done : List ProbeLine) (piece : List ℕ) → octets_of (done ++ Piece piece ∷ []) ≡ octets_of done ++ piece
 octets_piece [] piece = append-nil piece
 octets_piece (Join iface source group ∷ done) piece = octets_piece done piece
-octets_piece (Piece first ∷ done) piece = ap (λ (xs : List ℕ). first ++ xs) (octets_piece done piece) ∙ sym (append_assoc first (octets_of done) piece)
+octets_piece (Piece first ∷ done) piece =
+    ap (λ (xs : List ℕ). first ++ xs) (octets_piece done piece) ∙ sym (append_assoc first (octets_of done) piece)
 
 pub octets_join : (done : List ProbeLine) (iface : IfaceId) (source group : Addr) → octets_of (done ++ Join iface source group ∷ []) ≡ octets_of done
 octets_join [] iface source group = refl
 octets_join (Join i s g ∷ done) iface source group = octets_join done iface source group
 octets_join (Piece first ∷ done) iface source group = ap (λ (xs : List ℕ). first ++ xs) (octets_join done iface source group)
 
-pub joins_join : (done : List ProbeLine) (iface : IfaceId) (source group : Addr) → joins_of (done ++ Join iface source group ∷ []) ≡ joins_of done ++ record { iface = iface; entry = Source source group } ∷ []
+pub joins_join : (done : List ProbeLine) (iface : IfaceId) (source group : Addr)
+    → joins_of (done ++ Join iface source group ∷ []) ≡ joins_of done ++ record { iface = iface; entry = Source source group } ∷ []
 joins_join [] iface source group = refl
-joins_join (Join i s g ∷ done) iface source group = ap (λ (js : List IfaceEntry). record { iface = i; entry = Source s g } ∷ js) (joins_join done iface source group)
+joins_join (Join i s g ∷ done) iface source group =
+    ap (λ (js : List IfaceEntry). record { iface = i; entry = Source s g } ∷ js) (joins_join done iface source group)
 joins_join (Piece first ∷ done) iface source group = joins_join done iface source group
 
 no_octets : IsOctets []
@@ -91,7 +94,8 @@ in_core_still core old new same is = record {
 }
 
 -- it lacks no label at a step behind which it is not spent
-pub not_lacking : (core : Topology) (old : EdgeView) (step : Core → EdgeState → EdgeState) → IsInCore core old → ((own : Core) → IsCoreOf core.nodes core.links own → (state : EdgeState) × IsIn state old × ((step own state).spent ≡ None))
+pub not_lacking : (core : Topology) (old : EdgeView) (step : Core → EdgeState → EdgeState) → IsInCore core old
+    → ((own : Core) → IsCoreOf core.nodes core.links own → (state : EdgeState) × IsIn state old × ((step own state).spent ≡ None))
     → Lacks core step old → ⊥
 not_lacking core old step in_core each lacks =
     let t = in_core.told in
@@ -110,18 +114,24 @@ module _ (core : Topology) (peer : NodeId) (done : List ProbeLine) (old : EdgeVi
   more : (own : Core) (line : ProbeLine) → behind (at own) peer (done ++ line ∷ []) ≡ given (at own) peer (before own) line
   more own line = fold_snoc (given (at own) peer) (begun (at own) peer) done line
 
-  pub control_at : (own : Core) → IsCoreOf core.nodes core.links own → (data_of old).control ≡ edge_with (at own) peer (table_of (messages_in (octets_of done))) (joined (home_of old).scenario (joins_of done))
+  pub control_at : (own : Core) → IsCoreOf core.nodes core.links own
+      → (data_of old).control ≡ edge_with (at own) peer (table_of (messages_in (octets_of done))) (joined (home_of old).scenario (joins_of done))
   control_at own is = sym ((g.is own is).parts own).keeps ∙ (comes (at own) peer done g.octets).keeps
 
   pub is_up_still : is_up old kinds.Bgp peer ≡ true
   is_up_still =
       let t = g.in_core.told in
-      ap (λ (control : Control). is_some (maps.get control.peers peer)) (control_at t.0 t.1) ∙ ap is_some (put_own maps.empty peer (taken_at_once (table_of (messages_in (octets_of done)))))
+      ap (λ (control : Control). is_some (maps.get control.peers peer)) (control_at t.0 t.1)
+      ∙ ap is_some (put_own maps.empty peer (taken_at_once (table_of (messages_in (octets_of done)))))
 
   pub never_lacks : (line : ProbeLine) → IsOctets (octets_of (done ++ line ∷ [])) → Lacks core (λ own state. given (at own) peer state line) old → ⊥
   never_lacks line fits =
-      not_lacking core old (λ own state. given (at own) peer state line) g.in_core (λ own is.
-      (before own, g.is own is, ap (λ (state : EdgeState). state.spent) (sym (more own line)) ∙ (comes (at own) peer (done ++ line ∷ []) fits).unspent))
+      not_lacking core old (λ own state. given (at own) peer state line) g.in_core (λ own is. (
+        before own,
+        g.is own is,
+        ap (λ (state : EdgeState). state.spent) (sym (more own line))
+            ∙ (comes (at own) peer (done ++ line ∷ []) fits).unspent,
+      ))
 
   pub next : (line : ProbeLine) (new : EdgeView) → home_of new ≡ home_of old → new.spent ≡ None → IsOctets (octets_of (done ++ line ∷ []))
       → Makes core (λ own state. given (at own) peer state line) old new → IsGiven core peer (done ++ line ∷ []) new
@@ -144,9 +154,12 @@ module _ (core : Topology) (peer : NodeId) (done : List ProbeLine) (old : EdgeVi
       let scenario = (home_of old).scenario in
       let entry : IfaceEntry = record { iface = iface; entry = Source source group } in
       let t = g.in_core.told in
-      let entries : (data_of old).control.entries ≡ joined scenario (joins_of done) = ap (λ (control : Control). control.entries) (control_at t.0 t.1) in
-      let same : applied (joined scenario (joins_of done)) iface (join_of (own_addr scenario iface) (Source source group)) 0 ≡ joined scenario (joins_of done ++ entry ∷ []) =
-      sym (fold_snoc (λ (es : Entries) (x : IfaceEntry). applied es x.iface (join_of (own_addr scenario x.iface) x.entry) 0) maps.empty (joins_of done) entry) in
+      let entries : (data_of old).control.entries ≡ joined scenario (joins_of done) =
+      ap (λ (control : Control). control.entries) (control_at t.0 t.1) in
+      let same : applied (joined scenario (joins_of done)) iface (join_of (own_addr scenario iface) (Source source group)) 0
+      ≡ joined scenario (joins_of done ++ entry ∷ []) =
+      sym (fold_snoc (λ (es : Entries) (x : IfaceEntry). applied es x.iface (join_of (own_addr scenario x.iface) x.entry) 0) maps.empty
+      (joins_of done) entry) in
       let few = joined_few scenario (joins_of done ++ entry ∷ []) in
       let long = length-append (joins_of done) (entry ∷ []) in
       ap (λ (es : Entries). are_too_many (applied es iface (join_of (own_addr scenario iface) (Source source group)) 0)) entries
@@ -159,33 +172,40 @@ module _ (core : Topology) (peer : NodeId) (done : List ProbeLine) (old : EdgeVi
   fits_piece piece fits = subst IsOctets (sym (octets_piece done piece)) fits
 
 -- the first fault of the stream is that of the octets
-pub fault_given : (core : Topology) (peer : NodeId) (done : List ProbeLine) (edge : EdgeView) → IsGiven core peer done edge → fault_at edge.streams (peer_session peer) ≡ fault_as (λ f. BgpFault f) (fault_in (octets_of done))
+pub fault_given : (core : Topology) (peer : NodeId) (done : List ProbeLine) (edge : EdgeView) → IsGiven core peer done edge
+    → fault_at edge.streams (peer_session peer) ≡ fault_as (λ f. BgpFault f) (fault_in (octets_of done))
 fault_given core peer done edge g =
     let t = g.in_core.told in
-    ap (λ (streams : _). fault_at streams (peer_session peer)) (sym (g.is t.0 t.1).streams) ∙ (comes (place_of (home_of edge) t.0) peer done g.octets).stream
+    ap (λ (streams : _). fault_at streams (peer_session peer)) (sym (g.is t.0 t.1).streams)
+    ∙ (comes (place_of (home_of edge) t.0) peer done g.octets).stream
 
 -- what was told of it is a fault of BGP
-told_as : (fault : Option (ℕ × StreamFault)) (place : ℕ) (reason : SessionReason) → told_fault (fault_as (λ f. BgpFault f) fault) ≡ Some (place, reason)
+told_as : (fault : Option (ℕ × StreamFault)) (place : ℕ) (reason : SessionReason)
+    → told_fault (fault_as (λ f. BgpFault f) fault) ≡ Some (place, reason)
     → (own : StreamFault) × (reason ≡ reasons.Bgp own) × (fault ≡ Some (place, own))
 told_as None place reason e = absurd (none_some (place, reason) e)
 told_as (Some f) place reason e =
     let same = same_Some (f.0, reasons.Bgp f.1) (place, reason) e in
     (f.1, ap (λ (x : ℕ × SessionReason). x.1) (sym same), ap (λ (n : ℕ). Some (n, f.1)) (ap (λ (x : ℕ × SessionReason). x.0) same))
 
-pub told_given : (core : Topology) (peer : NodeId) (done : List ProbeLine) (edge : EdgeView) → IsGiven core peer done edge → (place : ℕ) (reason : SessionReason) → told_fault (fault_at edge.streams (peer_session peer)) ≡ Some (place, reason)
+pub told_given : (core : Topology) (peer : NodeId) (done : List ProbeLine) (edge : EdgeView) → IsGiven core peer done edge
+    → (place : ℕ) (reason : SessionReason) → told_fault (fault_at edge.streams (peer_session peer)) ≡ Some (place, reason)
     → (own : StreamFault) × (reason ≡ reasons.Bgp own) × (fault_in (octets_of done) ≡ Some (place, own))
-told_given core peer done edge g place reason e = told_as (fault_in (octets_of done)) place reason (ap told_fault (sym (fault_given core peer done edge g)) ∙ e)
+told_given core peer done edge g place reason e =
+    told_as (fault_in (octets_of done)) place reason (ap told_fault (sym (fault_given core peer done edge g)) ∙ e)
 
 none_as : (fault : Option (ℕ × StreamFault)) → fault_as (λ f. BgpFault f) fault ≡ None → fault ≡ None
 none_as None e = refl
 none_as (Some f) e = absurd (none_some (f.0, BgpFault f.1) (sym e))
 
-pub none_given : (core : Topology) (peer : NodeId) (done : List ProbeLine) (edge : EdgeView) → IsGiven core peer done edge → fault_at edge.streams (peer_session peer) ≡ None → fault_in (octets_of done) ≡ None
+pub none_given : (core : Topology) (peer : NodeId) (done : List ProbeLine) (edge : EdgeView) → IsGiven core peer done edge
+    → fault_at edge.streams (peer_session peer) ≡ None → fault_in (octets_of done) ≡ None
 none_given core peer done edge g e = none_as (fault_in (octets_of done)) (sym (fault_given core peer done edge g) ∙ e)
 
 -- ---- the first line
 
-pub first_not_lacking : (core : Topology) (peer : NodeId) (old : EdgeView) → IsFresh core old → Lacks core (step_of old 0 (Raised kinds.Bgp peer)) old → ⊥
+pub first_not_lacking : (core : Topology) (peer : NodeId) (old : EdgeView) → IsFresh core old → Lacks core (step_of old 0 (Raised kinds.Bgp peer)) old
+    → ⊥
 first_not_lacking core peer old fresh =
     not_lacking core old (step_of old 0 (Raised kinds.Bgp peer)) fresh.in_core (λ own is.
     (fresh_state (home_of old).scenario.labels, fresh.is, (comes (place_of (home_of old) own) peer [] no_octets).unspent))
@@ -196,7 +216,8 @@ first_given core peer old new fresh same unspent makes = record {
   in_core = in_core_still core old new same fresh.in_core;
   unspent = unspent;
   octets = no_octets;
-  is = λ own is. subst (λ (home : Home). IsIn (begun (place_of home own) peer) new) (sym same) (makes own is (fresh_state (home_of old).scenario.labels) fresh.is);
+  is = λ own is. subst (λ (home : Home). IsIn (begun (place_of home own) peer) new) (sym same)
+      (makes own is (fresh_state (home_of old).scenario.labels) fresh.is);
 }
 
 pub first_down : (core : Topology) (peer : NodeId) (old : EdgeView) → IsFresh core old → is_up old kinds.Bgp peer ≡ false

@@ -42,33 +42,45 @@ use Rattle.edge_probe.proofs.ProbeLemmas.{is_told}
 
 -- ---- roots
 
-only_peer : (peer : NodeId) (taken : Taken) (q : NodeId) (table : Taken) → Among (q, table) (maps.entries (maps.insert {R = node_cmp} maps.empty peer taken)) → q ≡ peer
+only_peer : (peer : NodeId) (taken : Taken) (q : NodeId) (table : Taken)
+    → Among (q, table) (maps.entries (maps.insert {R = node_cmp} maps.empty peer taken)) → q ≡ peer
 only_peer peer taken q table a = elim (node_cases q peer) [
   | inl same ↦ same
   | inr ne ↦
-      (let none : maps.get (maps.insert {R = node_cmp} maps.empty peer taken) q ≡ None = put_other maps.empty peer taken q ne ∙ maps.get-empty node_cmp q in
+      (let none : maps.get (maps.insert {R = node_cmp} maps.empty peer taken) q ≡ None =
+      put_other maps.empty peer taken q ne ∙ maps.get-empty node_cmp q in
       absurd (none-some table (sym none ∙ entry_get node_cmp_total (maps.insert {R = node_cmp} maps.empty peer taken) q table a)))
 ]
 
 -- the tunnel of a route that a VRF imports from the peer of that address
-inclusive_root : (vrf : Vrf) (addr : Addr) (key : Key) (route : TakenRoute) (fec : Fec) → imported_inclusive vrf addr (key, route) ≡ Some fec → fec.root ≡ addr
+inclusive_root : (vrf : Vrf) (addr : Addr) (key : Key) (route : TakenRoute) (fec : Fec) → imported_inclusive vrf addr (key, route) ≡ Some fec
+    → fec.root ≡ addr
 inclusive_root vrf addr key route fec e =
-    let first = chained (inclusive_of key) (λ originator. only_if (is_admitted vrf route.value.comms) route.value >>? λ value. tunnel_by addr originator value) fec e in
+    let first =
+    chained (inclusive_of key) (λ originator. only_if (is_admitted vrf route.value.comms) route.value >>? λ value. tunnel_by addr originator
+    value) fec e in
     let second = chained (only_if (is_admitted vrf route.value.comms) route.value) (λ value. tunnel_by addr first.0 value) fec first.2 in
     root_by addr first.0 second.0 fec second.2
 
-selective_root : (vrf : Vrf) (addr : Addr) (key : Key) (route : TakenRoute) (imported : ImportedSelective) → imported_selective vrf addr (key, route) ≡ Some imported → imported.fec.root ≡ addr
+selective_root : (vrf : Vrf) (addr : Addr) (key : Key) (route : TakenRoute) (imported : ImportedSelective)
+    → imported_selective vrf addr (key, route) ≡ Some imported → imported.fec.root ≡ addr
 selective_root vrf addr key route imported e =
-    let first = chained (selective_of key) (λ own. only_if (is_admitted vrf route.value.comms) route.value >>? λ value. tunnel_by addr own.originator value >>? λ fec. Some (record { route = own; fec = fec })) imported e in
-    let second = chained (only_if (is_admitted vrf route.value.comms) route.value) (λ value. tunnel_by addr first.0.originator value >>? λ fec. Some (record { route = first.0; fec = fec })) imported first.2 in
+    let first =
+    chained (selective_of key) (λ own. only_if (is_admitted vrf route.value.comms) route.value >>? λ value. tunnel_by addr own.originator value
+    >>? λ fec. Some (record { route = own; fec = fec })) imported e in
+    let second =
+    chained (only_if (is_admitted vrf route.value.comms) route.value)
+    (λ value. tunnel_by addr first.0.originator value >>? λ fec. Some (record { route = first.0; fec = fec })) imported first.2 in
     let third = chained (tunnel_by addr first.0.originator second.0) (λ fec. Some (record { route = first.0; fec = fec })) imported second.2 in
-    ap (λ (i : ImportedSelective). i.fec.root) (sym (same_Some (record { route = first.0; fec = third.0 }) imported third.2)) ∙ root_by addr first.0.originator second.0 third.0 third.1
+    ap (λ (i : ImportedSelective). i.fec.root) (sym (same_Some (record { route = first.0; fec = third.0 }) imported third.2))
+    ∙ root_by addr first.0.originator second.0 third.0 third.1
 
 module _ (place : EdgePlace) (peer : NodeId) (table : Table) (entries : Entries) where
   abbrev control : Control
   control = edge_with place peer table entries
 
-  address : (own : NodeId) (key : Key) (route : TakenRoute) → maps.get (taken_from control own) key ≡ Some route → addr_of place.scenario own ≡ addr_of place.scenario peer
+  address : (own : NodeId) (key : Key) (route : TakenRoute) → maps.get (taken_from control own) key ≡ Some route
+      → addr_of place.scenario own ≡ addr_of place.scenario peer
   address own key route got =
       let t = table_of control own key route got in
       ap (addr_of place.scenario) (only_peer peer (taken_at_once table) own t.table t.of_peer)
@@ -78,20 +90,24 @@ module _ (place : EdgePlace) (peer : NodeId) (table : Table) (entries : Entries)
     | inl is ↦ inclusive_root is.own.vrf (addr_of place.scenario is.peer) is.key is.route fec is.imported ∙ address is.peer is.key is.route is.taken
     | inr is ↦
         (let learned = (learned_is place control is.own is.edge is.route).0 is.wanted.among in
-        ap (λ (f : Fec). f.root) (sym is.of_tunnel ∙ learned.of_tunnel) ∙ selective_root is.own.vrf (addr_of place.scenario is.edge) learned.key learned.route learned.imported learned.is
+        ap (λ (f : Fec). f.root) (sym is.of_tunnel ∙ learned.of_tunnel)
+        ∙ selective_root is.own.vrf (addr_of place.scenario is.edge) learned.key learned.route learned.imported learned.is
         ∙ address is.edge learned.key learned.route learned.taken)
   ]
 
-pub wanted_root : (scenario : Scenario) (edge peer : NodeId) (lines : List ProbeLine) (report : ProbeReport) → IsProbe scenario edge peer lines → Probed scenario edge peer lines report → (fec : Fec) → Among fec report.wants
+pub wanted_root : (scenario : Scenario) (edge peer : NodeId) (lines : List ProbeLine) (report : ProbeReport) → IsProbe scenario edge peer lines
+    → Probed scenario edge peer lines report → (fec : Fec) → Among fec report.wants
     → fec.root ≡ addr_of scenario peer
 wanted_root scenario edge peer lines report asked told fec a =
     let core = is_told scenario asked.rules some_cores in
     let place : EdgePlace = record { scenario = scenario; core = core.0; me = edge } in
-    root_is place peer (table_by told.messages) (joined scenario (joins_of lines)) fec (subst (λ (fecs : List Fec). Among fec fecs) (told.wants core.0 core.1) a)
+    root_is place peer (table_by told.messages) (joined scenario (joins_of lines)) fec
+    (subst (λ (fecs : List Fec). Among fec fecs) (told.wants core.0 core.1) a)
 
 -- ---- targets
 
-pub has_target : (scenario : Scenario) (edge peer : NodeId) (lines : List ProbeLine) (report : ProbeReport) → (told : Probed scenario edge peer lines report) → (import : Import) → Among import report.imports
+pub has_target : (scenario : Scenario) (edge peer : NodeId) (lines : List ProbeLine) (report : ProbeReport)
+    → (told : Probed scenario edge peer lines report) → (import : Import) → Among import report.imports
     → HasTarget scenario edge (table_by told.messages) import
 has_target scenario edge peer lines report told import a =
     let table : Table = table_by told.messages in

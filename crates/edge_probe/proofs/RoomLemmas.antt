@@ -42,7 +42,8 @@ expiries_few f (at ∷ more) =
     omega (arith, one)
 
 -- a join adds an entry at most
-join_adds_one : (entries : Entries) (iface : IfaceId) (neighbour : Addr) (entry : JoinEntry) → maps.len (applied entries iface (join_of neighbour entry) 0) ≤ maps.len entries + 1
+join_adds_one : (entries : Entries) (iface : IfaceId) (neighbour : Addr) (entry : JoinEntry)
+    → maps.len (applied entries iface (join_of neighbour entry) 0) ≤ maps.len entries + 1
 join_adds_one entries iface neighbour entry =
     let named : List IfaceEntry = named_in iface (join_of neighbour entry) in
     let ats : List IfaceEntry = maps.keys entries ++ named in
@@ -55,7 +56,8 @@ join_adds_one entries iface neighbour entry =
     omega (arith, made, few, one, all, keys, own)
 
 joins_add : (scenario : Scenario) (joins : List IfaceEntry) (entries : Entries)
-    → maps.len (fold (λ (es : Entries) (at : IfaceEntry). applied es at.iface (join_of (own_addr scenario at.iface) at.entry) 0) entries joins) ≤ maps.len entries + length joins
+    → maps.len (fold (λ (es : Entries) (at : IfaceEntry). applied es at.iface (join_of (own_addr scenario at.iface) at.entry) 0) entries joins) ≤
+    maps.len entries + length joins
 joins_add scenario [] entries = omega arith
 joins_add scenario (at ∷ more) entries =
     let one = join_adds_one entries at.iface (own_addr scenario at.iface) at.entry in

@@ -17,7 +17,8 @@ use Rattle.edge_defs.specs.Imported.{import_in}
 use Rattle.edge_defs.specs.Place.{lsp, lsp_opaque}
 use Rattle.edge_routes.specs.route_order.Values.{IsWritableValue, as_value}
 
-pub own_writable : (addr : List ℕ) (comms : List ExtComm) (pmsi : Option Pmsi) → length addr ≡ 4 → AreComms comms → IsTunnel pmsi → IsWritableValue (as_value (V4 addr) comms pmsi)
+pub own_writable : (addr : List ℕ) (comms : List ExtComm) (pmsi : Option Pmsi) → length addr ≡ 4 → AreComms comms → IsTunnel pmsi
+    → IsWritableValue (as_value (V4 addr) comms pmsi)
 own_writable addr comms pmsi four eight tunnel = record { next_hop = (four, tt); comms = eight; tunnel = tunnel }
 
 opaque_whole : (number : ℕ) → IsOpaque (lsp_opaque number)
@@ -25,7 +26,8 @@ opaque_whole number =
     let one : IsTlv (plain 1 (to_be_bytes w32 number)) = ((λ e. omega (arith, e)), omega arith, λ e. refl) in
     (plain 1 (to_be_bytes w32 number) ∷ [], (one, tt), refl)
 
-pub tunnel_writable : (addr : List ℕ) (number : ℕ) → length addr ≡ 4 → IsTunnel (Some (record { leaf_info = false; tunnel = tunnels.Mldp (lsp (V4 addr) number); label = None }))
+pub tunnel_writable : (addr : List ℕ) (number : ℕ) → length addr ≡ 4
+    → IsTunnel (Some (record { leaf_info = false; tunnel = tunnels.Mldp (lsp (V4 addr) number); label = None }))
 tunnel_writable addr number four = record {
   flags = 0;
   low = 0;
@@ -37,7 +39,8 @@ tunnel_writable addr number four = record {
   octets = refl;
 }
 
-import_spelled : (addr : List ℕ) (number : ℕ) → length addr ≡ 4 → number < 2 ^ 16 → import_in (record { 0 = import_octets addr number }) ≡ Some (record { addr = V4 addr; number = number })
+import_spelled : (addr : List ℕ) (number : ℕ) → length addr ≡ 4 → number < 2 ^ 16
+    → import_in (record { 0 = import_octets addr number }) ≡ Some (record { addr = V4 addr; number = number })
 import_spelled [] number four less = absurd (omega (arith, four))
 import_spelled (a ∷ []) number four less = absurd (omega (arith, four))
 import_spelled (a ∷ b ∷ []) number four less = absurd (omega (arith, four))
@@ -47,9 +50,11 @@ import_spelled (a ∷ b ∷ c ∷ d ∷ []) number four less =
 import_spelled (a ∷ b ∷ c ∷ d ∷ e ∷ more) number four less = absurd (omega (arith, four))
 
 -- What a VRF Route Import names.
-pub import_read : (comm : ExtComm) (addr : List ℕ) (number : ℕ) → comm.0 ≡ import_octets addr number → length addr ≡ 4 → number < 2 ^ 16 → import_in comm ≡ Some (record { addr = V4 addr; number = number })
+pub import_read : (comm : ExtComm) (addr : List ℕ) (number : ℕ) → comm.0 ≡ import_octets addr number → length addr ≡ 4 → number < 2 ^ 16
+    → import_in comm ≡ Some (record { addr = V4 addr; number = number })
 import_read comm addr number e four less =
-    let same : import_in comm ≡ import_in (record { 0 = import_octets addr number }) = ap (λ (octets : List ℕ). import_in (record { 0 = octets })) e in
+    let same : import_in comm ≡ import_in (record { 0 = import_octets addr number }) =
+    ap (λ (octets : List ℕ). import_in (record { 0 = octets })) e in
     rw same (import_spelled addr number four less)
 
 comms_append : (xs : List ExtComm) (x : ExtComm) → AreComms xs → length x.0 ≡ 8 → AreComms (xs ++ x ∷ [])
@@ -60,11 +65,14 @@ comms_append (y ∷ xs) x h eight = (h.0, comms_append xs x h.1 eight)
 pub put_behind : (places : List ExtComm) (i : ℕ) (x : ExtComm) → i < length places → take (i + 1) (set places i x) ≡ take i places ++ x ∷ []
 put_behind places i x less = rw add-one (take-suc-set places i x less)
 
-pub put_octets : (places : List ExtComm) (i : ℕ) (x : ExtComm) → i < length places → length x.0 ≡ 8 → AreComms (take i places) → AreComms (take (i + 1) (set places i x))
+pub put_octets : (places : List ExtComm) (i : ℕ) (x : ExtComm) → i < length places → length x.0 ≡ 8 → AreComms (take i places)
+    → AreComms (take (i + 1) (set places i x))
 put_octets places i x less eight h = subst AreComms (sym (put_behind places i x less)) (comms_append (take i places) x h eight)
 
 -- One target more, as a community.
-pub targets_more : (front : List ExtComm) (list : List Target) (i : ℕ) (d : Target) → i < length list → front ≡ map (λ target. target.0) (take i list) → front ++ (get_or list i d).0 ∷ [] ≡ map (λ target. target.0) (take (i + 1) list)
+pub targets_more : (front : List ExtComm) (list : List Target) (i : ℕ) (d : Target) → i < length list → front ≡ map (λ target. target.0) (take i list)
+    → front ++ (get_or list i d).0 ∷ [] ≡ map (λ target. target.0) (take (i + 1) list)
 targets_more front list i d less h =
     ap (λ (comms : List ExtComm). comms ++ (get_or list i d).0 ∷ []) h
-    ∙ (sym (map-append (λ (target : Target). target.0) (take i list) (get_or list i d ∷ [])) ∙ ap (map (λ (target : Target). target.0)) (sym (take_more list i d less)))
+    ∙ (sym (map-append (λ (target : Target). target.0) (take i list) (get_or list i d ∷ []))
+    ∙ ap (map (λ (target : Target). target.0)) (sym (take_more list i d less)))

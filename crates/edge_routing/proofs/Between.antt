@@ -18,10 +18,12 @@ holds place old new tables are peer table at = (are peer table at).set
 -- ---- tables of which nothing was told
 
 module _ (before after : Tables) (alike : AreToldAlike before after) where
-  pub told_at : (peer : NodeId) (table : PeerTable) → maps.get after peer ≡ Some table → (t : PeerTable) × (maps.get before peer ≡ Some t) × IsToldAlike t table
+  pub told_at : (peer : NodeId) (table : PeerTable) → maps.get after peer ≡ Some table
+      → (t : PeerTable) × (maps.get before peer ≡ Some t) × IsToldAlike t table
   told_at peer table at = by (maps.get before peer) refl (alike peer)
     where
-      by : (o : Option PeerTable) → maps.get before peer ≡ o → Both IsToldAlike o (maps.get after peer) → (t : PeerTable) × (maps.get before peer ≡ Some t) × IsToldAlike t table
+      by : (o : Option PeerTable) → maps.get before peer ≡ o → Both IsToldAlike o (maps.get after peer)
+          → (t : PeerTable) × (maps.get before peer ≡ Some t) × IsToldAlike t table
       by None e b = absurd (subst (λ (p : Option PeerTable). Both IsToldAlike None p) at b)
       by (Some t) e b = (t, e, subst (λ (p : Option PeerTable). Both IsToldAlike (Some t) p) at b)
 
@@ -57,15 +59,19 @@ module _ (before after : Tables) (alike : AreToldAlike before after) where
 
 -- ---- tables that are put
 
-module _ (place : EdgePlace) (old new : Control) (before after : Tables) (are : AreBetween place old new before) (put : EachPeer (λ o n. n ≡ put_behind o) before after) where
-  put_at : (peer : NodeId) (table : PeerTable) → maps.get after peer ≡ Some table → (t : PeerTable) × (maps.get before peer ≡ Some t) × (table ≡ put_behind t)
+module _ (place : EdgePlace) (old new : Control) (before after : Tables) (are : AreBetween place old new before)
+    (put : EachPeer (λ o n. n ≡ put_behind o) before after) where
+  put_at : (peer : NodeId) (table : PeerTable) → maps.get after peer ≡ Some table
+      → (t : PeerTable) × (maps.get before peer ≡ Some t) × (table ≡ put_behind t)
   put_at peer table at = by (maps.get before peer) refl (put peer)
     where
-      by : (o : Option PeerTable) → maps.get before peer ≡ o → Both (λ o n. n ≡ put_behind o) o (maps.get after peer) → (t : PeerTable) × (maps.get before peer ≡ Some t) × (table ≡ put_behind t)
+      by : (o : Option PeerTable) → maps.get before peer ≡ o → Both (λ o n. n ≡ put_behind o) o (maps.get after peer)
+          → (t : PeerTable) × (maps.get before peer ≡ Some t) × (table ≡ put_behind t)
       by None e b = absurd (subst (λ (p : Option PeerTable). Both (λ o n. n ≡ put_behind o) None p) at b)
       by (Some t) e b = (t, e, subst (λ (p : Option PeerTable). Both (λ o n. n ≡ put_behind o) (Some t) p) at b)
 
-  told_now : (up : Bool) (set was : Table) (peer : NodeId) → up ≡ is_some (maps.get new.peers peer) → set ≡ held_for place new peer → was ≡ cond up (told place old peer) maps.empty
+  told_now : (up : Bool) (set was : Table) (peer : NodeId) → up ≡ is_some (maps.get new.peers peer) → set ≡ held_for place new peer
+      → was ≡ cond up (told place old peer) maps.empty
       → cond up set was ≡ cond up (told place new peer) maps.empty
   told_now true set was peer e h k = h ∙ ap (λ (b : Bool). cond b (held_for place new peer) maps.empty) e
   told_now false set was peer e h k = k
@@ -80,7 +86,8 @@ module _ (place : EdgePlace) (old new : Control) (before after : Tables) (are : 
         told = told_now t.0.up t.0.set t.0.told peer is.up is.set is.told;
       })
 
-  pending_is : (up : Bool) (set was : Table) (peer : NodeId) → up ≡ is_some (maps.get new.peers peer) → set ≡ held_for place new peer → was ≡ cond up (told place old peer) maps.empty
+  pending_is : (up : Bool) (set was : Table) (peer : NodeId) → up ≡ is_some (maps.get new.peers peer) → set ≡ held_for place new peer
+      → was ≡ cond up (told place old peer) maps.empty
       → cond up (changes same_value was set) [] ≡ put_to place old new peer
   pending_is true set was peer e h k =
       (λ i. changes same_value (k i) ((h ∙ ap (λ (b : Bool). cond b (held_for place new peer) maps.empty) e) i))
@@ -96,12 +103,15 @@ module _ (place : EdgePlace) (old new : Control) (before after : Tables) (are : 
       by (Some t) None b = absurd b
       by (Some t) (Some u) b = refl
 
-  pub put_waits : (peer : NodeId) → is_some (maps.get before peer) ≡ true → waiting_at after peer ≡ waiting_at before peer ++ texts (put_to place old new peer)
+  pub put_waits : (peer : NodeId) → is_some (maps.get before peer) ≡ true
+      → waiting_at after peer ≡ waiting_at before peer ++ texts (put_to place old new peer)
   put_waits peer there = by (maps.get before peer) (maps.get after peer) refl there (put peer)
     where
-      by : (o p : Option PeerTable) → maps.get before peer ≡ o → is_some o ≡ true → Both (λ o n. n ≡ put_behind o) o p → waiting_of p ≡ waiting_of o ++ texts (put_to place old new peer)
+      by : (o p : Option PeerTable) → maps.get before peer ≡ o → is_some o ≡ true → Both (λ o n. n ≡ put_behind o) o p
+          → waiting_of p ≡ waiting_of o ++ texts (put_to place old new peer)
       by None p e h b = absurd cc
       by (Some t) None e h b = absurd b
       by (Some t) (Some u) e h b =
           let is = are peer t e in
-          ap (λ (x : PeerTable). x.waiting) b ∙ ap (λ (list : List _). t.waiting ++ texts list) (pending_is t.up t.set t.told peer is.up is.set is.told)
+          ap (λ (x : PeerTable). x.waiting) b ∙ ap (λ (list : List _). t.waiting ++ texts list)
+          (pending_is t.up t.set t.told peer is.up is.set is.told)

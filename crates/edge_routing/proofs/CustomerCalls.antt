@@ -34,68 +34,80 @@ held_in old step core = holds (place_of old.control.home core) (control_of old.c
 -- ---- a Join/Prune message
 
 -- Entries alone change, so each peer is to have what it was to have.
-pub pim_way : (iface : IfaceId) (message : JoinPrune) (now : ℕ) (old : EdgeRouting) (control : Kept) (tunnels : List Fec) → IsInStep old → control.home ≡ old.control.home
+pub pim_way : (iface : IfaceId) (message : JoinPrune) (now : ℕ) (old : EdgeRouting) (control : Kept) (tunnels : List Fec) → IsInStep old
+    → control.home ≡ old.control.home
     → ((core : Core) → control_of control ≡ effect (place_of old.control.home core) now (control_of old.control) (Pim iface message))
-    → wants_of control.trees ≡ wants_of old.control.trees → HasGroups message → IsOnWay (Pim iface message) now old (record { control = control; tables = old.tables }) tunnels
-pim_way iface message now old control tunnels step home made wants groups = on_way (Pim iface message) now old control old.tables tunnels no_core step (record {
-  home = home;
-  made = made;
-  wants = wants;
-  allowed = groups;
-  flows = λ core. refl;
-  up = λ core peer. refl;
-  hold = λ core. held_in old step core;
-  alike = all_alike old.tables;
-  keeps = λ peer octets. refl;
-  told = λ core. alike_tunnels (place_of old.control.home core) (control_of old.control) (control_of control) tunnels (sym (ap (λ (c : Control). c.peers) (made core)));
-})
+    → wants_of control.trees ≡ wants_of old.control.trees → HasGroups message
+    → IsOnWay (Pim iface message) now old (record { control = control; tables = old.tables }) tunnels
+pim_way iface message now old control tunnels step home made wants groups =
+    on_way (Pim iface message) now old control old.tables tunnels no_core step (record {
+      home = home;
+      made = made;
+      wants = wants;
+      allowed = groups;
+      flows = λ core. refl;
+      up = λ core peer. refl;
+      hold = λ core. held_in old step core;
+      alike = all_alike old.tables;
+      keeps = λ peer octets. refl;
+      told = λ core. alike_tunnels (place_of old.control.home core) (control_of old.control) (control_of control) tunnels
+          (sym (ap (λ (c : Control). c.peers) (made core)));
+    })
 
 -- ---- a note
 
 -- Each peer is to have what the edge holds with the note.
-pub note_way : (iface : IfaceId) (source group : Addr) (now : ℕ) (old : EdgeRouting) (control : Kept) (tables : Tables) (tunnels : List Fec) → IsInStep old → control.home ≡ old.control.home
+pub note_way : (iface : IfaceId) (source group : Addr) (now : ℕ) (old : EdgeRouting) (control : Kept) (tables : Tables) (tunnels : List Fec)
+    → IsInStep old → control.home ≡ old.control.home
     → ((core : Core) → control_of control ≡ effect (place_of old.control.home core) now (control_of old.control) (Active iface source group))
     → wants_of control.trees ≡ wants_of old.control.trees → IsFlow source group
     → ((core : Core) → HoldAll (place_of control.home core) (with_note (control_of old.control) (note_of iface source group)) tables)
     → AreToldAlike old.tables tables → IsOnWay (Active iface source group) now old (record { control = control; tables = tables }) tunnels
-note_way iface source group now old control tables tunnels step home made wants flow hold alike = on_way (Active iface source group) now old control tables tunnels no_core step (record {
-  home = home;
-  made = made;
-  wants = wants;
-  allowed = flow;
-  flows = λ core. refl;
-  up = λ core peer. refl;
-  hold = λ core. subst (λ (h : Home). HoldAll (place_of h core) (with_note (control_of old.control) (note_of iface source group)) tables) home (hold core);
-  alike = alike;
-  keeps = λ peer octets. refl;
-  told = λ core. alike_tunnels (place_of old.control.home core) (control_of old.control) (control_of control) tunnels (sym (ap (λ (c : Control). c.peers) (made core)));
-})
+note_way iface source group now old control tables tunnels step home made wants flow hold alike =
+    on_way (Active iface source group) now old control tables tunnels no_core step (record {
+      home = home;
+      made = made;
+      wants = wants;
+      allowed = flow;
+      flows = λ core. refl;
+      up = λ core peer. refl;
+      hold = λ core. subst (λ (h : Home). HoldAll (place_of h core) (with_note (control_of old.control) (note_of iface source group)) tables) home
+          (hold core);
+      alike = alike;
+      keeps = λ peer octets. refl;
+      told = λ core. alike_tunnels (place_of old.control.home core) (control_of old.control) (control_of control) tunnels
+          (sym (ap (λ (c : Control). c.peers) (made core)));
+    })
 
 -- ---- the end of a note
 
 -- Each peer is to have what the edge holds without the note.
-pub idle_way : (iface : IfaceId) (source group : Addr) (now : ℕ) (old : EdgeRouting) (control : Kept) (tables : Tables) (tunnels : List Fec) → IsInStep old → control.home ≡ old.control.home
+pub idle_way : (iface : IfaceId) (source group : Addr) (now : ℕ) (old : EdgeRouting) (control : Kept) (tables : Tables) (tunnels : List Fec)
+    → IsInStep old → control.home ≡ old.control.home
     → ((core : Core) → control_of control ≡ effect (place_of old.control.home core) now (control_of old.control) (Idle iface source group))
     → wants_of control.trees ≡ wants_of old.control.trees → ((core : Core) → HoldAll (place_of control.home core) (control_of control) tables)
     → AreToldAlike old.tables tables → IsOnWay (Idle iface source group) now old (record { control = control; tables = tables }) tunnels
-idle_way iface source group now old control tables tunnels step home made wants hold alike = on_way (Idle iface source group) now old control tables tunnels no_core step (record {
-  home = home;
-  made = made;
-  wants = wants;
-  allowed = tt;
-  flows = λ core. refl;
-  up = λ core peer. refl;
-  hold = λ core. subst (λ (h : Home). HoldAll (place_of h core) (without_note (control_of old.control) (note_of iface source group)) tables) home
-      (subst (λ (c : Control). HoldAll (place_of control.home core) c tables) (made core) (hold core));
-  alike = alike;
-  keeps = λ peer octets. refl;
-  told = λ core. alike_tunnels (place_of old.control.home core) (control_of old.control) (control_of control) tunnels (sym (ap (λ (c : Control). c.peers) (made core)));
-})
+idle_way iface source group now old control tables tunnels step home made wants hold alike =
+    on_way (Idle iface source group) now old control tables tunnels no_core step (record {
+      home = home;
+      made = made;
+      wants = wants;
+      allowed = tt;
+      flows = λ core. refl;
+      up = λ core peer. refl;
+      hold = λ core. subst (λ (h : Home). HoldAll (place_of h core) (without_note (control_of old.control) (note_of iface source group)) tables) home
+          (subst (λ (c : Control). HoldAll (place_of control.home core) c tables) (made core) (hold core));
+      alike = alike;
+      keeps = λ peer octets. refl;
+      told = λ core. alike_tunnels (place_of old.control.home core) (control_of old.control) (control_of control) tunnels
+          (sym (ap (λ (c : Control). c.peers) (made core)));
+    })
 
 -- ---- the VRF of an interface, as what is kept shows it
 
 module _ (kept : Kept) (shown : Home) (own : OwnVrf) (same : shown ≡ kept.home) where
-  pub own_at : IsSound kept → ((core : Core) → Among (as_own own) (own_vrfs (place_of shown core))) → ((core : Core) → IsAt (place_of shown core) own.local) → (core : Core)
+  pub own_at : IsSound kept → ((core : Core) → Among (as_own own) (own_vrfs (place_of shown core)))
+      → ((core : Core) → IsAt (place_of shown core) own.local) → (core : Core)
       → IsOwnAt (place_of kept.home core) own
   own_at sound among at core = record {
     rules = sound.home.rules;
@@ -107,5 +119,7 @@ module _ (kept : Kept) (shown : Home) (own : OwnVrf) (same : shown ≡ kept.home
   of_kept iface of = subst (λ (h : Home). is_iface_of h.scenario own.id iface ≡ true) same of
 
 -- what peers were to have, at the place of what is kept now
-pub held_at : (old : EdgeRouting) (kept : Kept) → IsInStep old → kept.home ≡ old.control.home → (core : Core) → HoldAll (place_of kept.home core) (control_of old.control) old.tables
-held_at old kept step home core = subst (λ (h : Home). HoldAll (place_of h core) (control_of old.control) old.tables) (sym home) (held_in old step core)
+pub held_at : (old : EdgeRouting) (kept : Kept) → IsInStep old → kept.home ≡ old.control.home → (core : Core)
+    → HoldAll (place_of kept.home core) (control_of old.control) old.tables
+held_at old kept step home core =
+    subst (λ (h : Home). HoldAll (place_of h core) (control_of old.control) old.tables) (sym home) (held_in old step core)

@@ -35,12 +35,16 @@ use Rattle.edge_routing.proofs.Leaves.{neither, same_leaf, same_wants}
 
 -- ---- trees
 
-pub kept_trees : (kept : Kept) (core : Core) → AreTrees kept → AreTreesOf (place_of kept.home core) (control_of kept) (own_vrfs (place_of kept.home core)) kept.trees
-kept_trees kept core are = subst₂ (AreTreesOf (place_of kept.home core) (control_of kept)) are.all are.full (one_by_one (place_of kept.home core) (control_of kept) (trees_of kept) (are.each core))
+pub kept_trees : (kept : Kept) (core : Core) → AreTrees kept
+    → AreTreesOf (place_of kept.home core) (control_of kept) (own_vrfs (place_of kept.home core)) kept.trees
+kept_trees kept core are =
+    subst₂ (AreTreesOf (place_of kept.home core) (control_of kept)) are.all are.full
+    (one_by_one (place_of kept.home core) (control_of kept) (trees_of kept) (are.each core))
 
 -- ---- what is kept behind a refresh
 
-module _ (core : Topology) (now : ℕ) (old new : Kept) (own : Core) (is_core : IsCoreOf core.nodes core.links own) (is : IsRefreshedTo core now old new) where
+module _ (core : Topology) (now : ℕ) (old new : Kept) (own : Core) (is_core : IsCoreOf core.nodes core.links own)
+    (is : IsRefreshedTo core now old new) where
   control : control_of new ≡ refreshed (place_of old.home own) now (control_of old)
   control = is.control own is_core
 
@@ -48,25 +52,32 @@ module _ (core : Topology) (now : ℕ) (old new : Kept) (own : Core) (is_core : 
   same_peers = ap (λ (c : Control). c.peers) control
 
   pub flows_are_of_vrfs : (any : Core) → AreOfVrfs (place_of old.home any) (control_of new)
-  flows_are_of_vrfs any = subst (λ (c : Control). AreOfVrfs (place_of old.home any) c) (sym control) (flows_of_vrfs (place_of old.home own) now (control_of old))
+  flows_are_of_vrfs any =
+      subst (λ (c : Control). AreOfVrfs (place_of old.home any) c) (sym control) (flows_of_vrfs (place_of old.home own) now (control_of old))
 
-  pub same_inclusive : (any : Core) (fec : Fec) → IsInclusive (place_of old.home any) (control_of old) fec ↔ IsInclusive (place_of old.home any) (control_of new) fec
+  pub same_inclusive : (any : Core) (fec : Fec)
+      → IsInclusive (place_of old.home any) (control_of old) fec ↔ IsInclusive (place_of old.home any) (control_of new) fec
   same_inclusive any fec =
-      subst (λ (c : Control). IsInclusive (place_of old.home any) (control_of old) fec ↔ IsInclusive (place_of old.home any) c fec) (sym control) ((λ i. again i), (λ i. back i))
+      subst (λ (c : Control). IsInclusive (place_of old.home any) (control_of old) fec ↔ IsInclusive (place_of old.home any) c fec) (sym control)
+      ((λ i. again i), (λ i. back i))
     where
-      again : IsInclusive (place_of old.home any) (control_of old) fec → IsInclusive (place_of old.home any) (refreshed (place_of old.home own) now (control_of old)) fec
+      again : IsInclusive (place_of old.home any) (control_of old) fec
+          → IsInclusive (place_of old.home any) (refreshed (place_of old.home own) now (control_of old)) fec
       again i = record { own = i.own; of_edge = i.of_edge; peer = i.peer; key = i.key; route = i.route; taken = i.taken; imported = i.imported }
 
-      back : IsInclusive (place_of old.home any) (refreshed (place_of old.home own) now (control_of old)) fec → IsInclusive (place_of old.home any) (control_of old) fec
+      back : IsInclusive (place_of old.home any) (refreshed (place_of old.home own) now (control_of old)) fec
+          → IsInclusive (place_of old.home any) (control_of old) fec
       back i = record { own = i.own; of_edge = i.of_edge; peer = i.peer; key = i.key; route = i.route; taken = i.taken; imported = i.imported }
 
 -- ---- the rest of a step
 
-module _ (core : Topology) (now : ℕ) (call : Call) (old between new : EdgeRouting) (tunnels changed : List Fec) (told : LeafCandidates) (middle : Tables) (own : Core)
+module _ (core : Topology) (now : ℕ) (call : Call) (old between new : EdgeRouting) (tunnels changed : List Fec) (told : LeafCandidates)
+    (middle : Tables) (own : Core)
     (is_core : IsCoreOf core.nodes core.links own) (vrf : is_vrf_step call ≡ true) (step : IsInStep old) (way : IsOnWay call now old between tunnels)
     (is : IsRefreshedTo core now between.control new.control) (trees : AreTrees new.control) (groups : HaveGroups (control_of new.control))
     (hold : (any : Core) → HoldAll (place_of between.control.home any) (control_of new.control) middle) (alike : AreToldAlike between.tables middle)
-    (put : EachPeer (λ o n. n ≡ put_behind o) middle new.tables) (wants : AreTold between.control.trees new.control.trees changed) (all : told.candidates.items ≡ tunnels ++ changed)
+    (put : EachPeer (λ o n. n ≡ put_behind o) middle new.tables) (wants : AreTold between.control.trees new.control.trees changed)
+    (all : told.candidates.items ≡ tunnels ++ changed)
     (listed : (any : Core) (fec : Fec) → list_any (same_fec fec) told.candidates.items ≡ true
     → list_any (same_fec fec) told.leaves.items ≡ sets.contains (leaves (place_of new.control.home any) (control_of new.control)) fec) where
   home : Home
@@ -77,7 +88,8 @@ module _ (core : Topology) (now : ℕ) (call : Call) (old between new : EdgeRout
 
   middle_between : (any : Core) → AreBetween (place_of between.control.home any) (control_of old.control) (control_of new.control) middle
   middle_between any =
-      still_between between.tables middle alike (place_of between.control.home any) (control_of old.control) (control_of between.control) (control_of new.control) (way.tables any) (hold any) same_up
+      still_between between.tables middle alike (place_of between.control.home any) (control_of old.control) (control_of between.control)
+      (control_of new.control) (way.tables any) (hold any) same_up
 
   keys : (peer : NodeId) → is_some (maps.get new.tables peer) ≡ is_some (maps.get old.tables peer)
   keys peer =
@@ -91,9 +103,11 @@ module _ (core : Topology) (now : ℕ) (call : Call) (old between new : EdgeRout
   in_step = record {
     trees = trees;
     groups = groups;
-    vrfs = λ any. subst (λ (h : Home). AreOfVrfs (place_of h any) (control_of new.control)) (sym is.home) (flows_are_of_vrfs core now between.control new.control own is_core is any);
+    vrfs = λ any. subst (λ (h : Home). AreOfVrfs (place_of h any) (control_of new.control)) (sym is.home)
+        (flows_are_of_vrfs core now between.control new.control own is_core is any);
     tables = λ any. subst (λ (h : Home). AreBetween (place_of h any) (control_of new.control) (control_of new.control) new.tables) (sym is.home)
-        (put_between (place_of between.control.home any) (control_of old.control) (control_of new.control) middle new.tables (middle_between any) put);
+        (put_between (place_of between.control.home any) (control_of old.control) (control_of new.control) middle new.tables (middle_between any)
+        put);
     peers = λ peer. (
       (λ h. subst (λ (x : Home). Among peer (peers_of x)) (sym same_home) ((step.peers peer).0 (sym (keys peer) ∙ h))),
       (λ a. keys peer ∙ (step.peers peer).1 (subst (λ (x : Home). Among peer (peers_of x)) same_home a)),
@@ -101,38 +115,55 @@ module _ (core : Topology) (now : ℕ) (call : Call) (old between new : EdgeRout
     up = λ peer h. keys peer ∙ (sym (way.peers peer) ∙ way.up peer (sym (same_up peer) ∙ h));
   }
 
-  step_control : (any : Core) → IsCoreOf core.nodes core.links any → control_of new.control ≡ control_step (place_of old.control.home any) now (control_of old.control) call
+  step_control : (any : Core) → IsCoreOf core.nodes core.links any
+      → control_of new.control ≡ control_step (place_of old.control.home any) now (control_of old.control) call
   step_control any any_core =
       subst (λ (h : Home). control_of new.control ≡ control_step (place_of h any) now (control_of old.control) call) way.home
       (is.control any any_core
       ∙ (ap (λ (c : Control). refreshed (place_of between.control.home any) now c) (way.control any)
-      ∙ ap (λ (b : Bool). cond b (refreshed (place_of between.control.home any) now (effect (place_of between.control.home any) now (control_of old.control) call)) (effect (place_of between.control.home any) now (control_of old.control) call)) (sym vrf)))
+      ∙ ap (λ (b : Bool). cond b (refreshed (place_of between.control.home any) now
+      (effect (place_of between.control.home any) now (control_of old.control) call))
+      (effect (place_of between.control.home any) now (control_of old.control) call)) (sym vrf)))
 
   waiting : (any : Core) (peer : NodeId) → Among peer (peers_of old.control.home)
-      → waiting_at new.tables peer ≡ kept_for call peer (waiting_at old.tables peer) ++ texts (put_to (place_of old.control.home any) (control_of old.control) (control_of new.control) peer)
+      → waiting_at new.tables peer ≡ kept_for call peer (waiting_at old.tables peer)
+      ++ texts (put_to (place_of old.control.home any) (control_of old.control) (control_of new.control) peer)
   waiting any peer among =
       let there : is_some (maps.get middle peer) ≡ true = same_keys between.tables middle alike peer ∙ (way.peers peer ∙ (step.peers peer).1 among) in
-      put_waits (place_of between.control.home any) (control_of old.control) (control_of new.control) middle new.tables (middle_between any) put peer there
-      ∙ (ap (λ (o : List ℕ). o ++ texts (put_to (place_of between.control.home any) (control_of old.control) (control_of new.control) peer)) (same_waiting between.tables middle alike peer ∙ way.waiting peer)
-      ∙ ap (λ (h : Home). kept_for call peer (waiting_at old.tables peer) ++ texts (put_to (place_of h any) (control_of old.control) (control_of new.control) peer)) way.home)
+      put_waits (place_of between.control.home any) (control_of old.control) (control_of new.control) middle new.tables (middle_between any) put peer
+      there
+      ∙ (ap (λ (o : List ℕ). o ++ texts (put_to (place_of between.control.home any) (control_of old.control) (control_of new.control) peer))
+      (same_waiting between.tables middle alike peer ∙ way.waiting peer)
+      ∙ ap (λ (h : Home). kept_for call peer (waiting_at old.tables peer)
+      ++ texts (put_to (place_of h any) (control_of old.control) (control_of new.control) peer)) way.home)
 
-  inclusive : (any : Core) (fec : Fec) → list_any (same_fec fec) tunnels ≡ false → IsInclusive (place_of between.control.home any) (control_of old.control) fec ↔ IsInclusive (place_of between.control.home any) (control_of new.control) fec
+  inclusive : (any : Core) (fec : Fec) → list_any (same_fec fec) tunnels ≡ false
+      → IsInclusive (place_of between.control.home any) (control_of old.control) fec ↔ IsInclusive (place_of between.control.home any)
+      (control_of new.control) fec
   inclusive any fec h =
       let first = way.tunnels any fec h in
       let second = same_inclusive core now between.control new.control own is_core is any fec in
       ((λ i. second.0 (first.0 i)), (λ i. first.1 (second.1 i)))
 
-  old_trees : (any : Core) → AreTreesOf (place_of between.control.home any) (control_of old.control) (own_vrfs (place_of between.control.home any)) old.control.trees
-  old_trees any = subst (λ (h : Home). AreTreesOf (place_of h any) (control_of old.control) (own_vrfs (place_of h any)) old.control.trees) (sym way.home) (kept_trees old.control any step.trees)
+  old_trees : (any : Core) → AreTreesOf (place_of between.control.home any) (control_of old.control) (own_vrfs (place_of between.control.home any))
+      old.control.trees
+  old_trees any =
+      subst (λ (h : Home). AreTreesOf (place_of h any) (control_of old.control) (own_vrfs (place_of h any)) old.control.trees) (sym way.home)
+      (kept_trees old.control any step.trees)
 
-  new_trees : (any : Core) → AreTreesOf (place_of between.control.home any) (control_of new.control) (own_vrfs (place_of between.control.home any)) new.control.trees
-  new_trees any = subst (λ (h : Home). AreTreesOf (place_of h any) (control_of new.control) (own_vrfs (place_of h any)) new.control.trees) is.home (kept_trees new.control any trees)
+  new_trees : (any : Core) → AreTreesOf (place_of between.control.home any) (control_of new.control) (own_vrfs (place_of between.control.home any))
+      new.control.trees
+  new_trees any =
+      subst (λ (h : Home). AreTreesOf (place_of h any) (control_of new.control) (own_vrfs (place_of h any)) new.control.trees) is.home
+      (kept_trees new.control any trees)
 
-  candidates : (any : Core) → AreCandidates (leaves (place_of between.control.home any) (control_of old.control)) (leaves (place_of between.control.home any) (control_of new.control)) told.candidates.items told.leaves.items
+  candidates : (any : Core) → AreCandidates (leaves (place_of between.control.home any) (control_of old.control))
+      (leaves (place_of between.control.home any) (control_of new.control)) told.candidates.items told.leaves.items
   candidates any = record {
     all = λ fec h.
         let both = neither fec tunnels changed (sym (ap (λ (xs : List Fec). list_any (same_fec fec) xs) all) ∙ h) in
-        same_leaf (place_of between.control.home any) (control_of old.control) (control_of new.control) old.control.trees new.control.trees fec (old_trees any) (new_trees any) (inclusive any fec both.0)
+        same_leaf (place_of between.control.home any) (control_of old.control) (control_of new.control) old.control.trees new.control.trees fec
+        (old_trees any) (new_trees any) (inclusive any fec both.0)
         (same_wants fec old.control.trees between.control.trees way.wants ∙ wants fec both.1);
     listed = λ fec h. listed any fec h ∙ ap (λ (x : Home). sets.contains (leaves (place_of x any) (control_of new.control)) fec) is.home;
   }
@@ -143,11 +174,13 @@ module _ (core : Topology) (now : ℕ) (call : Call) (old between new : EdgeRout
     home = same_home;
     control = step_control;
     waiting = waiting;
-    leaves = λ any. subst (λ (h : Home). AreCandidates (leaves (place_of h any) (control_of old.control)) (leaves (place_of h any) (control_of new.control)) told.candidates.items told.leaves.items) way.home (candidates any);
+    leaves = λ any. subst (λ (h : Home). AreCandidates (leaves (place_of h any) (control_of old.control))
+        (leaves (place_of h any) (control_of new.control)) told.candidates.items told.leaves.items) way.home (candidates any);
   }
 
 -- The same, by what the refresh says.
-pub rest_of : (core : Topology) (now : ℕ) (call : Call) (old between refreshed_to new : EdgeRouting) (tunnels changed : List Fec) (told : LeafCandidates) → is_vrf_step call ≡ true → IsInStep old
+pub rest_of : (core : Topology) (now : ℕ) (call : Call) (old between refreshed_to new : EdgeRouting) (tunnels changed : List Fec)
+    (told : LeafCandidates) → is_vrf_step call ≡ true → IsInStep old
     → IsOnWay call now old between tunnels → HasRefreshed core now between refreshed_to changed → new.control ≡ refreshed_to.control
     → EachPeer (λ o n. n ≡ put_behind o) refreshed_to.tables new.tables → told.candidates.items ≡ tunnels ++ changed
     → ((any : Core) (fec : Fec) → list_any (same_fec fec) told.candidates.items ≡ true
@@ -155,9 +188,11 @@ pub rest_of : (core : Topology) (now : ℕ) (call : Call) (old between refreshed
     → IsStepped core now call old new told
 rest_of core now call old between to new tunnels changed told vrf step way has same put all listed =
     finished core now call old between new tunnels changed told to.tables has.own has.is_core vrf step way
-    (subst (λ (k : Kept). IsRefreshedTo core now between.control k) (sym same) has.is) (subst AreTrees (sym same) has.trees) (subst (λ (k : Kept). HaveGroups (control_of k)) (sym same) has.groups)
+    (subst (λ (k : Kept). IsRefreshedTo core now between.control k) (sym same) has.is) (subst AreTrees (sym same) has.trees)
+    (subst (λ (k : Kept). HaveGroups (control_of k)) (sym same) has.groups)
     (λ any. subst (λ (k : Kept). HoldAll (place_of between.control.home any) (control_of k) to.tables) (sym same)
-    (has.hold any (vrfs any) (holds (place_of between.control.home any) (control_of old.control) (control_of between.control) between.tables (way.tables any))))
+    (has.hold any (vrfs any) (holds (place_of between.control.home any) (control_of old.control) (control_of between.control) between.tables
+    (way.tables any))))
     has.alike put (subst (λ (k : Kept). AreTold between.control.trees k.trees changed) (sym same) has.wants) all listed
   where
     vrfs : (any : Core) → AreOfVrfs (place_of between.control.home any) (control_of between.control)

@@ -35,7 +35,8 @@ found_fresh : (peers : List NodeId) (q : NodeId) (table : PeerTable) → find no
 found_fresh [] q table h = absurd cc
 found_fresh (peer ∷ peers) q table h = by (eq_by_cmp node_cmp q peer) h (found_fresh peers q table)
   where
-    by : (b : Bool) → cond b (Some fresh) (find node_cmp q (fresh_of peers)) ≡ Some table → (find node_cmp q (fresh_of peers) ≡ Some table → table ≡ fresh) → table ≡ fresh
+    by : (b : Bool) → cond b (Some fresh) (find node_cmp q (fresh_of peers)) ≡ Some table
+        → (find node_cmp q (fresh_of peers) ≡ Some table → table ≡ fresh) → table ≡ fresh
     by true e rest = cc
     by false e rest = rest e
 
@@ -49,7 +50,9 @@ found_among (peer ∷ peers) q h = by (eq_by_cmp node_cmp q peer) refl (found_am
 
 among_found : (peers : List NodeId) (q : NodeId) → Among q peers → is_some (find node_cmp q (fresh_of peers)) ≡ true
 among_found [] q a = absurd a
-among_found (peer ∷ peers) q (inl e) = ap (λ (b : Bool). is_some (cond b (Some fresh) (find node_cmp q (fresh_of peers)))) (subst (λ (p : NodeId). eq_by_cmp node_cmp q p ≡ true) e (own_key node_cmp_total q))
+among_found (peer ∷ peers) q (inl e) =
+    ap (λ (b : Bool). is_some (cond b (Some fresh) (find node_cmp q (fresh_of peers))))
+    (subst (λ (p : NodeId). eq_by_cmp node_cmp q p ≡ true) e (own_key node_cmp_total q))
 among_found (peer ∷ peers) q (inr a) = by (eq_by_cmp node_cmp q peer) (among_found peers q a)
   where
     by : (b : Bool) → is_some (find node_cmp q (fresh_of peers)) ≡ true → is_some (cond b (Some fresh) (find node_cmp q (fresh_of peers))) ≡ true
@@ -100,10 +103,12 @@ module _ (peers : List NodeId) (before : Tables) (is : before ≡ maps.from_entr
       trees = trees;
       groups = subst HaveGroups (sym none) first_groups;
       vrfs = λ core. subst (λ (c : Control). AreOfVrfs (place_of kept.home core) c) (sym none) (no_flows (place_of kept.home core));
-      tables = λ core. subst (λ (c : Control). AreBetween (place_of kept.home core) c c after) (sym none) (first_between (place_of kept.home core) (hold core));
+      tables = λ core. subst (λ (c : Control). AreBetween (place_of kept.home core) c c after) (sym none)
+          (first_between (place_of kept.home core) (hold core));
       peers = λ q. (
         (λ h. subst (Among q) all ((keys q).0 (sym (same_keys before after alike q) ∙ h))),
         (λ a. same_keys before after alike q ∙ (keys q).1 (subst (Among q) (sym all) a)),
       );
-      up = λ q h. absurd (let down = sym (ap (λ (c : Control). is_some (maps.get c.peers q)) none ∙ ap is_some (maps.get-empty node_cmp q)) ∙ h in cc);
+      up = λ q h. absurd (let down = sym (ap (λ (c : Control). is_some (maps.get c.peers q)) none ∙ ap is_some (maps.get-empty node_cmp q)) ∙ h in
+          cc);
     }

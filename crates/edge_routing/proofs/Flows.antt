@@ -45,26 +45,34 @@ join_of flow None join h = absurd cc
 join_of flow (Some None) join h = absurd cc
 join_of flow (Some (Some (Site site))) join h = absurd cc
 join_of flow (Some (Some (Remote edge rd import source_as))) join h =
-    let made : TreeJoin = record { edge = edge; rd = rd; import = (import.addr, import.number); source_as = source_as; source = flow.source; group = flow.group } in
+    let made : TreeJoin =
+    record { edge = edge; rd = rd; import = (import.addr, import.number); source_as = source_as; source = flow.source; group = flow.group } in
     let same : made ≡ join = cc in
     record { there = refl; source = ap (λ (j : TreeJoin). j.source) same; group = ap (λ (j : TreeJoin). j.group) same }
 
-flow_group : (control : Control) → HaveGroups control → (flow : VrfFlow) (join : TreeJoin) → join_at flow (maps.get control.flows flow) ≡ Some join → IsGroup (afi_of join.source) join.group
+flow_group : (control : Control) → HaveGroups control → (flow : VrfFlow) (join : TreeJoin) → join_at flow (maps.get control.flows flow) ≡ Some join
+    → IsGroup (afi_of join.source) join.group
 flow_group control have flow join h =
     let is = join_of flow (maps.get control.flows flow) join h in
-    subst (λ (a : Addr). IsGroup (afi_of a) join.group) is.source (subst (λ (a : Addr). IsGroup (afi_of flow.source) a) is.group (have.flows flow is.there))
+    subst (λ (a : Addr). IsGroup (afi_of a) join.group) is.source
+    (subst (λ (a : Addr). IsGroup (afi_of flow.source) a) is.group (have.flows flow is.there))
 
-pub join_groups : (old new : Control) (joins : List TreeJoin) → HaveGroups old → HaveGroups new → AreChanged old.flows new.flows joins → All (λ join. IsGroup (afi_of join.source) join.group) joins
+pub join_groups : (old new : Control) (joins : List TreeJoin) → HaveGroups old → HaveGroups new → AreChanged old.flows new.flows joins
+    → All (λ join. IsGroup (afi_of join.source) join.group) joins
 join_groups old new joins old_have new_have changed =
-    All-from_recursion (λ (join : TreeJoin). IsGroup (afi_of join.source) join.group) joins (all_among (λ (join : TreeJoin). IsGroup (afi_of join.source) join.group) joins (λ join among. by join (changed.each join among)))
+    All-from_recursion (λ (join : TreeJoin). IsGroup (afi_of join.source) join.group) joins
+    (all_among (λ (join : TreeJoin). IsGroup (afi_of join.source) join.group) joins (λ join among. by join (changed.each join among)))
   where
-    by : (join : TreeJoin) → (flow : VrfFlow) × ((join_at flow (maps.get old.flows flow) ≡ Some join) ⊎ (join_at flow (maps.get new.flows flow) ≡ Some join)) → IsGroup (afi_of join.source) join.group
+    by : (join : TreeJoin) → (flow : VrfFlow) × ((join_at flow (maps.get old.flows flow) ≡ Some join)
+        ⊎ (join_at flow (maps.get new.flows flow) ≡ Some join)) → IsGroup (afi_of join.source) join.group
     by join (flow, inl h) = flow_group old old_have flow join h
     by join (flow, inr h) = flow_group new new_have flow join h
 
 -- The groups behind a refresh.
-pub groups_behind : (now : ℕ) (old new : Kept) (own : Core) → HaveGroups (control_of old) → IsSound old → control_of new ≡ refreshed (place_of old.home own) now (control_of old) → HaveGroups (control_of new)
-groups_behind now old new own have sound is = subst HaveGroups (sym is) (refreshed_groups (place_of old.home own) now (control_of old) have sound.spelled)
+pub groups_behind : (now : ℕ) (old new : Kept) (own : Core) → HaveGroups (control_of old) → IsSound old
+    → control_of new ≡ refreshed (place_of old.home own) now (control_of old) → HaveGroups (control_of new)
+groups_behind now old new own have sound is =
+    subst HaveGroups (sym is) (refreshed_groups (place_of old.home own) now (control_of old) have sound.spelled)
 
 -- ---- joins
 
@@ -72,7 +80,8 @@ groups_behind now old new own have sound is = subst HaveGroups (sym is) (refresh
 pub held_behind : (old new : Kept) (own any : Core) (now : ℕ) (joins gone_through : List TreeJoin) (before after : Tables) → new.home ≡ old.home
     → control_of new ≡ refreshed (place_of old.home own) now (control_of old) → AreOfVrfs (place_of old.home any) (control_of old)
     → AreChanged (control_of old).flows (control_of new).flows joins → HoldAll (place_of old.home any) (control_of old) before → gone_through ≡ joins
-    → (AreOfVrfs (place_of new.home any) (control_of new) → HaveIpv4Imports (control_of new) → HoldAllBut (place_of new.home any) (control_of new) (keys_of gone_through) before
+    → (AreOfVrfs (place_of new.home any) (control_of new) → HaveIpv4Imports (control_of new)
+    → HoldAllBut (place_of new.home any) (control_of new) (keys_of gone_through) before
     → HoldAll (place_of new.home any) (control_of new) after) → HoldAll (place_of old.home any) (control_of new) after
 held_behind old new own any now joins gone before after home is vrfs changed hold all turns =
     subst (λ (h : Home). HoldAll (place_of h any) (control_of new) after) home
@@ -95,5 +104,6 @@ held_behind old new own any now joins gone before after home is vrfs changed hol
 
     begun_now : HoldAllBut (place_of old.home any) (with_flows (control_of old) flows) (keys_of joins) before
     begun_now =
-        begun (place_of old.home any) (control_of old) flows (keys_of joins) vrfs (subst (λ (c : Control). AreOfVrfs (place_of old.home any) c) rest vrfs_new)
+        begun (place_of old.home any) (control_of old) flows (keys_of joins) vrfs
+        (subst (λ (c : Control). AreOfVrfs (place_of old.home any) c) rest vrfs_new)
         (others_alike (place_of old.home any) (control_of old) flows joins changed) before hold

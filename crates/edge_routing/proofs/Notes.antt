@@ -44,7 +44,8 @@ not_tied false h k = absurd (let bad : false ≡ true = k in cc)
 untied : (b : Bool) → b ≡ false → not b ≡ true
 untied b h = ap not h
 
-module _ (place : EdgePlace) (old now : Control) (own : OwnVrf) (tree : TreeData) (is : IsTreeOf place now own tree) (iface : IfaceId) (source group : Addr)
+module _ (place : EdgePlace) (old now : Control) (own : OwnVrf) (tree : TreeData) (is : IsTreeOf place now own tree) (iface : IfaceId)
+    (source group : Addr)
     (ended : now ≡ without_note old (note_of iface source group)) where
   abbrev flow : Flow
   flow = record { source = source; group = group }
@@ -63,12 +64,16 @@ module _ (place : EdgePlace) (old now : Control) (own : OwnVrf) (tree : TreeData
       let at : IfaceId = found.0.iface in
       let both = and_parts (is_iface_of place.scenario own.id at) (sets.contains now.notes (edge_note found.0))
       (sym (is.notes found.0) ∙ item_contained trees.note_total trees.note_exact tree.vrf.notes found.0 found.1) in
-      let there : sets.contains now.notes (note_of at source group) ≡ true = ap (λ (f : Flow). sets.contains now.notes (edge_note (record { iface = at; flow = f }))) (sym same) ∙ both.1 in
-      let parts = and_parts (not (eq_by_cmp note_cmp (note_of at source group) note)) (sets.contains old.notes (note_of at source group)) (sym (noted_now (note_of at source group)) ∙ there) in
+      let there : sets.contains now.notes (note_of at source group) ≡ true =
+      ap (λ (f : Flow). sets.contains now.notes (edge_note (record { iface = at; flow = f }))) (sym same) ∙ both.1 in
+      let parts =
+      and_parts (not (eq_by_cmp note_cmp (note_of at source group) note)) (sets.contains old.notes (note_of at source group))
+      (sym (noted_now (note_of at source group)) ∙ there) in
       record {
         iface = at;
         of_vrf = both.0;
-        other = λ e. not_tied (eq_by_cmp note_cmp (note_of at source group) note) parts.0 (ap (λ (i : IfaceId). eq_by_cmp note_cmp (note_of i source group) note) e ∙ own_key note_total note);
+        other = λ e. not_tied (eq_by_cmp note_cmp (note_of at source group) note) parts.0
+            (ap (λ (i : IfaceId). eq_by_cmp note_cmp (note_of i source group) note) e ∙ own_key note_total note);
         noted = parts.1;
       }
 
@@ -85,7 +90,8 @@ module _ (place : EdgePlace) (old now : Control) (own : OwnVrf) (tree : TreeData
       (trees.same_flow_itself flow)) h
 
   -- Where the tree has another note of the flow, tables hold what they held.
-  still_held : Rules place.scenario → Among own (own_vrfs place) → is_iface_of place.scenario own.id iface ≡ true → is_noted tree.vrf.notes flow ≡ true → (tables : Tables)
+  still_held : Rules place.scenario → Among own (own_vrfs place) → is_iface_of place.scenario own.id iface ≡ true
+      → is_noted tree.vrf.notes flow ≡ true → (tables : Tables)
       → HoldAll place old tables → HoldAll place now tables
   still_held rules a of h tables hold =
       subst (λ (c : Control). HoldAll place c tables) (sym ended)
@@ -93,8 +99,10 @@ module _ (place : EdgePlace) (old now : Control) (own : OwnVrf) (tree : TreeData
 
 -- ---- what is kept behind the end of a note
 
-module _ (kept : Kept) (shown : Home) (own : homes.OwnVrf) (tree : TreeData) (same : shown ≡ kept.home) (sound : IsSound kept) (at : IsTreeAt kept own.id tree)
-    (among : (core : Core) → Among (as_own own) (own_vrfs (place_of shown core))) (iface : IfaceId) (of : is_iface_of shown.scenario own.id iface ≡ true) (source group : Addr)
+module _ (kept : Kept) (shown : Home) (own : homes.OwnVrf) (tree : TreeData) (same : shown ≡ kept.home) (sound : IsSound kept)
+    (at : IsTreeAt kept own.id tree)
+    (among : (core : Core) → Among (as_own own) (own_vrfs (place_of shown core))) (iface : IfaceId)
+    (of : is_iface_of shown.scenario own.id iface ≡ true) (source group : Addr)
     (walks : Core) (old : Control) (ended : control_of kept ≡ without_note old (note_of iface source group)) where
   abbrev place : EdgePlace
   place = place_of kept.home walks
@@ -105,12 +113,14 @@ module _ (kept : Kept) (shown : Home) (own : homes.OwnVrf) (tree : TreeData) (sa
   tree_of_own : IsTreeOf place (control_of kept) (as_own own) (as_wanted tree)
   tree_of_own = tree_between kept walks (as_own own).id tree (as_own own) sound at own_among refl
 
-  pub held_still : is_noted tree.vrf.notes (record { source = source; group = group }) ≡ true → (tables : Tables) → HoldAll place old tables → HoldAll place (control_of kept) tables
+  pub held_still : is_noted tree.vrf.notes (record { source = source; group = group }) ≡ true → (tables : Tables) → HoldAll place old tables
+      → HoldAll place (control_of kept) tables
   held_still h tables hold =
       still_held place old (control_of kept) (as_own own) (as_wanted tree) tree_of_own iface source group ended sound.home.rules own_among
       (subst (λ (x : Home). is_iface_of x.scenario own.id iface ≡ true) same of) h tables hold
 
-  pub alone : is_noted tree.vrf.notes (record { source = source; group = group }) ≡ false → IsNotedBeside place old (as_own own) (note_of iface source group) → ⊥
+  pub alone : is_noted tree.vrf.notes (record { source = source; group = group }) ≡ false
+      → IsNotedBeside place old (as_own own) (note_of iface source group) → ⊥
   alone h beside = none_beside place old (control_of kept) (as_own own) (as_wanted tree) tree_of_own iface source group ended h beside
 
   pub held_without : (tables : Tables) → HoldAll place (without_note old (note_of iface source group)) tables → HoldAll place (control_of kept) tables

@@ -11,7 +11,8 @@ node_at number = record { 0 = number }
 later : (number peer count : ℕ) → (number + 1 ≤ peer) × (peer < (number + 1) + count) → (number ≤ peer) × (peer < number + suc count)
 later number peer count h = (let low = h.0 in let high = h.1 in (grind (arith), grind (arith)))
 
-within : (me peer : NodeId) (number : ℕ) (nodes : List Node) → Among peer (peers_from me number nodes) → (number ≤ peer.0) × (peer.0 < number + length nodes)
+within : (me peer : NodeId) (number : ℕ) (nodes : List Node) → Among peer (peers_from me number nodes)
+    → (number ≤ peer.0) × (peer.0 < number + length nodes)
 within me peer number [] among = absurd among
 within me peer number (node ∷ more) among = by (node.edge && not (number == me.0)) refl (within me peer (number + 1) more)
   where
@@ -19,12 +20,16 @@ within me peer number (node ∷ more) among = by (node.edge && not (number == me
     first e = (let same : peer.0 ≡ number = ap (λ (n : NodeId). n.0) e in (grind (arith), grind (arith)))
 
     by : (shown : Bool) → (node.edge && not (number == me.0)) ≡ shown
-        → (Among peer (peers_from me (number + 1) more) → (number + 1 ≤ peer.0) × (peer.0 < (number + 1) + length more)) → (number ≤ peer.0) × (peer.0 < number + suc (length more))
-    by true e rest = elim (subst (λ (b : Bool). Among peer (cond b (node_at number ∷ peers_from me (number + 1) more) (peers_from me (number + 1) more))) e among) [
-      | inl s ↦ first s
-      | inr a ↦ later number peer.0 (length more) (rest a)
-    ]
-    by false e rest = later number peer.0 (length more) (rest (subst (λ (b : Bool). Among peer (cond b (node_at number ∷ peers_from me (number + 1) more) (peers_from me (number + 1) more))) e among))
+        → (Among peer (peers_from me (number + 1) more) → (number + 1 ≤ peer.0) × (peer.0 < (number + 1) + length more))
+        → (number ≤ peer.0) × (peer.0 < number + suc (length more))
+    by true e rest =
+        elim (subst (λ (b : Bool). Among peer (cond b (node_at number ∷ peers_from me (number + 1) more) (peers_from me (number + 1) more))) e among) [
+          | inl s ↦ first s
+          | inr a ↦ later number peer.0 (length more) (rest a)
+        ]
+    by false e rest =
+        later number peer.0 (length more) (rest (subst
+        (λ (b : Bool). Among peer (cond b (node_at number ∷ peers_from me (number + 1) more) (peers_from me (number + 1) more))) e among))
 
 pub is_node : (home : Home) (peer : NodeId) → Among peer (peers_of home) → peer.0 < length home.scenario.nodes
 is_node home peer among = (let high = (within home.me peer 0 home.scenario.nodes among).1 in grind (arith))

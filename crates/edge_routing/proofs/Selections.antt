@@ -40,8 +40,10 @@ use Rattle.edge_routing.proofs.StillTrees.{still_trees}
 
 -- ---- a call that is no step of each VRF
 
-module _ (core : Topology) (now : ℕ) (call : Call) (old : EdgeRouting) (control : Kept) (tables after : Tables) (told : LeafCandidates) (step : IsInStep old) (other : is_vrf_step call ≡ false)
-    (has : HasMade call now old control tables []) (peers : control.peers ≡ old.control.peers) (sound : IsSound control) (put : EachPeer (λ o n. n ≡ put_behind o) tables after)
+module _ (core : Topology) (now : ℕ) (call : Call) (old : EdgeRouting) (control : Kept) (tables after : Tables) (told : LeafCandidates)
+    (step : IsInStep old) (other : is_vrf_step call ≡ false)
+    (has : HasMade call now old control tables []) (peers : control.peers ≡ old.control.peers) (sound : IsSound control)
+    (put : EachPeer (λ o n. n ≡ put_behind o) tables after)
     (none : told.candidates.items ≡ []) where
   abbrev between : EdgeRouting
   between = record { control = control; tables = tables }
@@ -62,7 +64,9 @@ module _ (core : Topology) (now : ℕ) (call : Call) (old : EdgeRouting) (contro
   tables_between any = way.tables any
 
   keys : (peer : NodeId) → is_some (maps.get after peer) ≡ is_some (maps.get old.tables peer)
-  keys peer = put_keys (place_of control.home no_core) (control_of old.control) (control_of control) tables after (tables_between no_core) put peer ∙ way.peers peer
+  keys peer =
+      put_keys (place_of control.home no_core) (control_of old.control) (control_of control) tables after (tables_between no_core) put peer
+      ∙ way.peers peer
 
   in_step : IsInStep new
   in_step = record {
@@ -83,19 +87,26 @@ module _ (core : Topology) (now : ℕ) (call : Call) (old : EdgeRouting) (contro
       has.made any ∙ ap (λ (b : Bool). cond b (refreshed (place_of old.control.home any) now behind) behind) (sym other)
 
   waiting : (any : Core) (peer : NodeId) → Among peer (peers_of old.control.home)
-      → waiting_at after peer ≡ kept_for call peer (waiting_at old.tables peer) ++ texts (put_to (place_of old.control.home any) (control_of old.control) (control_of control) peer)
+      → waiting_at after peer ≡ kept_for call peer (waiting_at old.tables peer)
+      ++ texts (put_to (place_of old.control.home any) (control_of old.control) (control_of control) peer)
   waiting any peer among =
-      put_waits (place_of control.home any) (control_of old.control) (control_of control) tables after (tables_between any) put peer (way.peers peer ∙ (step.peers peer).1 among)
+      put_waits (place_of control.home any) (control_of old.control) (control_of control) tables after (tables_between any) put peer
+      (way.peers peer ∙ (step.peers peer).1 among)
       ∙ (ap (λ (o : List ℕ). o ++ texts (put_to (place_of control.home any) (control_of old.control) (control_of control) peer)) (way.waiting peer)
-      ∙ ap (λ (h : Home). kept_for call peer (waiting_at old.tables peer) ++ texts (put_to (place_of h any) (control_of old.control) (control_of control) peer)) has.home)
+      ∙ ap (λ (h : Home). kept_for call peer (waiting_at old.tables peer)
+      ++ texts (put_to (place_of h any) (control_of old.control) (control_of control) peer)) has.home)
 
   old_trees : (any : Core) → AreTreesOf (place_of control.home any) (control_of old.control) (own_vrfs (place_of control.home any)) old.control.trees
-  old_trees any = subst (λ (h : Home). AreTreesOf (place_of h any) (control_of old.control) (own_vrfs (place_of h any)) old.control.trees) (sym has.home) (kept_trees old.control any step.trees)
+  old_trees any =
+      subst (λ (h : Home). AreTreesOf (place_of h any) (control_of old.control) (own_vrfs (place_of h any)) old.control.trees) (sym has.home)
+      (kept_trees old.control any step.trees)
 
-  candidates : (any : Core) → AreCandidates (leaves (place_of control.home any) (control_of old.control)) (leaves (place_of control.home any) (control_of control)) told.candidates.items told.leaves.items
+  candidates : (any : Core) → AreCandidates (leaves (place_of control.home any) (control_of old.control))
+      (leaves (place_of control.home any) (control_of control)) told.candidates.items told.leaves.items
   candidates any = record {
     all = λ fec h.
-        same_leaf (place_of control.home any) (control_of old.control) (control_of control) old.control.trees control.trees fec (old_trees any) (kept_trees control any trees)
+        same_leaf (place_of control.home any) (control_of old.control) (control_of control) old.control.trees control.trees fec (old_trees any)
+        (kept_trees control any trees)
         (way.tunnels any fec refl) (same_wants fec old.control.trees control.trees has.wants);
     listed = λ fec h. absurd (let bad : false ≡ true = sym (ap (λ (list : List Fec). list_any (same_fec fec) list) none) ∙ h in cc);
   }
@@ -107,7 +118,8 @@ module _ (core : Topology) (now : ℕ) (call : Call) (old : EdgeRouting) (contro
     home = has.home;
     control = λ any is. step_control any;
     waiting = waiting;
-    leaves = λ any. subst (λ (h : Home). AreCandidates (leaves (place_of h any) (control_of old.control)) (leaves (place_of h any) (control_of control)) told.candidates.items told.leaves.items) has.home (candidates any);
+    leaves = λ any. subst (λ (h : Home). AreCandidates (leaves (place_of h any) (control_of old.control))
+        (leaves (place_of h any) (control_of control)) told.candidates.items told.leaves.items) has.home (candidates any);
   }
 
 -- ---- a selection
@@ -119,7 +131,8 @@ selected_now control vrf now = record { number = number_behind control vrf; sinc
 pub select_made : (vrf : VrfId) (pattern : Pattern) (now : ℕ) (old : EdgeRouting) (control : Kept) (tables : Tables) → control.home ≡ old.control.home
     → ((core : Core) → control_of control ≡ effect (place_of old.control.home core) now (control_of old.control) (Select vrf pattern))
     → wants_of control.trees ≡ wants_of old.control.trees
-    → ((core : Core) → HoldAll (place_of control.home core) (with_selected (control_of old.control) vrf pattern (selected_now (control_of old.control) vrf now)) tables)
+    → ((core : Core) → HoldAll (place_of control.home core)
+    (with_selected (control_of old.control) vrf pattern (selected_now (control_of old.control) vrf now)) tables)
     → AreToldAlike old.tables tables → HasMade (Select vrf pattern) now old control tables []
 select_made vrf pattern now old control tables home made wants hold alike = record {
   home = home;
@@ -128,13 +141,16 @@ select_made vrf pattern now old control tables home made wants hold alike = reco
   allowed = tt;
   flows = λ core. refl;
   up = λ core peer. refl;
-  hold = λ core. subst (λ (h : Home). HoldAll (place_of h core) (with_selected (control_of old.control) vrf pattern (selected_now (control_of old.control) vrf now)) tables) home (hold core);
+  hold = λ core. subst (λ (h : Home). HoldAll (place_of h core)
+      (with_selected (control_of old.control) vrf pattern (selected_now (control_of old.control) vrf now)) tables) home (hold core);
   alike = alike;
   keeps = λ peer octets. refl;
-  told = λ core. alike_tunnels (place_of old.control.home core) (control_of old.control) (control_of control) [] (sym (ap (λ (c : Control). c.peers) (made core)));
+  told = λ core. alike_tunnels (place_of old.control.home core) (control_of old.control) (control_of control) []
+      (sym (ap (λ (c : Control). c.peers) (made core)));
 }
 
-pub unselect_made : (vrf : VrfId) (pattern : Pattern) (now : ℕ) (old : EdgeRouting) (control : Kept) (tables : Tables) → control.home ≡ old.control.home
+pub unselect_made : (vrf : VrfId) (pattern : Pattern) (now : ℕ) (old : EdgeRouting) (control : Kept) (tables : Tables)
+    → control.home ≡ old.control.home
     → ((core : Core) → control_of control ≡ effect (place_of old.control.home core) now (control_of old.control) (Unselect vrf pattern))
     → wants_of control.trees ≡ wants_of old.control.trees
     → ((core : Core) → HoldAll (place_of control.home core) (without_selected (control_of old.control) vrf pattern) tables)
@@ -149,7 +165,8 @@ unselect_made vrf pattern now old control tables home made wants hold alike = re
   hold = λ core. subst (λ (h : Home). HoldAll (place_of h core) (without_selected (control_of old.control) vrf pattern) tables) home (hold core);
   alike = alike;
   keeps = λ peer octets. refl;
-  told = λ core. alike_tunnels (place_of old.control.home core) (control_of old.control) (control_of control) [] (sym (ap (λ (c : Control). c.peers) (made core)));
+  told = λ core. alike_tunnels (place_of old.control.home core) (control_of old.control) (control_of control) []
+      (sym (ap (λ (c : Control). c.peers) (made core)));
 }
 
 -- ---- the number of its tunnel

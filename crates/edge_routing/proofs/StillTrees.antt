@@ -33,15 +33,18 @@ module _ (place : EdgePlace) (old new : Control) (flows : new.flows ≡ old.flow
     (was_of : IsTreeOf place old own was) (is_of : IsTreeBetween place new own is) where
   same_flows : was.vrf.flows ≡ is.vrf.flows
   same_flows = maps.same_map flow_total flow_exact was.vrf.flows is.vrf.flows
-      (λ flow. was_of.flows flow ∙ ap (λ (f : FinMap flow_cmp (Option Upstream)). option_map choice_of (maps.get f (flow_in own.id flow))) (sym flows) ∙ sym (is_of.flows flow))
+      (λ flow. was_of.flows flow ∙ ap (λ (f : FinMap flow_cmp (Option Upstream)). option_map choice_of (maps.get f (flow_in own.id flow))) (sym flows)
+      ∙ sym (is_of.flows flow))
 
   same_route : (key : RouteKey) → maps.get was.leaf.routes key ≡ maps.get is.leaf.routes key
   same_route key =
       let before = (derived_of place old own was was_of).selective key in
       let behind = (derived_of place new own (as_wanted is) is_of).selective key in
       one_option (maps.get was.leaf.routes key) (maps.get is.leaf.routes key) (λ learned. (
-        λ h. (behind learned).1 (subst (λ (p : FinMap node_cmp Taken). IsSelectiveAt place (only_peers p) own key learned) (sym peers) ((before learned).0 h)),
-        λ h. (before learned).1 (subst (λ (p : FinMap node_cmp Taken). IsSelectiveAt place (only_peers p) own key learned) peers ((behind learned).0 h)),
+        λ h. (behind learned).1 (subst (λ (p : FinMap node_cmp Taken). IsSelectiveAt place (only_peers p) own key learned) (sym peers)
+            ((before learned).0 h)),
+        λ h. (before learned).1 (subst (λ (p : FinMap node_cmp Taken). IsSelectiveAt place (only_peers p) own key learned) peers
+            ((behind learned).0 h)),
       ))
 
   same_leaf : was.leaf ≡ is.leaf
@@ -58,20 +61,29 @@ module _ (place : EdgePlace) (old new : Control) (flows : new.flows ≡ old.flow
 one_wants : (x y : FinSet fec_cmp) (xs ys : List (FinSet fec_cmp)) → x ∷ xs ≡ y ∷ ys → (x ≡ y) × (xs ≡ ys)
 one_wants x y xs ys e = (cc, cc)
 
-all_want : (place : EdgePlace) (old new : Control) → new.flows ≡ old.flows → new.peers ≡ old.peers → (owns : List OwnVrf) (was is : List TreeData) → wants_of is ≡ wants_of was
-    → AllByRecursion (λ it. IsTreeOf place old it.own it.tree) (own_trees owns was) → AllByRecursion (λ it. IsTreeBetween place new it.own it.tree) (own_trees owns is)
+all_want : (place : EdgePlace) (old new : Control) → new.flows ≡ old.flows → new.peers ≡ old.peers → (owns : List OwnVrf) (was is : List TreeData)
+    → wants_of is ≡ wants_of was
+    → AllByRecursion (λ it. IsTreeOf place old it.own it.tree) (own_trees owns was)
+    → AllByRecursion (λ it. IsTreeBetween place new it.own it.tree) (own_trees owns is)
     → AllByRecursion Wants (own_trees owns is)
 all_want place old new flows peers [] was is same before behind = tt
 all_want place old new flows peers (own ∷ owns) was [] same before behind = tt
 all_want place old new flows peers (own ∷ owns) [] (tree ∷ is) same before behind = absurd cc
 all_want place old new flows peers (own ∷ owns) (one ∷ was) (tree ∷ is) same before behind =
-    let both = one_wants tree.wants one.wants (wants_of is) (wants_of was) same in
-    (wants_still place old new flows peers own one tree before.0 behind.0 both.0, all_want place old new flows peers owns was is both.1 before.1 behind.1)
+    let both = one_wants tree.wants one.wants (wants_of is) (wants_of was) same in (
+      wants_still place old new flows peers own one tree before.0 behind.0 both.0,
+      all_want place old new flows peers owns was is both.1 before.1 behind.1,
+    )
 
 -- where no flow and no route changed, the trees want what their flows want, as before
-pub still_trees : (old new : Kept) → new.home ≡ old.home → (control_of new).flows ≡ (control_of old).flows → new.peers ≡ old.peers → wants_of new.trees ≡ wants_of old.trees → IsSound new
+pub still_trees : (old new : Kept) → new.home ≡ old.home → (control_of new).flows ≡ (control_of old).flows → new.peers ≡ old.peers
+    → wants_of new.trees ≡ wants_of old.trees → IsSound new
     → AreTrees old → AreTrees new
 still_trees old new home flows peers wants sound trees =
-    let before = subst (λ (h : Home). AllByRecursion (λ it. IsTreeOf (place_of h no_core) (control_of old) it.own it.tree) (own_trees (vrfs_from h.me 0 h.scenario.vrfs) old.trees)) (sym home) (trees.each no_core) in
-    let all = all_want (place_of new.home no_core) (control_of old) (control_of new) flows peers (vrfs_from new.home.me 0 new.home.scenario.vrfs) old.trees new.trees wants before ((sound_between new sound).each no_core) in
+    let before =
+    subst (λ (h : Home). AllByRecursion (λ it. IsTreeOf (place_of h no_core) (control_of old) it.own it.tree)
+    (own_trees (vrfs_from h.me 0 h.scenario.vrfs) old.trees)) (sym home) (trees.each no_core) in
+    let all =
+    all_want (place_of new.home no_core) (control_of old) (control_of new) flows peers (vrfs_from new.home.me 0 new.home.scenario.vrfs) old.trees
+    new.trees wants before ((sound_between new sound).each no_core) in
     trees_together new (sound_full new sound) (sound_parts new sound) (λ it a. of_each Wants (trees_of new) all it a)

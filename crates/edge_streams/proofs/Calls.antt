@@ -26,7 +26,8 @@ use Rattle.edge_streams.proofs.SessionMaps.{Sets, inserted, stays, bgp_seen, ldp
 
 -- ---- octets that come
 
-feeds_by : (kind : Kind) (peer : NodeId) (octets : List ℕ) (old new : FinMap peer_cmp Stream) (here : Option Stream) → maps.get old (session kind peer) ≡ here
+feeds_by : (kind : Kind) (peer : NodeId) (octets : List ℕ) (old new : FinMap peer_cmp Stream) (here : Option Stream)
+    → maps.get old (session kind peer) ≡ here
     → Sets kind peer (option_map (λ d. fed (front_of kind) d octets) here) old new
     → new ≡ elim here [ None ↦ old | Some stream ↦ maps.insert old (session kind peer) (fed (front_of kind) stream octets) ]
 feeds_by kind peer octets old new None e sets = stays kind peer None old new e sets
@@ -39,23 +40,31 @@ module _ {M E : Type 0} (message : M → SessionMessage) (fault : E → SessionF
   map_fed octets (Some d) = ap (λ (s : Stream). Some s) (sym (fed_same message fault front d octets))
 
   -- what the stream of one protocol takes, the session's stream does
-  pub feeds : front_of kind ≡ (λ xs. as_front message fault (front xs)) → (peer : NodeId) (octets : List ℕ) (old new : FinMap peer_cmp Stream) (here : Option (Fed M E))
+  pub feeds : front_of kind ≡ (λ xs. as_front message fault (front xs))
+      → (peer : NodeId) (octets : List ℕ) (old new : FinMap peer_cmp Stream) (here : Option (Fed M E))
       → maps.get old (session kind peer) ≡ option_map (stream_as message fault) here
       → Sets kind peer (option_map (stream_as message fault) (option_map (λ d. fed front d octets) here)) old new
       → new ≡ with_octets (session kind peer) octets old
   feeds own peer octets old new here e sets =
-      let same : option_map (stream_as message fault) (option_map (λ d. fed front d octets) here) ≡ option_map (λ d. fed (front_of kind) d octets) (option_map (stream_as message fault) here) =
-      map_fed octets here ∙ ap (λ (f : List ℕ → Front SessionMessage SessionFault). option_map (λ d. fed f d octets) (option_map (stream_as message fault) here)) (sym own) in
-      feeds_by kind peer octets old new (option_map (stream_as message fault) here) e (subst (λ (o : Option Stream). Sets kind peer o old new) same sets)
-      ∙ ap (λ (o : Option Stream). elim o [ None ↦ old | Some stream ↦ maps.insert old (session kind peer) (fed (front_of kind) stream octets) ]) (sym e)
+      let same : option_map (stream_as message fault) (option_map (λ d. fed front d octets) here)
+      ≡ option_map (λ d. fed (front_of kind) d octets) (option_map (stream_as message fault) here) =
+      map_fed octets here ∙ ap (λ (f : List ℕ → Front SessionMessage SessionFault). option_map (λ d. fed f d octets)
+      (option_map (stream_as message fault) here)) (sym own) in
+      feeds_by kind peer octets old new (option_map (stream_as message fault) here) e
+      (subst (λ (o : Option Stream). Sets kind peer o old new) same sets)
+      ∙ ap (λ (o : Option Stream). elim o [ None ↦ old | Some stream ↦ maps.insert old (session kind peer) (fed (front_of kind) stream octets) ])
+      (sym e)
 
   -- ---- a message that is taken
 
-  at_here : (old : FinMap peer_cmp Stream) (peer : NodeId) (here : Option Stream) → maps.get old (session kind peer) ≡ here → (s : Stream) → here ≡ Some s → stream_at old (session kind peer) ≡ s
+  at_here : (old : FinMap peer_cmp Stream) (peer : NodeId) (here : Option Stream) → maps.get old (session kind peer) ≡ here → (s : Stream)
+      → here ≡ Some s → stream_at old (session kind peer) ≡ s
   at_here old peer here e s some = ap (λ (o : Option Stream). elim o [ None ↦ unfed | Some stream ↦ stream ]) (e ∙ some)
 
-  takes_one : (peer : NodeId) (old new : FinMap peer_cmp Stream) (d left : Fed M E) (result : Option M) → maps.get old (session kind peer) ≡ Some (stream_as message fault d)
-      → Sets kind peer (Some (stream_as message fault left)) old new → NextIs d result left → TakesFirst (session kind peer) old (option_map message result) new
+  takes_one : (peer : NodeId) (old new : FinMap peer_cmp Stream) (d left : Fed M E) (result : Option M)
+      → maps.get old (session kind peer) ≡ Some (stream_as message fault d)
+      → Sets kind peer (Some (stream_as message fault left)) old new → NextIs d result left
+      → TakesFirst (session kind peer) old (option_map message result) new
   takes_one peer old new d left None e sets is =
       let at = at_here old peer (Some (stream_as message fault d)) e (stream_as message fault d) refl in (
         ap (λ (s : Stream). s.waiting) at ∙ ap (map message) is.0,
@@ -72,14 +81,18 @@ module _ {M E : Type 0} (message : M → SessionMessage) (fault : E → SessionF
       )
 
   pub takes : (peer : NodeId) (old new : FinMap peer_cmp Stream) (here there : Option (Fed M E)) (result : Option M) → NextAt here result there
-      → maps.get old (session kind peer) ≡ option_map (stream_as message fault) here → Sets kind peer (option_map (stream_as message fault) there) old new
+      → maps.get old (session kind peer) ≡ option_map (stream_as message fault) here
+      → Sets kind peer (option_map (stream_as message fault) there) old new
       → TakesFirst (session kind peer) old (option_map message result) new
   takes peer old new None there result next e sets =
       let none : option_map (stream_as message fault) there ≡ None = ap (option_map (stream_as message fault)) next.1 in
-      subst (λ (r : Option M). TakesFirst (session kind peer) old (option_map message r) new) (sym next.0)
-      (ap (λ (o : Option Stream). (elim o as (λ (x : Option Stream). Stream) [ None ↦ unfed | Some stream ↦ stream ]).waiting) e, stays kind peer None old new e (subst (λ (o : Option Stream). Sets kind peer o old new) none sets))
+      subst (λ (r : Option M). TakesFirst (session kind peer) old (option_map message r) new) (sym next.0) (
+        ap (λ (o : Option Stream). (elim o as (λ (x : Option Stream). Stream) [ None ↦ unfed | Some stream ↦ stream ]).waiting) e,
+        stays kind peer None old new e (subst (λ (o : Option Stream). Sets kind peer o old new) none sets),
+      )
   takes peer old new (Some d) there result next e sets =
-      takes_one peer old new d next.0 result e (subst (λ (o : Option (Fed M E)). Sets kind peer (option_map (stream_as message fault) o) old new) next.1 sets) next.2
+      takes_one peer old new d next.0 result e (subst (λ (o : Option (Fed M E)). Sets kind peer (option_map (stream_as message fault) o) old new)
+      next.1 sets) next.2
 
 -- ---- one node and every other
 
@@ -92,7 +105,8 @@ one_changes old new peer others q = elim (node_cases peer q) [
 ]
 
 -- what is made of what stood at the node
-pub one_fed : {X : Type 0} (f : X → X) (old new : NodeMap X) (peer : NodeId) → ((q : NodeId) → get is_node new q ≡ cond (is_node peer q) (option_map f (get is_node old q)) (get is_node old q))
+pub one_fed : {X : Type 0} (f : X → X) (old new : NodeMap X) (peer : NodeId)
+    → ((q : NodeId) → get is_node new q ≡ cond (is_node peer q) (option_map f (get is_node old q)) (get is_node old q))
     → (q : NodeId) → get is_node new q ≡ cond (is_node peer q) (option_map f (get is_node old peer)) (get is_node old q)
 one_fed f old new peer each q = each q ∙ elim (node_cases peer q) [
   | inl e ↦ ap (λ (x : NodeId). cond (is_node peer q) (option_map f (get is_node old x)) (get is_node old q)) (sym e)
@@ -103,7 +117,8 @@ one_fed f old new peer each q = each q ∙ elim (node_cases peer q) [
 -- ---- both protocols
 
 module _ (old new : NodeMap (Fed Message StreamFault)) (ldp : NodeMap (Fed LabelMessage LdpFault)) (peer : NodeId) where
-  pub bgp_fed : (octets : List ℕ) → ((q : NodeId) → get is_node new q ≡ cond (is_node peer q) (option_map (λ d. fed message_front d octets) (get is_node old q)) (get is_node old q))
+  pub bgp_fed : (octets : List ℕ) → ((q : NodeId)
+      → get is_node new q ≡ cond (is_node peer q) (option_map (λ d. fed message_front d octets) (get is_node old q)) (get is_node old q))
       → streams_of new ldp ≡ with_octets (session kinds.Bgp peer) octets (streams_of old ldp)
   bgp_fed octets each =
       let here : Option (Fed Message StreamFault) = get is_node old peer in
@@ -111,14 +126,17 @@ module _ (old new : NodeMap (Fed Message StreamFault)) (ldp : NodeMap (Fed Label
       feeds (λ message. Bgp message) (λ fault. BgpFault fault) message_front kinds.Bgp refl peer octets (streams_of old ldp) (streams_of new ldp) here
       (bgp_seen old ldp peer) (bgp_sets old new ldp peer (option_map (λ d. fed message_front d octets) here) one)
 
-  pub bgp_taken : (result : Option Message) → NextAt (get is_node old peer) result (get is_node new peer) → ((q : NodeId) → is_node peer q ≡ false → get is_node new q ≡ get is_node old q)
+  pub bgp_taken : (result : Option Message) → NextAt (get is_node old peer) result (get is_node new peer)
+      → ((q : NodeId) → is_node peer q ≡ false → get is_node new q ≡ get is_node old q)
       → TakesFirst (session kinds.Bgp peer) (streams_of old ldp) (option_map (λ message. Bgp message) result) (streams_of new ldp)
   bgp_taken result next others =
-      takes (λ message. Bgp message) (λ fault. BgpFault fault) message_front kinds.Bgp peer (streams_of old ldp) (streams_of new ldp) (get is_node old peer) (get is_node new peer) result next
+      takes (λ message. Bgp message) (λ fault. BgpFault fault) message_front kinds.Bgp peer (streams_of old ldp) (streams_of new ldp)
+      (get is_node old peer) (get is_node new peer) result next
       (bgp_seen old ldp peer) (bgp_sets old new ldp peer (get is_node new peer) (one_changes old new peer others))
 
 module _ (bgp : NodeMap (Fed Message StreamFault)) (old new : NodeMap (Fed LabelMessage LdpFault)) (peer : NodeId) where
-  pub ldp_fed : (octets : List ℕ) → ((q : NodeId) → get is_node new q ≡ cond (is_node peer q) (option_map (λ d. fed pdu_front d octets) (get is_node old q)) (get is_node old q))
+  pub ldp_fed : (octets : List ℕ) → ((q : NodeId)
+      → get is_node new q ≡ cond (is_node peer q) (option_map (λ d. fed pdu_front d octets) (get is_node old q)) (get is_node old q))
       → streams_of bgp new ≡ with_octets (session kinds.Ldp peer) octets (streams_of bgp old)
   ldp_fed octets each =
       let here : Option (Fed LabelMessage LdpFault) = get is_node old peer in
@@ -126,10 +144,12 @@ module _ (bgp : NodeMap (Fed Message StreamFault)) (old new : NodeMap (Fed Label
       feeds (λ message. Label message) (λ fault. LabelFault fault) pdu_front kinds.Ldp refl peer octets (streams_of bgp old) (streams_of bgp new) here
       (ldp_seen bgp old peer) (ldp_sets bgp old new peer (option_map (λ d. fed pdu_front d octets) here) one)
 
-  pub ldp_taken : (result : Option LabelMessage) → NextAt (get is_node old peer) result (get is_node new peer) → ((q : NodeId) → is_node peer q ≡ false → get is_node new q ≡ get is_node old q)
+  pub ldp_taken : (result : Option LabelMessage) → NextAt (get is_node old peer) result (get is_node new peer)
+      → ((q : NodeId) → is_node peer q ≡ false → get is_node new q ≡ get is_node old q)
       → TakesFirst (session kinds.Ldp peer) (streams_of bgp old) (option_map (λ message. Label message) result) (streams_of bgp new)
   ldp_taken result next others =
-      takes (λ message. Label message) (λ fault. LabelFault fault) pdu_front kinds.Ldp peer (streams_of bgp old) (streams_of bgp new) (get is_node old peer) (get is_node new peer) result next
+      takes (λ message. Label message) (λ fault. LabelFault fault) pdu_front kinds.Ldp peer (streams_of bgp old) (streams_of bgp new)
+      (get is_node old peer) (get is_node new peer) result next
       (ldp_seen bgp old peer) (ldp_sets bgp old new peer (get is_node new peer) (one_changes old new peer others))
 
 -- ---- faults
@@ -138,14 +158,23 @@ abbrev pub fault_in : {M E : Type 0} (message : M → SessionMessage) (fault : E
 fault_in message fault None = None
 fault_in message fault (Some d) = fault_as fault d.fault
 
-fault_here : {M E : Type 0} (message : M → SessionMessage) (fault : E → SessionFault) (streams : FinMap peer_cmp Stream) (s : PeerSession) (here : Option (Fed M E)) → maps.get streams s ≡ option_map (stream_as message fault) here
+fault_here : {M E : Type 0} (message : M → SessionMessage) (fault : E → SessionFault) (streams : FinMap peer_cmp Stream) (s : PeerSession)
+    (here : Option (Fed M E)) → maps.get streams s ≡ option_map (stream_as message fault) here
     → fault_at streams s ≡ fault_in message fault here
-fault_here message fault streams s None e = ap (λ (o : Option Stream). (elim o as (λ (x : Option Stream). Stream) [ None ↦ unfed | Some stream ↦ stream ]).fault) e
-fault_here message fault streams s (Some d) e = ap (λ (o : Option Stream). (elim o as (λ (x : Option Stream). Stream) [ None ↦ unfed | Some stream ↦ stream ]).fault) e
+fault_here message fault streams s None e =
+    ap (λ (o : Option Stream). (elim o as (λ (x : Option Stream). Stream) [ None ↦ unfed | Some stream ↦ stream ]).fault) e
+fault_here message fault streams s (Some d) e =
+    ap (λ (o : Option Stream). (elim o as (λ (x : Option Stream). Stream) [ None ↦ unfed | Some stream ↦ stream ]).fault) e
 
 module _ (bgp : NodeMap (Fed Message StreamFault)) (ldp : NodeMap (Fed LabelMessage LdpFault)) (peer : NodeId) where
-  pub bgp_fault : (here : Option (Fed Message StreamFault)) → get is_node bgp peer ≡ here → fault_at (streams_of bgp ldp) (session kinds.Bgp peer) ≡ fault_in (λ message. Bgp message) (λ fault. BgpFault fault) here
-  bgp_fault here e = fault_here (λ message. Bgp message) (λ fault. BgpFault fault) (streams_of bgp ldp) (session kinds.Bgp peer) here (bgp_seen bgp ldp peer ∙ ap (option_map bgp_stream) e)
+  pub bgp_fault : (here : Option (Fed Message StreamFault)) → get is_node bgp peer ≡ here
+      → fault_at (streams_of bgp ldp) (session kinds.Bgp peer) ≡ fault_in (λ message. Bgp message) (λ fault. BgpFault fault) here
+  bgp_fault here e =
+      fault_here (λ message. Bgp message) (λ fault. BgpFault fault) (streams_of bgp ldp) (session kinds.Bgp peer) here
+      (bgp_seen bgp ldp peer ∙ ap (option_map bgp_stream) e)
 
-  pub ldp_fault : (here : Option (Fed LabelMessage LdpFault)) → get is_node ldp peer ≡ here → fault_at (streams_of bgp ldp) (session kinds.Ldp peer) ≡ fault_in (λ message. Label message) (λ fault. LabelFault fault) here
-  ldp_fault here e = fault_here (λ message. Label message) (λ fault. LabelFault fault) (streams_of bgp ldp) (session kinds.Ldp peer) here (ldp_seen bgp ldp peer ∙ ap (option_map ldp_stream) e)
+  pub ldp_fault : (here : Option (Fed LabelMessage LdpFault)) → get is_node ldp peer ≡ here
+      → fault_at (streams_of bgp ldp) (session kinds.Ldp peer) ≡ fault_in (λ message. Label message) (λ fault. LabelFault fault) here
+  ldp_fault here e =
+      fault_here (λ message. Label message) (λ fault. LabelFault fault) (streams_of bgp ldp) (session kinds.Ldp peer) here
+      (ldp_seen bgp ldp peer ∙ ap (option_map ldp_stream) e)

@@ -29,11 +29,13 @@ stream_put streams own stream =
     ap stream_or (maps.get-insert peer_cmp_total streams own stream own
     ∙ ap (λ (b : Bool). cond b (Some stream) (maps.get streams own)) ((eq_by_cmp_equiv peer_cmp_total).refl own))
 
-pub put_again : (streams : Streams) (own : PeerSession) (first second : Stream) → maps.insert (maps.insert streams own first) own second ≡ maps.insert streams own second
+pub put_again : (streams : Streams) (own : PeerSession) (first second : Stream)
+    → maps.insert (maps.insert streams own first) own second ≡ maps.insert streams own second
 put_again streams own first second = same_map peer_cmp_total peer_cmp_exact _ _ (λ q.
     maps.get-insert peer_cmp_total (maps.insert streams own first) own second q
     ∙ (ap (λ (o : Option Stream). cond (eq_by_cmp peer_cmp q own) (Some second) o) (maps.get-insert peer_cmp_total streams own first q)
-    ∙ (either (eq_by_cmp peer_cmp q own) (Some second) (Some first) (maps.get streams q) ∙ sym (maps.get-insert peer_cmp_total streams own second q))))
+    ∙ (either (eq_by_cmp peer_cmp q own) (Some second) (Some first) (maps.get streams q)
+    ∙ sym (maps.get-insert peer_cmp_total streams own second q))))
   where
     either : (b : Bool) (x y z : Option Stream) → cond b x (cond b y z) ≡ cond b x z
     either true x y z = refl
@@ -44,8 +46,11 @@ there None e = absurd cc
 there (Some stream) e = refl
 
 -- a stream that is there is put in its own place
-pub put_same : (streams : Streams) (own : PeerSession) → is_some (maps.get streams own) ≡ true → maps.insert streams own (stream_at streams own) ≡ streams
-put_same streams own up = same_map peer_cmp_total peer_cmp_exact _ _ (λ q. maps.get-insert peer_cmp_total streams own (stream_at streams own) q ∙ by q (eq_by_cmp peer_cmp q own) refl)
+pub put_same : (streams : Streams) (own : PeerSession) → is_some (maps.get streams own) ≡ true
+    → maps.insert streams own (stream_at streams own) ≡ streams
+put_same streams own up =
+    same_map peer_cmp_total peer_cmp_exact _ _ (λ q. maps.get-insert peer_cmp_total streams own (stream_at streams own) q
+    ∙ by q (eq_by_cmp peer_cmp q own) refl)
   where
     by : (q : PeerSession) (b : Bool) → eq_by_cmp peer_cmp q own ≡ b → cond b (Some (stream_at streams own)) (maps.get streams q) ≡ maps.get streams q
     by q true e = sym (ap (maps.get streams) (same_session q own e) ∙ there (maps.get streams own) up)
@@ -73,15 +78,18 @@ module _ (own : PeerSession) (old : Streams) (taken : List SessionMessage) (now 
   pub one_taken : (message : SessionMessage) (new : Streams) → TakesFirst own now (Some message) new → AreTaken own old (taken ++ message ∷ []) new
   one_taken message new first = record {
     left = first.0;
-    all = are.all ∙ (ap (λ (xs : List SessionMessage). taken ++ xs) (ap (λ (s : Stream). s.waiting) (sym stream_is) ∙ first.1) ∙ assoc taken message first.0);
+    all = are.all ∙ (ap (λ (xs : List SessionMessage). taken ++ xs) (ap (λ (s : Stream). s.waiting) (sym stream_is) ∙ first.1)
+        ∙ assoc taken message first.0);
     streams = first.2
         ∙ ((λ i. maps.insert (are.streams i) own (record (stream_is i) { waiting = first.0 }))
         ∙ put_again old own (record (stream_at old own) { waiting = are.left }) (record (stream_at old own) { waiting = first.0 }));
   }
 
-  pub fewer : (message : SessionMessage) (new : Streams) → TakesFirst own now (Some message) new → length (stream_at new own).waiting < length (stream_at now own).waiting
+  pub fewer : (message : SessionMessage) (new : Streams) → TakesFirst own now (Some message) new
+      → length (stream_at new own).waiting < length (stream_at now own).waiting
   fewer message new first =
-      let e = ap (λ (s : Streams). length (stream_at s own).waiting) first.2 ∙ ap (λ (s : Stream). length s.waiting) (stream_put now own (record (stream_at now own) { waiting = first.0 })) in
+      let e = ap (λ (s : Streams). length (stream_at s own).waiting) first.2
+      ∙ ap (λ (s : Stream). length s.waiting) (stream_put now own (record (stream_at now own) { waiting = first.0 })) in
       let f = ap (λ (xs : List SessionMessage). length xs) first.1 in
       omega (arith, e, f)
 
@@ -93,7 +101,8 @@ module _ (own : PeerSession) (old : Streams) (taken : List SessionMessage) (now 
   whole_taken new last = sym (are.all ∙ (ap (λ (xs : List SessionMessage). taken ++ xs) (none_left last.0) ∙ append-nil taken))
 
   pub rest_quiet : (new : Streams) → TakesFirst own now None new → new ≡ maps.insert old own (record (stream_at old own) { waiting = [] })
-  rest_quiet new last = last.1 ∙ (are.streams ∙ ap (λ (xs : List SessionMessage). maps.insert old own (record (stream_at old own) { waiting = xs })) (none_left last.0))
+  rest_quiet new last =
+      last.1 ∙ (are.streams ∙ ap (λ (xs : List SessionMessage). maps.insert old own (record (stream_at old own) { waiting = xs })) (none_left last.0))
 
 -- ---- lists
 

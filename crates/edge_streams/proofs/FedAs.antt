@@ -14,13 +14,16 @@ module _ {M E : Type 0} (message : M → SessionMessage) (fault : E → SessionF
   abbrev fronts : List ℕ → Front SessionMessage SessionFault
   fronts octets = as_front message fault (front octets)
 
-  cut_here : (place b : ℕ) (bs : List ℕ) → ((n : ℕ) → cut_at fronts (place + 1) n bs ≡ cut_as (cut_at front (place + 1) n bs)) → (o : Front M E) → front (b ∷ bs) ≡ o → cut_at fronts place 0 (b ∷ bs) ≡ cut_as (cut_at front place 0 (b ∷ bs))
+  cut_here : (place b : ℕ) (bs : List ℕ) → ((n : ℕ) → cut_at fronts (place + 1) n bs ≡ cut_as (cut_at front (place + 1) n bs)) → (o : Front M E)
+      → front (b ∷ bs) ≡ o → cut_at fronts place 0 (b ∷ bs) ≡ cut_as (cut_at front place 0 (b ∷ bs))
   unfolding cut_at
   cut_here place b bs rest more e = rw (e, cut_at) refl
   cut_here place b bs rest (bad ms offset f) e = rw (e, cut_at) refl
   cut_here place b bs rest (whole n ms) e =
       let c : Cut M E = cut_at front (place + 1) (n - 1) bs in
-      rw (e, cut_at) (ap (with_front (map message ms)) (rest (n - 1)) ∙ ap (λ (xs : List SessionMessage). record { messages = xs; rest = c.rest; fault = fault_as fault c.fault }) (sym (map-append message ms c.messages)))
+      rw (e, cut_at) (ap (with_front (map message ms)) (rest (n - 1))
+      ∙ ap (λ (xs : List SessionMessage). record { messages = xs; rest = c.rest; fault = fault_as fault c.fault })
+      (sym (map-append message ms c.messages)))
 
   cut_same : (place n : ℕ) (xs : List ℕ) → cut_at fronts place n xs ≡ cut_as (cut_at front place n xs)
   unfolding cut_at
@@ -41,7 +44,8 @@ module _ {M E : Type 0} (message : M → SessionMessage) (fault : E → SessionF
       let waiting = sym (map-append message d.waiting c.messages) in
       λ i. record { waiting = waiting i; held = held_same c.fault c.rest i; before = (fed_by d len c).before; fault = moved_same d.before c.fault i }
 
-  unless_same : (stop : Option (ℕ × E)) (d : Fed M E) (piece : List ℕ) → fed_unless fronts (fault_as fault stop) (stream_as message fault d) piece ≡ stream_as message fault (fed_unless front stop d piece)
+  unless_same : (stop : Option (ℕ × E)) (d : Fed M E) (piece : List ℕ)
+      → fed_unless fronts (fault_as fault stop) (stream_as message fault d) piece ≡ stream_as message fault (fed_unless front stop d piece)
   unless_same (Some f) d piece = refl
   unless_same None d piece =
       let xs : List ℕ = d.held ++ piece in

@@ -15,7 +15,8 @@ use Rattle.edge_streams.proofs.SessionMaps.{peer_cmp_total}
 
 module _ (streams : FinMap peer_cmp Stream) (own : PeerSession) (stream : Stream) where
   -- the same sessions have one where that session had one
-  pub put_up : is_some (maps.get streams own) ≡ true → (q : PeerSession) → is_some (maps.get (maps.insert streams own stream) q) ≡ is_some (maps.get streams q)
+  pub put_up : is_some (maps.get streams own) ≡ true → (q : PeerSession)
+      → is_some (maps.get (maps.insert streams own stream) q) ≡ is_some (maps.get streams q)
   put_up up q = ap (λ (o : Option Stream). is_some o) (maps.get-insert peer_cmp_total streams own stream q) ∙ by (eq_by_cmp peer_cmp q own) refl
     where
       by : (b : Bool) → eq_by_cmp peer_cmp q own ≡ b → is_some (cond b (Some stream) (maps.get streams q)) ≡ is_some (maps.get streams q)
@@ -23,8 +24,10 @@ module _ (streams : FinMap peer_cmp Stream) (own : PeerSession) (stream : Stream
       by false e = refl
 
   -- nothing waits where nothing waits in it
-  pub put_quiet : stream.waiting ≡ [] → ((q : PeerSession) → (stream_at streams q).waiting ≡ []) → (q : PeerSession) → (stream_at (maps.insert streams own stream) q).waiting ≡ []
-  put_quiet none quiet q = ap (λ (o : Option Stream). (stream_or o).waiting) (maps.get-insert peer_cmp_total streams own stream q) ∙ by (eq_by_cmp peer_cmp q own)
+  pub put_quiet : stream.waiting ≡ [] → ((q : PeerSession) → (stream_at streams q).waiting ≡ []) → (q : PeerSession)
+      → (stream_at (maps.insert streams own stream) q).waiting ≡ []
+  put_quiet none quiet q =
+      ap (λ (o : Option Stream). (stream_or o).waiting) (maps.get-insert peer_cmp_total streams own stream q) ∙ by (eq_by_cmp peer_cmp q own)
     where
       by : (b : Bool) → (stream_or (cond b (Some stream) (maps.get streams q))).waiting ≡ []
       by true = none
@@ -32,7 +35,8 @@ module _ (streams : FinMap peer_cmp Stream) (own : PeerSession) (stream : Stream
 
 -- ---- a stream that is fed
 
-module _ (own : PeerSession) (octets : List ℕ) (old streams : FinMap peer_cmp Stream) (up : is_some (maps.get old own) ≡ true) (fed_so : streams ≡ with_octets own octets old) where
+module _ (own : PeerSession) (octets : List ℕ) (old streams : FinMap peer_cmp Stream) (up : is_some (maps.get old own) ≡ true)
+    (fed_so : streams ≡ with_octets own octets old) where
   abbrev pub now_fed : Stream
   now_fed = fed (front_of own.kind) (stream_at old own) octets
 
@@ -40,7 +44,9 @@ module _ (own : PeerSession) (octets : List ℕ) (old streams : FinMap peer_cmp 
   pub fed_is : streams ≡ maps.insert old own now_fed
   fed_is = fed_so ∙ by (maps.get old own) refl up
     where
-      by : (o : Option Stream) → maps.get old own ≡ o → is_some o ≡ true → (elim o as (λ _. FinMap peer_cmp Stream) [ None ↦ old | Some stream ↦ maps.insert old own (fed (front_of own.kind) stream octets) ]) ≡ maps.insert old own now_fed
+      by : (o : Option Stream) → maps.get old own ≡ o → is_some o ≡ true
+          → (elim o as (λ _. FinMap peer_cmp Stream) [ None ↦ old | Some stream ↦ maps.insert old own (fed (front_of own.kind) stream octets) ])
+          ≡ maps.insert old own now_fed
       by None e h = absurd cc
       by (Some stream) e h = ap (λ (s : Stream). maps.insert old own (fed (front_of own.kind) s octets)) (stream_is stream e)
         where
@@ -54,6 +60,7 @@ module _ (own : PeerSession) (octets : List ℕ) (old streams : FinMap peer_cmp 
   fed_there = put_there old streams own now_fed fed_is
 
   -- once the messages are taken out
-  pub drained_is : (drained : FinMap peer_cmp Stream) → drained ≡ maps.insert streams own (record (stream_at streams own) { waiting = [] }) → drained ≡ maps.insert old own (record now_fed { waiting = [] })
+  pub drained_is : (drained : FinMap peer_cmp Stream) → drained ≡ maps.insert streams own (record (stream_at streams own) { waiting = [] })
+      → drained ≡ maps.insert old own (record now_fed { waiting = [] })
   drained_is drained is =
       is ∙ ((λ i. maps.insert (fed_is i) own (record (stream_fed i) { waiting = [] })) ∙ put_again old own now_fed (record now_fed { waiting = [] }))

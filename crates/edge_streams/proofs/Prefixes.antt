@@ -40,7 +40,9 @@ value_high (suc k) n =
 four : (a b c d : ℕ) → from_be_bytes w32 (a ∷ b ∷ c ∷ d ∷ []) ≡ value (a ∷ b ∷ c ∷ d ∷ [])
 four a b c d = omega arith
 
-sixteen : (a b c d e f g h i j k l m n o p : ℕ) → from_be_bytes w128 (a ∷ b ∷ c ∷ d ∷ e ∷ f ∷ g ∷ h ∷ i ∷ j ∷ k ∷ l ∷ m ∷ n ∷ o ∷ p ∷ []) ≡ value (a ∷ b ∷ c ∷ d ∷ e ∷ f ∷ g ∷ h ∷ i ∷ j ∷ k ∷ l ∷ m ∷ n ∷ o ∷ p ∷ [])
+sixteen : (a b c d e f g h i j k l m n o p : ℕ)
+    → from_be_bytes w128 (a ∷ b ∷ c ∷ d ∷ e ∷ f ∷ g ∷ h ∷ i ∷ j ∷ k ∷ l ∷ m ∷ n ∷ o ∷ p ∷ [])
+    ≡ value (a ∷ b ∷ c ∷ d ∷ e ∷ f ∷ g ∷ h ∷ i ∷ j ∷ k ∷ l ∷ m ∷ n ∷ o ∷ p ∷ [])
 sixteen a b c d e f g h i j k l m n o p = omega arith
 
 number_32 : (n : ℕ) → from_be_bytes w32 (to_be_bytes w32 n) ≡ n % 2 ^ 32
@@ -48,7 +50,8 @@ number_32 n = four (byte_at 3 n) (byte_at 2 n) (byte_at 1 n) (byte_at 0 n) ∙ v
 
 number_128 : (n : ℕ) → from_be_bytes w128 (to_be_bytes w128 n) ≡ n % 2 ^ 128
 number_128 n =
-    sixteen (byte_at 15 n) (byte_at 14 n) (byte_at 13 n) (byte_at 12 n) (byte_at 11 n) (byte_at 10 n) (byte_at 9 n) (byte_at 8 n) (byte_at 7 n) (byte_at 6 n) (byte_at 5 n) (byte_at 4 n) (byte_at 3 n) (byte_at 2 n) (byte_at 1 n) (byte_at 0 n)
+    sixteen (byte_at 15 n) (byte_at 14 n) (byte_at 13 n) (byte_at 12 n) (byte_at 11 n) (byte_at 10 n) (byte_at 9 n) (byte_at 8 n) (byte_at 7 n)
+    (byte_at 6 n) (byte_at 5 n) (byte_at 4 n) (byte_at 3 n) (byte_at 2 n) (byte_at 1 n) (byte_at 0 n)
     ∙ value_high 16 n
 
 -- no bit behind the first ones is left
@@ -56,7 +59,8 @@ none_behind : (all bits number : ℕ) → bits ≤ all → cleared all bits numb
 none_behind all bits number le =
     let sum : all ≡ bits + (all - bits) = omega (arith, le) in
     let unit : ℕ = 2 ^ (all - bits) in
-    ap (λ (n : ℕ). cleared all bits number % 2 ^ n % unit) sum ∙ mod-mod-pow (cleared all bits number) bits (all - bits) ∙ mul-mod_left (number / unit) unit
+    ap (λ (n : ℕ). cleared all bits number % 2 ^ n % unit) sum ∙ mod-mod-pow (cleared all bits number) bits (all - bits)
+    ∙ mul-mod_left (number / unit) unit
 
 pub is_prefix : (afi : Afi) (bits : ℕ) (octets : List ℕ) → bits ≤ addr_bits afi → IsVpnPrefix (address afi bits octets) bits
 unfolding address

@@ -57,7 +57,8 @@ tied_own kind q a = elim (node_cases q a) [
 turned : (kind : Kind) (q a : NodeId) → eq_by_cmp peer_cmp (session kind q) (session kind a) ≡ is_node a q
 turned kind q a = elim (node_cases a q) [
   | inl e ↦ ties peer_cmp peer_cmp_total (session kind q) (session kind a) (ap (session kind) (sym e)) ∙ sym (node_itself a q e)
-  | inr ne ↦ apart peer_cmp peer_cmp_exact (session kind q) (session kind a) (λ e. ne (ap (λ (s : PeerSession). s.peer) (sym e))) ∙ sym (node_apart a q ne)
+  | inr ne ↦ apart peer_cmp peer_cmp_exact (session kind q) (session kind a) (λ e. ne (ap (λ (s : PeerSession). s.peer) (sym e)))
+      ∙ sym (node_apart a q ne)
 ]
 
 tied : (own other : Kind) (a q : NodeId) → eq_by_cmp peer_cmp (session other q) (session own a) ≡ (same_kind own other && is_node a q)
@@ -73,24 +74,29 @@ pull f true x o = refl
 pull f false x o = refl
 
 -- behind entries of the other protocol
-past : {X : Type 0} (kind other : Kind) (stream : X → Stream) → ((q a : NodeId) → eq_by_cmp peer_cmp (session kind q) (session other a) ≡ false) → (es : List (NodeId × X)) (behind : List (PeerSession × Stream)) (q : NodeId)
+past : {X : Type 0} (kind other : Kind) (stream : X → Stream) → ((q a : NodeId) → eq_by_cmp peer_cmp (session kind q) (session other a) ≡ false)
+    → (es : List (NodeId × X)) (behind : List (PeerSession × Stream)) (q : NodeId)
     → find peer_cmp (session kind q) (entries_as other stream es ++ behind) ≡ find peer_cmp (session kind q) behind
 past kind other stream differ [] behind q = refl
 past kind other stream differ (e ∷ es) behind q = λ i. cond (differ q e.0 i) (Some (stream e.1)) (past kind other stream differ es behind q i)
 
 -- in front of entries of which none is the session's
-own : {X : Type 0} (kind : Kind) (stream : X → Stream) (es : List (NodeId × X)) (behind : List (PeerSession × Stream)) (q : NodeId) → find peer_cmp (session kind q) behind ≡ None
+own : {X : Type 0} (kind : Kind) (stream : X → Stream) (es : List (NodeId × X)) (behind : List (PeerSession × Stream)) (q : NodeId)
+    → find peer_cmp (session kind q) behind ≡ None
     → find peer_cmp (session kind q) (entries_as kind stream es ++ behind) ≡ option_map stream (lookup (is_node q) es)
 own kind stream [] behind q none = none
 own kind stream (e ∷ es) behind q none =
-    (λ i. cond (tied_own kind q e.0 i) (Some (stream e.1)) (own kind stream es behind q none i)) ∙ pull stream (is_node q e.0) e.1 (lookup (is_node q) es)
+    (λ i. cond (tied_own kind q e.0 i) (Some (stream e.1)) (own kind stream es behind q none i))
+    ∙ pull stream (is_node q e.0) e.1 (lookup (is_node q) es)
 
 pub bgp_seen : (bgp : NodeMap (Fed Message StreamFault)) (ldp : NodeMap (Fed LabelMessage LdpFault)) (q : NodeId)
     → maps.get (streams_of bgp ldp) (session kinds.Bgp q) ≡ option_map bgp_stream (get is_node bgp q)
 bgp_seen bgp ldp q =
     let others = entries_as kinds.Ldp ldp_stream ldp.entries in
-    let none = ap (find peer_cmp (session kinds.Bgp q)) (sym (append-nil others)) ∙ past kinds.Bgp kinds.Ldp ldp_stream (λ q a. refl) ldp.entries [] q in
-    maps.get-from_entries peer_cmp_total (entries_as kinds.Bgp bgp_stream bgp.entries ++ others) (session kinds.Bgp q) ∙ own kinds.Bgp bgp_stream bgp.entries others q none
+    let none =
+    ap (find peer_cmp (session kinds.Bgp q)) (sym (append-nil others)) ∙ past kinds.Bgp kinds.Ldp ldp_stream (λ q a. refl) ldp.entries [] q in
+    maps.get-from_entries peer_cmp_total (entries_as kinds.Bgp bgp_stream bgp.entries ++ others) (session kinds.Bgp q)
+    ∙ own kinds.Bgp bgp_stream bgp.entries others q none
 
 pub ldp_seen : (bgp : NodeMap (Fed Message StreamFault)) (ldp : NodeMap (Fed LabelMessage LdpFault)) (q : NodeId)
     → maps.get (streams_of bgp ldp) (session kinds.Ldp q) ≡ option_map ldp_stream (get is_node ldp q)
@@ -104,26 +110,35 @@ ldp_seen bgp ldp q =
 
 -- at the session this stands now, and every other session has what it had
 abbrev pub Sets : Kind → NodeId → Option Stream → FinMap peer_cmp Stream → FinMap peer_cmp Stream → Type 0
-Sets kind peer now old new = (other : Kind) (q : NodeId) → maps.get new (session other q) ≡ cond (same_kind kind other && is_node peer q) now (maps.get old (session other q))
+Sets kind peer now old new =
+    (other : Kind) (q : NodeId) → maps.get new (session other q) ≡ cond (same_kind kind other && is_node peer q) now (maps.get old (session other q))
 
-pub inserted : (kind : Kind) (peer : NodeId) (stream : Stream) (old new : FinMap peer_cmp Stream) → Sets kind peer (Some stream) old new → new ≡ maps.insert old (session kind peer) stream
+pub inserted : (kind : Kind) (peer : NodeId) (stream : Stream) (old new : FinMap peer_cmp Stream) → Sets kind peer (Some stream) old new
+    → new ≡ maps.insert old (session kind peer) stream
 inserted kind peer stream old new sets = same_map peer_cmp_total peer_cmp_exact _ _ (λ s.
-    sets s.kind s.peer ∙ ap (λ (b : Bool). cond b (Some stream) (maps.get old s)) (sym (tied kind s.kind peer s.peer)) ∙ sym (maps.get-insert peer_cmp_total old (session kind peer) stream s))
+    sets s.kind s.peer ∙ ap (λ (b : Bool). cond b (Some stream) (maps.get old s)) (sym (tied kind s.kind peer s.peer))
+    ∙ sym (maps.get-insert peer_cmp_total old (session kind peer) stream s))
 
-pub removed : (kind : Kind) (peer : NodeId) (old new : FinMap peer_cmp Stream) → Sets kind peer None old new → new ≡ maps.remove old (session kind peer)
+pub removed : (kind : Kind) (peer : NodeId) (old new : FinMap peer_cmp Stream) → Sets kind peer None old new
+    → new ≡ maps.remove old (session kind peer)
 removed kind peer old new sets = same_map peer_cmp_total peer_cmp_exact _ _ (λ s.
-    sets s.kind s.peer ∙ ap (λ (b : Bool). cond b None (maps.get old s)) (sym (tied kind s.kind peer s.peer)) ∙ sym (maps.get-remove peer_cmp_total old (session kind peer) s))
+    sets s.kind s.peer ∙ ap (λ (b : Bool). cond b None (maps.get old s)) (sym (tied kind s.kind peer s.peer))
+    ∙ sym (maps.get-remove peer_cmp_total old (session kind peer) s))
 
-pub stays : (kind : Kind) (peer : NodeId) (now : Option Stream) (old new : FinMap peer_cmp Stream) → maps.get old (session kind peer) ≡ now → Sets kind peer now old new → new ≡ old
+pub stays : (kind : Kind) (peer : NodeId) (now : Option Stream) (old new : FinMap peer_cmp Stream) → maps.get old (session kind peer) ≡ now
+    → Sets kind peer now old new → new ≡ old
 stays kind peer now old new same sets = same_map peer_cmp_total peer_cmp_exact _ _ (λ s. sets s.kind s.peer ∙ here kind s.kind s.peer same)
   where
-    at : (kind : Kind) (q : NodeId) → maps.get old (session kind peer) ≡ now → cond (is_node peer q) now (maps.get old (session kind q)) ≡ maps.get old (session kind q)
+    at : (kind : Kind) (q : NodeId) → maps.get old (session kind peer) ≡ now
+        → cond (is_node peer q) now (maps.get old (session kind q)) ≡ maps.get old (session kind q)
     at kind q same = elim (node_cases peer q) [
-      | inl e ↦ ap (λ (b : Bool). cond b now (maps.get old (session kind q))) (node_itself peer q e) ∙ (sym same ∙ ap (λ (x : NodeId). maps.get old (session kind x)) e)
+      | inl e ↦ ap (λ (b : Bool). cond b now (maps.get old (session kind q))) (node_itself peer q e)
+          ∙ (sym same ∙ ap (λ (x : NodeId). maps.get old (session kind x)) e)
       | inr ne ↦ ap (λ (b : Bool). cond b now (maps.get old (session kind q))) (node_apart peer q ne)
     ]
 
-    here : (own other : Kind) (q : NodeId) → maps.get old (session own peer) ≡ now → cond (same_kind own other && is_node peer q) now (maps.get old (session other q)) ≡ maps.get old (session other q)
+    here : (own other : Kind) (q : NodeId) → maps.get old (session own peer) ≡ now
+        → cond (same_kind own other && is_node peer q) now (maps.get old (session other q)) ≡ maps.get old (session other q)
     here kinds.Bgp kinds.Bgp q same = at kinds.Bgp q same
     here kinds.Ldp kinds.Ldp q same = at kinds.Ldp q same
     here kinds.Bgp kinds.Ldp q same = refl
@@ -135,28 +150,32 @@ push : {X Y : Type 0} (f : X → Y) (b : Bool) (now o : Option X) → option_map
 push f true now o = refl
 push f false now o = refl
 
-pub bgp_sets : (old new : NodeMap (Fed Message StreamFault)) (ldp : NodeMap (Fed LabelMessage LdpFault)) (peer : NodeId) (now : Option (Fed Message StreamFault)) → ((q : NodeId) → get is_node new q ≡ cond (is_node peer q) now (get is_node old q))
+pub bgp_sets : (old new : NodeMap (Fed Message StreamFault)) (ldp : NodeMap (Fed LabelMessage LdpFault)) (peer : NodeId)
+    (now : Option (Fed Message StreamFault)) → ((q : NodeId) → get is_node new q ≡ cond (is_node peer q) now (get is_node old q))
     → Sets kinds.Bgp peer (option_map bgp_stream now) (streams_of old ldp) (streams_of new ldp)
 bgp_sets old new ldp peer now each kinds.Bgp q =
     bgp_seen new ldp q ∙ ap (option_map bgp_stream) (each q) ∙ push bgp_stream (is_node peer q) now (get is_node old q)
     ∙ ap (λ (o : Option Stream). cond (is_node peer q) (option_map bgp_stream now) o) (sym (bgp_seen old ldp q))
 bgp_sets old new ldp peer now each kinds.Ldp q = ldp_seen new ldp q ∙ sym (ldp_seen old ldp q)
 
-pub ldp_sets : (bgp : NodeMap (Fed Message StreamFault)) (old new : NodeMap (Fed LabelMessage LdpFault)) (peer : NodeId) (now : Option (Fed LabelMessage LdpFault)) → ((q : NodeId) → get is_node new q ≡ cond (is_node peer q) now (get is_node old q))
+pub ldp_sets : (bgp : NodeMap (Fed Message StreamFault)) (old new : NodeMap (Fed LabelMessage LdpFault)) (peer : NodeId)
+    (now : Option (Fed LabelMessage LdpFault)) → ((q : NodeId) → get is_node new q ≡ cond (is_node peer q) now (get is_node old q))
     → Sets kinds.Ldp peer (option_map ldp_stream now) (streams_of bgp old) (streams_of bgp new)
 ldp_sets bgp old new peer now each kinds.Ldp q =
     ldp_seen bgp new q ∙ ap (option_map ldp_stream) (each q) ∙ push ldp_stream (is_node peer q) now (get is_node old q)
     ∙ ap (λ (o : Option Stream). cond (is_node peer q) (option_map ldp_stream now) o) (sym (ldp_seen bgp old q))
 ldp_sets bgp old new peer now each kinds.Bgp q = bgp_seen bgp new q ∙ sym (bgp_seen bgp old q)
 
-pub bgp_same : (old new : NodeMap (Fed Message StreamFault)) (ldp : NodeMap (Fed LabelMessage LdpFault)) → ((q : NodeId) → get is_node new q ≡ get is_node old q) → streams_of new ldp ≡ streams_of old ldp
+pub bgp_same : (old new : NodeMap (Fed Message StreamFault)) (ldp : NodeMap (Fed LabelMessage LdpFault))
+    → ((q : NodeId) → get is_node new q ≡ get is_node old q) → streams_of new ldp ≡ streams_of old ldp
 bgp_same old new ldp each = same_map peer_cmp_total peer_cmp_exact _ _ (λ s. at s.kind s.peer)
   where
     at : (kind : Kind) (q : NodeId) → maps.get (streams_of new ldp) (session kind q) ≡ maps.get (streams_of old ldp) (session kind q)
     at kinds.Bgp q = bgp_seen new ldp q ∙ ap (option_map bgp_stream) (each q) ∙ sym (bgp_seen old ldp q)
     at kinds.Ldp q = ldp_seen new ldp q ∙ sym (ldp_seen old ldp q)
 
-pub ldp_same : (bgp : NodeMap (Fed Message StreamFault)) (old new : NodeMap (Fed LabelMessage LdpFault)) → ((q : NodeId) → get is_node new q ≡ get is_node old q) → streams_of bgp new ≡ streams_of bgp old
+pub ldp_same : (bgp : NodeMap (Fed Message StreamFault)) (old new : NodeMap (Fed LabelMessage LdpFault))
+    → ((q : NodeId) → get is_node new q ≡ get is_node old q) → streams_of bgp new ≡ streams_of bgp old
 ldp_same bgp old new each = same_map peer_cmp_total peer_cmp_exact _ _ (λ s. at s.kind s.peer)
   where
     at : (kind : Kind) (q : NodeId) → maps.get (streams_of bgp new) (session kind q) ≡ maps.get (streams_of bgp old) (session kind q)

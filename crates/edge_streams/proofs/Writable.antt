@@ -39,7 +39,8 @@ abbrev HasText : {M : Type 0} → (M → List ℕ → Type 0) → M → Type 0
 HasText Spells m = (text : List ℕ) × Spells m text
 
 -- each part has its text
-parts_spelled : {M : Type 0} (Spells : M → List ℕ → Type 0) (Fits : List M → M → Type 0) (before : List M) (octets : List ℕ) (ms : List M) (rest : List ℕ) → ArePartsAfter Spells Fits before octets ms rest → AllByRecursion (HasText Spells) ms
+parts_spelled : {M : Type 0} (Spells : M → List ℕ → Type 0) (Fits : List M → M → Type 0) (before : List M) (octets : List ℕ) (ms : List M)
+    (rest : List ℕ) → ArePartsAfter Spells Fits before octets ms rest → AllByRecursion (HasText Spells) ms
 parts_spelled Spells Fits before octets [] rest h = tt
 parts_spelled Spells Fits before octets (m ∷ ms) rest h = ((h.0, h.2), parts_spelled Spells Fits (before ++ m ∷ []) h.1 ms rest h.5)
 
@@ -60,7 +61,9 @@ key_writable (Mcast afi) (keys.Unicast rd prefix) text s = absurd s
 key_writable (Vpn afi) (keys.Mcast a route) text s = absurd s
 
 keys_writable : (f : Family) (ks : List Key) (octets rest : List ℕ) → AreKeys f ks octets rest → AllByRecursion (IsKeyOf f) ks
-keys_writable f ks octets rest b = begins_hold (SpellsUnit f) (IsKeyOf f) (λ ms text s. subst (AllByRecursion (IsKeyOf f)) (sym s.1) (key_writable f s.0 text s.2, tt)) octets ks rest b
+keys_writable f ks octets rest b =
+    begins_hold (SpellsUnit f) (IsKeyOf f) (λ ms text s. subst (AllByRecursion (IsKeyOf f)) (sym s.1) (key_writable f s.0 text s.2, tt)) octets ks
+    rest b
 
 writable_keys : (f : Family) (ks : List Key) → AllByRecursion (IsKeyOf f) ks → AllByRecursion IsWritableKey ks
 writable_keys f [] are = tt
@@ -76,7 +79,8 @@ hop_writable (Vpn Ipv4) (V6 octets) text s = (s.3.0, tt)
 hop_writable (Vpn Ipv6) (V4 octets) text s = (s.3.0, tt)
 hop_writable (Vpn Ipv6) (V6 octets) text s = (s.3.0, s.3.1)
 
-adverts_writable : (f : Family) (hop : Addr) (comms : List ExtComm) (pmsi : Option Pmsi) → IsNextHop f hop → AreComms comms → IsTunnel pmsi → (ks : List Key) → AllByRecursion (IsKeyOf f) ks
+adverts_writable : (f : Family) (hop : Addr) (comms : List ExtComm) (pmsi : Option Pmsi) → IsNextHop f hop → AreComms comms → IsTunnel pmsi
+    → (ks : List Key) → AllByRecursion (IsKeyOf f) ks
     → AllByRecursion IsWritableAdvert (map (λ key. record { key = key; next_hop = hop; comms = comms; pmsi = pmsi }) ks)
 adverts_writable f hop comms pmsi is_hop are_comms is_tunnel [] are = tt
 adverts_writable f hop comms pmsi is_hop are_comms is_tunnel (k ∷ ks) are = (
@@ -104,10 +108,12 @@ tunnel_writable (Unreach ks ∷ list) h = tunnel_writable list h.1
 tunnel_writable (Communities comms ∷ list) h = tunnel_writable list h.1
 tunnel_writable (Passed kind ∷ list) h = tunnel_writable list h.1
 
-reach_writable : (comms : List ExtComm) (pmsi : Option Pmsi) → AreComms comms → IsTunnel pmsi → (a : Attribute) → IsAttribute a → AllByRecursion IsWritableAdvert (adverts_in comms pmsi a)
+reach_writable : (comms : List ExtComm) (pmsi : Option Pmsi) → AreComms comms → IsTunnel pmsi → (a : Attribute) → IsAttribute a
+    → AllByRecursion IsWritableAdvert (adverts_in comms pmsi a)
 reach_writable comms pmsi are_comms is_tunnel (Reach (Some r)) h =
     let s = h.1.means in
-    adverts_writable s.family r.next_hop comms pmsi (hop_writable s.family r.next_hop s.hop s.next_hop) are_comms is_tunnel r.keys (keys_writable s.family r.keys s.nlri [] s.routes)
+    adverts_writable s.family r.next_hop comms pmsi (hop_writable s.family r.next_hop s.hop s.next_hop) are_comms is_tunnel r.keys
+    (keys_writable s.family r.keys s.nlri [] s.routes)
 reach_writable comms pmsi are_comms is_tunnel (Reach None) h = tt
 reach_writable comms pmsi are_comms is_tunnel (Unreach ks) h = tt
 reach_writable comms pmsi are_comms is_tunnel (Communities cs) h = tt
@@ -129,7 +135,9 @@ update_writable u octets s =
     let list : List Attribute = s.0 in
     let texts = parts_spelled SpellsAttribute IsNew [] octets list [] s.1 in
     let comms : AreComms (comms_of list) = flat_holds IsAttribute _ comms_in comms_writable list texts in
-    let reach = flat_holds IsAttribute IsWritableAdvert (adverts_in (comms_of list) (pmsi_of list)) (reach_writable (comms_of list) (pmsi_of list) comms (tunnel_writable list texts)) list texts in
+    let reach =
+    flat_holds IsAttribute IsWritableAdvert (adverts_in (comms_of list) (pmsi_of list))
+    (reach_writable (comms_of list) (pmsi_of list) comms (tunnel_writable list texts)) list texts in
     let unreach = flat_holds IsAttribute IsWritableKey keys_in unreach_writable list texts in
     subst (λ (v : Update). SaysWritable (messages.Update v)) (sym s.2) (reach, unreach)
 
@@ -159,6 +167,9 @@ label_means_own m n kind body e is = (let same : m ≡ n = cc in subst (λ (x : 
 
 pub label_message_writable : (m : LabelMessage) → IsSpelledLabel m → SaysWritableLabel m
 label_message_writable (labels.Ignored kind) s = tt
-label_message_writable (labels.Mapping f l) s = carried_writable f l s.1.body (label_means_own (labels.Mapping f l) s.1.message s.1.kind s.1.body s.1.one s.1.means).1
-label_message_writable (labels.Withdraw f l) s = carried_writable f l s.1.body (label_means_own (labels.Withdraw f l) s.1.message s.1.kind s.1.body s.1.one s.1.means).1
-label_message_writable (labels.Release f l) s = carried_writable f l s.1.body (label_means_own (labels.Release f l) s.1.message s.1.kind s.1.body s.1.one s.1.means).1
+label_message_writable (labels.Mapping f l) s =
+    carried_writable f l s.1.body (label_means_own (labels.Mapping f l) s.1.message s.1.kind s.1.body s.1.one s.1.means).1
+label_message_writable (labels.Withdraw f l) s =
+    carried_writable f l s.1.body (label_means_own (labels.Withdraw f l) s.1.message s.1.kind s.1.body s.1.one s.1.means).1
+label_message_writable (labels.Release f l) s =
+    carried_writable f l s.1.body (label_means_own (labels.Release f l) s.1.message s.1.kind s.1.body s.1.one s.1.means).1

@@ -24,7 +24,8 @@ pub record IsOnWay (list : List (Change Key Value)) (old out : List ℕ) (left :
 pub none_put : (list : List (Change Key Value)) (old : List ℕ) → IsOnWay list old old list
 none_put list old = record { done = []; all = refl; octets = sym (append-nil old) }
 
-pub one_put : (list : List (Change Key Value)) (old out new : List ℕ) (before left : List (Change Key Value)) (change : Change Key Value) → IsOnWay list old out before
+pub one_put : (list : List (Change Key Value)) (old out new : List ℕ) (before left : List (Change Key Value)) (change : Change Key Value)
+    → IsOnWay list old out before
     → before ≡ change ∷ left → new ≡ out ++ written (as_update change) → IsOnWay list old new left
 one_put list old out new before left change way first is = record {
   done = way.done ++ change ∷ [];
@@ -35,13 +36,19 @@ one_put list old out new before left change way first is = record {
       ∙ ap (λ (t : List ℕ). old ++ t) (sym (flat_map-append (λ (c : Change Key Value). written (as_update c)) way.done (change ∷ [])));
 }
 
-pub front_put : (list : List (Change Key Value)) (old out new : List ℕ) (left : List (Change Key Value)) → IsOnWay list old out left → new ≡ out → IsFront list old new
-front_put list old out new left way is =
-    (length way.done, is ∙ way.octets ∙ ap (λ (l : List (Change Key Value)). old ++ texts l) (sym (ap (take (length way.done)) way.all ∙ take_at way.done left (length way.done) refl)))
+pub front_put : (list : List (Change Key Value)) (old out new : List ℕ) (left : List (Change Key Value)) → IsOnWay list old out left → new ≡ out
+    → IsFront list old new
+front_put list old out new left way is = (
+  length way.done,
+  is ∙ way.octets ∙ ap (λ (l : List (Change Key Value)). old ++ texts l)
+      (sym (ap (take (length way.done)) way.all ∙ take_at way.done left (length way.done) refl)),
+)
 
-pub all_put : (list : List (Change Key Value)) (old out : List ℕ) (left : List (Change Key Value)) → IsOnWay list old out left → left ≡ [] → out ≡ old ++ texts list
+pub all_put : (list : List (Change Key Value)) (old out : List ℕ) (left : List (Change Key Value)) → IsOnWay list old out left → left ≡ []
+    → out ≡ old ++ texts list
 all_put list old out left way none =
-    way.octets ∙ ap (λ (l : List (Change Key Value)). old ++ texts l) (sym (way.all ∙ ap (λ (l : List (Change Key Value)). way.done ++ l) none ∙ append-nil way.done))
+    way.octets ∙ ap (λ (l : List (Change Key Value)). old ++ texts l)
+    (sym (way.all ∙ ap (λ (l : List (Change Key Value)). way.done ++ l) none ∙ append-nil way.done))
 
 -- ---- table by table
 
@@ -51,10 +58,16 @@ told_behind : (rib : RibOut key_cmp Value) (b : Bool) (out : List ℕ) → rib.u
 told_behind rib true out e = refl
 told_behind rib false out e = refl
 
-pub put_part : (rib after : RibOut key_cmp Value) (waiting out : List ℕ) (list : List (Change Key Value)) → list ≡ ribs.pending same_value rib → after ≡ flushed rib
+pub put_part : (rib after : RibOut key_cmp Value) (waiting out : List ℕ) (list : List (Change Key Value)) → list ≡ ribs.pending same_value rib
+    → after ≡ flushed rib
     → IsFront list waiting out → IsPutPart (of_rib rib waiting) (of_rib after out)
 put_part rib after waiting out list is told front =
-    inr (out, subst (λ (l : List (Change Key Value)). IsFront l waiting out) is front, ap (λ (r : RibOut key_cmp Value). of_rib r out) told ∙ told_behind rib rib.up out refl)
+    inr (
+      out,
+      subst (λ (l : List (Change Key Value)). IsFront l waiting out) is front,
+      ap (λ (r : RibOut key_cmp Value). of_rib r out) told
+          ∙ told_behind rib rib.up out refl,
+    )
 
 pub part_of_all : (old new : PeerTable) → new ≡ put_behind old → IsPutPart old new
 part_of_all old new is =

@@ -27,9 +27,11 @@ entry slot = (slot.peer, peer_table slot)
 found : (slots : List Slot) (peer : NodeId) → entries.find node_cmp peer (map entry slots) ≡ option_map peer_table (find (is_of peer) slots)
 found [] peer = refl
 found (slot ∷ slots) peer =
-    (λ i. cond (unsigned_tied peer.0 slot.peer.0 i) (Some (peer_table slot)) (found slots peer i)) ∙ joined (is_of peer slot) slot (find (is_of peer) slots)
+    (λ i. cond (unsigned_tied peer.0 slot.peer.0 i) (Some (peer_table slot)) (found slots peer i))
+    ∙ joined (is_of peer slot) slot (find (is_of peer) slots)
   where
-    joined : (b : Bool) (s : Slot) (rest : Option Slot) → cond b (Some (peer_table s)) (option_map peer_table rest) ≡ option_map peer_table (cond b (Some s) rest)
+    joined : (b : Bool) (s : Slot) (rest : Option Slot)
+        → cond b (Some (peer_table s)) (option_map peer_table rest) ≡ option_map peer_table (cond b (Some s) rest)
     joined true s rest = refl
     joined false s rest = refl
 
@@ -45,13 +47,15 @@ module _ (Is : PeerTable → PeerTable → Type 0) where
   pick true x y p q h k = h
   pick false x y p q h k = k
 
-  each_found : (xs ys : List Slot) (peer : NodeId) → AllZip (Becomes Is) xs ys → Both Is (option_map peer_table (find (is_of peer) xs)) (option_map peer_table (find (is_of peer) ys))
+  each_found : (xs ys : List Slot) (peer : NodeId) → AllZip (Becomes Is) xs ys
+      → Both Is (option_map peer_table (find (is_of peer) xs)) (option_map peer_table (find (is_of peer) ys))
   each_found [] [] peer h = tt
   each_found [] (y ∷ ys) peer h = absurd h
   each_found (x ∷ xs) [] peer h = absurd h
   each_found (x ∷ xs) (y ∷ ys) peer h =
       let same : is_of peer x ≡ is_of peer y = sym (ap (λ (node : NodeId). peer.0 == node.0) h.0.0) in
-      subst (λ (b : Bool). Both Is (option_map peer_table (find (is_of peer) (x ∷ xs))) (option_map peer_table (cond b (Some y) (find (is_of peer) ys)))) same
+      subst (λ (b : Bool). Both Is (option_map peer_table (find (is_of peer) (x ∷ xs)))
+      (option_map peer_table (cond b (Some y) (find (is_of peer) ys)))) same
       (pick (is_of peer x) x y (find (is_of peer) xs) (find (is_of peer) ys) h.0.1 (each_found xs ys peer h.1))
 
   pub each_peer : (xs ys : List Slot) → AllZip (Becomes Is) xs ys → EachPeer Is (tables_of xs) (tables_of ys)
@@ -62,30 +66,36 @@ module _ (Is : PeerTable → PeerTable → Type 0) where
 whole : {Z : Type 0} (slots : Vec Slot Z) (new : List Slot) → length new ≡ length slots.items → (with_items slots new).items ≡ new
 whole slots new same = take_at new (drop (length new) slots.items) slots.len (same ∙ sym slots.ok.0)
 
-pub each_behind : {Z : Type 0} (Is : PeerTable → PeerTable → Type 0) (slots : Vec Slot Z) (lent new : List Slot) (tables : Tables) → tables_of slots.items ≡ tables
+pub each_behind : {Z : Type 0} (Is : PeerTable → PeerTable → Type 0) (slots : Vec Slot Z) (lent new : List Slot) (tables : Tables)
+    → tables_of slots.items ≡ tables
     → lent ≡ slots.items → AllZip (Becomes Is) lent new → EachPeer Is tables (tables_of (with_items slots new).items)
 each_behind Is slots lent new tables view same h =
     let long : length new ≡ length slots.items = AllZip-long (Becomes Is) lent new h ∙ ap length same in
     subst (λ (ws : List Slot). EachPeer Is tables (tables_of ws)) (sym (whole slots new long))
-    (subst (λ (t : Tables). EachPeer Is t (tables_of new)) view (each_peer Is slots.items new (subst (λ (l : List Slot). AllZip (Becomes Is) l new) same h)))
+    (subst (λ (t : Tables). EachPeer Is t (tables_of new)) view
+    (each_peer Is slots.items new (subst (λ (l : List Slot). AllZip (Becomes Is) l new) same h)))
 
 -- ---- one peer
 
-find_at : {A : Type 0} (p : A → Bool) (xs : List A) (n : ℕ) (d : A) → n < length xs → p (get_or xs n d) ≡ true → ((k : ℕ) → k < n → p (get_or xs k d) ≡ false)
+find_at : {A : Type 0} (p : A → Bool) (xs : List A) (n : ℕ) (d : A) → n < length xs → p (get_or xs n d) ≡ true
+    → ((k : ℕ) → k < n → p (get_or xs k d) ≡ false)
     → find p xs ≡ Some (get_or xs n d)
 find_at p [] n d lt is none = absurd (omega (arith, lt))
 find_at p (x ∷ xs) zero d lt is none = ap (λ (b : Bool). cond b (Some x) (find p xs)) is
 find_at p (x ∷ xs) (suc n) d lt is none =
-    ap (λ (b : Bool). cond b (Some x) (find p xs)) (none zero (omega arith)) ∙ find_at p xs n d (omega (arith, lt)) is (λ k le. none (suc k) (omega (arith, le)))
+    ap (λ (b : Bool). cond b (Some x) (find p xs)) (none zero (omega arith))
+    ∙ find_at p xs n d (omega (arith, lt)) is (λ k le. none (suc k) (omega (arith, le)))
 
 find_set : {A : Type 0} (p : A → Bool) (xs : List A) (n : ℕ) (d s : A) → n < length xs → p s ≡ true → ((k : ℕ) → k < n → p (get_or xs k d) ≡ false)
     → find p (set xs n s) ≡ Some s
 find_set p [] n d s lt is none = absurd (omega (arith, lt))
 find_set p (x ∷ xs) zero d s lt is none = ap (λ (b : Bool). cond b (Some s) (find p xs)) is
 find_set p (x ∷ xs) (suc n) d s lt is none =
-    ap (λ (b : Bool). cond b (Some x) (find p (set xs n s))) (none zero (omega arith)) ∙ find_set p xs n d s (omega (arith, lt)) is (λ k le. none (suc k) (omega (arith, le)))
+    ap (λ (b : Bool). cond b (Some x) (find p (set xs n s))) (none zero (omega arith))
+    ∙ find_set p xs n d s (omega (arith, lt)) is (λ k le. none (suc k) (omega (arith, le)))
 
-find_other : {A : Type 0} (p : A → Bool) (xs : List A) (n : ℕ) (d s : A) → n < length xs → p (get_or xs n d) ≡ false → p s ≡ false → find p (set xs n s) ≡ find p xs
+find_other : {A : Type 0} (p : A → Bool) (xs : List A) (n : ℕ) (d s : A) → n < length xs → p (get_or xs n d) ≡ false → p s ≡ false
+    → find p (set xs n s) ≡ find p xs
 find_other p [] n d s lt old new = absurd (omega (arith, lt))
 find_other p (x ∷ xs) zero d s lt old new =
     ap (λ (b : Bool). cond b (Some s) (find p xs)) new ∙ sym (ap (λ (b : Bool). cond b (Some x) (find p xs)) old)
@@ -105,9 +115,11 @@ no_place p xs h =
     let n : ℕ = position_or_len p xs in
     find_first p xs ∙ none_beyond xs n (ltb-false n (length xs) (no_number (nat_lt n (length xs)) n h))
 
-pub no_slot : (slots lent : List Slot) (tables : Tables) (peer : NodeId) → tables_of slots ≡ tables → lent ≡ slots → None ≡ position (is_of peer) lent → get tables peer ≡ None
+pub no_slot : (slots lent : List Slot) (tables : Tables) (peer : NodeId) → tables_of slots ≡ tables → lent ≡ slots → None ≡ position (is_of peer) lent
+    → get tables peer ≡ None
 no_slot slots lent tables peer view same none =
-    ap (λ (t : Tables). get t peer) (sym view) ∙ at_of slots peer ∙ ap (option_map peer_table) (no_place (is_of peer) slots (sym (subst (λ (l : List Slot). None ≡ position (is_of peer) l) same none)))
+    ap (λ (t : Tables). get t peer) (sym view) ∙ at_of slots peer
+    ∙ ap (option_map peer_table) (no_place (is_of peer) slots (sym (subst (λ (l : List Slot). None ≡ position (is_of peer) l) same none)))
 
 pub unknown : (Is : PeerTable → PeerTable → Type 0) (tables : Tables) (peer : NodeId) → get tables peer ≡ None → AtPeer peer Is tables tables
 unknown Is tables peer none = (subst (λ (o : Option PeerTable). Both Is o o) (sym none) tt, λ other differs. refl)
@@ -131,9 +143,11 @@ module _ (slots lent : List Slot) (tables : Tables) (peer : NodeId) (place : ℕ
   pub slot_at : get tables peer ≡ Some (peer_table d)
   slot_at =
       ap (λ (t : Tables). get t peer) (sym view) ∙ at_of slots peer
-      ∙ ap (option_map peer_table) (find_at (is_of peer) slots place d there.0 there.1 there.2) ∙ ap (λ (slot : Slot). Some (peer_table slot)) (sym is)
+      ∙ ap (option_map peer_table) (find_at (is_of peer) slots place d there.0 there.1 there.2)
+      ∙ ap (λ (slot : Slot). Some (peer_table slot)) (sym is)
 
-  pub slot_set : (Is : PeerTable → PeerTable → Type 0) (s : Slot) → s.peer ≡ d.peer → Is (peer_table d) (peer_table s) → AtPeer peer Is tables (tables_of (set slots place s))
+  pub slot_set : (Is : PeerTable → PeerTable → Type 0) (s : Slot) → s.peer ≡ d.peer → Is (peer_table d) (peer_table s)
+      → AtPeer peer Is tables (tables_of (set slots place s))
   slot_set Is s node h =
       let own : is_of peer d ≡ true = subst (λ (slot : Slot). is_of peer slot ≡ true) (sym is) there.1 in
       let new : is_of peer s ≡ true = ap (λ (n : NodeId). peer.0 == n.0) node ∙ own in
@@ -143,7 +157,8 @@ module _ (slots lent : List Slot) (tables : Tables) (peer : NodeId) (place : ℕ
             (subst (λ (o : Option PeerTable). Both Is (Some (peer_table d)) o) (sym now) h),
         λ other differs.
             at_of (set slots place s) other
-            ∙ ap (option_map peer_table) (find_other (is_of other) slots place d s there.0 (apart peer other (get_or slots place d) there.1 differs) (apart peer other s new differs))
+            ∙ ap (option_map peer_table) (find_other (is_of other) slots place d s there.0 (apart peer other (get_or slots place d) there.1 differs)
+            (apart peer other s new differs))
             ∙ sym (ap (λ (t : Tables). get t other) (sym view) ∙ at_of slots other),
       )
 
@@ -152,7 +167,8 @@ module _ (slots lent : List Slot) (tables : Tables) (peer : NodeId) (place : ℕ
 abbrev pub of_peer : NodeId → NodeId × PeerTable
 of_peer peer = (peer, fresh)
 
-pub made_more : (peers : List NodeId) (slots new : List Slot) (n : ℕ) (d : NodeId) (slot : Slot) → n < length peers → map entry slots ≡ map of_peer (take n peers)
+pub made_more : (peers : List NodeId) (slots new : List Slot) (n : ℕ) (d : NodeId) (slot : Slot) → n < length peers
+    → map entry slots ≡ map of_peer (take n peers)
     → new ≡ slots ++ slot ∷ [] → slot.peer ≡ get_or peers n d → peer_table slot ≡ fresh → map entry new ≡ map of_peer (take (n + 1) peers)
 made_more peers slots new n d slot lt h is peer table =
     let last : entry slot ≡ of_peer (get_or peers n d) = λ i. (peer i, table i) in

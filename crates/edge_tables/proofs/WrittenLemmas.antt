@@ -70,7 +70,15 @@ vpn_few : (label : List ℕ) (rd : Rd) (prefix : Prefix) → length label ≡ 3 
 vpn_few label rd prefix three h =
     let octets : List ℕ = addr_octets prefix.addr in
     let front : List ℕ = take (octets_for prefix.bits) octets in
-    omega (arith, three, h.rd_len, addr_few prefix.addr h.is_prefix.0, front_few (octets_for prefix.bits) octets, length-append label (rd.0 ++ front), length-append rd.0 front)
+    omega (
+      arith,
+      three,
+      h.rd_len,
+      addr_few prefix.addr h.is_prefix.0,
+      front_few (octets_for prefix.bits) octets,
+      length-append label (rd.0 ++ front),
+      length-append rd.0 front,
+    )
 
 key_few : (label : List ℕ) (key : Key) → length label ≡ 3 → IsWritableKey key → length (key_text label key) ≤ 257
 key_few label (keys.Mcast afi route) three h = let few = fields_room afi route h.route in omega (arith, few)
@@ -83,14 +91,25 @@ root_few (V6 octets) h = omega (arith, h)
 identifier_few : (tunnel : Tunnel) → tunnels.IsTunnel tunnel → length (tunnels.identifier tunnel) ≤ 96
 identifier_few tunnel_kinds.None h = omega arith
 identifier_few (tunnel_kinds.Mldp element) h =
-    omega (arith, root_few element.root h.1.root, h.1.fits, length-append (fec.root element.root) (fec.opaque element.opaque), length-append (to_be_bytes w16 (length element.opaque)) element.opaque)
+    omega (
+      arith,
+      root_few element.root h.1.root,
+      h.1.fits,
+      length-append (fec.root element.root) (fec.opaque element.opaque),
+      length-append (to_be_bytes w16 (length element.opaque)) element.opaque,
+    )
 identifier_few (tunnel_kinds.Ingress addr) h = let few = addr_few addr h in omega (arith, few)
 identifier_few (tunnel_kinds.Other kind octets) h = omega (arith, h.1)
 
 tunnel_few : (pmsi : Option Pmsi) → IsTunnel pmsi → length (tunnel_text pmsi) ≤ 105
 tunnel_few None h = omega arith
 tunnel_few (Some pmsi) h =
-    omega (arith, attribute_few 0xC0 22 (tunnels.written pmsi), identifier_few pmsi.tunnel h.tunnel, length-append (tunnels.written_header pmsi) (tunnels.identifier pmsi.tunnel))
+    omega (
+      arith,
+      attribute_few 0xC0 22 (tunnels.written pmsi),
+      identifier_few pmsi.tunnel h.tunnel,
+      length-append (tunnels.written_header pmsi) (tunnels.identifier pmsi.tunnel),
+    )
 
 message_few : (list : List ℕ) → length list ≤ 1000 → length (message_text list) ≤ 4096
 message_few list few = omega (arith, few)
@@ -102,7 +121,8 @@ advert_short advert h few =
     let hop : List ℕ = hop_of f advert.next_hop in
     let value : List ℕ = reach_value advert in
     let comms : List ℕ = comms_octets advert.comms in
-    let value_few : length value ≤ 300 = omega (arith, key_few advertised advert.key refl h.key, hop_few f advert.next_hop h.next_hop.0, length-append hop (0 ∷ key)) in
+    let value_few : length value ≤ 300 =
+    omega (arith, key_few advertised advert.key refl h.key, hop_few f advert.next_hop h.next_hop.0, length-append hop (0 ∷ key)) in
     let comms_few : length comms ≤ 80 = omega (arith, few, comms_len advert.comms h.comms) in
     let reached : List ℕ = attribute 0x80 14 value in
     let told : List ℕ = attribute 0xC0 16 comms in

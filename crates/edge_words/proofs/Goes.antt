@@ -60,7 +60,8 @@ from_edge edge (Some (Site own)) h = absurd cc
 from_edge edge (Some (Remote own rd import source_as)) h =
     record { rd = rd; import = import; source_as = source_as; is = ap (λ (n : NodeId). Some (Remote n rd import source_as)) (node_equal own edge h) }
 
-edge_from : (edge : NodeId) (up : Option Upstream) (rd : Rd) (import : Import) (source_as : ℕ) → up ≡ Some (Remote edge rd import source_as) → is_from_edge edge up ≡ true
+edge_from : (edge : NodeId) (up : Option Upstream) (rd : Rd) (import : Import) (source_as : ℕ) → up ≡ Some (Remote edge rd import source_as)
+    → is_from_edge edge up ≡ true
 edge_from edge up rd import source_as h = ap (is_from_edge edge) h ∙ node_itself edge edge refl
 
 not_false : (b : Bool) → not b ≡ true → b ≡ true → ⊥
@@ -82,17 +83,21 @@ is_out scenario site iface h = by (slice_get scenario.ifaces iface.0) refl h
     by (Some found) e t = record { found = found; at = e; of_other = λ same. not_false (is_of_site site found) t (eq-eqb found.site.0 site.0 same) }
 
 out_is : (scenario : Scenario) (site : SiteId) (iface : IfaceId) → IsOutside scenario site iface → is_outside scenario site iface ≡ true
-out_is scenario site iface is = ap (outside_test site) is.at ∙ not_true (is_of_site site is.found) (λ t. is.of_other (eqb-true is.found.site.0 site.0 t))
+out_is scenario site iface is =
+    ap (outside_test site) is.at ∙ not_true (is_of_site site is.found) (λ t. is.of_other (eqb-true is.found.site.0 site.0 t))
 
 -- the branches of a tree
-branch_from : (part : LabelData) (fec : Fec) (branch : Branch) → Among branch (branches_of part fec) → (sets.contains part.branches branch ≡ true) × (branch.fec ≡ fec)
+branch_from : (part : LabelData) (fec : Fec) (branch : Branch) → Among branch (branches_of part fec)
+    → (sets.contains part.branches branch ≡ true) × (branch.fec ≡ fec)
 branch_from part fec branch a =
     let by = filter_among (λ (b : Branch). same_fec b.fec fec) branch (in_order part.branches) a in
     (contained branch_cmp_total branch_cmp_exact part.branches branch by.0, same_fec_equal branch.fec fec by.1)
 
-branch_to : (part : LabelData) (fec : Fec) (branch : Branch) → sets.contains part.branches branch ≡ true → branch.fec ≡ fec → Among branch (branches_of part fec)
+branch_to : (part : LabelData) (fec : Fec) (branch : Branch) → sets.contains part.branches branch ≡ true → branch.fec ≡ fec
+    → Among branch (branches_of part fec)
 branch_to part fec branch h e =
-    among_filter (λ (b : Branch). same_fec b.fec fec) branch (in_order part.branches) (same_fec_from branch.fec fec e) (listed branch_cmp_total branch_cmp_exact part.branches branch h)
+    among_filter (λ (b : Branch). same_fec b.fec fec) branch (in_order part.branches) (same_fec_from branch.fec fec e)
+    (listed branch_cmp_total branch_cmp_exact part.branches branch h)
 
 none_among : {A : Type 0} {X : Type 0} (b : Bool) (x : X) (xs : List X) → Among x (cond b xs []) → ((b ≡ true) → Among x xs → A) → A
 none_among true x xs a k = k refl a
@@ -111,7 +116,8 @@ module _ (place : EdgePlace) (now : ℕ) (control : Control) (own : OwnVrf) (sou
 
   asking_to : (iface : IfaceId) → IsAsking place now control own source group iface → Among iface (asking_ifaces place now control own source group)
   asking_to iface is =
-      among_filter (is_asking place now control own source group) iface (ifaces_of place own) (is_asks place now control own source group iface is.asks) (ifaces_to place.scenario own.id iface is.of_vrf)
+      among_filter (is_asking place now control own source group) iface (ifaces_of place own)
+      (is_asks place now control own source group iface is.asks) (ifaces_to place.scenario own.id iface is.of_vrf)
 
   -- another edge has joined
   pub joined_from : is_joined_in place control own source group ≡ true → IsJoined place control own source group
@@ -165,9 +171,11 @@ module _ (place : EdgePlace) (now : ℕ) (edge : EdgeData) (own : OwnVrf) (site 
   out_to : (iface : IfaceId) → EntersOut place now edge own site source group iface → Among iface (fate is_upstream).outs
   out_to iface is =
       subst (λ (b : Bool). Among iface (fate b).outs) (sym (site_from site (upstream_for place edge.control own source group) is.upstream))
-      (among_filter (is_outside place.scenario site) iface asking (out_is place.scenario site iface is.outside) (asking_to place now edge.control own source group iface is.asking))
+      (among_filter (is_outside place.scenario site) iface asking (out_is place.scenario site iface is.outside)
+      (asking_to place now edge.control own source group iface is.asking))
 
-  pub enters_out : (iface : IfaceId) → Among iface (entering_fate place now edge own site source group).outs ↔ EntersOut place now edge own site source group iface
+  pub enters_out : (iface : IfaceId) → Among iface (entering_fate place now edge own site source group).outs ↔ EntersOut place now edge own site
+      source group iface
   enters_out iface = (out_from iface is_upstream refl, out_to iface)
 
   on_from : (branch : Branch) (b : Bool) → is_upstream ≡ b → Among branch (fate b).branches → EntersOn place edge own site source group branch
@@ -186,10 +194,12 @@ module _ (place : EdgePlace) (now : ℕ) (edge : EdgeData) (own : OwnVrf) (site 
   on_to branch is =
       let tunnel = transmit_tunnel place edge.control own source group in
       subst (λ (b : Bool). Among branch (fate b).branches) (sym (site_from site (upstream_for place edge.control own source group) is.upstream))
-      (among_when (is_joined_in place edge.control own source group) branch (branches_of edge.part tunnel) (joined_to place now edge.control own source group is.joined)
+      (among_when (is_joined_in place edge.control own source group) branch (branches_of edge.part tunnel)
+      (joined_to place now edge.control own source group is.joined)
       (branch_to edge.part tunnel branch is.has is.of_tunnel))
 
-  pub enters_on : (branch : Branch) → Among branch (entering_fate place now edge own site source group).branches ↔ EntersOn place edge own site source group branch
+  pub enters_on : (branch : Branch) → Among branch (entering_fate place now edge own site source group).branches ↔ EntersOn place edge own site source
+      group branch
   enters_on branch = (on_from branch is_upstream refl, on_to branch)
 
 -- ---- routes of a tunnel
@@ -201,7 +211,8 @@ tunnel_from fec (Some own) h = ap (λ (f : Fec). Some f) (same_fec_equal own fec
 tunnel_to : (fec : Fec) (o : Option Fec) → o ≡ Some fec → is_tunnel fec o ≡ true
 tunnel_to fec o h = ap (is_tunnel fec) h ∙ same_fec_from fec fec refl
 
-selective_from : (fec : Fec) (o : Option ImportedSelective) → selective_fec o ≡ Some fec → (imported : ImportedSelective) × (o ≡ Some imported) × (imported.fec ≡ fec)
+selective_from : (fec : Fec) (o : Option ImportedSelective) → selective_fec o ≡ Some fec
+    → (imported : ImportedSelective) × (o ≡ Some imported) × (imported.fec ≡ fec)
 selective_from fec None h = absurd cc
 selective_from fec (Some imported) h = (imported, refl, (let same : imported.fec ≡ fec = cc in same))
 
@@ -217,7 +228,8 @@ true_second true c h = refl
 true_second false c h = h
 
 module _ (place : EdgePlace) (control : Control) (own : OwnVrf) (fec : Fec) where
-  pub imported_from : (peer : NodeId) (table : Taken) → Among (peer, table) (maps.entries control.peers) → is_imported_from place own fec (peer, table) ≡ true → IsImported place control own peer fec
+  pub imported_from : (peer : NodeId) (table : Taken) → Among (peer, table) (maps.entries control.peers)
+      → is_imported_from place own fec (peer, table) ≡ true → IsImported place control own peer fec
   imported_from peer table a h =
       let entry = any_among (is_route_of place own peer fec) (maps.entries table) h in
       let inclusive = imported_inclusive own.vrf (addr_of place.scenario peer) entry.0 in
@@ -234,16 +246,20 @@ module _ (place : EdgePlace) (control : Control) (own : OwnVrf) (fec : Fec) wher
 
   pub imported_to : (peer : NodeId) (table : Taken) (key : Key) (route : TakenRoute) → Among (key, route) (maps.entries table)
       → (imported_inclusive own.vrf (addr_of place.scenario peer) (key, route) ≡ Some fec)
-      ⊎ ((imported : ImportedSelective) × (imported_selective own.vrf (addr_of place.scenario peer) (key, route) ≡ Some imported) × (imported.fec ≡ fec))
+      ⊎ ((imported : ImportedSelective) × (imported_selective own.vrf (addr_of place.scenario peer) (key, route) ≡ Some imported)
+      × (imported.fec ≡ fec))
       → is_imported_from place own fec (peer, table) ≡ true
   imported_to peer table key route a (inl h) =
       any_from (is_route_of place own peer fec) (key, route) (maps.entries table) a
-      (true_first (is_tunnel fec (imported_inclusive own.vrf (addr_of place.scenario peer) (key, route))) (is_tunnel fec (selective_fec (imported_selective own.vrf (addr_of place.scenario peer) (key, route))))
+      (true_first (is_tunnel fec (imported_inclusive own.vrf (addr_of place.scenario peer) (key, route)))
+      (is_tunnel fec (selective_fec (imported_selective own.vrf (addr_of place.scenario peer) (key, route))))
       (tunnel_to fec (imported_inclusive own.vrf (addr_of place.scenario peer) (key, route)) h))
   imported_to peer table key route a (inr h) =
       any_from (is_route_of place own peer fec) (key, route) (maps.entries table) a
-      (true_second (is_tunnel fec (imported_inclusive own.vrf (addr_of place.scenario peer) (key, route))) (is_tunnel fec (selective_fec (imported_selective own.vrf (addr_of place.scenario peer) (key, route))))
-      (tunnel_to fec (selective_fec (imported_selective own.vrf (addr_of place.scenario peer) (key, route))) (ap selective_fec h.1 ∙ ap (λ (f : Fec). Some f) h.2)))
+      (true_second (is_tunnel fec (imported_inclusive own.vrf (addr_of place.scenario peer) (key, route)))
+      (is_tunnel fec (selective_fec (imported_selective own.vrf (addr_of place.scenario peer) (key, route))))
+      (tunnel_to fec (selective_fec (imported_selective own.vrf (addr_of place.scenario peer) (key, route)))
+      (ap selective_fec h.1 ∙ ap (λ (f : Fec). Some f) h.2)))
 
 -- ---- a datagram that arrives
 
@@ -251,7 +267,8 @@ module _ (place : EdgePlace) (now : ℕ) (edge : EdgeData) (from : NodeId) (labe
   abbrev control : Control
   control = edge.control
 
-  outs_own : (fec : Fec) (own : OwnVrf) (iface : IfaceId) → use_of edge.part label ≡ Some (uses.Mapped fec from) → sets.contains edge.part.leaves fec ≡ true → Among own (own_vrfs place)
+  outs_own : (fec : Fec) (own : OwnVrf) (iface : IfaceId) → use_of edge.part label ≡ Some (uses.Mapped fec from)
+      → sets.contains edge.part.leaves fec ≡ true → Among own (own_vrfs place)
       → Among iface (outs_at place now control fec source group own) → ArrivesOut place now edge from label source group iface
   outs_own fec own iface mapped leaf a b =
       let peer = flat_map_among (outs_from place now control own fec source group) iface (maps.entries control.peers) b in
@@ -275,13 +292,16 @@ module _ (place : EdgePlace) (now : ℕ) (edge : EdgeData) (from : NodeId) (labe
         asking = asking_from place now control own source group iface here;
       }))
 
-  outs_tree : (fec : Fec) (iface : IfaceId) → use_of edge.part label ≡ Some (uses.Mapped fec from) → Among iface (outs_of place now edge fec source group) → ArrivesOut place now edge from label source group iface
+  outs_tree : (fec : Fec) (iface : IfaceId) → use_of edge.part label ≡ Some (uses.Mapped fec from)
+      → Among iface (outs_of place now edge fec source group) → ArrivesOut place now edge from label source group iface
   outs_tree fec iface mapped a =
       none_among (sets.contains edge.part.leaves fec) iface (flat_map (outs_at place now control fec source group) (own_vrfs place)) a
-      (λ leaf here. (let own = flat_map_among (outs_at place now control fec source group) iface (own_vrfs place) here in outs_own fec own.0 iface mapped leaf own.1 own.2))
+      (λ leaf here. (let own = flat_map_among (outs_at place now control fec source group) iface (own_vrfs place) here in
+      outs_own fec own.0 iface mapped leaf own.1 own.2))
 
   abbrev fate_of : Option Fec → Fate
-  fate_of tree = elim tree [ None ↦ discarded | Some fec ↦ record { outs = outs_of place now edge fec source group; branches = branches_of edge.part fec } ]
+  fate_of tree =
+      elim tree [ None ↦ discarded | Some fec ↦ record { outs = outs_of place now edge fec source group; branches = branches_of edge.part fec } ]
 
   mapped_by : (usage : Option LabelUse) (fec : Fec) → tree_of from usage ≡ Some fec → usage ≡ Some (uses.Mapped fec from)
   mapped_by None fec h = absurd cc
@@ -297,27 +317,35 @@ module _ (place : EdgePlace) (now : ℕ) (edge : EdgeData) (from : NodeId) (labe
   tree_by : (fec : Fec) → use_of edge.part label ≡ Some (uses.Mapped fec from) → tree_of from (use_of edge.part label) ≡ Some fec
   tree_by fec h = ap (tree_of from) h ∙ ap (λ (b : Bool). cond b (Some fec) None) (node_itself from from refl)
 
-  arrive_from : (iface : IfaceId) (tree : Option Fec) → tree_of from (use_of edge.part label) ≡ tree → Among iface (fate_of tree).outs → ArrivesOut place now edge from label source group iface
+  arrive_from : (iface : IfaceId) (tree : Option Fec) → tree_of from (use_of edge.part label) ≡ tree → Among iface (fate_of tree).outs
+      → ArrivesOut place now edge from label source group iface
   arrive_from iface None e a = absurd a
   arrive_from iface (Some fec) e a = outs_tree fec iface (mapped_by (use_of edge.part label) fec e) a
 
-  arrive_to : (iface : IfaceId) → ArrivesOut place now edge from label source group iface → Among iface (fate_of (tree_of from (use_of edge.part label))).outs
+  arrive_to : (iface : IfaceId) → ArrivesOut place now edge from label source group iface
+      → Among iface (fate_of (tree_of from (use_of edge.part label))).outs
   arrive_to iface is =
       let t = table_of control is.peer is.imported.key is.imported.route is.imported.taken in
       let up = upstream_for place control is.own source group in
       let entry : NodeId × Taken = (is.peer, t.table) in
-      let here = among_when (is_imported_from place is.own is.fec entry && is_from_edge is.peer up) iface (asking_ifaces place now control is.own source group)
-      (and_from (is_imported_from place is.own is.fec entry) (is_from_edge is.peer up) (imported_to place control is.own is.fec is.peer t.table is.imported.key is.imported.route t.among is.imported.of_tunnel)
+      let here =
+      among_when (is_imported_from place is.own is.fec entry && is_from_edge is.peer up) iface
+      (asking_ifaces place now control is.own source group)
+      (and_from (is_imported_from place is.own is.fec entry) (is_from_edge is.peer up)
+      (imported_to place control is.own is.fec is.peer t.table is.imported.key is.imported.route t.among is.imported.of_tunnel)
       (edge_from is.peer up is.rd is.import is.source_as is.upstream)) (asking_to place now control is.own source group iface is.asking) in
       let at_own = among_flat_map (outs_from place now control is.own is.fec source group) entry iface (maps.entries control.peers) t.of_peer here in
       let all = among_flat_map (outs_at place now control is.fec source group) is.own iface (own_vrfs place) is.of_edge at_own in
       subst (λ (tree : Option Fec). Among iface (fate_of tree).outs) (sym (tree_by is.fec is.mapped))
-      (among_when (sets.contains edge.part.leaves is.fec) iface (flat_map (outs_at place now control is.fec source group) (own_vrfs place)) is.leaf all)
+      (among_when (sets.contains edge.part.leaves is.fec) iface (flat_map (outs_at place now control is.fec source group) (own_vrfs place)) is.leaf
+      all)
 
-  pub arrives_out : (iface : IfaceId) → Among iface (arriving_fate place now edge from label source group).outs ↔ ArrivesOut place now edge from label source group iface
+  pub arrives_out : (iface : IfaceId) → Among iface (arriving_fate place now edge from label source group).outs ↔ ArrivesOut place now edge from label
+      source group iface
   arrives_out iface = (arrive_from iface (tree_of from (use_of edge.part label)) refl, arrive_to iface)
 
-  go_from : (branch : Branch) (tree : Option Fec) → tree_of from (use_of edge.part label) ≡ tree → Among branch (fate_of tree).branches → ArrivesOn edge from label branch
+  go_from : (branch : Branch) (tree : Option Fec) → tree_of from (use_of edge.part label) ≡ tree → Among branch (fate_of tree).branches
+      → ArrivesOn edge from label branch
   go_from branch None e a = absurd a
   go_from branch (Some fec) e a =
       let by = branch_from edge.part fec branch a in
@@ -325,7 +353,8 @@ module _ (place : EdgePlace) (now : ℕ) (edge : EdgeData) (from : NodeId) (labe
 
   go_to : (branch : Branch) → ArrivesOn edge from label branch → Among branch (fate_of (tree_of from (use_of edge.part label))).branches
   go_to branch is =
-      subst (λ (tree : Option Fec). Among branch (fate_of tree).branches) (sym (tree_by is.fec is.mapped)) (branch_to edge.part is.fec branch is.has is.of_tree)
+      subst (λ (tree : Option Fec). Among branch (fate_of tree).branches) (sym (tree_by is.fec is.mapped))
+      (branch_to edge.part is.fec branch is.has is.of_tree)
 
   pub arrives_on : (branch : Branch) → Among branch (arriving_fate place now edge from label source group).branches ↔ ArrivesOn edge from label branch
   arrives_on branch = (go_from branch (tree_of from (use_of edge.part label)) refl, go_to branch)

@@ -55,7 +55,8 @@ apart_from : (x y : Addr) → x ≡ y → same_addr x y ≡ false → ⊥
 apart_from x y same apart = opposite (same_addr x y) (ap (λ (z : Addr). same_addr z y) same ∙ same_addr_equiv.refl y) apart
 
 -- nodes of one address are one
-pub one_node : (scenario : Scenario) → Rules scenario → (a b : NodeId) → a.0 < length scenario.nodes → b.0 < length scenario.nodes → addr_of scenario a ≡ addr_of scenario b → a ≡ b
+pub one_node : (scenario : Scenario) → Rules scenario → (a b : NodeId) → a.0 < length scenario.nodes → b.0 < length scenario.nodes
+    → addr_of scenario a ≡ addr_of scenario b → a ≡ b
 one_node scenario rules a b low high same =
     let here = some_node scenario.nodes a.0 low in
     let there = some_node scenario.nodes b.0 high in
@@ -63,9 +64,12 @@ one_node scenario rules a b low high same =
     elim (cases_eq a.0 b.0) [
       | inl e ↦ (λ i. record { 0 = e i })
       | inr ne ↦ elim (cases_lt a.0 b.0) [
-        | inl less ↦ absurd (apart_from here.0.addr there.0.addr addrs (pair_at (λ (x : Node) (y : Node). same_addr x.addr y.addr ≡ false) scenario.nodes rules.core.addresses a.0 b.0 here.0 there.0 less here.1 there.1))
+        | inl less ↦ absurd (apart_from here.0.addr there.0.addr addrs
+            (pair_at (λ (x : Node) (y : Node). same_addr x.addr y.addr ≡ false) scenario.nodes rules.core.addresses a.0 b.0 here.0 there.0 less here.1
+            there.1))
         | inr rest ↦ absurd (apart_from there.0.addr here.0.addr (sym addrs)
-            (pair_at (λ (x : Node) (y : Node). same_addr x.addr y.addr ≡ false) scenario.nodes rules.core.addresses b.0 a.0 there.0 here.0 (omega (arith, ne, rest)) there.1 here.1))
+            (pair_at (λ (x : Node) (y : Node). same_addr x.addr y.addr ≡ false) scenario.nodes rules.core.addresses b.0 a.0 there.0 here.0
+            (omega (arith, ne, rest)) there.1 here.1))
       ]
     ]
 
@@ -86,12 +90,15 @@ abbrev KnownIs : EdgePlace → Control → KnownRoute → Type 0
 KnownIs place control route = ((site : SiteId) × (route.origin ≡ origins.Local site)) ⊎ FromPeer place control route
 
 module _ (place : EdgePlace) (control : Control) (own : OwnVrf) where
-  pub peer_known : (peer : NodeId) (table : Taken) (key : Key) (taken : TakenRoute) (route : KnownRoute) → Among (peer, table) (maps.entries control.peers) → Among (key, taken) (maps.entries table)
+  pub peer_known : (peer : NodeId) (table : Taken) (key : Key) (taken : TakenRoute) (route : KnownRoute)
+      → Among (peer, table) (maps.entries control.peers) → Among (key, taken) (maps.entries table)
       → known_route place own.vrf peer (key, taken) ≡ Some route → FromPeer place control route
   peer_known peer table (Mcast afi other) taken route a b h = absurd cc
   peer_known peer table (Unicast rd prefix) taken route a b h =
       let made : KnownRoute = record { prefix = prefix; origin = origins.Remote peer (addr_of place.scenario peer) rd } in
-      let first = chained (only_if (is_admitted own.vrf taken.value.comms) taken.value) (λ value. join_by (addr_of place.scenario peer) value >>? λ by. Some made) route h in
+      let first =
+      chained (only_if (is_admitted own.vrf taken.value.comms) taken.value)
+      (λ value. join_by (addr_of place.scenario peer) value >>? λ by. Some made) route h in
       let second = chained (join_by (addr_of place.scenario peer) first.0) (λ by. Some made) route first.2 in
       let one : made ≡ route = cc in
       let value = cond_some (is_admitted own.vrf taken.value.comms) taken.value first.0 first.1 in
@@ -101,14 +108,16 @@ module _ (place : EdgePlace) (control : Control) (own : OwnVrf) where
         taken = taken;
         by = second.0;
         up = ap (λ (o : Option Taken). is_some o) (entry_get node_cmp_total control.peers peer table a);
-        at = ap (λ (r : KnownRoute). maps.get (taken_from control peer) (Unicast rd r.prefix)) (sym one) ∙ taken_of control peer table (Unicast rd prefix) taken a b;
+        at = ap (λ (r : KnownRoute). maps.get (taken_from control peer) (Unicast rd r.prefix)) (sym one)
+            ∙ taken_of control peer table (Unicast rd prefix) taken a b;
         joins = ap (join_by (addr_of place.scenario peer)) value.1 ∙ second.1;
         is = ap (λ (r : KnownRoute). r.origin) (sym one);
       }
 
   known_is : (route : KnownRoute) → choice.Among route (known_routes place control own) → KnownIs place control route
   known_is route a =
-      elim (among_either route (map of_site (local_routes place.scenario own.id)) (flat_map (known_from place own.vrf) (maps.entries control.peers)) (among_choice route (known_routes place control own) a)) [
+      elim (among_either route (map of_site (local_routes place.scenario own.id)) (flat_map (known_from place own.vrf) (maps.entries control.peers))
+      (among_choice route (known_routes place control own) a)) [
         | inl b ↦ (let by = map_among of_site route (local_routes place.scenario own.id) b in inl (by.0.site, ap (λ (r : KnownRoute). r.origin) by.2))
         | inr b ↦
             (let peer = flat_map_among (known_from place own.vrf) route (maps.entries control.peers) b in
@@ -120,7 +129,8 @@ module _ (place : EdgePlace) (control : Control) (own : OwnVrf) where
   pub local_is : (route : KnownRoute) (site : SiteId) → choice.Among route (known_routes place control own) → route.origin ≡ origins.Local site
       → (local : Route) × Among local (local_routes place.scenario own.id) × (route ≡ of_site local)
   local_is route site a h =
-      elim (among_either route (map of_site (local_routes place.scenario own.id)) (flat_map (known_from place own.vrf) (maps.entries control.peers)) (among_choice route (known_routes place control own) a)) [
+      elim (among_either route (map of_site (local_routes place.scenario own.id)) (flat_map (known_from place own.vrf) (maps.entries control.peers))
+      (among_choice route (known_routes place control own) a)) [
         | inl b ↦ map_among of_site route (local_routes place.scenario own.id) b
         | inr b ↦
             (let peer = flat_map_among (known_from place own.vrf) route (maps.entries control.peers) b in
@@ -132,7 +142,8 @@ module _ (place : EdgePlace) (control : Control) (own : OwnVrf) where
   -- ---- edges
 
   -- what a remote origin names
-  named : (route : KnownRoute) (edge : NodeId) (address : Addr) (rd : Rd) → KnownIs place control route → route.origin ≡ origins.Remote edge address rd
+  named : (route : KnownRoute) (edge : NodeId) (address : Addr) (rd : Rd) → KnownIs place control route
+      → route.origin ≡ origins.Remote edge address rd
       → (is_some (maps.get control.peers edge) ≡ true) × (address ≡ addr_of place.scenario edge)
   named route edge address rd (inl local) h = absurd (let bad : origins.Local local.0 ≡ origins.Remote edge address rd = sym local.1 ∙ h in cc)
   named route edge address rd (inr far) h =
@@ -162,7 +173,8 @@ module _ (place : EdgePlace) (control : Control) (own : OwnVrf) where
       let up : Upstream = Remote far.peer far.rd far.by.import far.by.source_as in (
         up,
         ap (λ (o : Origin). upstream_by place control (record { prefix = route.prefix; origin = o })) far.is
-            ∙ ap (λ (o : Option TakenRoute). o >>? λ taken. join_by (addr_of place.scenario far.peer) taken.value >>? λ by. Some (Remote far.peer far.rd by.import by.source_as)) far.at
+            ∙ ap (λ (o : Option TakenRoute). o >>? λ taken. join_by (addr_of place.scenario far.peer) taken.value >>? λ by. Some
+            (Remote far.peer far.rd by.import by.source_as)) far.at
             ∙ ap (λ (o : Option JoinBy). o >>? λ by. Some (Remote far.peer far.rd by.import by.source_as)) far.joins,
         subst (λ (o : Origin). Says o up) (sym far.is) (far.by.import, far.by.source_as, refl),
       )
@@ -182,7 +194,8 @@ module _ (place : EdgePlace) (control : Control) (own : OwnVrf) where
         let told = tells found.0 (known_is found.0 b.among) in
         let same : told.0 ≡ up = same_some told.0 up (sym told.1 ∙ found.2) in (
           found.0.origin,
-          chosen_when own.vrf.rule (place.core.cost place.me) routes source group found.0.origin (of_edges rules nodes) (ap (option_map (λ (r : KnownRoute). r.origin)) found.1),
+          chosen_when own.vrf.rule (place.core.cost place.me) routes source group found.0.origin (of_edges rules nodes)
+              (ap (option_map (λ (r : KnownRoute). r.origin)) found.1),
           subst (λ (u : Upstream). Says found.0.origin u) same told.2,
         )
       where

@@ -28,7 +28,8 @@ same_vrf a b h = λ i. record { 0 = h i }
 module _ (place : EdgePlace) (control : Control) where
   -- ---- inclusive tunnels
 
-  inclusive_from : (own : OwnVrf) (fec : Fec) → Among own (own_vrfs place) → Among fec (flat_map (inclusive_tunnels place own) (maps.entries control.peers)) → IsInclusive place control fec
+  inclusive_from : (own : OwnVrf) (fec : Fec) → Among own (own_vrfs place)
+      → Among fec (flat_map (inclusive_tunnels place own) (maps.entries control.peers)) → IsInclusive place control fec
   inclusive_from own fec a b =
       let peer = flat_map_among (inclusive_tunnels place own) fec (maps.entries control.peers) b in
       let found = found_among (imported_inclusive own.vrf (addr_of place.scenario peer.0.0)) fec (maps.entries peer.0.1) peer.2 in
@@ -45,13 +46,16 @@ module _ (place : EdgePlace) (control : Control) where
   inclusive_to : (fec : Fec) → (is : IsInclusive place control fec) → Among fec (tunnels_of place control is.own)
   inclusive_to fec is =
       let t = table_of control is.peer is.key is.route is.taken in
-      among_front fec (flat_map (inclusive_tunnels place is.own) (maps.entries control.peers)) (flat_map (flow_tunnels place control is.own) (flows_of control is.own.id))
+      among_front fec (flat_map (inclusive_tunnels place is.own) (maps.entries control.peers))
+      (flat_map (flow_tunnels place control is.own) (flows_of control is.own.id))
       (among_flat_map (inclusive_tunnels place is.own) (is.peer, t.table) fec (maps.entries control.peers) t.of_peer
-      (among_found (imported_inclusive is.own.vrf (addr_of place.scenario is.peer)) (is.key, is.route) fec (maps.entries t.table) t.among is.imported))
+      (among_found (imported_inclusive is.own.vrf (addr_of place.scenario is.peer)) (is.key, is.route) fec (maps.entries t.table) t.among
+      is.imported))
 
   -- ---- selective tunnels
 
-  selective_by : (own : OwnVrf) (fec : Fec) (key : VrfFlow) (up : Option Upstream) → Among own (own_vrfs place) → own.id ≡ key.vrf → maps.get control.flows key ≡ Some up
+  selective_by : (own : OwnVrf) (fec : Fec) (key : VrfFlow) (up : Option Upstream) → Among own (own_vrfs place) → own.id ≡ key.vrf
+      → maps.get control.flows key ≡ Some up
       → Among fec (flow_tunnels place control own (key, up)) → IsSelective place control fec
   selective_by own fec key None a v e b = absurd b
   selective_by own fec key (Some (Site site)) a v e b = absurd b
@@ -73,7 +77,8 @@ module _ (place : EdgePlace) (control : Control) where
         of_tunnel = sym by.2;
       }
 
-  selective_from : (own : OwnVrf) (fec : Fec) → Among own (own_vrfs place) → Among fec (flat_map (flow_tunnels place control own) (flows_of control own.id)) → IsSelective place control fec
+  selective_from : (own : OwnVrf) (fec : Fec) → Among own (own_vrfs place)
+      → Among fec (flat_map (flow_tunnels place control own) (flows_of control own.id)) → IsSelective place control fec
   selective_from own fec a b =
       let entry = flat_map_among (flow_tunnels place control own) fec (flows_of control own.id) b in
       let of_vrf = filter_among (λ (e : VrfFlow × Option Upstream). e.0.vrf.0 == own.id.0) entry.0 (maps.entries control.flows) entry.1 in
@@ -89,7 +94,8 @@ module _ (place : EdgePlace) (control : Control) where
       let there = among_map (λ (route : LearnedRoute). route.fec) is.route (wanted learned is.flow.source is.flow.group) want in
       let of_vrf = among_filter (λ (e : VrfFlow × Option Upstream). e.0.vrf.0 == own.id.0) (is.flow, up) (maps.entries control.flows)
       (eq-eqb is.flow.vrf.0 own.id.0 (ap (λ (v : VrfId). v.0) (sym is.of_vrf))) (get_entry flow_exact control.flows is.flow up is.upstream) in
-      among_behind fec (flat_map (inclusive_tunnels place own) (maps.entries control.peers)) (flat_map (flow_tunnels place control own) (flows_of control own.id))
+      among_behind fec (flat_map (inclusive_tunnels place own) (maps.entries control.peers))
+      (flat_map (flow_tunnels place control own) (flows_of control own.id))
       (among_flat_map (flow_tunnels place control own) (is.flow, up) fec (flows_of control own.id) of_vrf
       (subst (λ (f : Fec). Among f (flow_tunnels place control own (is.flow, up))) is.of_tunnel there))
 
@@ -97,15 +103,20 @@ module _ (place : EdgePlace) (control : Control) where
 
   leaf_from : (fec : Fec) → sets.contains (leaves place control) fec ≡ true → IsInclusive place control fec ⊎ IsSelective place control fec
   leaf_from fec h =
-      let own = flat_map_among (tunnels_of place control) fec (own_vrfs place) (from_list fec_cmp_total fec_cmp_exact (flat_map (tunnels_of place control) (own_vrfs place)) fec h) in
-      elim (among_either fec (flat_map (inclusive_tunnels place own.0) (maps.entries control.peers)) (flat_map (flow_tunnels place control own.0) (flows_of control own.0.id)) own.2) [
+      let own =
+      flat_map_among (tunnels_of place control) fec (own_vrfs place)
+      (from_list fec_cmp_total fec_cmp_exact (flat_map (tunnels_of place control) (own_vrfs place)) fec h) in
+      elim (among_either fec (flat_map (inclusive_tunnels place own.0) (maps.entries control.peers))
+      (flat_map (flow_tunnels place control own.0) (flows_of control own.0.id)) own.2) [
         | inl a ↦ inl (inclusive_from own.0 fec own.1 a)
         | inr a ↦ inr (selective_from own.0 fec own.1 a)
       ]
 
-  leaf_by : (own : OwnVrf) (fec : Fec) → Among own (own_vrfs place) → Among fec (tunnels_of place control own) → sets.contains (leaves place control) fec ≡ true
+  leaf_by : (own : OwnVrf) (fec : Fec) → Among own (own_vrfs place) → Among fec (tunnels_of place control own)
+      → sets.contains (leaves place control) fec ≡ true
   leaf_by own fec a b =
-      to_list fec_cmp_total fec_cmp_exact (flat_map (tunnels_of place control) (own_vrfs place)) fec (among_flat_map (tunnels_of place control) own fec (own_vrfs place) a b)
+      to_list fec_cmp_total fec_cmp_exact (flat_map (tunnels_of place control) (own_vrfs place)) fec
+      (among_flat_map (tunnels_of place control) own fec (own_vrfs place) a b)
 
   pub leaf_is : (fec : Fec) → (sets.contains (leaves place control) fec ≡ true) ↔ (IsInclusive place control fec ⊎ IsSelective place control fec)
   leaf_is fec = (leaf_from fec, back)
@@ -120,12 +131,25 @@ module _ (place : EdgePlace) (control : Control) where
       → imported_selective own.vrf (addr_of place.scenario peer) (key, route) ≡ o → maps.get (taken_from control peer) key ≡ Some route
       → elim o [
         | None ↦ None
-        | Some imported ↦ Some (record { pattern = record { source = imported.route.source; group = imported.route.group }; fec = imported.fec; since = route.since; run = route.run })
+        | Some imported ↦ Some (record {
+          pattern = record { source = imported.route.source; group = imported.route.group };
+          fec =
+              imported.fec;
+          since = route.since;
+          run = route.run;
+        })
       ] ≡ Some learned
       → IsLearned place control own peer learned
   learned_by own peer key route learned None e t h = absurd cc
   learned_by own peer key route learned (Some imported) e t h =
-      let made : LearnedRoute = record { pattern = record { source = imported.route.source; group = imported.route.group }; fec = imported.fec; since = route.since; run = route.run } in
+      let made : LearnedRoute =
+      record {
+        pattern = record { source = imported.route.source; group = imported.route.group };
+        fec = imported.fec;
+        since = route.since;
+        run =
+            route.run;
+      } in
       let one : made ≡ learned = same_some made learned h in
       record {
         key = key;
@@ -143,23 +167,47 @@ module _ (place : EdgePlace) (control : Control) where
       same_some : (a b : LearnedRoute) → Some a ≡ Some b → a ≡ b
       same_some a b h = cc
 
-  learned_from : (own : OwnVrf) (peer : NodeId) (learned : LearnedRoute) → Among learned (learned_routes place control own peer) → IsLearned place control own peer learned
+  learned_from : (own : OwnVrf) (peer : NodeId) (learned : LearnedRoute) → Among learned (learned_routes place control own peer)
+      → IsLearned place control own peer learned
   learned_from own peer learned a =
       let found = found_among (learned_route place own peer) learned (maps.entries (taken_from control peer)) a in
       learned_by own peer found.0.0 found.0.1 learned (imported_selective own.vrf (addr_of place.scenario peer) found.0) refl
       (entry_get key_total (taken_from control peer) found.0.0 found.0.1 found.1) found.2
 
-  learned_to : (own : OwnVrf) (peer : NodeId) (learned : LearnedRoute) → IsLearned place control own peer learned → Among learned (learned_routes place control own peer)
+  learned_to : (own : OwnVrf) (peer : NodeId) (learned : LearnedRoute) → IsLearned place control own peer learned
+      → Among learned (learned_routes place control own peer)
   learned_to own peer learned is =
-      let made : LearnedRoute = record { pattern = record { source = is.imported.route.source; group = is.imported.route.group }; fec = is.imported.fec; since = is.route.since; run = is.route.run } in
-      let one : made ≡ learned = λ i. record { pattern = record { source = sym is.source i; group = sym is.group i }; fec = sym is.of_tunnel i; since = sym is.since i; run = sym is.run i } in
+      let made : LearnedRoute =
+      record {
+        pattern = record { source = is.imported.route.source; group = is.imported.route.group };
+        fec = is.imported.fec;
+        since =
+            is.route.since;
+        run = is.route.run;
+      } in
+      let one : made ≡ learned =
+      λ i. record {
+        pattern = record { source = sym is.source i; group = sym is.group i };
+        fec = sym is.of_tunnel i;
+        since = sym is.since i;
+        run =
+            sym is.run i;
+      } in
       let read : learned_route place own peer (is.key, is.route) ≡ Some made =
       ap (λ (o : Option ImportedSelective). elim o [
         | None ↦ None
-        | Some imported ↦ Some (record { pattern = record { source = imported.route.source; group = imported.route.group }; fec = imported.fec; since = is.route.since; run = is.route.run })
+        | Some imported ↦ Some (record {
+          pattern = record { source = imported.route.source; group = imported.route.group };
+          fec =
+              imported.fec;
+          since = is.route.since;
+          run = is.route.run;
+        })
       ]) is.is in
       subst (λ (r : LearnedRoute). Among r (learned_routes place control own peer)) one
-      (among_found (learned_route place own peer) (is.key, is.route) made (maps.entries (taken_from control peer)) (get_entry key_exact (taken_from control peer) is.key is.route is.taken) read)
+      (among_found (learned_route place own peer) (is.key, is.route) made (maps.entries (taken_from control peer))
+      (get_entry key_exact (taken_from control peer) is.key is.route is.taken) read)
 
-  pub learned_is : (own : OwnVrf) (peer : NodeId) (learned : LearnedRoute) → Among learned (learned_routes place control own peer) ↔ IsLearned place control own peer learned
+  pub learned_is : (own : OwnVrf) (peer : NodeId) (learned : LearnedRoute)
+      → Among learned (learned_routes place control own peer) ↔ IsLearned place control own peer learned
   learned_is own peer learned = (learned_from own peer learned, learned_to own peer learned)

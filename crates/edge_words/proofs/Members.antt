@@ -64,7 +64,8 @@ module _ {K : Type 0} {R : K → K → Ordering} (total : IsTotalOrder R) (exact
 pub taken_of : (control : Control) (peer : NodeId) (table : Taken) (key : Key) (route : TakenRoute) → Among (peer, table) (maps.entries control.peers)
     → Among (key, route) (maps.entries table) → maps.get (taken_from control peer) key ≡ Some route
 taken_of control peer table key route a b =
-    ap (λ (t : Taken). maps.get t key) (taken_is control peer table (entry_get node_cmp_total control.peers peer table a)) ∙ entry_get key_total table key route b
+    ap (λ (t : Taken). maps.get t key) (taken_is control peer table (entry_get node_cmp_total control.peers peer table a))
+    ∙ entry_get key_total table key route b
 
 nothing_there : {A : Type 0} (key : Key) (route : TakenRoute) → maps.get {R = key_cmp} maps.empty key ≡ Some route → A
 nothing_there key route h = absurd (let bad : None ≡ Some route = sym (get-empty key_cmp key) ∙ h in cc)
@@ -77,7 +78,8 @@ pub record TableOf (control : Control) (peer : NodeId) (key : Key) (route : Take
   pub of_peer : Among (peer, table) (maps.entries control.peers)
   pub among : Among (key, route) (maps.entries table)
 
-pub table_of : (control : Control) (peer : NodeId) (key : Key) (route : TakenRoute) → maps.get (taken_from control peer) key ≡ Some route → TableOf control peer key route
+pub table_of : (control : Control) (peer : NodeId) (key : Key) (route : TakenRoute) → maps.get (taken_from control peer) key ≡ Some route
+    → TableOf control peer key route
 table_of control peer key route h = by (maps.get control.peers peer) refl
   where
     by : (o : Option Taken) → maps.get control.peers peer ≡ o → TableOf control peer key route
@@ -91,12 +93,14 @@ table_of control peer key route h = by (maps.get control.peers peer) refl
 
 -- ---- interfaces
 
-iface_by : (vrf : VrfId) (o : Option Iface) → elim o [ None ↦ false | Some found ↦ is_of_vrf vrf found ] ≡ true → (found : Iface) × (o ≡ Some found) × (found.vrf.0 ≡ vrf.0)
+iface_by : (vrf : VrfId) (o : Option Iface) → elim o [ None ↦ false | Some found ↦ is_of_vrf vrf found ] ≡ true
+    → (found : Iface) × (o ≡ Some found) × (found.vrf.0 ≡ vrf.0)
 iface_by vrf None h = absurd cc
 iface_by vrf (Some found) h = (found, refl, eqb-true found.vrf.0 vrf.0 h)
 
 pub iface_of : (scenario : Scenario) (vrf : VrfId) (iface : IfaceId) → is_iface_of scenario vrf iface ≡ true → IsIfaceOf scenario vrf iface
-iface_of scenario vrf iface h = let found = iface_by vrf (slice_get scenario.ifaces iface.0) h in record { found = found.0; at = found.1; of_vrf = found.2 }
+iface_of scenario vrf iface h = let found = iface_by vrf (slice_get scenario.ifaces iface.0) h in
+    record { found = found.0; at = found.1; of_vrf = found.2 }
 
 pub of_iface : (scenario : Scenario) (vrf : VrfId) (iface : IfaceId) → IsIfaceOf scenario vrf iface → is_iface_of scenario vrf iface ≡ true
 of_iface scenario vrf iface is =
@@ -113,14 +117,16 @@ record Placed (test : IfaceId → Iface → Bool) (number : ℕ) (ifaces : List 
 same_id : (a b : IfaceId) → a.0 ≡ b.0 → a ≡ b
 same_id a b h = λ i. record { 0 = h i }
 
-placed : (test : IfaceId → Iface → Bool) (number : ℕ) (ifaces : List Iface) (id : IfaceId) → Among id (ifaces_where test number ifaces) → Placed test number ifaces id
+placed : (test : IfaceId → Iface → Bool) (number : ℕ) (ifaces : List Iface) (id : IfaceId) → Among id (ifaces_where test number ifaces)
+    → Placed test number ifaces id
 placed test number [] id a = absurd a
 placed test number (iface ∷ more) id a = by (test (record { 0 = number }) iface) refl a (placed test (number + 1) more id)
   where
     further : Placed test (number + 1) more id → Placed test number (iface ∷ more) id
     further p = let same = p.is in record { place = suc p.place; found = p.found; at = p.at; is = omega (arith, same); passed = p.passed }
 
-    by : (b : Bool) → test (record { 0 = number }) iface ≡ b → Among id (cond b (record { 0 = number } ∷ ifaces_where test (number + 1) more) (ifaces_where test (number + 1) more))
+    by : (b : Bool) → test (record { 0 = number }) iface ≡ b
+        → Among id (cond b (record { 0 = number } ∷ ifaces_where test (number + 1) more) (ifaces_where test (number + 1) more))
         → (Among id (ifaces_where test (number + 1) more) → Placed test (number + 1) more id) → Placed test number (iface ∷ more) id
     by true h (inl e) rest = record {
       place = 0;
@@ -135,16 +141,19 @@ placed test number (iface ∷ more) id a = by (test (record { 0 = number }) ifac
 same_some : {A : Type 0} (a b : A) → Some a ≡ Some b → a ≡ b
 same_some a b h = cc
 
-place_listed : (test : IfaceId → Iface → Bool) (number place : ℕ) (ifaces : List Iface) (found : Iface) (id : IfaceId) → slice_get ifaces place ≡ Some found → id.0 ≡ number + place
+place_listed : (test : IfaceId → Iface → Bool) (number place : ℕ) (ifaces : List Iface) (found : Iface) (id : IfaceId)
+    → slice_get ifaces place ≡ Some found → id.0 ≡ number + place
     → test id found ≡ true → Among id (ifaces_where test number ifaces)
 place_listed test number place [] found id h e t = absurd cc
 place_listed test number zero (iface ∷ more) found id h e t =
     let here : id ≡ record { 0 = number } = same_id id (record { 0 = number }) (omega (arith, e)) in
     let passed : test (record { 0 = number }) iface ≡ true = (λ i. test (sym here i) (same_some iface found h i)) ∙ t in
-    subst (λ (b : Bool). Among id (cond b (record { 0 = number } ∷ ifaces_where test (number + 1) more) (ifaces_where test (number + 1) more))) (sym passed) (inl here)
+    subst (λ (b : Bool). Among id (cond b (record { 0 = number } ∷ ifaces_where test (number + 1) more) (ifaces_where test (number + 1) more)))
+    (sym passed) (inl here)
 place_listed test number (suc place) (iface ∷ more) found id h e t =
     let rest = place_listed test (number + 1) place more found id h (omega (arith, e)) t in
-    elim (test (record { 0 = number }) iface) as (λ (b : Bool). Among id (cond b (record { 0 = number } ∷ ifaces_where test (number + 1) more) (ifaces_where test (number + 1) more))) [
+    elim (test (record { 0 = number }) iface) as
+    (λ (b : Bool). Among id (cond b (record { 0 = number } ∷ ifaces_where test (number + 1) more) (ifaces_where test (number + 1) more))) [
       | true ↦ inr rest
       | false ↦ rest
     ]
@@ -152,15 +161,18 @@ place_listed test number (suc place) (iface ∷ more) found id h e t =
 abbrev vrf_test : VrfId → IfaceId → Iface → Bool
 vrf_test vrf number iface = is_of_vrf vrf iface
 
-pub ifaces_from : (scenario : Scenario) (vrf : VrfId) (iface : IfaceId) → Among iface (ifaces_where (vrf_test vrf) 0 scenario.ifaces) → IsIfaceOf scenario vrf iface
+pub ifaces_from : (scenario : Scenario) (vrf : VrfId) (iface : IfaceId) → Among iface (ifaces_where (vrf_test vrf) 0 scenario.ifaces)
+    → IsIfaceOf scenario vrf iface
 ifaces_from scenario vrf iface a =
     let p = placed (vrf_test vrf) 0 scenario.ifaces iface a in
     let placed_at = p.is in
     let is : iface.0 ≡ p.place = omega (arith, placed_at) in
     record { found = p.found; at = ap (slice_get scenario.ifaces) is ∙ p.at; of_vrf = eqb-true p.found.vrf.0 vrf.0 p.passed }
 
-pub ifaces_to : (scenario : Scenario) (vrf : VrfId) (iface : IfaceId) → IsIfaceOf scenario vrf iface → Among iface (ifaces_where (vrf_test vrf) 0 scenario.ifaces)
-ifaces_to scenario vrf iface is = place_listed (vrf_test vrf) 0 iface.0 scenario.ifaces is.found iface is.at (omega arith) (eq-eqb is.found.vrf.0 vrf.0 is.of_vrf)
+pub ifaces_to : (scenario : Scenario) (vrf : VrfId) (iface : IfaceId) → IsIfaceOf scenario vrf iface
+    → Among iface (ifaces_where (vrf_test vrf) 0 scenario.ifaces)
+ifaces_to scenario vrf iface is =
+    place_listed (vrf_test vrf) 0 iface.0 scenario.ifaces is.found iface is.at (omega arith) (eq-eqb is.found.vrf.0 vrf.0 is.of_vrf)
 
 -- ---- flows
 

@@ -58,10 +58,12 @@ module _ (now : ℕ) (control : Control) (vrf : VrfId) (pattern : Pattern) where
       let by = user n h in
       let here = among_filter of_vrf by.0 (maps.entries old) (eq-eqb by.0.0.vrf.0 vrf.0 by.2) by.1 in
       subst (λ (m : ℕ). Among m numbers) by.3
-      (among_map (λ (selection : Selection). selection.number) (selection_of by.0) (selections_of control vrf) (among_map selection_of by.0 (filter of_vrf (maps.entries old)) here))
+      (among_map (λ (selection : Selection). selection.number) (selection_of by.0) (selections_of control vrf)
+      (among_map selection_of by.0 (filter of_vrf (maps.entries old)) here))
 
   sizes : length numbers ≡ length (filter of_vrf (maps.entries old))
-  sizes = length-map (λ (selection : Selection). selection.number) (selections_of control vrf) ∙ length-map selection_of (filter of_vrf (maps.entries old))
+  sizes = length-map (λ (selection : Selection). selection.number) (selections_of control vrf)
+      ∙ length-map selection_of (filter of_vrf (maps.entries old))
 
   enough : length numbers ≤ maps.len old
   enough =
@@ -78,7 +80,8 @@ module _ (now : ℕ) (control : Control) (vrf : VrfId) (pattern : Pattern) where
         free = λ key selected at own same. not_both (used number)
             (any_from (is_used vrf number) (key, selected) (maps.entries old) (get_entry pattern_exact old key selected at)
             (and_from (key.vrf.0 == vrf.0) (selected.number == number) (eq-eqb key.vrf.0 vrf.0 own) (eq-eqb selected.number number same))) is.free;
-        least = λ lower low below. (let by = user lower (is.least lower low below) in (by.0.0, by.0.1, entry_get pattern_total old by.0.0 by.0.1 by.1, by.2, by.3));
+        least = λ lower low below. (let by = user lower (is.least lower low below) in
+            (by.0.0, by.0.1, entry_get pattern_total old by.0.0 by.0.1 by.1, by.2, by.3));
       }
 
   few : number ≤ length (selections_of control vrf) + 1

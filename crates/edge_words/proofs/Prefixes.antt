@@ -43,20 +43,32 @@ pub record RouteOf (passes : SiteId → Bool) (number : ℕ) (sites : List Site)
   pub passed : passes route.site ≡ true
   pub prefix : Among route.prefix site.prefixes
 
-pub route_of : (passes : SiteId → Bool) (number : ℕ) (sites : List Site) (route : Route) → Among route (routes_from passes number sites) → RouteOf passes number sites route
+pub route_of : (passes : SiteId → Bool) (number : ℕ) (sites : List Site) (route : Route) → Among route (routes_from passes number sites)
+    → RouteOf passes number sites route
 route_of passes number [] route a = absurd a
 route_of passes number (site ∷ more) route a =
     let here : SiteId = record { 0 = number } in
     elim (among_either route (cond (passes here) (routes_of_site here site.prefixes) []) (routes_from passes (number + 1) more) a) [
       | inl b ↦ own (passes here) refl b
-      | inr b ↦ (let r = route_of passes (number + 1) more route b in record { place = suc r.place; site = r.site; at = r.at; id = (let e = r.id in omega (arith, e)); passed = r.passed; prefix = r.prefix })
+      | inr b ↦ (let r = route_of passes (number + 1) more route b in
+          record { place = suc r.place; site = r.site; at = r.at; id = (let e = r.id in omega (arith, e)); passed = r.passed; prefix = r.prefix })
     ]
   where
-    own : (b : Bool) → passes (record { 0 = number }) ≡ b → Among route (cond b (routes_of_site (record { 0 = number }) site.prefixes) []) → RouteOf passes number (site ∷ more) route
+    own : (b : Bool) → passes (record { 0 = number }) ≡ b → Among route (cond b (routes_of_site (record { 0 = number }) site.prefixes) [])
+        → RouteOf passes number (site ∷ more) route
     own false e c = absurd c
     own true e c =
         let m = map_among (λ (prefix : Prefix). record { prefix = prefix; site = record { 0 = number } }) route site.prefixes c in
-        record { place = 0; site = site; at = refl; id = ap (λ (r : Route). r.site.0) m.2 ∙ omega arith; passed = ap (λ (r : Route). passes r.site) m.2 ∙ e; prefix = subst (λ (p : Prefix). Among p site.prefixes) (ap (λ (r : Route). r.prefix) (sym m.2)) m.1 }
+        record {
+          place = 0;
+          site = site;
+          at = refl;
+          id = ap (λ (r : Route). r.site.0) m.2 ∙ omega arith;
+          passed =
+              ap (λ (r : Route). passes r.site) m.2 ∙ e;
+          prefix =
+              subst (λ (p : Prefix). Among p site.prefixes) (ap (λ (r : Route). r.prefix) (sym m.2)) m.1;
+        }
 
 -- ---- prefixes
 
@@ -65,7 +77,8 @@ one_number : (unit a b : ℕ) → a / unit ≡ b / unit → a % unit ≡ 0 → b
 one_number unit a b e ra rb = sym (div-add-mod' a unit) ∙ (λ i. e i * unit + (ra ∙ sym rb) i) ∙ div-add-mod' b unit
 
 one_text_4 : (a b : List ℕ) → length a ≡ 4 → length b ≡ 4 → IsOctets a → IsOctets b → from_be_bytes w32 a ≡ from_be_bytes w32 b → a ≡ b
-one_text_4 a b sa sb oa ob e = sym (be_bytes_4 a (from_be_bytes w32 a) sa oa refl) ∙ ap (to_be_bytes w32) e ∙ be_bytes_4 b (from_be_bytes w32 b) sb ob refl
+one_text_4 a b sa sb oa ob e =
+    sym (be_bytes_4 a (from_be_bytes w32 a) sa oa refl) ∙ ap (to_be_bytes w32) e ∙ be_bytes_4 b (from_be_bytes w32 b) sb ob refl
 
 -- sixteen octets are those of their number
 be_bytes_16 : (octets : List ℕ) → length octets ≡ 16 → IsOctets octets → to_be_bytes w128 (from_be_bytes w128 octets) ≡ octets
@@ -83,7 +96,8 @@ one_text_16 : (a b : List ℕ) → length a ≡ 16 → length b ≡ 16 → IsOct
 one_text_16 a b sa sb oa ob e = sym (be_bytes_16 a sa oa) ∙ ap (to_be_bytes w128) e ∙ be_bytes_16 b sb ob
 
 -- two prefixes of one length that cover an address are one
-pub covering_one : (a b s : Addr) (bits : ℕ) → IsAddr a → IsAddr b → IsOctets (addr_octets a) → IsOctets (addr_octets b) → IsPrefixOf a bits → IsPrefixOf b bits → same_front a s bits ≡ true → same_front b s bits ≡ true → a ≡ b
+pub covering_one : (a b s : Addr) (bits : ℕ) → IsAddr a → IsAddr b → IsOctets (addr_octets a) → IsOctets (addr_octets b) → IsPrefixOf a bits
+    → IsPrefixOf b bits → same_front a s bits ≡ true → same_front b s bits ≡ true → a ≡ b
 covering_one (V4 a) (V4 b) (V4 s) bits fa fb oa ob pa pb ca cb =
     let unit : ℕ = 2 ^ (32 - bits) in
     let da : from_be_bytes w32 a / unit ≡ from_be_bytes w32 s / unit = eqb-true (from_be_bytes w32 a / unit) (from_be_bytes w32 s / unit) ca in

@@ -115,8 +115,11 @@ module _ {K V : Type 0} {R : K → K → Ordering} (total : IsTotalOrder R) (exa
   to_values : (m : FinMap R V) (k : K) (v : V) → maps.get m k ≡ Some v → Among v (maps.values m)
   to_values m k v h = among_map (λ (x : K × V). x.1) (k, v) (maps.entries m) (get_entry exact m k v h)
 
-  get_mapped : (f : V → V) (m : FinMap R V) (k : K) → maps.get (maps.from_entries {R = R} (map (λ (e : K × V). (e.0, f e.1)) (maps.entries m))) k ≡ option_map f (maps.get m k)
-  get_mapped f m k = get-from_entries total (map (λ (e : K × V). (e.0, f e.1)) (maps.entries m)) k ∙ find-map R f k (maps.entries m) ∙ ap (option_map f) (sym (get-entries m k))
+  get_mapped : (f : V → V) (m : FinMap R V) (k : K)
+      → maps.get (maps.from_entries {R = R} (map (λ (e : K × V). (e.0, f e.1)) (maps.entries m))) k ≡ option_map f (maps.get m k)
+  get_mapped f m k =
+      get-from_entries total (map (λ (e : K × V). (e.0, f e.1)) (maps.entries m)) k ∙ find-map R f k (maps.entries m)
+      ∙ ap (option_map f) (sym (get-entries m k))
 
 -- ---- what is due
 
@@ -149,32 +152,41 @@ module _ (place : EdgePlace) (now : ℕ) (edge : EdgeData) where
   routes_due = sum_by (due_from place now) (maps.entries edge.control.peers)
 
   -- the delays of one route
-  route_quiet : (peer : NodeId) (key : Key) (route : TakenRoute) → due_delays place now peer (key, route) ≡ 0 → (own : OwnVrf) (imported : ImportedSelective) → Among own (own_vrfs place)
+  route_quiet : (peer : NodeId) (key : Key) (route : TakenRoute) → due_delays place now peer (key, route) ≡ 0
+      → (own : OwnVrf) (imported : ImportedSelective) → Among own (own_vrfs place)
       → imported_selective own.vrf (addr_of place.scenario peer) (key, route) ≡ Some imported → (route.run ≡ true) ⊎ (now < route.since + delay)
-  route_quiet peer key route h own imported a is = run_or_later route.run (route.since + delay) now (by (not route.run && nat_le (route.since + delay) now) refl h)
+  route_quiet peer key route h own imported a is =
+      run_or_later route.run (route.since + delay) now (by (not route.run && nat_le (route.since + delay) now) refl h)
     where
       imports : OwnVrf → Bool
       imports o = is_some (imported_selective o.vrf (addr_of place.scenario peer) (key, route))
 
-      by : (b : Bool) → (not route.run && nat_le (route.since + delay) now) ≡ b → cond b (count_by (λ o. is_some (imported_selective o.vrf (addr_of place.scenario peer) (key, route))) (own_vrfs place)) 0 ≡ 0
+      by : (b : Bool) → (not route.run && nat_le (route.since + delay) now) ≡ b
+          → cond b (count_by (λ o. is_some (imported_selective o.vrf (addr_of place.scenario peer) (key, route))) (own_vrfs place)) 0 ≡ 0
           → (not route.run && nat_le (route.since + delay) now) ≡ false
       by false e k = e
       by true e k =
-          let none = none_passes (λ (o : OwnVrf). is_some (imported_selective o.vrf (addr_of place.scenario peer) (key, route))) (own_vrfs place) k own a in
-          let some : is_some (imported_selective own.vrf (addr_of place.scenario peer) (key, route)) ≡ true = ap (λ (o : Option ImportedSelective). is_some o) is in
+          let none =
+          none_passes (λ (o : OwnVrf). is_some (imported_selective o.vrf (addr_of place.scenario peer) (key, route))) (own_vrfs place) k own a in
+          let some : is_some (imported_selective own.vrf (addr_of place.scenario peer) (key, route)) ≡ true =
+          ap (λ (o : Option ImportedSelective). is_some o) is in
           absurd (let bad : true ≡ false = sym some ∙ none in cc)
 
   quiet_route : (peer : NodeId) (key : Key) (route : TakenRoute)
-      → ((own : OwnVrf) (imported : ImportedSelective) → Among own (own_vrfs place) → imported_selective own.vrf (addr_of place.scenario peer) (key, route) ≡ Some imported → (route.run ≡ true) ⊎ (now < route.since + delay))
+      → ((own : OwnVrf) (imported : ImportedSelective) → Among own (own_vrfs place)
+      → imported_selective own.vrf (addr_of place.scenario peer) (key, route) ≡ Some imported → (route.run ≡ true) ⊎ (now < route.since + delay))
       → due_delays place now peer (key, route) ≡ 0
   quiet_route peer key route h = by (not route.run && nat_le (route.since + delay) now) refl
     where
-      none : (not route.run && nat_le (route.since + delay) now) ≡ true → (own : OwnVrf) → Among own (own_vrfs place) → (o : Option ImportedSelective) → imported_selective own.vrf (addr_of place.scenario peer) (key, route) ≡ o
+      none : (not route.run && nat_le (route.since + delay) now) ≡ true → (own : OwnVrf) → Among own (own_vrfs place) → (o : Option ImportedSelective)
+          → imported_selective own.vrf (addr_of place.scenario peer) (key, route) ≡ o
           → is_some o ≡ false
       none t own a None e = refl
-      none t own a (Some imported) e = absurd (let bad : true ≡ false = sym t ∙ not_due route.run (route.since + delay) now (h own imported a e) in cc)
+      none t own a (Some imported) e =
+          absurd (let bad : true ≡ false = sym t ∙ not_due route.run (route.since + delay) now (h own imported a e) in cc)
 
-      by : (b : Bool) → (not route.run && nat_le (route.since + delay) now) ≡ b → cond b (count_by (λ o. is_some (imported_selective o.vrf (addr_of place.scenario peer) (key, route))) (own_vrfs place)) 0 ≡ 0
+      by : (b : Bool) → (not route.run && nat_le (route.since + delay) now) ≡ b
+          → cond b (count_by (λ o. is_some (imported_selective o.vrf (addr_of place.scenario peer) (key, route))) (own_vrfs place)) 0 ≡ 0
       by false e = refl
       by true e =
           passes_none (λ (o : OwnVrf). is_some (imported_selective o.vrf (addr_of place.scenario peer) (key, route))) (own_vrfs place)
@@ -182,28 +194,48 @@ module _ (place : EdgePlace) (now : ℕ) (edge : EdgeData) where
 
   quiet : labels_due ≡ 0 → entries_due ≡ 0 → selections_due ≡ 0 → routes_due ≡ 0 → NoneDue place now edge
   quiet l e s r = record {
-    labels = λ number until at. rested (uses.Resting until) (none_passes (is_rested now) edge.part.labels (omega (arith, l)) (uses.Resting until) (at_place edge.part.labels number (uses.Resting until) at)) until refl;
+    labels = λ number until at. rested (uses.Resting until)
+        (none_passes (is_rested now) edge.part.labels (omega (arith, l)) (uses.Resting until)
+        (at_place edge.part.labels number (uses.Resting until) at)) until refl;
     holds = λ node end at. run_or_later end.held (end.raised + life + 1) now
-        (none_passes (is_hold_due life now) (maps.values edge.part.ends) (omega (arith, l)) end (to_values node_cmp_total node_cmp_exact edge.part.ends node end at));
+        (none_passes (is_hold_due life now) (maps.values edge.part.ends) (omega (arith, l)) end
+        (to_values node_cmp_total node_cmp_exact edge.part.ends node end at));
     entries = λ at expiry here. not_not (is_after expiry now)
-        (none_passes (λ (x : Expiry). not (is_after x now)) (maps.values edge.control.entries) e expiry (to_values entry_cmp_total entry_cmp_exact edge.control.entries at expiry here));
+        (none_passes (λ (x : Expiry). not (is_after x now)) (maps.values edge.control.entries) e expiry
+        (to_values entry_cmp_total entry_cmp_exact edge.control.entries at expiry here));
     selections = λ key selected at. run_or_later selected.run (selected.since + delay) now
-        (none_passes (is_selection_due delay now) (maps.values edge.control.selections) s selected (to_values pattern_total pattern_exact edge.control.selections key selected at));
+        (none_passes (is_selection_due delay now) (maps.values edge.control.selections) s selected
+        (to_values pattern_total pattern_exact edge.control.selections key selected at));
     routes = λ peer key route own imported at a is. (let t = table_of edge.control peer key route at in
-        route_quiet peer key route (each_nothing (due_delays place now peer) (maps.entries t.table) (each_nothing (due_from place now) (maps.entries edge.control.peers) r (peer, t.table) t.of_peer) (key, route) t.among) own imported a is);
+        route_quiet peer key route (each_nothing (due_delays place now peer) (maps.entries t.table)
+        (each_nothing (due_from place now) (maps.entries edge.control.peers) r (peer, t.table) t.of_peer) (key, route) t.among) own imported a
+        is);
   }
 
   some_use : (usage : LabelUse) → Among usage edge.part.labels → NoneDue place now edge → is_rested now usage ≡ false
-  some_use usage a none = (let at = place_of edge.part.labels usage a in not_rested usage (λ until e. none.labels at.0 until (at.1 ∙ ap (λ (x : LabelUse). Some x) e)))
+  some_use usage a none =
+      (let at = place_of edge.part.labels usage a in not_rested usage (λ until e. none.labels at.0 until (at.1 ∙ ap (λ (x : LabelUse). Some x) e)))
 
   all_quiet : NoneDue place now edge → due place now edge ≡ 0
   all_quiet none =
       let rests = passes_none (is_rested now) edge.part.labels (λ usage a. some_use usage a none) in
-      let holds = passes_none (is_hold_due life now) (maps.values edge.part.ends) (λ end a. (let at = of_values node_cmp_total node_cmp_exact edge.part.ends end a in not_due end.held (end.raised + life + 1) now (none.holds at.0 end at.1))) in
-      let own_entries = passes_none (λ (x : Expiry). not (is_after x now)) (maps.values edge.control.entries) (λ expiry a. (let at = of_values entry_cmp_total entry_cmp_exact edge.control.entries expiry a in not_true (is_after expiry now) (none.entries at.0 expiry at.1))) in
-      let own_selections = passes_none (is_selection_due delay now) (maps.values edge.control.selections) (λ selected a. (let at = of_values pattern_total pattern_exact edge.control.selections selected a in not_due selected.run (selected.since + delay) now (none.selections at.0 selected at.1))) in
-      let own_routes = nothing_each (due_from place now) (maps.entries edge.control.peers) (λ peer a. nothing_each (due_delays place now peer.0) (maps.entries peer.1) (λ entry b.
-      quiet_route peer.0 entry.0 entry.1 (λ own imported c is. none.routes peer.0 entry.0 entry.1 own imported (taken_of edge.control peer.0 peer.1 entry.0 entry.1 a b) c is))) in
+      let holds =
+      passes_none (is_hold_due life now) (maps.values edge.part.ends)
+      (λ end a. (let at = of_values node_cmp_total node_cmp_exact edge.part.ends end a in
+      not_due end.held (end.raised + life + 1) now (none.holds at.0 end at.1))) in
+      let own_entries =
+      passes_none (λ (x : Expiry). not (is_after x now)) (maps.values edge.control.entries)
+      (λ expiry a. (let at = of_values entry_cmp_total entry_cmp_exact edge.control.entries expiry a in
+      not_true (is_after expiry now) (none.entries at.0 expiry at.1))) in
+      let own_selections =
+      passes_none (is_selection_due delay now) (maps.values edge.control.selections)
+      (λ selected a. (let at = of_values pattern_total pattern_exact edge.control.selections selected a in
+      not_due selected.run (selected.since + delay) now (none.selections at.0 selected at.1))) in
+      let own_routes =
+      nothing_each (due_from place now) (maps.entries edge.control.peers)
+      (λ peer a. nothing_each (due_delays place now peer.0) (maps.entries peer.1) (λ entry b.
+      quiet_route peer.0 entry.0 entry.1 (λ own imported c is. none.routes peer.0 entry.0 entry.1 own imported
+      (taken_of edge.control peer.0 peer.1 entry.0 entry.1 a b) c is))) in
       omega (arith, rests, holds, own_entries, own_selections, own_routes)
 
   pub due_is : (due place now edge ≡ 0) ↔ NoneDue place now edge
@@ -214,7 +246,11 @@ module _ (place : EdgePlace) (now : ℕ) (edge : EdgeData) where
 module _ (place : EdgePlace) (now : ℕ) (edge : EdgeData) where
   -- the edge behind its timers, before its trees settle
   abbrev behind : EdgeData
-  behind = record edge { control = timed place now edge.control; part = label_steps.timed (label_place place.scenario place.core place.me) now edge.part }
+  behind = record edge {
+    control = timed place now edge.control;
+    part =
+        label_steps.timed (label_place place.scenario place.core place.me) now edge.part;
+  }
 
   woken_later : (usage : LabelUse) (until : ℕ) → woken now usage ≡ uses.Resting until → now < until
   woken_later (uses.Mapped fec upstream) until h = absurd cc
@@ -260,25 +296,34 @@ module _ (place : EdgePlace) (now : ℕ) (edge : EdgeData) where
       by true e k = (let same : own ≡ expiry = cc in ap (λ (x : Expiry). is_after x now) (sym same) ∙ e)
       by false e k = absurd cc
 
-  route_later : (peer : NodeId) (key : Key) (old : TakenRoute) → is_imported place peer (key, old) ≡ true → ((run_at place now peer key old).run ≡ true) ⊎ (now < old.since + place.scenario.delay)
+  route_later : (peer : NodeId) (key : Key) (old : TakenRoute) → is_imported place peer (key, old) ≡ true
+      → ((run_at place now peer key old).run ≡ true) ⊎ (now < old.since + place.scenario.delay)
   route_later peer key old t =
-      subst (λ (b : Bool). ((old.run || (b && nat_le (old.since + place.scenario.delay) now)) ≡ true) ⊎ (now < old.since + place.scenario.delay)) (sym t) (run_over old.run (old.since + place.scenario.delay))
+      subst (λ (b : Bool). ((old.run || (b && nat_le (old.since + place.scenario.delay) now)) ≡ true) ⊎ (now < old.since + place.scenario.delay))
+      (sym t) (run_over old.run (old.since + place.scenario.delay))
 
   pub none_left : NoneDue place now behind
   none_left = record {
     labels = λ number until at. woken_at edge.part.labels number until at;
-    holds = λ node end at. (let by = mapped_from (hold_run place.scenario.life now) (maps.get edge.part.ends node) end (sym (get_mapped node_cmp_total node_cmp_exact (hold_run place.scenario.life now) edge.part.ends node) ∙ at) in
-        subst (λ (e : End). (e.held ≡ true) ⊎ (now < e.raised + place.scenario.life + 1)) (sym by.2) (held_or_later by.0.held (by.0.raised + place.scenario.life + 1)));
+    holds = λ node end at. (let by = mapped_from (hold_run place.scenario.life now) (maps.get edge.part.ends node) end
+        (sym (get_mapped node_cmp_total node_cmp_exact (hold_run place.scenario.life now) edge.part.ends node) ∙ at) in
+        subst (λ (e : End). (e.held ≡ true) ⊎ (now < e.raised + place.scenario.life + 1)) (sym by.2)
+        (held_or_later by.0.held (by.0.raised + place.scenario.life + 1)));
     entries = λ at expiry here. left (maps.get edge.control.entries at) expiry (sym (get-kept edge.control.entries now at) ∙ here);
     selections = λ key selected at. (let by = mapped_from (selection_run place.scenario.delay now) (maps.get edge.control.selections key) selected
         (sym (get_mapped pattern_total pattern_exact (selection_run place.scenario.delay now) edge.control.selections key) ∙ at) in
-        subst (λ (s : Selected). (s.run ≡ true) ⊎ (now < s.since + place.scenario.delay)) (sym by.2) (run_over by.0.run (by.0.since + place.scenario.delay)));
+        subst (λ (s : Selected). (s.run ≡ true) ⊎ (now < s.since + place.scenario.delay)) (sym by.2)
+        (run_over by.0.run (by.0.since + place.scenario.delay)));
     routes = λ peer key route own imported at a is. (
-        let got : maps.get (taken_from behind.control peer) key ≡ option_map (run_at place now peer key) (maps.get (taken_from edge.control peer) key) =
-        ap (λ (o : Option Taken). maps.get (table_in o) key) (get-peers_run place now edge.control.peers peer) ∙ run_taken place now peer key (maps.get edge.control.peers peer) in
+        let got : maps.get (taken_from behind.control peer) key
+        ≡ option_map (run_at place now peer key) (maps.get (taken_from edge.control peer) key) =
+        ap (λ (o : Option Taken). maps.get (table_in o) key) (get-peers_run place now edge.control.peers peer)
+        ∙ run_taken place now peer key (maps.get edge.control.peers peer) in
         let by = mapped_from (run_at place now peer key) (maps.get (taken_from edge.control peer) key) route (sym got ∙ at) in
-        let old : imported_selective own.vrf (addr_of place.scenario peer) (key, by.0) ≡ Some imported = ap (λ (r : TakenRoute). imported_selective own.vrf (addr_of place.scenario peer) (key, r)) (sym by.2) ∙ is in
+        let old : imported_selective own.vrf (addr_of place.scenario peer) (key, by.0) ≡ Some imported =
+        ap (λ (r : TakenRoute). imported_selective own.vrf (addr_of place.scenario peer) (key, r)) (sym by.2) ∙ is in
         let imports : is_imported place peer (key, by.0) ≡ true =
-        any_from (λ (o : OwnVrf). is_some (imported_selective o.vrf (addr_of place.scenario peer) (key, by.0))) own (own_vrfs place) a (ap (λ (o : Option ImportedSelective). is_some o) old) in
+        any_from (λ (o : OwnVrf). is_some (imported_selective o.vrf (addr_of place.scenario peer) (key, by.0))) own (own_vrfs place) a
+        (ap (λ (o : Option ImportedSelective). is_some o) old) in
         subst (λ (r : TakenRoute). (r.run ≡ true) ⊎ (now < r.since + place.scenario.delay)) (sym by.2) (route_later peer key by.0 imports));
   }

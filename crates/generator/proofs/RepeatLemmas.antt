@@ -23,7 +23,9 @@ module _ (number other : ℕ) (alike : number % 32 ≡ other % 32) where
   join_same vpn edge = rw (edge_same vpn, quarter_same edge vpn) refl
 
   joins_same : joins number ≡ joins other
-  joins_same = each_same (λ vpn. each (join_line number vpn) 32) (λ vpn. each (join_line other vpn) 32) (λ vpn. each_same (join_line number vpn) (join_line other vpn) (join_same vpn) 32) 8
+  joins_same =
+      each_same (λ vpn. each (join_line number vpn) 32) (λ vpn. each (join_line other vpn) 32)
+      (λ vpn. each_same (join_line number vpn) (join_line other vpn) (join_same vpn) 32) 8
 
   send_same : (payload : List ℕ) (vpn : ℕ) → send_line number payload vpn ≡ send_line other payload vpn
   send_same payload vpn = rw (edge_same vpn) refl

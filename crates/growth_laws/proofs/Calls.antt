@@ -31,7 +31,8 @@ use Rattle.growth_laws.proofs.Turns.{AreMappings, alike_grows, settles}
 -- ---- the start, and more trees
 
 none_mapped : (count : ℕ) (fec : Fec) (label : ℕ) (u : NodeId) → Maps (fresh count) fec label u → ⊥
-none_mapped count fec label u p = (let x = all_free count _ (uses.Mapped fec u) (used_some (replicate count uses.Free) label (uses.Mapped fec u) p).1 in absurd cc)
+none_mapped count fec label u p =
+    (let x = all_free count _ (uses.Mapped fec u) (used_some (replicate count uses.Free) label (uses.Mapped fec u) p).1 in absurd cc)
 
 no_tree : (count : ℕ) (fec : Fec) → has_tree (fresh count) fec ≡ true → ⊥
 no_tree count fec h = elim (or_cases (has_branch (fresh count) fec) (sets.contains (sets.empty {R = fec_cmp}) fec) h) [
@@ -58,7 +59,8 @@ used_with trees more (uses.Mapped fec u) all is = all fec is
 used_with trees more (uses.Leaving fec u) all is = absurd is
 used_with trees more (uses.Resting until) all is = absurd is
 
-pub grows_with : (place : Place) (trees more : List Fec) (part : LabelData) → Growing place trees part → AreAmong trees more → length more < length part.labels → Growing place more part
+pub grows_with : (place : Place) (trees more : List Fec) (part : LabelData) → Growing place trees part → AreAmong trees more
+    → length more < length part.labels → Growing place more part
 grows_with place trees more part g all room =
     record {
       room = room;
@@ -78,13 +80,16 @@ module _ (place : Place) (trees : List Fec) (part : LabelData) (g : Growing plac
   branch_stays : (branch : Branch) (fec : Fec) → has_branch part fec ≡ true → has_branch (with_branch branch) fec ≡ true
   branch_stays branch fec h =
       let x = passing_member branch_cmp_total branch_cmp_exact (λ (own : Branch). same_fec own.fec fec) part.branches h in
-      let there : sets.contains (sets.insert part.branches branch) x.0 ≡ true = sets.contains-insert branch_cmp_total part.branches branch x.0 ∙ or_right (eq_by_cmp branch_cmp x.0 branch) (sets.contains part.branches x.0) x.1 in
+      let there : sets.contains (sets.insert part.branches branch) x.0 ≡ true =
+      sets.contains-insert branch_cmp_total part.branches branch x.0
+      ∙ or_right (eq_by_cmp branch_cmp x.0 branch) (sets.contains part.branches x.0) x.1 in
       member_passes branch_cmp_total branch_cmp_exact (λ (own : Branch). same_fec own.fec fec) (sets.insert part.branches branch) x.0 there x.2
 
   other_trees : (branch : Branch) (fec : Fec) → (fec ≡ branch.fec → ⊥) → has_branch (with_branch branch) fec ≡ has_branch part fec
   other_trees branch fec ne =
       any_as branch_cmp_total branch_cmp_exact (λ (own : Branch). same_fec own.fec fec) (sets.insert part.branches branch) part.branches
-      (λ own is. inserted_other branch_cmp_total branch_cmp_exact part.branches branch own (λ e. ne (sym (same_fec_equal own.fec fec is) ∙ ap (λ (b : Branch). b.fec) e)))
+      (λ own is. inserted_other branch_cmp_total branch_cmp_exact part.branches branch own
+      (λ e. ne (sym (same_fec_equal own.fec fec is) ∙ ap (λ (b : Branch). b.fec) e)))
 
   branch_grows : (branch : Branch) → Among branch.fec trees → Growing place trees (with_branch branch)
   branch_grows branch among =
@@ -135,7 +140,8 @@ module _ (place : Place) (trees : List Fec) (part : LabelData) (g : Growing plac
 
   raise_grows : (now : ℕ) (peer : NodeId) → Growing place trees (record part { ends = maps.insert part.ends peer (raised_end now) })
   raise_grows now peer =
-      alike_grows place trees part (record part { ends = maps.insert part.ends peer (raised_end now) }) refl (λ label. refl) (λ fec h. h) (λ fec h. g.within fec h) g
+      alike_grows place trees part (record part { ends = maps.insert part.ends peer (raised_end now) }) refl (λ label. refl) (λ fec h. h)
+      (λ fec h. g.within fec h) g
 
 record Effect (place : Place) (trees : List Fec) (part : LabelData) (new : Stepped) : Type 0 where
   growing : Growing place trees new.part
@@ -146,9 +152,15 @@ mapping_many : (part next : LabelData) (t : Bool) → length next.labels ≡ len
 mapping_many part next true e = e
 mapping_many part next false e = refl
 
-effect_grows : (place : Place) (now : ℕ) (trees : List Fec) (part : LabelData) (call : Call) → Growing place trees part → TakesNothingBack place trees call → Effect place trees part (effect place now part call).0
+effect_grows : (place : Place) (now : ℕ) (trees : List Fec) (part : LabelData) (call : Call) → Growing place trees part
+    → TakesNothingBack place trees call → Effect place trees part (effect place now part call).0
 effect_grows place now trees part (Taken from (messages.Mapping fec label)) g may =
-    record { growing = mapping_grows place trees part g (branch_to from fec label) (place.is_tree fec) may; many = mapping_many part (record part { branches = sets.insert part.branches (branch_to from fec label) }) (place.is_tree fec) refl; puts = tt }
+    record {
+      growing = mapping_grows place trees part g (branch_to from fec label) (place.is_tree fec) may;
+      many =
+          mapping_many part (record part { branches = sets.insert part.branches (branch_to from fec label) }) (place.is_tree fec) refl;
+      puts = tt;
+    }
 effect_grows place now trees part (Taken from (messages.Withdraw fec label)) g may = absurd may
 effect_grows place now trees part (Taken from (messages.Release fec label)) g may = absurd may
 effect_grows place now trees part (Taken from (messages.Ignored kind)) g may = record { growing = g; many = refl; puts = tt }
@@ -156,12 +168,14 @@ effect_grows place now trees part (Want fec) g may = record { growing = leaf_gro
 effect_grows place now trees part (Unwant fec) g may = absurd may
 effect_grows place now trees part (Raised peer) g may = record { growing = raise_grows place trees part g now peer; many = refl; puts = tt }
 effect_grows place now trees part (Noticed peer) g may = absurd may
-effect_grows place now trees part Timers g may = record { growing = timers_grow place trees part g now; many = length-map part.labels (woken now); puts = tt }
+effect_grows place now trees part Timers g may =
+    record { growing = timers_grow place trees part g now; many = length-map part.labels (woken now); puts = tt }
 effect_grows place now trees part Rerouted g may = absurd may
 
 -- ---- steps
 
-pub grows_on : (place : Place) (now : ℕ) (trees : List Fec) (part : LabelData) (call : Call) → Growing place trees part → TakesNothingBack place trees call → GrowsOn place now trees part call
+pub grows_on : (place : Place) (now : ℕ) (trees : List Fec) (part : LabelData) (call : Call) → Growing place trees part
+    → TakesNothingBack place trees call → GrowsOn place now trees part call
 grows_on place now trees part call g may =
     let own = effect place now part call in
     let start = effect_grows place now trees part call g may in
@@ -178,7 +192,8 @@ grows_on place now trees part call g may =
       puts = s.puts;
     }
   where
-    stays : (fec : Fec) (label : ℕ) (u : NodeId) {new : Stepped} → Growing place trees new.part → MappedThen new.part new.puts fec u label ⊎ (call ≡ Noticed u) → Maps new.part fec label u
+    stays : (fec : Fec) (label : ℕ) (u : NodeId) {new : Stepped} → Growing place trees new.part
+        → MappedThen new.part new.puts fec u label ⊎ (call ≡ Noticed u) → Maps new.part fec label u
     stays fec label u growing (inl (inl maps)) = maps
     stays fec label u growing (inl (inr gone)) = absurd (growing.used label (uses.Leaving fec u) gone.leaves)
     stays fec label u growing (inr loss) = absurd (subst (TakesNothingBack place trees) loss may)

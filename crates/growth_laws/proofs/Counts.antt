@@ -32,7 +32,9 @@ module _ {X : Type 0} where
   one_counted p [] one = omega arith
   one_counted p (x ∷ xs) one = elim (cases_Bool (p x)) [
     | inl t ↦
-        let none : count_by p xs ≡ 0 = count_none p xs (λ k y e. false_from_ne_true (p y) (λ passes. (let same = one 0 (suc k) x y refl e t passes in absurd (omega (arith, same))))) in
+        let none : count_by p xs ≡ 0 =
+        count_none p xs (λ k y e. false_from_ne_true (p y)
+        (λ passes. (let same = one 0 (suc k) x y refl e t passes in absurd (omega (arith, same))))) in
         let here : cond {A = ℕ} (p x) 1 0 ≡ 1 = ap (λ b. cond b 1 0) t in
         let sum = count-cons p x xs in
         omega (arith, sum, none, here)
@@ -54,7 +56,8 @@ module _ {X : Type 0} where
       let second = count-cons q x xs in
       omega (arith, rest, here, most, sum, first, second)
 
-  passing_counted : (p q : X → Bool) (xs : List X) → ((k : ℕ) (x : X) → slice_get xs k ≡ Some x → p x ≡ true → q x ≡ true) → count_by p xs ≤ count_by q xs
+  passing_counted : (p q : X → Bool) (xs : List X) → ((k : ℕ) (x : X) → slice_get xs k ≡ Some x → p x ≡ true → q x ≡ true)
+      → count_by p xs ≤ count_by q xs
   passing_counted p q [] passes = omega arith
   passing_counted p q (x ∷ xs) passes =
       let rest = passing_counted p q xs (λ k y e. passes (suc k) y e) in
@@ -82,10 +85,12 @@ maps_one (fec ∷ more) usage = is_mapped fec usage || maps_one more usage
 among_maps : (trees : List Fec) (fec : Fec) (upstream : NodeId) → Among fec trees → maps_one trees (uses.Mapped fec upstream) ≡ true
 among_maps [] fec upstream among = absurd among
 among_maps (first ∷ more) fec upstream (inl e) = or_left (same_fec fec first) (maps_one more (uses.Mapped fec upstream)) (same_fec_from fec first e)
-among_maps (first ∷ more) fec upstream (inr among) = or_right (same_fec fec first) (maps_one more (uses.Mapped fec upstream)) (among_maps more fec upstream among)
+among_maps (first ∷ more) fec upstream (inr among) =
+    or_right (same_fec fec first) (maps_one more (uses.Mapped fec upstream)) (among_maps more fec upstream among)
 
 few_mapped : (labels : List LabelUse) (trees : List Fec)
-    → ((fec : Fec) (i j : ℕ) (x y : LabelUse) → slice_get labels i ≡ Some x → slice_get labels j ≡ Some y → is_mapped fec x ≡ true → is_mapped fec y ≡ true → i ≡ j)
+    → ((fec : Fec) (i j : ℕ) (x y : LabelUse) → slice_get labels i ≡ Some x → slice_get labels j ≡ Some y → is_mapped fec x ≡ true
+    → is_mapped fec y ≡ true → i ≡ j)
     → count_by (maps_one trees) labels ≤ length trees
 few_mapped labels [] one =
     let none : count_by (maps_one []) labels ≡ 0 = count_none (maps_one []) labels (λ k x e. refl) in
@@ -99,7 +104,8 @@ few_mapped labels (fec ∷ more) one =
 
 -- ---- a growing node
 
-maps_at : (part : LabelData) (fec : Fec) (k : ℕ) (x : LabelUse) → slice_get part.labels k ≡ Some x → is_mapped fec x ≡ true → (upstream : NodeId) × Maps part fec (16 + k) upstream
+maps_at : (part : LabelData) (fec : Fec) (k : ℕ) (x : LabelUse) → slice_get part.labels k ≡ Some x → is_mapped fec x ≡ true
+    → (upstream : NodeId) × Maps part fec (16 + k) upstream
 maps_at part fec k x at passes =
     let is = mapped_is fec x passes in
     (is.0, used_place part.labels k ∙ at ∙ ap (λ (u : LabelUse). Some u) is.1)
@@ -107,7 +113,9 @@ maps_at part fec k x at passes =
 -- it holds no more labels than there are trees
 pub few_held : (place : Place) (trees : List Fec) (part : LabelData) → Growing place trees part → labels_held part ≤ length trees
 few_held place trees part g =
-    let held = passing_counted (λ (usage : LabelUse). not (is_free usage)) (maps_one trees) part.labels (λ k x at. passes x (g.used (16 + k) x (used_place part.labels k ∙ at))) in
+    let held =
+    passing_counted (λ (usage : LabelUse). not (is_free usage)) (maps_one trees) part.labels
+    (λ k x at. passes x (g.used (16 + k) x (used_place part.labels k ∙ at))) in
     let few = few_mapped part.labels trees (λ fec i j x y at_x at_y p q.
     (let first = maps_at part fec i x at_x p in
     let second = maps_at part fec j y at_y q in

@@ -84,35 +84,45 @@ IsGrownMessage trees place control (Bgp message) = (change : Change Key Value) �
 abbrev pub IsGrownPut : List Fec → EdgePlace → Control → NodeId → Put → Type 0
 IsGrownPut trees place control n put = (put.over.from ≡ n) × AllByRecursion (IsGrownMessage trees place control) put.unit.messages
 
-numbered_grown : (trees : List Fec) (ends : FinMap node_cmp End) (puts : List label_put_of.Put) → AreMappings trees puts → AllByRecursion (λ (one : Numbered). IsMappingOf trees one.put.message) (numbered ends puts)
+numbered_grown : (trees : List Fec) (ends : FinMap node_cmp End) (puts : List label_put_of.Put) → AreMappings trees puts
+    → AllByRecursion (λ (one : Numbered). IsMappingOf trees one.put.message) (numbered ends puts)
 numbered_grown trees ends [] h = tt
-numbered_grown trees ends (put ∷ more) h = by (maps.get ends put.to) (numbered_grown trees ends more h.1) (λ end. numbered_grown trees (maps.insert ends put.to (told end)) more h.1)
+numbered_grown trees ends (put ∷ more) h =
+    by (maps.get ends put.to) (numbered_grown trees ends more h.1) (λ end. numbered_grown trees (maps.insert ends put.to (told end)) more h.1)
   where
     by : (o : Option End) → AllByRecursion (λ (one : Numbered). IsMappingOf trees one.put.message) (numbered ends more)
         → ((end : End) → AllByRecursion (λ (one : Numbered). IsMappingOf trees one.put.message) (numbered (maps.insert ends put.to (told end)) more))
         → AllByRecursion (λ (one : Numbered). IsMappingOf trees one.put.message)
-        (elim o as (λ (o : Option End). List Numbered) [ None ↦ numbered ends more | Some end ↦ record { id = end.next; put = put } ∷ numbered (maps.insert ends put.to (told end)) more ])
+        (elim o as (λ (o : Option End). List Numbered)
+        [ None ↦ numbered ends more | Some end ↦ record { id = end.next; put = put } ∷ numbered (maps.insert ends put.to (told end)) more ])
     by None none some = none
     by (Some end) none some = (h.0, some end)
 
-label_puts_grown : (trees : List Fec) (place : EdgePlace) (control : Control) (n : NodeId) (addr : Addr) (own : Place) (now : ℕ) (step : LabelStep) → AreMappings trees step.new.puts → AllByRecursion (IsGrownPut trees place control n) (label_puts n addr own now step)
+label_puts_grown : (trees : List Fec) (place : EdgePlace) (control : Control) (n : NodeId) (addr : Addr) (own : Place) (now : ℕ) (step : LabelStep)
+    → AreMappings trees step.new.puts → AllByRecursion (IsGrownPut trees place control n) (label_puts n addr own now step)
 label_puts_grown trees place control n addr own now step h =
     each_map (IsGrownPut trees place control n) (label_put n addr) (step_puts own now step.old step.call step.new.puts)
-    (each_weaker (λ (one : Numbered). IsMappingOf trees one.put.message) (λ (one : Numbered). IsGrownPut trees place control n (label_put n addr one)) (λ one is. (refl, (is, tt))) (step_puts own now step.old step.call step.new.puts)
+    (each_weaker (λ (one : Numbered). IsMappingOf trees one.put.message) (λ (one : Numbered). IsGrownPut trees place control n (label_put n addr one))
+    (λ one is. (refl, (is, tt))) (step_puts own now step.old step.call step.new.puts)
     (numbered_grown trees (effect own now step.old step.call).0.part.ends step.new.puts h))
 
-bgp_puts_grown : (trees : List Fec) (place : EdgePlace) (old new : Control) → ((peer : NodeId) → AllByRecursion (IsTrue place new) (put_to place old new peer)) → AllByRecursion (IsGrownPut trees place new place.me) (bgp_puts place old new)
+bgp_puts_grown : (trees : List Fec) (place : EdgePlace) (old new : Control)
+    → ((peer : NodeId) → AllByRecursion (IsTrue place new) (put_to place old new peer))
+    → AllByRecursion (IsGrownPut trees place new place.me) (bgp_puts place old new)
 bgp_puts_grown trees place old new all =
     each_flat (IsGrownPut trees place new place.me) (λ peer. map (bgp_put place.me peer) (put_to place old new peer)) (edges place.scenario)
     (each_of (λ peer. AllByRecursion (IsGrownPut trees place new place.me) (map (bgp_put place.me peer) (put_to place old new peer)))
     (λ peer. each_map (IsGrownPut trees place new place.me) (bgp_put place.me peer) (put_to place old new peer)
-    (each_weaker (IsTrue place new) (λ (change : Change Key Value). IsGrownPut trees place new place.me (bgp_put place.me peer change)) (λ change is. (refl, ((change, refl, is), tt))) (put_to place old new peer) (all peer)))
+    (each_weaker (IsTrue place new) (λ (change : Change Key Value). IsGrownPut trees place new place.me (bgp_put place.me peer change))
+    (λ change is. (refl, ((change, refl, is), tt))) (put_to place old new peer) (all peer)))
     (edges place.scenario))
 
 -- ---- nodes that change
 
-nothing_taken : (control : Control) (n : NodeId) (key : Key) (route : TakenRoute) → maps.get control.peers n ≡ None → maps.get (taken_from control n) key ≡ Some route → ⊥
-nothing_taken control n key route e h = none-some route (sym (ap (λ (o : Option Taken). maps.get (table_in o) key) e ∙ maps.get-empty key_cmp key) ∙ h)
+nothing_taken : (control : Control) (n : NodeId) (key : Key) (route : TakenRoute) → maps.get control.peers n ≡ None
+    → maps.get (taken_from control n) key ≡ Some route → ⊥
+nothing_taken control n key route e h =
+    none-some route (sym (ap (λ (o : Option Taken). maps.get (table_in o) key) e ∙ maps.get-empty key_cmp key) ∙ h)
 
 -- calls of label nodes that are others
 raised_taken : (to from : NodeId) (message : _) → labels.Raised to ≡ labels.Taken from message → ⊥
@@ -138,11 +148,19 @@ no_raise to fec true e = raised_want to fec e
 no_raise to fec false e = raised_unwant to fec e
 
 -- what others say goes on
-pub grown_on : (horizon : ℕ) (trees : List Fec) (at : NodeId → EdgePlace) (old new : NodeId → Control) → ((u : NodeId) → SaysOn (old u) (new u)) → (n : NodeId) (control : Control) → Grown horizon trees at old n control → Grown horizon trees at new n control
+pub grown_on : (horizon : ℕ) (trees : List Fec) (at : NodeId → EdgePlace) (old new : NodeId → Control) → ((u : NodeId) → SaysOn (old u) (new u))
+    → (n : NodeId) (control : Control) → Grown horizon trees at old n control → Grown horizon trees at new n control
 grown_on horizon trees at old new on n control g =
-    record { lasting = g.lasting; picked = g.picked; told = λ u key route not h. says_on (at u) (old u) (new u) key route.value (on u) (g.told u key route not h); alone = g.alone }
+    record {
+      lasting = g.lasting;
+      picked = g.picked;
+      told =
+          λ u key route not h. says_on (at u) (old u) (new u) key route.value (on u) (g.told u key route not h);
+      alone = g.alone;
+    }
 
-pub node_is : (P : NodeId → NodeState → Type 0) (n : NodeId) (new : NodeState) (u : NodeId) (old : NodeState) → P n new → P u old → P u (cond (u.0 == n.0) new old)
+pub node_is : (P : NodeId → NodeState → Type 0) (n : NodeId) (new : NodeState) (u : NodeId) (old : NodeState) → P n new → P u old
+    → P u (cond (u.0 == n.0) new old)
 node_is P n new u old p q = elim (cases_Bool (u.0 == n.0)) [
   | inl t ↦ subst (λ (b : Bool). P u (cond b new old)) (sym t) (subst (λ (w : NodeId). P w new) (sym (node_equal u n t)) p)
   | inr f ↦ subst (λ (b : Bool). P u (cond b new old)) (sym f) q
@@ -155,7 +173,8 @@ pub record EffectIs (horizon : ℕ) (trees : List Fec) (nodes : Nodes) (n : Node
   pub entries : EntriesStay old new
   pub says : SaysOn old new
   pub flows : new.flows ≡ old.flows
-  pub ups : (peer : NodeId) → is_some (maps.get new.peers peer) ≡ true → (is_some (maps.get old.peers peer) ≡ true) ⊎ (call ≡ steps.Raised kinds.Bgp peer)
+  pub ups : (peer : NodeId) → is_some (maps.get new.peers peer) ≡ true
+      → (is_some (maps.get old.peers peer) ≡ true) ⊎ (call ≡ steps.Raised kinds.Bgp peer)
 
 -- What a call of a node does where nothing is taken back.
 pub record NodeGrows (horizon : ℕ) (trees : List Fec) (nodes : Nodes) (n : NodeId) (call : steps.Call) (found : Option (Stepped Nodes)) : Type 0 where
@@ -166,7 +185,8 @@ pub record NodeGrows (horizon : ℕ) (trees : List Fec) (nodes : Nodes) (n : Nod
   pub places : (u : NodeId) → place_of new.state u ≡ place_of nodes u
   pub clock : new.state.clock ≡ nodes.clock
   pub puts : AllByRecursion (IsGrownPut trees (place_of new.state n) (kept new.state n) n) new.puts
-  pub ups : (kind : Kind) (u peer : NodeId) → is_end_up kind (new.state.node u) peer ≡ true → (is_end_up kind (nodes.node u) peer ≡ true) ⊎ ((u ≡ n) × (call ≡ steps.Raised kind peer))
+  pub ups : (kind : Kind) (u peer : NodeId) → is_end_up kind (new.state.node u) peer ≡ true
+      → (is_end_up kind (nodes.node u) peer ≡ true) ⊎ ((u ≡ n) × (call ≡ steps.Raised kind peer))
 
 module _ (horizon : ℕ) (trees : List Fec) (nodes : Nodes) (g : NodesGrown horizon trees nodes) (n : NodeId) (call : steps.Call)
     (own_may : AllByRecursion (TakesNothingBack (label_place_of nodes n) trees) (one_call (own_label_call call))) where
@@ -180,7 +200,8 @@ module _ (horizon : ℕ) (trees : List Fec) (nodes : Nodes) (g : NodesGrown hori
       by : (own : steps.Call) → Among (labels.Raised to) (one_call (own_label_call own)) → own ≡ steps.Raised kinds.Ldp to
       by (steps.Raised kinds.Ldp peer) (inl e) = (let same : peer ≡ to = cc in ap (λ (u : NodeId). steps.Raised kinds.Ldp u) same)
       by (steps.Raised kinds.Ldp peer) (inr b) = absurd b
-      by (steps.Label neighbour message) (inl e) = absurd (let bad : labels.Raised to ≡ labels.Taken neighbour message = e in raised_taken to neighbour message bad)
+      by (steps.Label neighbour message) (inl e) =
+          absurd (let bad : labels.Raised to ≡ labels.Taken neighbour message = e in raised_taken to neighbour message bad)
       by (steps.Label neighbour message) (inr b) = absurd b
       by (steps.Noticed kinds.Ldp peer) (inl e) = absurd (raised_noticed to peer e)
       by (steps.Noticed kinds.Ldp peer) (inr b) = absurd b
@@ -199,7 +220,8 @@ module _ (horizon : ℕ) (trees : List Fec) (nodes : Nodes) (g : NodesGrown hori
 
   -- ---- an edge
 
-  module _ (edge : EdgeData) (at : nodes.node n ≡ Edge edge) (e : EffectIs horizon trees nodes n call edge.control (steps.effect place nodes.clock edge.control call)) where
+  module _ (edge : EdgeData) (at : nodes.node n ≡ Edge edge)
+      (e : EffectIs horizon trees nodes n call edge.control (steps.effect place nodes.clock edge.control call)) where
     abbrev old : Control
     old = edge.control
 
@@ -213,7 +235,9 @@ module _ (horizon : ℕ) (trees : List Fec) (nodes : Nodes) (g : NodesGrown hori
     stand = subst (λ (s : NodeState). Stands place nodes.clock (control_of s)) at (g.stands n)
 
     narrow : AreNarrow own
-    narrow peer key route h = any_narrow key (λ not. told_narrow trees (place_of nodes peer) (kept nodes peer) key route.value (g.edges peer).picked (e.grown.told peer key route not h))
+    narrow peer key route h =
+        any_narrow key (λ not. told_narrow trees (place_of nodes peer) (kept nodes peer) key route.value (g.edges peer).picked
+        (e.grown.told peer key route not h))
 
     none : KeepsAll place nodes.clock old own
     none = record {
@@ -221,12 +245,14 @@ module _ (horizon : ℕ) (trees : List Fec) (nodes : Nodes) (g : NodesGrown hori
       entries = e.entries;
       lasting = λ entry expiry h. (let x = e.grown.lasting entry expiry h in (x.0, sooner expiry nodes.clock horizon g.early x.1));
       narrow = narrow;
-      one = one_origin nodes.scenario (core_at nodes) (kept nodes) g.rules g.home n own e.grown.told (λ key route h. nothing_taken own n key route e.grown.alone h);
+      one = one_origin nodes.scenario (core_at nodes) (kept nodes) g.rules g.home n own e.grown.told
+          (λ key route h. nothing_taken own n key route e.grown.alone h);
     }
 
     abbrev StepIs : Control → Type 0
     StepIs new = Grown horizon trees (place_of nodes) (kept nodes) n new × TakenStays old new × FlowsStay old new × SaysOn old new × AreNarrow new
-        × ((peer : NodeId) → is_some (maps.get new.peers peer) ≡ true → (is_some (maps.get old.peers peer) ≡ true) ⊎ (call ≡ steps.Raised kinds.Bgp peer))
+        × ((peer : NodeId) → is_some (maps.get new.peers peer) ≡ true
+        → (is_some (maps.get old.peers peer) ≡ true) ⊎ (call ≡ steps.Raised kinds.Bgp peer))
 
     step_is : (b : Bool) → StepIs (cond b (refreshed place nodes.clock own) own)
     step_is true = (
@@ -252,14 +278,17 @@ module _ (horizon : ℕ) (trees : List Fec) (nodes : Nodes) (g : NodesGrown hori
     calls = one_call (own_label_call call) ++ changed_leaves (leaves place old) (leaves place control)
 
     may : AllByRecursion (TakesNothingBack (label_place_of nodes n) trees) calls
-    may = each_append (TakesNothingBack (label_place_of nodes n) trees) (one_call (own_label_call call)) (changed_leaves (leaves place old) (leaves place control)) own_may
+    may = each_append (TakesNothingBack (label_place_of nodes n) trees) (one_call (own_label_call call))
+        (changed_leaves (leaves place old) (leaves place control)) own_may
         (changes_want (label_place_of nodes n) trees (leaves place old) (leaves place control) stays within)
 
     r : RowGrows place nodes.clock trees edge.part calls
-    r = row_grows place nodes.clock trees calls edge.part may (subst (λ (s : NodeState). Growing (label_place_of nodes n) trees (part_of s)) at (g.labels n))
+    r = row_grows place nodes.clock trees calls edge.part may
+        (subst (λ (s : NodeState). Growing (label_place_of nodes n) trees (part_of s)) at (g.labels n))
 
     abbrev made : List LabelStep → EdgeStepped
-    made row = record { edge = record { control = control; part = part_after edge.part row; raised = raised_after nodes.clock edge.raised call }; row = row }
+    made row =
+        record { edge = record { control = control; part = part_after edge.part row; raised = raised_after nodes.clock edge.raised call }; row = row }
 
     abbrev stepped : EdgeStepped → Stepped Nodes
     stepped new = record {
@@ -274,19 +303,27 @@ module _ (horizon : ℕ) (trees : List Fec) (nodes : Nodes) (g : NodesGrown hori
     after = with_node nodes n next
 
     says_next : (u : NodeId) → SaysOn (kept nodes u) (kept after u)
-    says_next u = node_is (λ w s. SaysOn (kept nodes w) (control_of s)) n next u (nodes.node u) (subst (λ (s : NodeState). SaysOn (control_of s) control) (sym at) step.3) (says_itself (kept nodes u))
+    says_next u =
+        node_is (λ w s. SaysOn (kept nodes w) (control_of s)) n next u (nodes.node u)
+        (subst (λ (s : NodeState). SaysOn (control_of s) control) (sym at) step.3) (says_itself (kept nodes u))
 
     kept_next : kept after n ≡ control
     kept_next = ap (λ (b : Bool). control_of (cond b next (nodes.node n))) (node_itself n n refl)
 
-    row_puts_grown : (row : List LabelStep) → AllByRecursion (λ (one : LabelStep). AreMappings trees one.new.puts) row → AllByRecursion (IsGrownPut trees place control n) (flat_map (label_puts n (addr_of nodes.scenario n) (label_place_of nodes n) nodes.clock) row)
+    row_puts_grown : (row : List LabelStep) → AllByRecursion (λ (one : LabelStep). AreMappings trees one.new.puts) row
+        → AllByRecursion (IsGrownPut trees place control n)
+        (flat_map (label_puts n (addr_of nodes.scenario n) (label_place_of nodes n) nodes.clock) row)
     row_puts_grown row h =
         each_flat (IsGrownPut trees place control n) (label_puts n (addr_of nodes.scenario n) (label_place_of nodes n) nodes.clock) row
-        (each_weaker (λ (one : LabelStep). AreMappings trees one.new.puts) (λ (one : LabelStep). AllByRecursion (IsGrownPut trees place control n) (label_puts n (addr_of nodes.scenario n) (label_place_of nodes n) nodes.clock one))
+        (each_weaker (λ (one : LabelStep). AreMappings trees one.new.puts)
+        (λ (one : LabelStep). AllByRecursion (IsGrownPut trees place control n)
+        (label_puts n (addr_of nodes.scenario n) (label_place_of nodes n) nodes.clock one))
         (λ one is. label_puts_grown trees place control n (addr_of nodes.scenario n) (label_place_of nodes n) nodes.clock one is) row h)
 
     all_puts : AllByRecursion (IsGrownPut trees place control n) (stepped (made r.row)).puts
-    all_puts = each_append (IsGrownPut trees place control n) (bgp_puts place old control) (flat_map (label_puts n (addr_of nodes.scenario n) (label_place_of nodes n) nodes.clock) r.row)
+    all_puts =
+        each_append (IsGrownPut trees place control n) (bgp_puts place old control)
+        (flat_map (label_puts n (addr_of nodes.scenario n) (label_place_of nodes n) nodes.clock) r.row)
         (bgp_puts_grown trees place old control (λ peer. puts_are_true place old control g.rules step.3 peer)) (row_puts_grown r.row r.puts)
 
     was_bgp : (peer : NodeId) → is_some (maps.get old.peers peer) ≡ true → is_bgp_up (nodes.node n) peer ≡ true
@@ -295,16 +332,19 @@ module _ (horizon : ℕ) (trees : List Fec) (nodes : Nodes) (g : NodesGrown hori
     was_ldp : (peer : NodeId) → label_data.is_up edge.part peer ≡ true → label_data.is_up (part_of (nodes.node n)) peer ≡ true
     was_ldp peer h = subst (λ (s : NodeState). label_data.is_up (part_of s) peer ≡ true) (sym at) h
 
-    up_now : (kind : Kind) (peer : NodeId) → is_end_up kind next peer ≡ true → (is_end_up kind (nodes.node n) peer ≡ true) ⊎ ((n ≡ n) × (call ≡ steps.Raised kind peer))
+    up_now : (kind : Kind) (peer : NodeId) → is_end_up kind next peer ≡ true
+        → (is_end_up kind (nodes.node n) peer ≡ true) ⊎ ((n ≡ n) × (call ≡ steps.Raised kind peer))
     up_now kinds.Bgp peer h = elim (step.5 peer h) [ inl was ↦ inl (was_bgp peer was) | inr is ↦ inr (refl, is) ]
     up_now kinds.Ldp peer h = elim (r.ups peer h) [
       | inl was ↦ inl (was_ldp peer was)
-      | inr among ↦ elim (among_either (labels.Raised peer) (one_call (own_label_call call)) (changed_leaves (leaves place old) (leaves place control)) among) [
-        | inl a ↦ inr (refl, raised_ldp peer a)
-        | inr a ↦
-            let x = map_among (λ (fec : Fec). cond (sets.contains (leaves place control) fec) (labels.Want fec) (labels.Unwant fec)) (labels.Raised peer) _ a in
-            absurd (no_raise peer x.0 (sets.contains (leaves place control) x.0) x.2)
-      ]
+      | inr among ↦ elim (among_either (labels.Raised peer) (one_call (own_label_call call))
+          (changed_leaves (leaves place old) (leaves place control)) among) [
+            | inl a ↦ inr (refl, raised_ldp peer a)
+            | inr a ↦
+                let x = map_among (λ (fec : Fec). cond (sets.contains (leaves place control) fec) (labels.Want fec) (labels.Unwant fec))
+                (labels.Raised peer) _ a in
+                absurd (no_raise peer x.0 (sets.contains (leaves place control) x.0) x.2)
+          ]
     ]
 
     pub edge_grows : NodeGrows horizon trees nodes n call (node_called nodes n (nodes.node n) call)
@@ -319,16 +359,20 @@ module _ (horizon : ℕ) (trees : List Fec) (nodes : Nodes) (g : NodesGrown hori
         early = g.early;
         inclusive = g.inclusive;
         labels = λ u. node_is (λ w s. Growing (label_place_of nodes w) trees (part_of s)) n next u (nodes.node u) r.growing (g.labels u);
-        many = λ u. node_is (λ w s. length (part_of s).labels ≡ nodes.scenario.labels) n next u (nodes.node u) (r.many ∙ subst (λ (s : NodeState). length (part_of s).labels ≡ nodes.scenario.labels) at (g.many n)) (g.many u);
+        many = λ u. node_is (λ w s. length (part_of s).labels ≡ nodes.scenario.labels) n next u (nodes.node u)
+            (r.many ∙ subst (λ (s : NodeState). length (part_of s).labels ≡ nodes.scenario.labels) at (g.many n)) (g.many u);
         edges = λ u. grown_on horizon trees (place_of nodes) (kept nodes) (kept after) says_next u (kept after u)
             (node_is (λ w s. Grown horizon trees (place_of nodes) (kept nodes) w (control_of s)) n next u (nodes.node u) step.0 (g.edges u));
-        stands = λ u. node_is (λ w s. Stands (place_of nodes w) nodes.clock (control_of s)) n next u (nodes.node u) (step_stands place nodes.clock old call stand) (g.stands u);
+        stands = λ u. node_is (λ w s. Stands (place_of nodes w) nodes.clock (control_of s)) n next u (nodes.node u)
+            (step_stands place nodes.clock old call stand) (g.stands u);
       };
       says = says_next;
       places = λ u. refl;
       clock = refl;
       puts = subst (λ (c : Control). AllByRecursion (IsGrownPut trees place c n) (stepped (made r.row)).puts) (sym kept_next) all_puts;
-      ups = λ kind u peer. node_is (λ w s. is_end_up kind s peer ≡ true → (is_end_up kind (nodes.node w) peer ≡ true) ⊎ ((w ≡ n) × (call ≡ steps.Raised kind peer))) n next u (nodes.node u) (up_now kind peer) (λ h. inl h);
+      ups = λ kind u peer. node_is (λ w s. is_end_up kind s peer ≡ true
+          → (is_end_up kind (nodes.node w) peer ≡ true) ⊎ ((w ≡ n) × (call ≡ steps.Raised kind peer))) n next u (nodes.node u) (up_now kind peer)
+          (λ h. inl h);
     }
 
   -- ---- a core node
@@ -351,13 +395,19 @@ module _ (horizon : ℕ) (trees : List Fec) (nodes : Nodes) (g : NodesGrown hori
       may_own = (subst (λ (o : Option labels.Call). AllByRecursion (TakesNothingBack (label_place_of nodes n) trees) (one_call o)) is_own own_may).0
 
       s : GrowsOn (label_place_of nodes n) nodes.clock trees part own
-      s = grows_on (label_place_of nodes n) nodes.clock trees part own (subst (λ (x : NodeState). Growing (label_place_of nodes n) trees (part_of x)) at (g.labels n)) may_own
+      s = grows_on (label_place_of nodes n) nodes.clock trees part own
+          (subst (λ (x : NodeState). Growing (label_place_of nodes n) trees (part_of x)) at (g.labels n)) may_own
 
       abbrev core_made : settling.Stepped → LabelStep
       core_made new = record { old = part; call = own; new = new }
 
       abbrev core_new : settling.Stepped → Stepped Nodes
-      core_new new = record { state = with_node nodes n (CoreNode new.part); puts = label_puts n (addr_of nodes.scenario n) (label_place_of nodes n) nodes.clock (core_made new) }
+      core_new new =
+          record {
+            state = with_node nodes n (CoreNode new.part);
+            puts =
+                label_puts n (addr_of nodes.scenario n) (label_place_of nodes n) nodes.clock (core_made new);
+          }
 
       abbrev core_next : NodeState
       core_next = CoreNode s.new.part
@@ -366,39 +416,52 @@ module _ (horizon : ℕ) (trees : List Fec) (nodes : Nodes) (g : NodesGrown hori
       core_after = with_node nodes n core_next
 
       core_says : (u : NodeId) → SaysOn (kept nodes u) (kept core_after u)
-      core_says u = node_is (λ w x. SaysOn (kept nodes w) (control_of x)) n core_next u (nodes.node u) (subst (λ (x : NodeState). SaysOn (control_of x) no_control) (sym at) (says_itself no_control)) (says_itself (kept nodes u))
+      core_says u =
+          node_is (λ w x. SaysOn (kept nodes w) (control_of x)) n core_next u (nodes.node u)
+          (subst (λ (x : NodeState). SaysOn (control_of x) no_control) (sym at) (says_itself no_control)) (says_itself (kept nodes u))
 
       core_kept : kept core_after n ≡ no_control
       core_kept = ap (λ (b : Bool). control_of (cond b core_next (nodes.node n))) (node_itself n n refl)
 
-      core_up : (kind : Kind) (peer : NodeId) → is_end_up kind core_next peer ≡ true → (is_end_up kind (nodes.node n) peer ≡ true) ⊎ ((n ≡ n) × (call ≡ steps.Raised kind peer))
+      core_up : (kind : Kind) (peer : NodeId) → is_end_up kind core_next peer ≡ true
+          → (is_end_up kind (nodes.node n) peer ≡ true) ⊎ ((n ≡ n) × (call ≡ steps.Raised kind peer))
       core_up kinds.Bgp peer h = absurd (let bad : false ≡ true = h in cc)
       core_up kinds.Ldp peer h = elim (step_up (label_place_of nodes n) nodes.clock trees part own s.new peer may_own s.stepped h) [
         | inl was ↦ inl (subst (λ (x : NodeState). label_data.is_up (part_of x) peer ≡ true) (sym at) was)
-        | inr is ↦ inr (refl, raised_ldp peer (subst (λ (o : Option labels.Call). Among (labels.Raised peer) (one_call o)) (sym is_own) (inl (sym is))))
+        | inr is ↦ inr (
+          refl,
+          raised_ldp peer (subst (λ (o : Option labels.Call). Among (labels.Raised peer) (one_call o)) (sym is_own)
+              (inl (sym is))),
+        )
       ]
 
       step_grows : NodeGrows horizon trees nodes n call (node_called nodes n (nodes.node n) call)
       step_grows = record {
         new = core_new s.new;
-        is = ap (λ (x : NodeState). node_called nodes n x call) at ∙ ap (core_called nodes n part) is_own ∙ ap (λ (o : Option settling.Stepped). o >>? λ new. Some (core_new new)) s.stepped;
+        is = ap (λ (x : NodeState). node_called nodes n x call) at ∙ ap (core_called nodes n part) is_own
+            ∙ ap (λ (o : Option settling.Stepped). o >>? λ new. Some (core_new new)) s.stepped;
         grown = record {
           rules = g.rules;
           home = g.home;
           early = g.early;
           inclusive = g.inclusive;
           labels = λ u. node_is (λ w x. Growing (label_place_of nodes w) trees (part_of x)) n core_next u (nodes.node u) s.growing (g.labels u);
-          many = λ u. node_is (λ w x. length (part_of x).labels ≡ nodes.scenario.labels) n core_next u (nodes.node u) (s.many ∙ subst (λ (x : NodeState). length (part_of x).labels ≡ nodes.scenario.labels) at (g.many n)) (g.many u);
+          many = λ u. node_is (λ w x. length (part_of x).labels ≡ nodes.scenario.labels) n core_next u (nodes.node u)
+              (s.many ∙ subst (λ (x : NodeState). length (part_of x).labels ≡ nodes.scenario.labels) at (g.many n)) (g.many u);
           edges = λ u. grown_on horizon trees (place_of nodes) (kept nodes) (kept core_after) core_says u (kept core_after u)
-              (node_is (λ w x. Grown horizon trees (place_of nodes) (kept nodes) w (control_of x)) n core_next u (nodes.node u) (subst (λ (x : NodeState). Grown horizon trees (place_of nodes) (kept nodes) n (control_of x)) at (g.edges n)) (g.edges u));
-          stands = λ u. node_is (λ w x. Stands (place_of nodes w) nodes.clock (control_of x)) n core_next u (nodes.node u) (subst (λ (x : NodeState). Stands place nodes.clock (control_of x)) at (g.stands n)) (g.stands u);
+              (node_is (λ w x. Grown horizon trees (place_of nodes) (kept nodes) w (control_of x)) n core_next u (nodes.node u)
+              (subst (λ (x : NodeState). Grown horizon trees (place_of nodes) (kept nodes) n (control_of x)) at (g.edges n)) (g.edges u));
+          stands = λ u. node_is (λ w x. Stands (place_of nodes w) nodes.clock (control_of x)) n core_next u (nodes.node u)
+              (subst (λ (x : NodeState). Stands place nodes.clock (control_of x)) at (g.stands n)) (g.stands u);
         };
         says = core_says;
         places = λ u. refl;
         clock = refl;
         puts = subst (λ (c : Control). AllByRecursion (IsGrownPut trees place c n) (core_new s.new).puts) (sym core_kept)
             (label_puts_grown trees place no_control n (addr_of nodes.scenario n) (label_place_of nodes n) nodes.clock (core_made s.new) s.puts);
-        ups = λ kind u peer. node_is (λ w x. is_end_up kind x peer ≡ true → (is_end_up kind (nodes.node w) peer ≡ true) ⊎ ((w ≡ n) × (call ≡ steps.Raised kind peer))) n core_next u (nodes.node u) (core_up kind peer) (λ h. inl h);
+        ups = λ kind u peer. node_is (λ w x. is_end_up kind x peer ≡ true
+            → (is_end_up kind (nodes.node w) peer ≡ true) ⊎ ((w ≡ n) × (call ≡ steps.Raised kind peer))) n core_next u (nodes.node u)
+            (core_up kind peer) (λ h. inl h);
       }
 
     pub core_grows : NodeGrows horizon trees nodes n call (node_called nodes n (nodes.node n) call)
@@ -411,7 +474,8 @@ module _ (horizon : ℕ) (trees : List Fec) (nodes : Nodes) (g : NodesGrown hori
 -- A call of a node, which may be an edge or not.
 pub node_grows : (horizon : ℕ) (trees : List Fec) (nodes : Nodes) (n : NodeId) (call : steps.Call) → NodesGrown horizon trees nodes
     → AllByRecursion (TakesNothingBack (label_place_of nodes n) trees) (one_call (own_label_call call))
-    → ((edge : EdgeData) → nodes.node n ≡ Edge edge → EffectIs horizon trees nodes n call edge.control (steps.effect (place_of nodes n) nodes.clock edge.control call))
+    → ((edge : EdgeData) → nodes.node n ≡ Edge edge
+    → EffectIs horizon trees nodes n call edge.control (steps.effect (place_of nodes n) nodes.clock edge.control call))
     → NodeGrows horizon trees nodes n call (node_called nodes n (nodes.node n) call)
 node_grows horizon trees nodes n call g own_may effect_is = by (nodes.node n) refl
   where

@@ -72,7 +72,9 @@ has_inclusive scenario place e = subst (λ (own : Scenario). HasInclusive (inclu
     of_own : HasInclusive (inclusive_trees place.scenario) place
     of_own own a =
         let number : own.vrf.edge.0 ≡ place.me.0 = own_edge place own a in
-        let addr : addr_of place.scenario own.vrf.edge ≡ addr_of place.scenario place.me = ap (λ (k : ℕ). elim (slice_get place.scenario.nodes k) as (λ (o : Option Node). Addr) [ None ↦ V4 [] | Some found ↦ found.addr ]) number in
+        let addr : addr_of place.scenario own.vrf.edge ≡ addr_of place.scenario place.me =
+        ap (λ (k : ℕ). elim (slice_get place.scenario.nodes k) as (λ (o : Option Node). Addr) [ None ↦ V4 [] | Some found ↦ found.addr ]) number
+        in
         subst (λ (x : Addr). Among (lsp x (tunnel_number own.vrf 0)) (inclusive_trees place.scenario)) addr
         (among_map (inclusive_of place.scenario) own.vrf place.scenario.vrfs (among_at place.scenario.vrfs own.id.0 own.vrf (own_at place own a)))
 
@@ -81,7 +83,8 @@ has_inclusive scenario place e = subst (λ (own : Scenario). HasInclusive (inclu
 fresh_part : (scenario : Scenario) (n : NodeId) → part_of (fresh_node scenario n) ≡ label_data.fresh scenario.labels
 fresh_part scenario n = by (is_edge scenario n)
   where
-    by : (b : Bool) → part_of (cond b (Edge (edges.fresh scenario.labels)) (CoreNode (label_data.fresh scenario.labels))) ≡ label_data.fresh scenario.labels
+    by : (b : Bool) → part_of (cond b (Edge (edges.fresh scenario.labels)) (CoreNode (label_data.fresh scenario.labels)))
+        ≡ label_data.fresh scenario.labels
     by true = refl
     by false = refl
 
@@ -101,23 +104,28 @@ none_up scenario kind n peer h = by (is_edge scenario n) kind h
     no_table : is_some (maps.get (maps.empty {X = Taken} {R = node_cmp}) peer) ≡ true → ⊥
     no_table e = (let bad : false ≡ true = sym (ap is_some (maps.get-empty {X = Taken} node_cmp peer)) ∙ e in absurd cc)
 
-    by : (b : Bool) (own : Kind) → is_end_up own (cond b (Edge (edges.fresh scenario.labels)) (CoreNode (label_data.fresh scenario.labels))) peer ≡ true → ⊥
+    by : (b : Bool) (own : Kind) → is_end_up own (cond b (Edge (edges.fresh scenario.labels)) (CoreNode (label_data.fresh scenario.labels))) peer
+        ≡ true → ⊥
     by true kinds.Bgp e = no_table e
     by true kinds.Ldp e = no_end e
     by false kinds.Bgp e = absurd (let bad : false ≡ true = e in cc)
     by false kinds.Ldp e = no_end e
 
-nothing_grown : (horizon : ℕ) (trees : List Fec) (at : NodeId → EdgePlace) (all : NodeId → Control) (n : NodeId) → Grown horizon trees at all n no_control
+nothing_grown : (horizon : ℕ) (trees : List Fec) (at : NodeId → EdgePlace) (all : NodeId → Control) (n : NodeId)
+    → Grown horizon trees at all n no_control
 nothing_grown horizon trees at all n = record {
   lasting = λ own expiry h. absurd (none-some expiry (sym (maps.get-empty entry_cmp own) ∙ h));
-  picked = λ own pattern selected a h. absurd (none-some selected (sym (maps.get-empty pattern_cmp (record { vrf = own.id; pattern = pattern })) ∙ h));
-  told = λ u key route not h. absurd (none-some route (sym (ap (λ (o : Option Taken). maps.get (table_in o) key) (maps.get-empty node_cmp u) ∙ maps.get-empty key_cmp key) ∙ h));
+  picked = λ own pattern selected a h. absurd (none-some selected
+      (sym (maps.get-empty pattern_cmp (record { vrf = own.id; pattern = pattern })) ∙ h));
+  told = λ u key route not h. absurd (none-some route
+      (sym (ap (λ (o : Option Taken). maps.get (table_in o) key) (maps.get-empty node_cmp u) ∙ maps.get-empty key_cmp key) ∙ h));
   alone = maps.get-empty node_cmp n;
 }
 
 -- ---- the start
 
-start_grown : (scenario : Scenario) (cores : Cores) (horizon : ℕ) → SoundScenario scenario → HasOneHome scenario → length scenario.vrfs < scenario.labels → WorldGrown scenario horizon 0 (inclusive_trees scenario) (start scenario cores)
+start_grown : (scenario : Scenario) (cores : Cores) (horizon : ℕ) → SoundScenario scenario → HasOneHome scenario
+    → length scenario.vrfs < scenario.labels → WorldGrown scenario horizon 0 (inclusive_trees scenario) (start scenario cores)
 start_grown scenario cores horizon sound home room = (
   (λ over. []),
   (λ over. (refl, refl)),
@@ -129,9 +137,11 @@ start_grown scenario cores horizon sound home room = (
       early = omega arith;
       inclusive = λ u. has_inclusive scenario (place_of nodes u) refl;
       labels = λ u. subst (Growing (label_place_of nodes u) (inclusive_trees scenario)) (sym (fresh_part scenario u))
-          (fresh_grows (label_place_of nodes u) (inclusive_trees scenario) scenario.labels (subst (λ n. n < scenario.labels) (sym (length-map scenario.vrfs (inclusive_of scenario))) room));
+          (fresh_grows (label_place_of nodes u) (inclusive_trees scenario) scenario.labels
+          (subst (λ n. n < scenario.labels) (sym (length-map scenario.vrfs (inclusive_of scenario))) room));
       many = λ u. ap (λ (part : LabelData). length part.labels) (fresh_part scenario u) ∙ length-replicate scenario.labels _;
-      edges = λ u. subst (Grown horizon (inclusive_trees scenario) (place_of nodes) (kept nodes) u) (sym (fresh_control scenario u)) (nothing_grown horizon (inclusive_trees scenario) (place_of nodes) (kept nodes) u);
+      edges = λ u. subst (Grown horizon (inclusive_trees scenario) (place_of nodes) (kept nodes) u) (sym (fresh_control scenario u))
+          (nothing_grown horizon (inclusive_trees scenario) (place_of nodes) (kept nodes) u);
       stands = λ u. subst (Stands (place_of nodes u) 0) (sym (fresh_control scenario u)) (fresh_stands (place_of nodes u) 0);
     };
     clock = refl;
@@ -146,16 +156,19 @@ start_grown scenario cores horizon sound home room = (
 
 -- ---- scripts
 
-all_sound : (scenario : Scenario) → Rules scenario → (row : List Timed) → AllByRecursion (λ (timed : Timed). IsEventOf scenario timed.event) row → AllByRecursion (λ (timed : Timed). EventHasOctets timed.event) row
+all_sound : (scenario : Scenario) → Rules scenario → (row : List Timed) → AllByRecursion (λ (timed : Timed). IsEventOf scenario timed.event) row
+    → AllByRecursion (λ (timed : Timed). EventHasOctets timed.event) row
     → AllByRecursion (λ (timed : Timed). IsSoundEvent scenario timed.event) row
 all_sound scenario rules [] is octets = tt
-all_sound scenario rules (timed ∷ more) is octets = (sound_event scenario timed.event rules is.0 octets.0, all_sound scenario rules more is.1 octets.1)
+all_sound scenario rules (timed ∷ more) is octets =
+    (sound_event scenario timed.event rules is.0 octets.0, all_sound scenario rules more is.1 octets.1)
 
 -- what is left of a script at its start is all of it
 all_left : (script : Script) → ScriptRules script → ScriptHasOctets script → OnlyGrows script
     → Left script.scenario (sum_by (λ (timed : Timed). ticks_of timed.event) script.events) 0 (inclusive_trees script.scenario) script.events
 all_left script rules octets grows =
-    let long : length (inclusive_trees script.scenario) ≡ length script.scenario.vrfs = length-map script.scenario.vrfs (inclusive_of script.scenario) in
+    let long : length (inclusive_trees script.scenario) ≡ length script.scenario.vrfs =
+    length-map script.scenario.vrfs (inclusive_of script.scenario) in
     let room = grows.labels in
     record {
       adds = grows.adds;
@@ -170,31 +183,38 @@ script_starts cores script horizon rules octets grows =
     let room = grows.labels in
     start_grown script.scenario cores horizon (record { rules = rules.scenario; octets = octets.scenario }) grows.home (omega (arith, room))
 
-pub growing_never_halt : (cores : Cores) (script : Script) (report : List Entry) (node : NodeId) → ScriptRules script → ScriptHasOctets script → OnlyGrows script → Halts cores script report node → ⊥
+pub growing_never_halt : (cores : Cores) (script : Script) (report : List Entry) (node : NodeId) → ScriptRules script → ScriptHasOctets script
+    → OnlyGrows script → Halts cores script report node → ⊥
 growing_never_halt cores script report node rules octets grows halt =
     let scenario : Scenario = script.scenario in
     let horizon : ℕ = sum_by (λ (timed : Timed). ticks_of timed.event) script.events in
     let trees : List Fec = inclusive_trees scenario in
     never_halts scenario horizon grows.short halt.before halt.timed halt.after 0 0 trees (start scenario cores) halt.trace halt.world halt.acts node
-    (script_starts cores script horizon rules octets grows) (subst (Left scenario horizon 0 trees) halt.events (all_left script rules octets grows)) halt.run halt.lacks
+    (script_starts cores script horizon rules octets grows) (subst (Left scenario horizon 0 trees) halt.events (all_left script rules octets grows))
+    halt.run halt.lacks
 
 -- behind first events a node holds a label for each tree at most
-pub growing_holds_few : (cores : Cores) (script : Script) (count : ℕ) (trace : List Traced) (world : World) (node : NodeId) → ScriptRules script → ScriptHasOctets script → OnlyGrows script
+pub growing_holds_few : (cores : Cores) (script : Script) (count : ℕ) (trace : List Traced) (world : World) (node : NodeId) → ScriptRules script
+    → ScriptHasOctets script → OnlyGrows script
     → Run cores script (take count script.events) trace world
-    → labels_held (part_of (world.network.state.node node)) ≤ length script.scenario.vrfs + count_by (λ (timed : Timed). is_selection timed.event) (take count script.events)
+    → labels_held (part_of (world.network.state.node node)) ≤ length script.scenario.vrfs + count_by (λ (timed : Timed). is_selection timed.event)
+    (take count script.events)
 growing_holds_few cores script count trace world node rules octets grows run =
     let scenario : Scenario = script.scenario in
     let horizon : ℕ = sum_by (λ (timed : Timed). ticks_of timed.event) script.events in
     let trees : List Fec = inclusive_trees scenario in
-    let behind = runs_grow scenario horizon grows.short (take count script.events) (drop count script.events) 0 0 trees (start scenario cores) trace world
-    (script_starts cores script horizon rules octets grows) (subst (Left scenario horizon 0 trees) (sym (take-append-drop count script.events)) (all_left script rules octets grows)) run in
+    let behind =
+    runs_grow scenario horizon grows.short (take count script.events) (drop count script.events) 0 0 trees (start scenario cores) trace world
+    (script_starts cores script horizon rules octets grows)
+    (subst (Left scenario horizon 0 trees) (sym (take-append-drop count script.events)) (all_left script rules octets grows)) run in
     let held = few_held _ behind.more (part_of (world.network.state.node node)) (behind.grown.3.nodes.labels node) in
     let few = behind.few in
     let long : length trees ≡ length scenario.vrfs = length-map scenario.vrfs (inclusive_of scenario) in
     omega (arith, held, few, long)
 
 -- all events run, since none halts
-pub growing_run : (cores : Cores) (script : Script) → AreCoresOf script.scenario cores → ScriptRules script → ScriptHasOctets script → OnlyGrows script → (trace : List Traced) × (new : World) × Run cores script script.events trace new
+pub growing_run : (cores : Cores) (script : Script) → AreCoresOf script.scenario cores → ScriptRules script → ScriptHasOctets script
+    → OnlyGrows script → (trace : List Traced) × (new : World) × Run cores script script.events trace new
 growing_run cores script of_scenario rules octets grows = by (either cores script script.events of_scenario)
   where
     by : RunsOrHalts cores script → (trace : List Traced) × (new : World) × Run cores script script.events trace new

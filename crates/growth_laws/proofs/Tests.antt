@@ -100,11 +100,13 @@ one_front a (V6 ys) (V4 zs) bits h k = no k
 -- prefixes that cover an address overlap
 both_cover : (a b : Prefix) (source : Addr) → covers a source ≡ true → covers b source ≡ true → overlap a b ≡ true
 both_cover a b source h k =
-    one_front a.addr b.addr source (min a.bits b.bits) (front_shorter a.addr source a.bits (min a.bits b.bits) (omega arith) h) (front_shorter b.addr source b.bits (min a.bits b.bits) (omega arith) k)
+    one_front a.addr b.addr source (min a.bits b.bits) (front_shorter a.addr source a.bits (min a.bits b.bits) (omega arith) h)
+    (front_shorter b.addr source b.bits (min a.bits b.bits) (omega arith) k)
 
 -- ---- homes that are apart
 
-not_meeting : (scenario : Scenario) (x y : HomeRoute) (more : List HomeRoute) → not (list_any (meet scenario x) more) ≡ true → Among y more → meet scenario x y ≡ true → ⊥
+not_meeting : (scenario : Scenario) (x y : HomeRoute) (more : List HomeRoute) → not (list_any (meet scenario x) more) ≡ true → Among y more
+    → meet scenario x y ≡ true → ⊥
 not_meeting scenario x y more h a k = by (list_any (meet scenario x) more) (any_from (meet scenario x) y more a k) h
   where
     by : (b : Bool) → b ≡ true → not b ≡ true → ⊥
@@ -112,12 +114,18 @@ not_meeting scenario x y more h a k = by (list_any (meet scenario x) more) (any_
     by false e f = no e
 
 -- two of the list that meet both ways round are one
-one_of_apart : (scenario : Scenario) (all : List HomeRoute) → are_apart scenario all ≡ true → (x y : HomeRoute) → Among x all → Among y all → meet scenario x y ≡ true → meet scenario y x ≡ true → x ≡ y
+one_of_apart : (scenario : Scenario) (all : List HomeRoute) → are_apart scenario all ≡ true → (x y : HomeRoute) → Among x all → Among y all
+    → meet scenario x y ≡ true → meet scenario y x ≡ true → x ≡ y
 one_of_apart scenario [] h x y a b k l = absurd a
 one_of_apart scenario (first ∷ more) h x y (inl a) (inl b) k l = a ∙ sym b
-one_of_apart scenario (first ∷ more) h x y (inl a) (inr b) k l = absurd (not_meeting scenario first y more (and_parts (not (list_any (meet scenario first) more)) (are_apart scenario more) h).0 b (ap (λ (z : HomeRoute). meet scenario z y) (sym a) ∙ k))
-one_of_apart scenario (first ∷ more) h x y (inr a) (inl b) k l = absurd (not_meeting scenario first x more (and_parts (not (list_any (meet scenario first) more)) (are_apart scenario more) h).0 a (ap (λ (z : HomeRoute). meet scenario z x) (sym b) ∙ l))
-one_of_apart scenario (first ∷ more) h x y (inr a) (inr b) k l = one_of_apart scenario more (and_parts (not (list_any (meet scenario first) more)) (are_apart scenario more) h).1 x y a b k l
+one_of_apart scenario (first ∷ more) h x y (inl a) (inr b) k l =
+    absurd (not_meeting scenario first y more (and_parts (not (list_any (meet scenario first) more)) (are_apart scenario more) h).0 b
+    (ap (λ (z : HomeRoute). meet scenario z y) (sym a) ∙ k))
+one_of_apart scenario (first ∷ more) h x y (inr a) (inl b) k l =
+    absurd (not_meeting scenario first x more (and_parts (not (list_any (meet scenario first) more)) (are_apart scenario more) h).0 a
+    (ap (λ (z : HomeRoute). meet scenario z x) (sym b) ∙ l))
+one_of_apart scenario (first ∷ more) h x y (inr a) (inr b) k l =
+    one_of_apart scenario more (and_parts (not (list_any (meet scenario first) more)) (are_apart scenario more) h).1 x y a b k l
 
 -- ---- all homes
 
@@ -128,29 +136,36 @@ home id route = record { vrf = id; route = route }
 abbrev homes_of : Scenario → ℕ → List HomeRoute
 homes_of scenario number = let id : VrfId = record { 0 = number } in map (λ (route : Route). home id route) (local_routes scenario id)
 
-home_at : (scenario : Scenario) (vrfs : List Vrf) (number place : ℕ) (id : VrfId) (route : Route) → id.0 ≡ number + place → place < length vrfs → Among route (local_routes scenario id) → Among (home id route) (homes_from scenario number vrfs)
+home_at : (scenario : Scenario) (vrfs : List Vrf) (number place : ℕ) (id : VrfId) (route : Route) → id.0 ≡ number + place → place < length vrfs
+    → Among route (local_routes scenario id) → Among (home id route) (homes_from scenario number vrfs)
 home_at scenario [] number place id route e lt a = absurd (omega (arith, lt))
 home_at scenario (vrf ∷ more) number zero id route e lt a =
     let same : id.0 ≡ number = omega (arith, e) in
     among_front (home id route) (homes_of scenario number) (homes_from scenario (number + 1) more)
-    (subst (λ (k : ℕ). Among (home id route) (homes_of scenario k)) same (among_map (λ (own : Route). home id own) route (local_routes scenario id) a))
+    (subst (λ (k : ℕ). Among (home id route) (homes_of scenario k)) same
+    (among_map (λ (own : Route). home id own) route (local_routes scenario id) a))
 home_at scenario (vrf ∷ more) number (suc place) id route e lt a =
     among_behind (home id route) (homes_of scenario number) (homes_from scenario (number + 1) more)
-    (home_at scenario more (number + 1) place id route (omega (arith, e)) (let long : length (vrf ∷ more) ≡ suc (length more) = refl in omega (arith, lt, long)) a)
+    (home_at scenario more (number + 1) place id route (omega (arith, e))
+    (let long : length (vrf ∷ more) ≡ suc (length more) = refl in omega (arith, lt, long)) a)
 
 -- a route is one of a site that passes
-site_of : (passes : SiteId → Bool) (number : ℕ) (sites : List Site) (route : Route) → Among route (routes_from passes number sites) → (site : SiteId) × (passes site ≡ true)
+site_of : (passes : SiteId → Bool) (number : ℕ) (sites : List Site) (route : Route) → Among route (routes_from passes number sites)
+    → (site : SiteId) × (passes site ≡ true)
 site_of passes number [] route a = absurd a
-site_of passes number (site ∷ more) route a = by (passes (record { 0 = number })) refl (among_either route _ (routes_from passes (number + 1) more) a) (site_of passes (number + 1) more route)
+site_of passes number (site ∷ more) route a =
+    by (passes (record { 0 = number })) refl (among_either route _ (routes_from passes (number + 1) more) a) (site_of passes (number + 1) more route)
   where
-    by : (b : Bool) → passes (record { 0 = number }) ≡ b → Among route (cond b (routes_of_site (record { 0 = number }) site.prefixes) []) ⊎ Among route (routes_from passes (number + 1) more)
+    by : (b : Bool) → passes (record { 0 = number }) ≡ b
+        → Among route (cond b (routes_of_site (record { 0 = number }) site.prefixes) []) ⊎ Among route (routes_from passes (number + 1) more)
         → (Among route (routes_from passes (number + 1) more) → (own : SiteId) × (passes own ≡ true)) → (own : SiteId) × (passes own ≡ true)
     by b e (inr c) rest = rest c
     by true e (inl c) rest = (record { 0 = number }, e)
     by false e (inl c) rest = absurd c
 
 -- only a VRF of the scenario has routes
-vrf_there : (scenario : Scenario) → Rules scenario → (id : VrfId) (route : Route) → Among route (local_routes scenario id) → id.0 < length scenario.vrfs
+vrf_there : (scenario : Scenario) → Rules scenario → (id : VrfId) (route : Route) → Among route (local_routes scenario id)
+    → id.0 < length scenario.vrfs
 vrf_there scenario rules id route a =
     let site = site_of (is_attached_at scenario id) 0 scenario.sites route a in
     let by = any_among (λ (iface : Iface). is_of_site site.0 iface && is_of_vrf id iface) scenario.ifaces site.1 in

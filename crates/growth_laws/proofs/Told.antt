@@ -38,15 +38,18 @@ pub record SaysOn (old new : Control) : Type 0 where
       → (next : Selected) × (maps.get new.selections key ≡ Some next) × (next.number ≡ selected.number)
   pub notes : (note : Note) → sets.contains old.notes note ≡ true → sets.contains new.notes note ≡ true
 
-is_on : (place : EdgePlace) (old new : Control) (own : OwnVrf) (key : Key) (value : Value) → SaysOn old new → IsOriginated place old own key value → IsOriginated place new own key value
+is_on : (place : EdgePlace) (old new : Control) (own : OwnVrf) (key : Key) (value : Value) → SaysOn old new → IsOriginated place old own key value
+    → IsOriginated place new own key value
 is_on place old new own key value on (Inclusive k v) = Inclusive k v
 is_on place old new own key value on (Unicast prefix site among k v) = Unicast prefix site among k v
 is_on place old new own key value on (Selective pattern selected at k v) =
     let next = on.selections (record { vrf = own.id; pattern = pattern }) selected at in
     Selective pattern next.0 next.1 k (v ∙ ap (λ (n : ℕ). tunnel_value place own.vrf (tunnel_number own.vrf n)) (sym next.2))
-is_on place old new own key value on (Active iface source group of noted k v) = Active iface source group of (on.notes (record { iface = iface; source = source; group = group }) noted) k v
+is_on place old new own key value on (Active iface source group of noted k v) =
+    Active iface source group of (on.notes (record { iface = iface; source = source; group = group }) noted) k v
 
-pub says_on : (place : EdgePlace) (old new : Control) (key : Key) (value : Value) → SaysOn old new → Originates place old key value → Originates place new key value
+pub says_on : (place : EdgePlace) (old new : Control) (key : Key) (value : Value) → SaysOn old new → Originates place old key value
+    → Originates place new key value
 says_on place old new key value on by = record { own = by.own; among = by.among; is = is_on place old new by.own key value on by.is }
 
 pub says_itself : (control : Control) → SaysOn control control
@@ -64,7 +67,8 @@ IsPicked trees place control = (own : OwnVrf) (pattern : Pattern) (selected : Se
 abbrev pub HasInclusive : List Fec → EdgePlace → Type 0
 HasInclusive trees place = (own : OwnVrf) → Among own (own_vrfs place) → Among (lsp (own_addr place) (tunnel_number own.vrf 0)) trees
 
-pub told_narrow : (trees : List Fec) (place : EdgePlace) (control : Control) (key : Key) (value : Value) → IsPicked trees place control → Originates place control key value → IsNarrow key
+pub told_narrow : (trees : List Fec) (place : EdgePlace) (control : Control) (key : Key) (value : Value) → IsPicked trees place control
+    → Originates place control key value → IsNarrow key
 told_narrow trees place control key value picked by = of by.is
   where
     of : IsOriginated place control by.own key value → IsNarrow key
@@ -87,7 +91,8 @@ any_narrow (keys.Mcast afi (routes.Other kind octets)) h = tt
 
 -- ---- tunnels
 
-pub told_tunnel : (trees : List Fec) (place : EdgePlace) (control : Control) (key : Key) (value : Value) (fec : Fec) → HasInclusive trees place → IsPicked trees place control → Originates place control key value → lsp_of value.pmsi ≡ Some fec → Among fec trees
+pub told_tunnel : (trees : List Fec) (place : EdgePlace) (control : Control) (key : Key) (value : Value) (fec : Fec) → HasInclusive trees place
+    → IsPicked trees place control → Originates place control key value → lsp_of value.pmsi ≡ Some fec → Among fec trees
 told_tunnel trees place control key value fec inclusive picked by h = of by.is
   where
     with_tunnel : (number : ℕ) → value ≡ tunnel_value place by.own.vrf number → lsp (own_addr place) number ≡ fec
@@ -96,7 +101,8 @@ told_tunnel trees place control key value fec inclusive picked by h = of by.is
     of : IsOriginated place control by.own key value → Among fec trees
     of (Inclusive k v) = subst (λ (f : Fec). Among f trees) (with_tunnel (tunnel_number by.own.vrf 0) v) (inclusive by.own by.among)
     of (Unicast prefix site among k v) = absurd (none-some fec (sym (ap (λ (x : Value). lsp_of x.pmsi) v) ∙ h))
-    of (Selective pattern selected at k v) = subst (λ (f : Fec). Among f trees) (with_tunnel (tunnel_number by.own.vrf selected.number) v) (picked by.own pattern selected by.among at).1
+    of (Selective pattern selected at k v) =
+        subst (λ (f : Fec). Among f trees) (with_tunnel (tunnel_number by.own.vrf selected.number) v) (picked by.own pattern selected by.among at).1
     of (Active iface source group mine noted k v) = absurd (none-some fec (sym (ap (λ (x : Value). lsp_of x.pmsi) v) ∙ h))
 
 -- ---- what is put
@@ -124,7 +130,8 @@ join_cases (keys.Mcast afi (routes.Other kind octets)) = inr (λ h. h)
 
 module _ (place : EdgePlace) (old new : Control) (rules : Rules place.scenario) (on : SaysOn old new) (peer : NodeId) where
   -- what is told is originated
-  told_is : (control : Control) (b : Bool) (key : Key) (value : Value) → (IsJoinKey key → ⊥) → maps.get (cond b (held_for place control peer) maps.empty) key ≡ Some value → Originates place control key value
+  told_is : (control : Control) (b : Bool) (key : Key) (value : Value) → (IsJoinKey key → ⊥)
+      → maps.get (cond b (held_for place control peer) maps.empty) key ≡ Some value → Originates place control key value
   told_is control true key value not h = (held_both place control peer key value rules not).0 h
   told_is control false key value not h = absurd (none-some value (sym (maps.get-empty key_cmp key) ∙ h))
 
@@ -134,25 +141,31 @@ module _ (place : EdgePlace) (old new : Control) (rules : Rules place.scenario) 
     | inr not ↦
         let was = kept_is key_exact (told place old peer) (λ (k : Key). is_none (maps.get (held_for place new peer) k)) key value h in
         let by = told_is old (is_some (maps.get old.peers peer)) key value not was in
-        let there : maps.get (held_for place new peer) key ≡ Some value = (held_both place new peer key value rules not).1 (says_on place old new key value on by) in
+        let there : maps.get (held_for place new peer) key ≡ Some value =
+        (held_both place new peer key value rules not).1 (says_on place old new key value on by) in
         absurd (gone value there h)
   ]
     where
-      gone : (v : Value) → maps.get (held_for place new peer) key ≡ Some v → maps.get (maps.retain_keys (told place old peer) (λ (k : Key). is_none (maps.get (held_for place new peer) k))) key ≡ Some value → ⊥
+      gone : (v : Value) → maps.get (held_for place new peer) key ≡ Some v
+          → maps.get (maps.retain_keys (told place old peer) (λ (k : Key). is_none (maps.get (held_for place new peer) k))) key ≡ Some value → ⊥
       gone v there k =
-          let x = maps.get-retain_keys (told place old peer) (λ (k : Key). is_none (maps.get (held_for place new peer) k)) key (λ y e. ap (λ (k : Key). is_none (maps.get (held_for place new peer) k)) (sym (key_exact key y e))) in
+          let x = maps.get-retain_keys (told place old peer) (λ (k : Key). is_none (maps.get (held_for place new peer) k)) key
+          (λ y e. ap (λ (k : Key). is_none (maps.get (held_for place new peer) k)) (sym (key_exact key y e))) in
           none-some value (sym (ap (λ (o : Option Value). cond (is_none o) (maps.get (told place old peer) key) None) there) ∙ sym x ∙ k)
 
-  all_true : (b : Bool) → AllByRecursion (IsTrue place new) (cond b (changes same_value (told place old peer) (cond b (held_for place new peer) maps.empty)) [])
+  all_true : (b : Bool) → AllByRecursion (IsTrue place new)
+      (cond b (changes same_value (told place old peer) (cond b (held_for place new peer) maps.empty)) [])
   all_true false = tt
   all_true true =
       let before : Table = told place old peer in
       let after : Table = held_for place new peer in
       each_append (IsTrue place new) (withdrawals (lost before after)) (advertisements (news same_value before after))
-      (each_map (IsTrue place new) (λ (entry : Key × Value). Unreach entry.0) (maps.entries (lost before after)) (all_entries key_total (λ (key : Key) (value : Value). IsTrue place new (Unreach key)) (lost before after) not_lost))
+      (each_map (IsTrue place new) (λ (entry : Key × Value). Unreach entry.0) (maps.entries (lost before after))
+      (all_entries key_total (λ (key : Key) (value : Value). IsTrue place new (Unreach key)) (lost before after) not_lost))
       (each_map (IsTrue place new) (λ (entry : Key × Value). Reach entry.0 entry.1) (maps.entries (news same_value before after))
       (all_entries key_total (λ (key : Key) (value : Value). IsTrue place new (Reach key value)) (news same_value before after)
-      (λ key value h no_join. told_is new true key value no_join (kept_is key_exact after (λ (k : Key). not (option_eq same_value (maps.get before k) (maps.get after k))) key value h))))
+      (λ key value h no_join. told_is new true key value no_join
+      (kept_is key_exact after (λ (k : Key). not (option_eq same_value (maps.get before k) (maps.get after k))) key value h))))
 
   pub puts_are_true : AllByRecursion (IsTrue place new) (put_to place old new peer)
   puts_are_true = all_true (is_some (maps.get new.peers peer))

@@ -31,8 +31,10 @@ mappings_append trees [] more h k = k
 mappings_append trees (put ∷ puts) more h k = (h.0, mappings_append trees puts more h.1 k)
 
 -- the same labels, and more trees that are among these
-pub alike_grows : (place : Place) (trees : List Fec) (old new : LabelData) → length new.labels ≡ length old.labels → ((label : ℕ) → use_of new label ≡ use_of old label)
-    → ((fec : Fec) → has_tree old fec ≡ true → has_tree new fec ≡ true) → ((fec : Fec) → has_tree new fec ≡ true → Among fec trees) → Growing place trees old → Growing place trees new
+pub alike_grows : (place : Place) (trees : List Fec) (old new : LabelData) → length new.labels ≡ length old.labels
+    → ((label : ℕ) → use_of new label ≡ use_of old label)
+    → ((fec : Fec) → has_tree old fec ≡ true → has_tree new fec ≡ true) → ((fec : Fec) → has_tree new fec ≡ true → Among fec trees)
+    → Growing place trees old → Growing place trees new
 alike_grows place trees old new long same grows within g =
     record {
       room = subst (λ n. length trees < n) (sym long) g.room;
@@ -45,15 +47,19 @@ alike_grows place trees old new long same grows within g =
 
 -- ---- a label that is mapped
 
-module _ (place : Place) (trees : List Fec) (old new : LabelData) (fec : Fec) (puts : List Put) (g : Growing place trees old) (tree : (own : Fec) → has_tree new own ≡ has_tree old own) (t : Takes place old fec new puts) where
+module _ (place : Place) (trees : List Fec) (old new : LabelData) (fec : Fec) (puts : List Put) (g : Growing place trees old)
+    (tree : (own : Fec) → has_tree new own ≡ has_tree old own) (t : Takes place old fec new puts) where
   abbrev label : ℕ
   label = t.label
 
   here : use_of new label ≡ Some (uses.Mapped fec t.to)
-  here = same_uses old new (slice_set old.labels (label - 16) (uses.Mapped fec t.to)) t.labels label ∙ set_here old label uses.Free (uses.Mapped fec t.to) t.least.free
+  here = same_uses old new (slice_set old.labels (label - 16) (uses.Mapped fec t.to)) t.labels label
+      ∙ set_here old label uses.Free (uses.Mapped fec t.to) t.least.free
 
   there : (k : ℕ) → (k ≡ label → ⊥) → use_of new k ≡ use_of old k
-  there k ne = same_uses old new (slice_set old.labels (label - 16) (uses.Mapped fec t.to)) t.labels k ∙ set_there old label uses.Free (uses.Mapped fec t.to) k t.least.free ne
+  there k ne =
+      same_uses old new (slice_set old.labels (label - 16) (uses.Mapped fec t.to)) t.labels k
+      ∙ set_there old label uses.Free (uses.Mapped fec t.to) k t.least.free ne
 
   -- what is mapped now was so before, or is the tree
   record Now (own : Fec) (k : ℕ) (u : NodeId) : Type 0 where
@@ -105,15 +111,18 @@ module _ (place : Place) (trees : List Fec) (old new : LabelData) (fec : Fec) (p
 -- ---- a turn
 
 -- behind a turn the node is still growing, and what is put is mappings
-turn_grows : (place : Place) (trees : List Fec) (old : LabelData) (fec : Fec) (new : LabelData) (puts : List Put) → Growing place trees old → Turn place old fec new puts → Growing place trees new × AreMappings trees puts × (length new.labels ≡ length old.labels)
+turn_grows : (place : Place) (trees : List Fec) (old : LabelData) (fec : Fec) (new : LabelData) (puts : List Put) → Growing place trees old
+    → Turn place old fec new puts → Growing place trees new × AreMappings trees puts × (length new.labels ≡ length old.labels)
 turn_grows place trees old fec new puts g t = by t.how
   where
     tree : (own : Fec) → has_tree new own ≡ has_tree old own
     tree own = rest_tree old new t.rest own
 
-    by : Quiet place old fec new puts ⊎ (Takes place old fec new puts ⊎ Gives place old fec new puts) → Growing place trees new × AreMappings trees puts × (length new.labels ≡ length old.labels)
+    by : Quiet place old fec new puts ⊎ (Takes place old fec new puts ⊎ Gives place old fec new puts)
+        → Growing place trees new × AreMappings trees puts × (length new.labels ≡ length old.labels)
     by (inl q) = (
-      alike_grows place trees old new (ap length q.labels) (λ label. same_uses old new old.labels q.labels label) (λ own h. tree own ∙ h) (λ own h. g.within own (sym (tree own) ∙ h)) g,
+      alike_grows place trees old new (ap length q.labels) (λ label. same_uses old new old.labels q.labels label) (λ own h. tree own ∙ h)
+          (λ own h. g.within own (sym (tree own) ∙ h)) g,
       subst (AreMappings trees) (sym q.silent) tt,
       ap length q.labels,
     )
@@ -122,7 +131,8 @@ turn_grows place trees old fec new puts g t = by t.how
       subst (AreMappings trees) (sym takes.put) (g.within fec takes.tree, tt),
       ap length takes.labels ∙ length-set old.labels (takes.label - 16) (uses.Mapped fec takes.to),
     )
-    by (inr (inr gives)) = absurd (on_it place old fec gives.to (g.needed fec gives.label gives.to gives.was) (g.toward fec gives.label gives.to gives.was) gives.off)
+    by (inr (inr gives)) =
+        absurd (on_it place old fec gives.to (g.needed fec gives.label gives.to gives.was) (g.toward fec gives.label gives.to gives.was) gives.off)
 
 -- ---- a row of turns
 
@@ -133,12 +143,16 @@ pub record Settles (place : Place) (trees : List Fec) (fecs : List Fec) (old : S
   pub many : length new.part.labels ≡ length old.part.labels
   pub puts : AreMappings trees new.puts
 
-pub settles : (place : Place) (trees fecs : List Fec) (old : Stepped) → Growing place trees old.part → AreMappings trees old.puts → Settles place trees fecs old
+pub settles : (place : Place) (trees fecs : List Fec) (old : Stepped) → Growing place trees old.part → AreMappings trees old.puts
+    → Settles place trees fecs old
 settles place trees [] old g m = record { new = old; is = refl; growing = g; many = refl; puts = m }
-settles place trees (fec ∷ more) old g m = by (changed old.part fec (change_of place old.part fec)) refl (λ next. settles place trees more (record { part = next; puts = old.puts ++ put_by fec (change_of place old.part fec) }))
+settles place trees (fec ∷ more) old g m =
+    by (changed old.part fec (change_of place old.part fec)) refl
+    (λ next. settles place trees more (record { part = next; puts = old.puts ++ put_by fec (change_of place old.part fec) }))
   where
     by : (o : Option LabelData) → changed old.part fec (change_of place old.part fec) ≡ o
-        → ((next : LabelData) → Growing place trees next → AreMappings trees (old.puts ++ put_by fec (change_of place old.part fec)) → Settles place trees more (record { part = next; puts = old.puts ++ put_by fec (change_of place old.part fec) }))
+        → ((next : LabelData) → Growing place trees next → AreMappings trees (old.puts ++ put_by fec (change_of place old.part fec))
+        → Settles place trees more (record { part = next; puts = old.puts ++ put_by fec (change_of place old.part fec) }))
         → Settles place trees (fec ∷ more) old
     by None e rest = absurd (never_full place trees old.part g (stuck place old.part fec e).none)
     by (Some next) e rest =

@@ -18,7 +18,8 @@ pub hold_each : (change : Table → Table) (place : EdgePlace) (control behind :
 hold_each change place control behind old new each law hold peer table at = by (get old peer) (get new peer) refl at (each peer)
   where
     by : (before after : Option PeerTable) → get old peer ≡ before → after ≡ Some table
-        → Both {A = PeerTable} {B = PeerTable} (λ before after. after ≡ record before { set = change before.set }) before after → table.set ≡ held_for place behind peer
+        → Both {A = PeerTable} {B = PeerTable} (λ before after. after ≡ record before { set = change before.set }) before after
+        → table.set ≡ held_for place behind peer
     by None None e f h = absurd cc
     by None (Some own) e f h = absurd h
     by (Some before) None e f h = absurd h
@@ -26,20 +27,24 @@ hold_each change place control behind old new each law hold peer table at = by (
         let same : after ≡ table = cc in
         ap (λ (t : PeerTable). t.set) (sym same ∙ h) ∙ ap change (hold peer before e) ∙ sym (law peer)
 
-both_weaker : {Is Was : PeerTable → PeerTable → Type 0} → ((old new : PeerTable) → Was old new → Is old new) → (old new : Option PeerTable) → Both Was old new → Both Is old new
+both_weaker : {Is Was : PeerTable → PeerTable → Type 0} → ((old new : PeerTable) → Was old new → Is old new) → (old new : Option PeerTable)
+    → Both Was old new → Both Is old new
 both_weaker f None None h = tt
 both_weaker f None (Some new) h = h
 both_weaker f (Some old) None h = h
 both_weaker f (Some old) (Some new) h = f old new h
 
-pub each_weaker : {Is Was : PeerTable → PeerTable → Type 0} → ((old new : PeerTable) → Was old new → Is old new) → (old new : Tables) → EachPeer Was old new → EachPeer Is old new
+pub each_weaker : {Is Was : PeerTable → PeerTable → Type 0} → ((old new : PeerTable) → Was old new → Is old new) → (old new : Tables)
+    → EachPeer Was old new → EachPeer Is old new
 each_weaker f old new h peer = both_weaker f (get old peer) (get new peer) (h peer)
 
 pub told_alike : (change : Table → Table) (old new : PeerTable) → new ≡ record old { set = change old.set } → IsToldAlike old new
-told_alike change old new h = record { up = ap (λ (t : PeerTable). t.up) h; told = ap (λ (t : PeerTable). t.told) h; waiting = ap (λ (t : PeerTable). t.waiting) h }
+told_alike change old new h =
+    record { up = ap (λ (t : PeerTable). t.up) h; told = ap (λ (t : PeerTable). t.told) h; waiting = ap (λ (t : PeerTable). t.waiting) h }
 
 pub partly_alike : (change : Table → Table) (old new : PeerTable) → (new ≡ old) ⊎ (new ≡ record old { set = change old.set }) → IsToldAlike old new
-partly_alike change old new (inl h) = record { up = ap (λ (t : PeerTable). t.up) h; told = ap (λ (t : PeerTable). t.told) h; waiting = ap (λ (t : PeerTable). t.waiting) h }
+partly_alike change old new (inl h) =
+    record { up = ap (λ (t : PeerTable). t.up) h; told = ap (λ (t : PeerTable). t.told) h; waiting = ap (λ (t : PeerTable). t.waiting) h }
 partly_alike change old new (inr h) = told_alike change old new h
 
 -- ---- a route by equal keys and values
@@ -54,18 +59,22 @@ pub less_as : {made key : Key} → made ≡ key → (old new : Tables)
     → EachPeer (λ before after. after ≡ record before { set = remove before.set key }) old new
 less_as k old new h = each_weaker (λ before after same. same ∙ (λ i. record before { set = remove before.set (k i) })) old new h
 
-pub partly_as : {made key : Key} {built value : Value} → made ≡ key → built ≡ value → (old new : Tables) → HavePartly made built old new → HavePartly key value old new
+pub partly_as : {made key : Key} {built value : Value} → made ≡ key → built ≡ value → (old new : Tables) → HavePartly made built old new
+    → HavePartly key value old new
 partly_as k v old new h = each_weaker (λ before after either. elim either [
   | inl same ↦ inl same
   | inr same ↦ inr (same ∙ (λ i. with_route (k i) (v i) before))
 ]) old new h
 
-pub at_as : (change : Table → Key → Value → Table) {made key : Key} {built value : Value} → made ≡ key → built ≡ value → (peer : NodeId) (old new : Tables)
+pub at_as : (change : Table → Key → Value → Table) {made key : Key} {built value : Value} → made ≡ key → built ≡ value
+    → (peer : NodeId) (old new : Tables)
     → AtPeer peer (λ before after. after ≡ record before { set = change before.set made built }) old new
     → AtPeer peer (λ before after. after ≡ record before { set = change before.set key value }) old new
-at_as change k v peer old new h = (both_weaker (λ before after same. same ∙ (λ i. record before { set = change before.set (k i) (v i) })) (get old peer) (get new peer) h.0, h.1)
+at_as change k v peer old new h =
+    (both_weaker (λ before after same. same ∙ (λ i. record before { set = change before.set (k i) (v i) })) (get old peer) (get new peer) h.0, h.1)
 
 pub at_less : {made key : Key} → made ≡ key → (peer : NodeId) (old new : Tables)
     → AtPeer peer (λ before after. after ≡ record before { set = remove before.set made }) old new
     → AtPeer peer (λ before after. after ≡ record before { set = remove before.set key }) old new
-at_less k peer old new h = (both_weaker (λ before after same. same ∙ (λ i. record before { set = remove before.set (k i) })) (get old peer) (get new peer) h.0, h.1)
+at_less k peer old new h =
+    (both_weaker (λ before after same. same ∙ (λ i. record before { set = remove before.set (k i) })) (get old peer) (get new peer) h.0, h.1)

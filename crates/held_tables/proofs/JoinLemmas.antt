@@ -57,7 +57,8 @@ held_front place control peer key not =
     let kind : kind_of key ≡ 7 = ap kind_of same ∙ join_kind place control peer entry a in
     let bad : true ≡ false = sym (eq-eqb (kind_of key) 7 kind) ∙ not in cc))
 
-others_alike : (place : EdgePlace) (control : Control) (flows : FinMap flow_cmp (Option Upstream)) (peer : NodeId) (key : Key) → (kind_of key == 7) ≡ false
+others_alike : (place : EdgePlace) (control : Control) (flows : FinMap flow_cmp (Option Upstream)) (peer : NodeId) (key : Key)
+    → (kind_of key == 7) ≡ false
     → maps.get (held_for place (with_flows control flows) peer) key ≡ maps.get (held_for place control peer) key
 others_alike place control flows peer key not = held_front place (with_flows control flows) peer key not ∙ sym (held_front place control peer key not)
 
@@ -67,12 +68,16 @@ others place control flows peer key not = others_alike place control flows peer 
 
 -- ---- joins
 
-pub joins : (place : EdgePlace) (old new : Control) (peer : NodeId) (rd : Rd) (source_as : ℕ) (flow : Flow) → AreOfVrfs place old → AreOfVrfs place new
-    → ((vrf : VrfId) → join_to place peer rd source_as (maps.get new.flows (flow_in vrf flow)) ≡ join_to place peer rd source_as (maps.get old.flows (flow_in vrf flow)))
-    → maps.get (held_for place new peer) (join_key (afi_of flow.source) rd source_as flow) ≡ maps.get (held_for place old peer) (join_key (afi_of flow.source) rd source_as flow)
+pub joins : (place : EdgePlace) (old new : Control) (peer : NodeId) (rd : Rd) (source_as : ℕ) (flow : Flow) → AreOfVrfs place old
+    → AreOfVrfs place new
+    → ((vrf : VrfId) → join_to place peer rd source_as (maps.get new.flows (flow_in vrf flow))
+    ≡ join_to place peer rd source_as (maps.get old.flows (flow_in vrf flow)))
+    → maps.get (held_for place new peer) (join_key (afi_of flow.source) rd source_as flow)
+    ≡ maps.get (held_for place old peer) (join_key (afi_of flow.source) rd source_as flow)
 joins place old new peer rd source_as flow was is alike =
     joins_by_vrfs place new peer rd source_as flow is
-    ∙ told_alike (λ own. join_to place peer rd source_as (maps.get new.flows (flow_in own.id flow))) (λ own. join_to place peer rd source_as (maps.get old.flows (flow_in own.id flow)))
+    ∙ told_alike (λ own. join_to place peer rd source_as (maps.get new.flows (flow_in own.id flow)))
+    (λ own. join_to place peer rd source_as (maps.get old.flows (flow_in own.id flow)))
     (λ own. alike own.id) (own_vrfs place)
     ∙ sym (joins_by_vrfs place old peer rd source_as flow was)
 
@@ -105,12 +110,14 @@ one_family Ipv4 Ipv6 = inr (λ same. cc)
 one_family Ipv6 Ipv4 = inr (λ same. cc)
 
 module _ (place : EdgePlace) (control : Control) (flows : FinMap flow_cmp (Option Upstream)) (but : List (NodeId × Key))
-    (was : AreOfVrfs place control) (is : AreOfVrfs place (with_flows control flows)) (alike : AreOthersAlike place control (with_flows control flows) but) where
+    (was : AreOfVrfs place control) (is : AreOfVrfs place (with_flows control flows))
+    (alike : AreOthersAlike place control (with_flows control flows) but) where
   joins_stay : (peer : NodeId) (key : Key) → IsJoin key → (Among (peer, key) but → ⊥)
       → maps.get (held_for place (with_flows control flows) peer) key ≡ maps.get (held_for place control peer) key
   joins_stay peer key join apart = elim (one_family join.afi (afi_of join.flow.source)) [
     | inl same ↦
-        (let whole : key ≡ join_key (afi_of join.flow.source) join.rd join.source_as join.flow = join.is ∙ (λ i. join_key (same i) join.rd join.source_as join.flow) in
+        (let whole : key ≡ join_key (afi_of join.flow.source) join.rd join.source_as join.flow =
+        join.is ∙ (λ i. join_key (same i) join.rd join.source_as join.flow) in
         ap (maps.get (held_for place (with_flows control flows) peer)) whole
         ∙ joins place control (with_flows control flows) peer join.rd join.source_as join.flow was is
         (alike peer join.rd join.source_as join.flow (λ a. apart (subst (λ (k : Key). Among (peer, k) but) (sym whole) a)))
@@ -159,7 +166,8 @@ module _ (place : EdgePlace) (control : Control) (but : List (NodeId × Key)) (p
             (let one : q ≡ key = one_key key_exact q key tied in
             ap (maps.get (change before.set)) one ∙ here before.set ∙ sym (ap (maps.get (held_for place control peer)) one))
         | inr not ↦
-            (let other : q ≢ key = λ one. (let bad : true ≡ false = sym (ap (λ (x : Key). eq_by_cmp key_cmp x key) one ∙ own_key key_total key) ∙ not in cc) in
+            (let other : q ≢ key =
+            λ one. (let bad : true ≡ false = sym (ap (λ (x : Key). eq_by_cmp key_cmp x key) one ∙ own_key key_total key) ∙ not in cc) in
             apart before.set q other ∙ hold.elsewhere peer before q e (λ a. elim a [
               | inl pair ↦ other (ap (λ (p : NodeId × Key). p.1) pair)
               | inr b ↦ f b
@@ -172,7 +180,8 @@ module _ (place : EdgePlace) (control : Control) (but : List (NodeId × Key)) (p
       | inl tied ↦
           (let one : other ≡ peer = same_node other peer (eqb-true other.0 peer.0 tied) in
           subst (λ (n : NodeId). maps.get table.set q ≡ maps.get (held_for place control n) q) (sym one)
-          (at_peer table q (λ a. f (subst (λ (n : NodeId). Among (n, q) but) (sym one) a)) (get old peer) (get new peer) refl (ap (get new) (sym one) ∙ e) at.0))
+          (at_peer table q (λ a. f (subst (λ (n : NodeId). Among (n, q) but) (sym one) a)) (get old peer) (get new peer) refl
+          (ap (get new) (sym one) ∙ e) at.0))
       | inr not ↦
           (let far : other ≢ peer = λ one. (let bad : true ≡ false = sym (eq-eqb other.0 peer.0 (ap (λ (n : NodeId). n.0) one)) ∙ not in cc) in
           hold.elsewhere other table q (sym (at.1 other far) ∙ e) (λ a. elim a [
@@ -184,25 +193,35 @@ module _ (place : EdgePlace) (control : Control) (but : List (NodeId × Key)) (p
 
 -- a route at the key, and none
 pub here_set : (key : Key) (value : Value) (before : Table) → maps.get (insert before key value) key ≡ Some value
-here_set key value before = maps.get-insert key_total before key value key ∙ ap (λ (b : Bool). cond b (Some value) (maps.get before key)) (own_key key_total key)
+here_set key value before =
+    maps.get-insert key_total before key value key ∙ ap (λ (b : Bool). cond b (Some value) (maps.get before key)) (own_key key_total key)
 
 pub here_gone : (key : Key) (before : Table) → maps.get (remove before key) key ≡ None
 here_gone key before = maps.get-remove key_total before key key ∙ ap (λ (b : Bool). cond b None (maps.get before key)) (own_key key_total key)
 
-pub apart_set : (key : Key) (value : Value) (before : Table) (other : Key) → other ≢ key → maps.get (insert before key value) other ≡ maps.get before other
-apart_set key value before other ne = maps.get-insert key_total before key value other ∙ ap (λ (b : Bool). cond b (Some value) (maps.get before other)) (other_key key_exact other key ne)
+pub apart_set : (key : Key) (value : Value) (before : Table) (other : Key) → other ≢ key
+    → maps.get (insert before key value) other ≡ maps.get before other
+apart_set key value before other ne =
+    maps.get-insert key_total before key value other
+    ∙ ap (λ (b : Bool). cond b (Some value) (maps.get before other)) (other_key key_exact other key ne)
 
 pub apart_gone : (key : Key) (before : Table) (other : Key) → other ≢ key → maps.get (remove before key) other ≡ maps.get before other
-apart_gone key before other ne = maps.get-remove key_total before key other ∙ ap (λ (b : Bool). cond b None (maps.get before other)) (other_key key_exact other key ne)
+apart_gone key before other ne =
+    maps.get-remove key_total before key other ∙ ap (λ (b : Bool). cond b None (maps.get before other)) (other_key key_exact other key ne)
 
 -- the value of the join towards an edge
 pub value_is : (place : EdgePlace) (peer : NodeId) (flow : VrfFlow) (rd : Rd) (import : Import) (source_as : ℕ) (made : Key × Value)
     → join_route place peer (flow, Some (Remote peer rd import source_as)) ≡ Some made → made.1 ≡ value_towards place import
 value_is place peer flow rd import source_as made h = by (peer.0 == peer.0) (eq-eqb peer.0 peer.0 refl) h
   where
-    by : (b : Bool) → b ≡ true → cond b (Some (keys.Mcast (afi_of flow.source) (routes.SourceJoin rd source_as flow.source flow.group), value_towards place import)) None ≡ Some made
+    by : (b : Bool) → b ≡ true → cond b (Some (
+      keys.Mcast (afi_of flow.source) (routes.SourceJoin rd source_as flow.source flow.group),
+      value_towards place import,
+    )) None ≡ Some made
         → made.1 ≡ value_towards place import
-    by true e f = (let same : (keys.Mcast (afi_of flow.source) (routes.SourceJoin rd source_as flow.source flow.group), value_towards place import) ≡ made = cc in ap (λ (x : Key × Value). x.1) (sym same))
+    by true e f =
+        (let same : (keys.Mcast (afi_of flow.source) (routes.SourceJoin rd source_as flow.source flow.group), value_towards place import) ≡ made =
+        cc in ap (λ (x : Key × Value). x.1) (sym same))
     by false e f = absurd (let bad : false ≡ true = e in cc)
 
 -- ---- the joins of flows that changed
@@ -215,7 +234,8 @@ silent place peer rd source_as flow vrf (Some (Some (Site site))) none = refl
 silent place peer rd source_as flow vrf (Some (Some (Remote edge own_rd import own_as))) none =
     by ((edge.0 == peer.0) && (pointwise nat_eq own_rd.0 rd.0 && (own_as == source_as))) refl
   where
-    by : (b : Bool) → ((edge.0 == peer.0) && (pointwise nat_eq own_rd.0 rd.0 && (own_as == source_as))) ≡ b → only_if b (value_towards place import) ≡ None
+    by : (b : Bool) → ((edge.0 == peer.0) && (pointwise nat_eq own_rd.0 rd.0 && (own_as == source_as))) ≡ b
+        → only_if b (value_towards place import) ≡ None
     by false e = refl
     by true e =
         let first = and_parts (edge.0 == peer.0) (pointwise nat_eq own_rd.0 rd.0 && (own_as == source_as)) e in
@@ -225,17 +245,23 @@ silent place peer rd source_as flow vrf (Some (Some (Remote edge own_rd import o
         let systems : source_as ≡ own_as = sym (eqb-true own_as source_as rest.1) in
         absurd (none (inl (λ i. (record { 0 = edges i }, join_key (afi_of flow.source) (record { 0 = rds i }) (systems i) flow))))
 
-pub changed_alike : (place : EdgePlace) (old new : Control) (changed : List VrfFlow) → ((flow : VrfFlow) → (Among flow changed → ⊥) → get new.flows flow ≡ get old.flows flow)
+pub changed_alike : (place : EdgePlace) (old new : Control) (changed : List VrfFlow)
+    → ((flow : VrfFlow) → (Among flow changed → ⊥) → get new.flows flow ≡ get old.flows flow)
     → AreOthersAlike place old new (joins_of_changed old new changed)
 changed_alike place old new changed same peer rd source_as flow apart vrf = elim (cases_Bool (list_any (eq_by_cmp flow_cmp at) changed)) [
   | inl some ↦ (
       let found = any_among (eq_by_cmp flow_cmp at) changed some in
       let one : at ≡ found.0 = one_key flow_exact at found.0 found.2 in
       let here : Among at changed = subst (λ (f : VrfFlow). Among f changed) (sym one) found.1 in
-      silent place peer rd source_as flow vrf (get new.flows at) (λ a. apart (among_flat_map touched at join changed here (among_behind join (joins_at at (get old.flows at)) (joins_at at (get new.flows at)) a)))
-      ∙ sym (silent place peer rd source_as flow vrf (get old.flows at) (λ a. apart (among_flat_map touched at join changed here (among_front join (joins_at at (get old.flows at)) (joins_at at (get new.flows at)) a)))))
+      silent place peer rd source_as flow vrf (get new.flows at)
+      (λ a. apart (among_flat_map touched at join changed here
+      (among_behind join (joins_at at (get old.flows at)) (joins_at at (get new.flows at)) a)))
+      ∙ sym (silent place peer rd source_as flow vrf (get old.flows at)
+      (λ a. apart (among_flat_map touched at join changed here
+      (among_front join (joins_at at (get old.flows at)) (joins_at at (get new.flows at)) a)))))
   | inr none ↦
-      ap (join_to place peer rd source_as) (same at (λ a. let bad : true ≡ false = sym (any_from (eq_by_cmp flow_cmp at) at changed a (own_key flow_total at)) ∙ none in cc))
+      ap (join_to place peer rd source_as) (same at
+      (λ a. let bad : true ≡ false = sym (any_from (eq_by_cmp flow_cmp at) at changed a (own_key flow_total at)) ∙ none in cc))
 ]
   where
     at : VrfFlow

@@ -30,5 +30,6 @@ of_sites passes number (site ∷ more) h =
     (if_passes (passes id) (routes_of_site id site.prefixes) (of_site id site (All-head IsSite site more h)))
     (of_sites passes (number + 1) more (All-tail IsSite site more h))
 
-pub local_prefixes : (scenario : Scenario) → Rules scenario → (vrf : VrfId) → All (λ (route : Route). IsSitePrefix route.prefix) (local_routes scenario vrf)
+pub local_prefixes : (scenario : Scenario) → Rules scenario → (vrf : VrfId)
+    → All (λ (route : Route). IsSitePrefix route.prefix) (local_routes scenario vrf)
 local_prefixes scenario rules vrf = of_sites (is_attached_at scenario vrf) 0 scenario.sites rules.sites.each

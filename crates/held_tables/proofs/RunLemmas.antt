@@ -32,12 +32,14 @@ module _ {K V : Type 0} (R : K → K → Ordering) (f : V → V) where
   sorted_changed (e ∷ es) = λ i. below_changed e.0 es i && sorted_changed es i
 
   -- its entries are in the same order
-  entries-changed : IsTotalOrder R → IsAntisymmetric R → (m : FinMap R V) → maps.entries (maps.from_entries {R = R} (changed f (maps.entries m))) ≡ changed f (maps.entries m)
+  entries-changed : IsTotalOrder R → IsAntisymmetric R → (m : FinMap R V)
+      → maps.entries (maps.from_entries {R = R} (changed f (maps.entries m))) ≡ changed f (maps.entries m)
   entries-changed total exact m =
       let es : List (K × V) = changed f (maps.entries m) in
       let sorted : T (is_sorted R es) = subst T (sym (sorted_changed (maps.entries m))) (maps.entries_sorted m) in
       let one : maps.from_entries {R = R} es ≡ maps.from_sorted es =
-      maps.same_map total exact (maps.from_entries es) (maps.from_sorted es) (λ q. maps.get-from_entries total es q ∙ sym (maps.get-from_sorted R es q sorted)) in
+      maps.same_map total exact (maps.from_entries es) (maps.from_sorted es)
+      (λ q. maps.get-from_entries total es q ∙ sym (maps.get-from_sorted R es q sorted)) in
       ap maps.entries one ∙ maps.entries-from_sorted R es sorted
 
 -- ---- selections
@@ -49,12 +51,14 @@ module _ (place : EdgePlace) (own : OwnVrf) where
   abbrev is_own : VrfPattern × Selected → Bool
   is_own entry = entry.0.vrf.0 == own.id.0
 
-  run_routes : (delay now : ℕ) (es : List (VrfPattern × Selected)) → map route (filter is_own (changed (selection_run delay now) es)) ≡ map route (filter is_own es)
+  run_routes : (delay now : ℕ) (es : List (VrfPattern × Selected))
+      → map route (filter is_own (changed (selection_run delay now) es)) ≡ map route (filter is_own es)
   run_routes delay now [] = refl
   run_routes delay now (e ∷ es) =
       let run : VrfPattern × Selected = (e.0, selection_run delay now e.1) in
       let more : List (VrfPattern × Selected) = changed (selection_run delay now) es in
-      elim (is_own e) as (λ b. map route (cond b (run ∷ filter is_own more) (filter is_own more)) ≡ map route (cond b (e ∷ filter is_own es) (filter is_own es))) [
+      elim (is_own e) as (λ b. map route (cond b (run ∷ filter is_own more) (filter is_own more))
+      ≡ map route (cond b (e ∷ filter is_own es) (filter is_own es))) [
         | true ↦ ap (λ (routes : List (Key × Value)). route e ∷ routes) (run_routes delay now es)
         | false ↦ run_routes delay now es
       ]
@@ -65,10 +69,12 @@ module _ (place : EdgePlace) (control : Control) (delay now : ℕ) where
 
   selective_run : (own : OwnVrf) → selective_routes place behind own ≡ selective_routes place control own
   selective_run own =
-      ap (λ (es : List (VrfPattern × Selected)). map (route place own) (filter (is_own place own) es)) (entries-changed pattern_cmp (selection_run delay now) pattern_total pattern_exact control.selections)
+      ap (λ (es : List (VrfPattern × Selected)). map (route place own) (filter (is_own place own) es))
+      (entries-changed pattern_cmp (selection_run delay now) pattern_total pattern_exact control.selections)
       ∙ run_routes place own delay now (maps.entries control.selections)
 
   pub held_run : (peer : NodeId) → held_for place behind peer ≡ held_for place control peer
   held_run peer = λ i. maps.from_entries
-      (flat_map (λ own. inclusive_route place own ∷ (unicast_routes place own ++ (selective_run own i ++ active_routes place control own))) (own_vrfs place)
+      (flat_map (λ own. inclusive_route place own ∷ (unicast_routes place own ++ (selective_run own i ++ active_routes place control own)))
+      (own_vrfs place)
       ++ join_routes place control peer)

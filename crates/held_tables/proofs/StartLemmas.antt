@@ -49,7 +49,8 @@ both_then P Q R f (Some a) None q h k = absurd h
 both_then P Q R f (Some a) (Some b) None h k = k
 both_then P Q R f (Some a) (Some b) (Some c) h k = f a b c h k
 
-each_then : (P Q R : PeerTable → PeerTable → Type 0) → ((a b c : PeerTable) → P a b → Q b c → R a c) → (s t u : Tables) → EachPeer P s t → EachPeer Q t u → EachPeer R s u
+each_then : (P Q R : PeerTable → PeerTable → Type 0) → ((a b c : PeerTable) → P a b → Q b c → R a c) → (s t u : Tables) → EachPeer P s t
+    → EachPeer Q t u → EachPeer R s u
 each_then P Q R f s t u h k peer = both_then P Q R f (get s peer) (get t peer) (get u peer) (h peer) (k peer)
 
 both_itself : (P : PeerTable → PeerTable → Type 0) → ((a : PeerTable) → P a a) → (o : Option PeerTable) → Both P o o
@@ -69,7 +70,8 @@ with_both [] ys table = refl
 with_both (x ∷ xs) ys table = with_both xs ys (with_route x.0 x.1 table)
 
 pub given_then : (xs ys : List Entry) (s t u : Tables) → EachPeer (Given xs) s t → EachPeer (Given ys) t u → EachPeer (Given (xs ++ ys)) s u
-given_then xs ys s t u h k = each_then (Given xs) (Given ys) (Given (xs ++ ys)) (λ a b c f g. g ∙ ap (with_routes ys) f ∙ sym (with_both xs ys a)) s t u h k
+given_then xs ys s t u h k =
+    each_then (Given xs) (Given ys) (Given (xs ++ ys)) (λ a b c f g. g ∙ ap (with_routes ys) f ∙ sym (with_both xs ys a)) s t u h k
 
 pub front_then : (xs ys : List Entry) (s t u : Tables) → EachPeer (Given xs) s t → EachPeer (HasFront ys) t u → EachPeer (HasFront (xs ++ ys)) s u
 front_then xs ys s t u h k = each_then (Given xs) (HasFront ys) (HasFront (xs ++ ys)) (λ a b c f g. record {
@@ -110,24 +112,30 @@ given_alike list s t h = each_weaker (λ a b f. subst (IsToldAlike a) (sym f) (t
 front_alike : (list : List Entry) (s t : Tables) → EachPeer (HasFront list) s t → EachPeer IsToldAlike s t
 front_alike list s t h = each_weaker (λ a b f. subst (IsToldAlike a) (sym f.is) (told_with f.done a)) s t h
 
-pub told_either : {X E : Type 0} (result : Result X E) (list : List Entry) (s t : Tables) → OnOk result (EachPeer (Given list) s t) → OnErr result (EachPeer (HasFront list) s t) → EachPeer IsToldAlike s t
+pub told_either : {X E : Type 0} (result : Result X E) (list : List Entry) (s t : Tables) → OnOk result (EachPeer (Given list) s t)
+    → OnErr result (EachPeer (HasFront list) s t) → EachPeer IsToldAlike s t
 told_either (Ok x) list s t h k = given_alike list s t h
 told_either (Err e) list s t h k = front_alike list s t k
 
 -- ---- a loop that gives the routes of each item
 
-module _ {X : Type 0} (f : List X → List Entry) (both : (xs ys : List X) → f (xs ++ ys) ≡ f xs ++ f ys) (g : X → List Entry) (one : (x : X) → f (x ∷ []) ≡ g x) where
+module _ {X : Type 0} (f : List X → List Entry) (both : (xs ys : List X) → f (xs ++ ys) ≡ f xs ++ f ys) (g : X → List Entry)
+    (one : (x : X) → f (x ∷ []) ≡ g x) where
   next : (xs : List X) (i : ℕ) (d : X) → i < length xs → f (take (i + 1) xs) ≡ f (take i xs) ++ g (get_or xs i d)
-  next xs i d lt = ap f (take_more xs i d lt) ∙ both (take i xs) (get_or xs i d ∷ []) ∙ ap (λ (l : List Entry). f (take i xs) ++ l) (one (get_or xs i d))
+  next xs i d lt =
+      ap f (take_more xs i d lt) ∙ both (take i xs) (get_or xs i d ∷ []) ∙ ap (λ (l : List Entry). f (take i xs) ++ l) (one (get_or xs i d))
 
-  pub row_more : (xs : List X) (i : ℕ) (d : X) → i < length xs → (s t u : Tables) → EachPeer (Given (f (take i xs))) s t → EachPeer (Given (g (get_or xs i d))) t u
+  pub row_more : (xs : List X) (i : ℕ) (d : X) → i < length xs → (s t u : Tables) → EachPeer (Given (f (take i xs))) s t
+      → EachPeer (Given (g (get_or xs i d))) t u
       → EachPeer (Given (f (take (i + 1) xs))) s u
-  row_more xs i d lt s t u h k = subst (λ (l : List Entry). EachPeer (Given l) s u) (sym (next xs i d lt)) (given_then (f (take i xs)) (g (get_or xs i d)) s t u h k)
+  row_more xs i d lt s t u h k =
+      subst (λ (l : List Entry). EachPeer (Given l) s u) (sym (next xs i d lt)) (given_then (f (take i xs)) (g (get_or xs i d)) s t u h k)
 
   pub row_end : (xs : List X) (i : ℕ) → length xs ≤ i → (s t : Tables) → EachPeer (Given (f (take i xs))) s t → EachPeer (Given (f xs)) s t
   row_end xs i le s t h = subst (λ (l : List X). EachPeer (Given (f l)) s t) (take_all i xs le) h
 
-  pub row_cut : (xs : List X) (i : ℕ) (d : X) → i < length xs → (s t u : Tables) → EachPeer (Given (f (take i xs))) s t → EachPeer (HasFront (g (get_or xs i d))) t u
+  pub row_cut : (xs : List X) (i : ℕ) (d : X) → i < length xs → (s t u : Tables) → EachPeer (Given (f (take i xs))) s t
+      → EachPeer (HasFront (g (get_or xs i d))) t u
       → EachPeer (HasFront (f xs)) s u
   row_cut xs i d lt s t u h k =
       let some : EachPeer (HasFront (f (take (i + 1) xs) ++ f (drop (i + 1) xs))) s u =
@@ -135,11 +143,13 @@ module _ {X : Type 0} (f : List X → List Entry) (both : (xs ys : List X) → f
       (subst (λ (l : List Entry). EachPeer (HasFront l) s u) (sym (next xs i d lt)) (front_then (f (take i xs)) (g (get_or xs i d)) s t u h k)) in
       subst (λ (l : List Entry). EachPeer (HasFront l) s u) (sym (both (take (i + 1) xs) (drop (i + 1) xs)) ∙ ap f (take-append-drop (i + 1) xs)) some
 
-pub prefixes_both : (rd : Rd) (value : Value) (xs ys : List Route) → prefix_routes rd value (xs ++ ys) ≡ prefix_routes rd value xs ++ prefix_routes rd value ys
+pub prefixes_both : (rd : Rd) (value : Value) (xs ys : List Route)
+    → prefix_routes rd value (xs ++ ys) ≡ prefix_routes rd value xs ++ prefix_routes rd value ys
 prefixes_both rd value xs ys = map-append _ xs ys
 
 pub prefix_more : (rd : Rd) (value : Value) (routes : List Route) (i : ℕ) (d : Route) → i < length routes → (s t u : Tables) (made : Key)
-    → EachPeer (Given (prefix_routes rd value (take i routes))) s t → made ≡ Unicast rd (get_or routes i d).prefix → EachPeer (λ old new. new ≡ with_route made value old) t u
+    → EachPeer (Given (prefix_routes rd value (take i routes))) s t → made ≡ Unicast rd (get_or routes i d).prefix
+    → EachPeer (λ old new. new ≡ with_route made value old) t u
     → EachPeer (Given (prefix_routes rd value (take (i + 1) routes))) s u
 prefix_more rd value routes i d lt s t u made h same k =
     row_more (prefix_routes rd value) (prefixes_both rd value) (λ route. (Unicast rd route.prefix, value) ∷ []) (λ route. refl) routes i d lt s t u h
@@ -161,7 +171,8 @@ abbrev pub vrf_routes : EdgePlace → List homes.OwnVrf → List Entry
 vrf_routes place vrfs = flat_map (start_routes place) (map as_own vrfs)
 
 pub vrfs_both : (place : EdgePlace) (xs ys : List homes.OwnVrf) → vrf_routes place (xs ++ ys) ≡ vrf_routes place xs ++ vrf_routes place ys
-vrfs_both place xs ys = ap (flat_map (start_routes place)) (map-append as_own xs ys) ∙ flat_map-append (start_routes place) (map as_own xs) (map as_own ys)
+vrfs_both place xs ys =
+    ap (flat_map (start_routes place)) (map-append as_own xs ys) ∙ flat_map-append (start_routes place) (map as_own xs) (map as_own ys)
 
 pub vrfs_one : (place : EdgePlace) (own : homes.OwnVrf) → vrf_routes place (own ∷ []) ≡ start_routes place (as_own own)
 vrfs_one place own = append-nil (start_routes place (as_own own))
@@ -182,21 +193,25 @@ vrfs_cut place vrfs i own d lt s t u h same k =
 
 pub vrfs_end : (place : EdgePlace) (vrfs : List homes.OwnVrf) (i : ℕ) → length vrfs ≤ i → (s t : Tables)
     → EachPeer (Given (vrf_routes place (take i vrfs))) s t → EachPeer (Given (vrf_routes place vrfs)) s t
-vrfs_end place vrfs i le s t h = row_end (vrf_routes place) (vrfs_both place) (λ vrf. start_routes place (as_own vrf)) (vrfs_one place) vrfs i le s t h
+vrfs_end place vrfs i le s t h =
+    row_end (vrf_routes place) (vrfs_both place) (λ vrf. start_routes place (as_own vrf)) (vrfs_one place) vrfs i le s t h
 
 -- ---- a table that is given entries of another
 
 module _ (held : Table) where
-  set_part : (table : Table) (e : Entry) → get held e.0 ≡ Some e.1 → (key : Key) (value : Value) → (get table key ≡ Some value → get held key ≡ Some value)
+  set_part : (table : Table) (e : Entry) → get held e.0 ≡ Some e.1 → (key : Key) (value : Value)
+      → (get table key ≡ Some value → get held key ≡ Some value)
       → get (insert table e.0 e.1) key ≡ Some value → get held key ≡ Some value
   set_part table e at key value was h = elim (cases_Bool (eq_by_cmp key_cmp key e.0)) [
     | inl tied ↦ (
-        let set : get (insert table e.0 e.1) key ≡ Some e.1 = maps.get-insert key_total table e.0 e.1 key ∙ ap (λ (b : Bool). cond b (Some e.1) (get table key)) tied in
+        let set : get (insert table e.0 e.1) key ≡ Some e.1 =
+        maps.get-insert key_total table e.0 e.1 key ∙ ap (λ (b : Bool). cond b (Some e.1) (get table key)) tied in
         ap (get held) (one_key key_exact key e.0 tied) ∙ at ∙ sym set ∙ h)
     | inr apart ↦ was (sym (maps.get-insert key_total table e.0 e.1 key ∙ ap (λ (b : Bool). cond b (Some e.1) (get table key)) apart) ∙ h)
   ]
 
-  set_has : (table : Table) (e : Entry) → get held e.0 ≡ Some e.1 → (key : Key) (value : Value) → get held key ≡ Some value → get table key ≡ Some value
+  set_has : (table : Table) (e : Entry) → get held e.0 ≡ Some e.1 → (key : Key) (value : Value) → get held key ≡ Some value
+      → get table key ≡ Some value
       → get (insert table e.0 e.1) key ≡ Some value
   set_has table e at key value is was = elim (cases_Bool (eq_by_cmp key_cmp key e.0)) [
     | inl tied ↦
@@ -208,13 +223,15 @@ module _ (held : Table) where
   set_new : (table : Table) (e : Entry) → get (insert table e.0 e.1) e.0 ≡ Some e.1
   set_new table e = maps.get-insert key_total table e.0 e.1 e.0 ∙ ap (λ (b : Bool). cond b (Some e.1) (get table e.0)) (own_key key_total e.0)
 
-  part : (list : List Entry) (table : PeerTable) → ((e : Entry) → Among e list → get held e.0 ≡ Some e.1) → ((key : Key) (value : Value) → get table.set key ≡ Some value → get held key ≡ Some value)
+  part : (list : List Entry) (table : PeerTable) → ((e : Entry) → Among e list → get held e.0 ≡ Some e.1)
+      → ((key : Key) (value : Value) → get table.set key ≡ Some value → get held key ≡ Some value)
       → (key : Key) (value : Value) → get (with_routes list table).set key ≡ Some value → get held key ≡ Some value
   part [] table each was key value h = was key value h
   part (e ∷ list) table each was key value h =
       part list (with_route e.0 e.1 table) (λ x a. each x (inr a)) (λ k v. set_part table.set e (each e (inl refl)) k v (was k v)) key value h
 
-  has : (list : List Entry) (table : PeerTable) → ((e : Entry) → Among e list → get held e.0 ≡ Some e.1) → (key : Key) (value : Value) → get held key ≡ Some value
+  has : (list : List Entry) (table : PeerTable) → ((e : Entry) → Among e list → get held e.0 ≡ Some e.1) → (key : Key) (value : Value)
+      → get held key ≡ Some value
       → Among (key, value) list ⊎ (get table.set key ≡ Some value) → get (with_routes list table).set key ≡ Some value
   has [] table each key value is (inl a) = absurd a
   has [] table each key value is (inr was) = was
@@ -228,7 +245,9 @@ module _ (held : Table) where
   -- all entries of the other, and no other ones
   pub all_given : (list : List Entry) (table : PeerTable) → table.set ≡ empty → ((e : Entry) → Among e list → get held e.0 ≡ Some e.1)
       → ((key : Key) (value : Value) → get held key ≡ Some value → Among (key, value) list) → (with_routes list table).set ≡ held
-  all_given list table none each all = maps.same_map key_total key_exact (with_routes list table).set held (λ key. by key (get (with_routes list table).set key) (get held key) refl refl)
+  all_given list table none each all =
+      maps.same_map key_total key_exact (with_routes list table).set held
+      (λ key. by key (get (with_routes list table).set key) (get held key) refl refl)
     where
       nothing : (key : Key) (value : Value) → get table.set key ≡ Some value → get held key ≡ Some value
       nothing key value h = absurd (let bad : None ≡ Some value = sym (ap (λ (t : Table). get t key) none ∙ get-empty key_cmp key) ∙ h in cc)
@@ -254,7 +273,8 @@ module _ (place : EdgePlace) (rules : Rules place.scenario) (peer : NodeId) wher
       })
 
   no_note : (note : Note) → Among note (in_order no_control.notes) → ⊥
-  no_note note a = absurd (let bad : false ≡ true = sym (sets.contains-empty note_cmp note) ∙ contained note_total note_exact no_control.notes note a in cc)
+  no_note note a =
+      absurd (let bad : false ≡ true = sym (sets.contains-empty note_cmp note) ∙ contained note_total note_exact no_control.notes note a in cc)
 
   held_listed : (e : Entry) → IsHeld place no_control peer e → Among e (all_start_routes place)
   held_listed e (OfInclusive own a same) = among_flat_map (start_routes place) own e (own_vrfs place) a (inl same)
@@ -263,7 +283,8 @@ module _ (place : EdgePlace) (rules : Rules place.scenario) (peer : NodeId) wher
       let is = is_selective place no_control own e b in
       let bad : None ≡ Some is.selected = sym (get-empty pattern_cmp (record { vrf = own.id; pattern = is.pattern })) ∙ is.at in cc)
   held_listed e (OfActive own a b) = absurd (
-      let by = map_among (λ (note : Note). (active_key own.vrf note.source note.group, plain_value place own.vrf)) e (notes_of place no_control own.id) b in
+      let by = map_among (λ (note : Note). (active_key own.vrf note.source note.group, plain_value place own.vrf)) e
+      (notes_of place no_control own.id) b in
       no_note by.0 (filter_among (λ (note : Note). is_iface_of place.scenario own.id note.iface) by.0 (in_order no_control.notes) by.1).0)
   held_listed e (OfJoin b) = absurd (
       let by = found_among (join_route place peer) e (maps.entries no_control.flows) b in
@@ -274,10 +295,12 @@ module _ (place : EdgePlace) (rules : Rules place.scenario) (peer : NodeId) wher
   start_held table none = all_given (held_for place no_control peer) (all_start_routes place) table none each_held
       (λ key value h. held_listed (key, value) (is_held place no_control peer key value h))
 
-pub start_all : (place : EdgePlace) → Rules place.scenario → (old new : Tables) → AreEmpty old → EachPeer (Given (all_start_routes place)) old new → HoldAll place no_control new
+pub start_all : (place : EdgePlace) → Rules place.scenario → (old new : Tables) → AreEmpty old → EachPeer (Given (all_start_routes place)) old new
+    → HoldAll place no_control new
 start_all place rules old new none each peer table at = by (get old peer) (get new peer) refl at (each peer)
   where
-    by : (before after : Option PeerTable) → get old peer ≡ before → after ≡ Some table → Both {A = PeerTable} {B = PeerTable} (Given (all_start_routes place)) before after
+    by : (before after : Option PeerTable) → get old peer ≡ before → after ≡ Some table
+        → Both {A = PeerTable} {B = PeerTable} (Given (all_start_routes place)) before after
         → table.set ≡ held_for place no_control peer
     by None None e f h = absurd cc
     by None (Some own) e f h = absurd h
@@ -287,16 +310,19 @@ start_all place rules old new none each peer table at = by (get old peer) (get n
         ap (λ (t : PeerTable). t.set) (sym same ∙ h) ∙ start_held place rules peer before (none peer before e)
 
 -- the core is not looked at
-core_aside : (home : Home) (core : Core) (vrfs : List OwnVrf) → flat_map (start_routes (home_place home)) vrfs ≡ flat_map (start_routes (place_of home core)) vrfs
+core_aside : (home : Home) (core : Core) (vrfs : List OwnVrf)
+    → flat_map (start_routes (home_place home)) vrfs ≡ flat_map (start_routes (place_of home core)) vrfs
 core_aside home core [] = refl
 core_aside home core (own ∷ vrfs) = ap (λ (l : List Entry). start_routes (place_of home core) own ++ l) (core_aside home core vrfs)
 
-pub home_routes : (home : Home) (core : Core) (own : List homes.OwnVrf) → map as_own own ≡ own_vrfs (place_of home core) → vrf_routes (home_place home) own ≡ all_start_routes (place_of home core)
+pub home_routes : (home : Home) (core : Core) (own : List homes.OwnVrf) → map as_own own ≡ own_vrfs (place_of home core)
+    → vrf_routes (home_place home) own ≡ all_start_routes (place_of home core)
 home_routes home core own are = core_aside home core (map as_own own) ∙ ap (flat_map (start_routes (place_of home core))) are
 
 -- ---- fresh tables
 
-fresh_at : (peers : List NodeId) (peer : NodeId) (table : PeerTable) → find node_cmp peer (map (λ (p : NodeId). (p, fresh)) peers) ≡ Some table → table.set ≡ empty
+fresh_at : (peers : List NodeId) (peer : NodeId) (table : PeerTable) → find node_cmp peer (map (λ (p : NodeId). (p, fresh)) peers) ≡ Some table
+    → table.set ≡ empty
 fresh_at [] peer table h = absurd cc
 fresh_at (p ∷ peers) peer table h = by (eq_by_cmp node_cmp peer p) h (fresh_at peers peer table)
   where
@@ -306,4 +332,5 @@ fresh_at (p ∷ peers) peer table h = by (eq_by_cmp node_cmp peer p) h (fresh_at
     by false e rest = rest e
 
 pub fresh_empty : (peers : List NodeId) → AreEmpty (maps.from_entries (map (λ (p : NodeId). (p, fresh)) peers))
-fresh_empty peers peer table h = fresh_at peers peer table (sym (maps.get-from_entries node_cmp_total (map (λ (p : NodeId). (p, fresh)) peers) peer) ∙ h)
+fresh_empty peers peer table h =
+    fresh_at peers peer table (sym (maps.get-from_entries node_cmp_total (map (λ (p : NodeId). (p, fresh)) peers) peer) ∙ h)

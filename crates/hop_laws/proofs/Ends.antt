@@ -35,7 +35,8 @@ length_at [] place x e = absurd cc
 length_at (y ∷ xs) zero x e = refl
 length_at (y ∷ xs) (suc place) x e = ap suc (length_at xs place x e)
 
-each_less : (low high : ℕ) (trace : List Traced) → AllByRecursion (λ (step : Traced). (low ≤ step.event) × (step.event < high)) trace → AllByRecursion (IsBefore high) (report_of trace)
+each_less : (low high : ℕ) (trace : List Traced) → AllByRecursion (λ (step : Traced). (low ≤ step.event) × (step.event < high)) trace
+    → AllByRecursion (IsBefore high) (report_of trace)
 each_less low high [] all = tt
 each_less low high (step ∷ more) all = (all.0.1, each_less low high more all.1)
 
@@ -73,14 +74,17 @@ module _ (state : World) (timed : Timed) (acts : List Happened) (node : NodeId) 
   plain_acts : AllByRecursion IsPlainLine (lines_in acts)
   plain_acts = quiet_lines acts (halts_quiet state timed acts node is)
 
-  pub halting_hops : (events : List Timed) (refused : List ℕ) (number : ℕ) → hops_in events refused (entry_at number (lines_in acts ++ lines.Halt timed.line node ∷ [])) ≡ []
+  pub halting_hops : (events : List Timed) (refused : List ℕ) (number : ℕ)
+      → hops_in events refused (entry_at number (lines_in acts ++ lines.Halt timed.line node ∷ [])) ≡ []
   halting_hops events refused number =
       let hops = hop_by _ _ in
-      flat_map-append hops (lines_in acts) (lines.Halt timed.line node ∷ []) ∙ append-nil (flat_map hops (lines_in acts)) ∙ plain_hops _ _ (lines_in acts) plain_acts
+      flat_map-append hops (lines_in acts) (lines.Halt timed.line node ∷ []) ∙ append-nil (flat_map hops (lines_in acts))
+      ∙ plain_hops _ _ (lines_in acts) plain_acts
 
 -- ---- behind the first events
 
-module _ (cores : Cores) (script : Script) (count : ℕ) (trace : List Traced) (state : World) (run : Run cores script (take count script.events) trace state) where
+module _ (cores : Cores) (script : Script) (count : ℕ) (trace : List Traced) (state : World)
+    (run : Run cores script (take count script.events) trace state) where
   abbrev first : List Timed
   first = take count script.events
 
@@ -88,9 +92,12 @@ module _ (cores : Cores) (script : Script) (count : ℕ) (trace : List Traced) (
   refused = refused_lines (report_of trace)
 
   entries_before : AllByRecursion (IsBefore count) (report_of trace)
-  entries_before = each_less 0 count trace (run_numbers first (start script.scenario cores) 0 trace state run 0 count (omega arith) (let few = short_take count script.events in omega (arith, few)))
+  entries_before =
+      each_less 0 count trace (run_numbers first (start script.scenario cores) 0 trace state run 0 count (omega arith)
+      (let few = short_take count script.events in omega (arith, few)))
 
-  module _ (more : List Timed) (late : List Traced) (new : World) (rises : Rises 0 (first ++ more)) (whole : Run cores script (first ++ more) (trace ++ late) new) where
+  module _ (more : List Timed) (late : List Traced) (new : World) (rises : Rises 0 (first ++ more))
+      (whole : Run cores script (first ++ more) (trace ++ late) new) where
     abbrev all_refused : List ℕ
     all_refused = refused ++ refused_lines (report_of late)
 
@@ -98,16 +105,23 @@ module _ (cores : Cores) (script : Script) (count : ℕ) (trace : List Traced) (
     refused_both = sym (ap refused_lines (report-append trace late) ∙ refused-append (report_of trace) (report_of late))
 
     pub all_tell : TellsAccepted all_refused (start script.scenario cores) (first ++ more)
-    all_tell = tells_accepted (first ++ more) (start script.scenario cores) 0 (trace ++ late) new 0 [] all_refused rises (λ line less. refl) refused_both whole
+    all_tell =
+        tells_accepted (first ++ more) (start script.scenario cores) 0 (trace ++ late) new 0 [] all_refused rises (λ line less. refl) refused_both
+        whole
 
     pub first_alike : AreAlike all_refused refused first
     first_alike =
-        tell_same all_refused refused first (start script.scenario cores) 0 trace state (tells_first all_refused first more (start script.scenario cores) all_tell)
-        (tells_accepted first (start script.scenario cores) 0 trace state 0 [] refused (rises_first 0 first more rises) (λ line less. refl) refl run) run
+        tell_same all_refused refused first (start script.scenario cores) 0 trace state
+        (tells_first all_refused first more (start script.scenario cores) all_tell)
+        (tells_accepted first (start script.scenario cores) 0 trace state 0 [] refused (rises_first 0 first more rises) (λ line less. refl) refl run)
+        run
 
     -- The hops of later events come behind those of the first ones.
-    pub hops_go_on : hops_of script.events (report_of (trace ++ late)) ≡ hops_of script.events (report_of trace) ++ flat_map (hops_in script.events all_refused) (report_of late)
-    hops_go_on = ap (hops_of script.events) (report-append trace late) ∙ hops_more script.events count (report_of trace) (report_of late) entries_before first_alike
+    pub hops_go_on : hops_of script.events (report_of (trace ++ late)) ≡ hops_of script.events (report_of trace)
+        ++ flat_map (hops_in script.events all_refused) (report_of late)
+    hops_go_on =
+        ap (hops_of script.events) (report-append trace late)
+        ∙ hops_more script.events count (report_of trace) (report_of late) entries_before first_alike
 
   -- ---- one event more
 
@@ -115,7 +129,8 @@ module _ (cores : Cores) (script : Script) (count : ℕ) (trace : List Traced) (
     pub rises_next : Rises 0 (first ++ timed ∷ [])
     rises_next =
         rises_first 0 (first ++ timed ∷ []) (drop (suc count) script.events)
-        (subst (Rises 0) (sym (take-append-drop (suc count) script.events) ∙ ap (λ (l : List Timed). l ++ drop (suc count) script.events) (take_to script.events count timed at)) rules.lines)
+        (subst (Rises 0) (sym (take-append-drop (suc count) script.events)
+        ∙ ap (λ (l : List Timed). l ++ drop (suc count) script.events) (take_to script.events count timed at)) rules.lines)
 
     module _ (acts : List Happened) (next : World) (is : outcome state timed ≡ Done acts next) where
       pub run_next : Run cores script (first ++ timed ∷ []) (trace ++ traced count acts) next
@@ -125,7 +140,8 @@ module _ (cores : Cores) (script : Script) (count : ℕ) (trace : List Traced) (
           (acts, next, [], is, sym (append-nil (traced count acts)), (refl, refl))
 
       pub hops_next : hops_of script.events (report_of (trace ++ traced count acts))
-          ≡ hops_of script.events (report_of trace) ++ hops_in script.events (refused ++ flat_map refused_line (lines_in acts)) (entry_at count (lines_in acts))
+          ≡ hops_of script.events (report_of trace) ++ hops_in script.events (refused ++ flat_map refused_line (lines_in acts))
+          (entry_at count (lines_in acts))
       hops_next =
           hops_go_on (timed ∷ []) (traced count acts) next rises_next run_next
           ∙ ap (λ (hops : List CoreHop). hops_of script.events (report_of trace) ++ hops)
@@ -150,7 +166,8 @@ module _ (cores : Cores) (script : Script) (count : ℕ) (trace : List Traced) (
 
     no_hops : flat_map (hops_in script.events refused) (report_of (traced count acts) ++ halt ∷ []) ≡ []
     no_hops =
-        flat_map-append (hops_in script.events refused) (report_of (traced count acts)) (halt ∷ []) ∙ append-nil (flat_map (hops_in script.events refused) (report_of (traced count acts)))
+        flat_map-append (hops_in script.events refused) (report_of (traced count acts)) (halt ∷ [])
+        ∙ append-nil (flat_map (hops_in script.events refused) (report_of (traced count acts)))
         ∙ acts_hops script.events refused count acts ∙ plain_hops _ _ (lines_in acts) (plain_acts state timed acts node is)
 
     -- The acts of an event that lacks a label, and the line of the halt, have no hops.
@@ -158,7 +175,8 @@ module _ (cores : Cores) (script : Script) (count : ℕ) (trace : List Traced) (
     hops_at_halt =
         let behind : List Entry = report_of (traced count acts) ++ halt ∷ [] in
         let parts : report_of (trace ++ traced count acts) ++ halt ∷ [] ≡ report_of trace ++ behind =
-        ap (λ (l : List Entry). l ++ halt ∷ []) (report-append trace (traced count acts)) ∙ append_assoc (report_of trace) (report_of (traced count acts)) (halt ∷ []) in
+        ap (λ (l : List Entry). l ++ halt ∷ []) (report-append trace (traced count acts))
+        ∙ append_assoc (report_of trace) (report_of (traced count acts)) (halt ∷ []) in
         ap (λ (l : List ℕ). flat_map (hops_in script.events l) (report_of (trace ++ traced count acts) ++ halt ∷ [])) (same_refused _ parts)
         ∙ ap (flat_map (hops_in script.events refused)) parts
         ∙ flat_map-append (hops_in script.events refused) (report_of trace) behind

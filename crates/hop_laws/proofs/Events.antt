@@ -16,7 +16,8 @@ use Rattle.delivery_laws.proofs.network_laws.Lists.{each_weaker}
 use Rattle.hop_laws.proofs.Alive.{IsAlive, IsCopy, ArePut, Alive, Entering, puts_are, act_puts, entry_puts}
 
 more_known : (count more ttl number : ℕ) → IsAlive count ttl number → IsAlive (count + more) ttl number
-more_known count more ttl number a = record { counted = a.counted; known = (let known = a.known in omega (arith, known)); alive = a.alive; bounded = a.bounded }
+more_known count more ttl number a =
+    record { counted = a.counted; known = (let known = a.known in omega (arith, known)); alive = a.alive; bounded = a.bounded }
 
 -- Each copy is one of the datagrams of the network.
 abbrev pub IsKept : World → Type 0
@@ -37,7 +38,8 @@ module _ (old : World) (k : IsKept old) where
   more_copies event =
       let more = length (brought_by event) in
       subst (λ (count : ℕ). EachCopy (IsCopy count) old.copies) (sym (length-append old.datagrams (brought_by event)))
-      (λ u n. each_weaker (IsCopy (length old.datagrams) u n) (IsCopy (length old.datagrams + more) u n) (λ copy a. more_known (length old.datagrams) more copy.ttl copy.number a) (old.copies u n) (k u n))
+      (λ u n. each_weaker (IsCopy (length old.datagrams) u n) (IsCopy (length old.datagrams + more) u n)
+      (λ copy a. more_known (length old.datagrams) more copy.ttl copy.number a) (old.copies u n) (k u n))
 
   entering : (event : Event) → length (brought_by event) ≡ 1 → Entering (behind event) (record old { datagrams = old.datagrams ++ brought_by event })
   entering event one = record {
@@ -51,16 +53,20 @@ module _ (old : World) (k : IsKept old) where
     copies = more_copies event;
   }
 
-  before : (event : Event) → Before (ArePut (behind event)) (puts_are (behind event)) (Alive (behind event)) (Entering (behind event)) (act_puts (behind event)) (entry_puts (behind event)) (λ world e. e.alive) old event
+  before : (event : Event) → Before (ArePut (behind event)) (puts_are (behind event)) (Alive (behind event)) (Entering (behind event))
+      (act_puts (behind event)) (entry_puts (behind event)) (λ world e. e.alive) old event
   before (events.Send site source group payload) = entering (events.Send site source group payload) refl
   before (events.Packet site octets) = entering (events.Packet site octets) refl
   before other = still other refl
 
   done_puts : (event : Event) → Leads (ArePut (behind event)) (Alive (behind event)) (done old event)
-  done_puts event = event_leads (ArePut (behind event)) (puts_are (behind event)) (Alive (behind event)) (Entering (behind event)) (act_puts (behind event)) (entry_puts (behind event)) (λ world e. e.alive) old event (before event)
+  done_puts event =
+      event_leads (ArePut (behind event)) (puts_are (behind event)) (Alive (behind event)) (Entering (behind event)) (act_puts (behind event))
+      (entry_puts (behind event)) (λ world e. e.alive) old event (before event)
 
   -- What an event leaves, and its lines.
-  pub event_puts : (timed : Timed) (acts : List Happened) (next : World) → outcome old timed ≡ Done acts next → ArePut (length next.datagrams) (lines_in acts) × IsKept next
+  pub event_puts : (timed : Timed) (acts : List Happened) (next : World) → outcome old timed ≡ Done acts next
+      → ArePut (length next.datagrams) (lines_in acts) × IsKept next
   event_puts timed acts next is = elim (came old timed acts next is).is [
     | inl done_is ↦
         let l = subst (Leads (ArePut (behind timed.event)) (Alive (behind timed.event))) done_is (done_puts timed.event) in

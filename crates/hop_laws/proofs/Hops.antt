@@ -21,7 +21,8 @@ AreAlike a b events = AllByRecursion (λ (timed : Timed). is_accepted a timed �
 
 pub same_datagrams : (a b : List ℕ) (number : ℕ) (list : List Timed) → AreAlike a b list → datagrams a number list ≡ datagrams b number list
 same_datagrams a b number [] same = refl
-same_datagrams a b number (timed ∷ rest) same = (λ i. (if same.0 i then sent_by number timed.event else []) ++ same_datagrams a b (number + 1) rest same.1 i)
+same_datagrams a b number (timed ∷ rest) same =
+    (λ i. (if same.0 i then sent_by number timed.event else []) ++ same_datagrams a b (number + 1) rest same.1 i)
 
 fewer : {X : Type 0} (P : X → Type 0) (less more : ℕ) (xs : List X) → less ≤ more → AllByRecursion P (take more xs) → AllByRecursion P (take less xs)
 fewer P zero more xs few all = tt
@@ -41,7 +42,8 @@ module _ (events : List Timed) (count : ℕ) (a b : List ℕ) (alike : AreAlike 
 
   same_entry : (entry : Entry) → IsBefore count entry → hops_in events a entry ≡ hops_in events b entry
   same_entry entry is =
-      ap (λ (sent : List (List ℕ)). flat_map (hop_by (ticks_in (take entry.event events)) sent) entry.lines) (same_sent (entry.event + 1) (omega (arith, is)))
+      ap (λ (sent : List (List ℕ)). flat_map (hop_by (ticks_in (take entry.event events)) sent) entry.lines)
+      (same_sent (entry.event + 1) (omega (arith, is)))
 
   same_hops : (report : List Entry) → AllByRecursion (IsBefore count) report → flat_map (hops_in events a) report ≡ flat_map (hops_in events b) report
   same_hops [] all = refl

@@ -30,13 +30,16 @@ abbrev AreOfLabels : List LabelMessage → Type 0
 AreOfLabels ms = AllByRecursion IsOfLabel ms
 
 -- parts that stand end to end are spelled
-spelled : {M : Type 0} (Spells : M → List ℕ → Type 0) (Fits : List M → M → Type 0) (before : List M) (octets : List ℕ) (ms : List M) → ArePartsAfter Spells Fits before octets ms []
+spelled : {M : Type 0} (Spells : M → List ℕ → Type 0) (Fits : List M → M → Type 0) (before : List M) (octets : List ℕ) (ms : List M)
+    → ArePartsAfter Spells Fits before octets ms []
     → AllByRecursion (λ m. (text : List ℕ) × Spells m text) ms
 spelled Spells Fits before octets [] are = tt
-spelled Spells Fits before octets (m ∷ ms) (text, after, spells, new, parts, rest) = ((text, spells), spelled Spells Fits (before ++ m ∷ []) after ms rest)
+spelled Spells Fits before octets (m ∷ ms) (text, after, spells, new, parts, rest) =
+    ((text, spells), spelled Spells Fits (before ++ m ∷ []) after ms rest)
 
 carried : (fec : Fec) (label : ℕ) (body : List ℕ) → Carries fec label body → IsLabel label
-carried fec label body c = (contained (λ t. (text : List ℕ) × SpellsTlv t text) c.said _ (spelled SpellsTlv IsNew [] body c.said c.are) c.has_label).1.says.1
+carried fec label body c =
+    (contained (λ t. (text : List ℕ) × SpellsTlv t text) c.said _ (spelled SpellsTlv IsNew [] body c.said c.are) c.has_label).1.says.1
 
 meant : (message : LabelMessage) (kind : ℕ) (body : List ℕ) → Means message kind body → IsOfLabel message
 meant (messages.Mapping fec label) kind body m = carried fec label body m.1
@@ -64,13 +67,15 @@ of_pdu ms text s = begun SpellsMessage of_message s.body ms [] s.messages
 of_fault : (octets : List ℕ) (ms : List LabelMessage) (offset : ℕ) (e : LdpFault) → PduFault octets ms offset e → AreOfLabels ms
 of_fault octets ms offset e (version number len rest a b parts other none at is) = subst AreOfLabels (sym none) tt
 of_fault octets ms offset e (pdu_length len rest a parts other none at is) = subst AreOfLabels (sym none) tt
-of_fault octets ms offset e (in_message ident body after a b parts left place begins some fault at) = begun SpellsMessage of_message body ms left begins
+of_fault octets ms offset e (in_message ident body after a b parts left place begins some fault at) =
+    begun SpellsMessage of_message body ms left begins
 
 yielded : (octets : List ℕ) (ms : List LabelMessage) → Yields SpellsPdu PduFault octets ms → AreOfLabels ms
 yielded octets ms (sound rest splits none) = begun SpellsPdu of_pdu octets ms rest splits.begins
 yielded octets ms (faulty place e fails) =
     subst AreOfLabels (sym fails.messages)
-    (each_append IsOfLabel fails.first fails.last (begun SpellsPdu of_pdu octets fails.first fails.rest fails.begins) (of_fault fails.rest fails.last fails.offset e fails.faulty))
+    (each_append IsOfLabel fails.first fails.last (begun SpellsPdu of_pdu octets fails.first fails.rest fails.begins)
+    (of_fault fails.rest fails.last fails.offset e fails.faulty))
 
 has_label : (octets : List ℕ) (fec : Fec) (label : ℕ) → HasLabel octets fec label → IsLabel label
 has_label octets fec label (ms, yields, mapped) =
@@ -88,7 +93,8 @@ may_hop before other h = tt
 
 -- Each `hop` line of a run has a label.
 module _ (trace : List Traced) (may : HopsMay trace) where
-  from_there : (before after : List Traced) → trace ≡ before ++ after → AllByRecursion (λ (step : Traced). AllByRecursion IsLabelled step.happened.lines) after
+  from_there : (before after : List Traced) → trace ≡ before ++ after
+      → AllByRecursion (λ (step : Traced). AllByRecursion IsLabelled step.happened.lines) after
   from_there before [] e = tt
   from_there before (step ∷ after) e = (
     each_weaker (HopMay before) IsLabelled (may_hop before) step.happened.lines (may before after step e),

@@ -49,11 +49,13 @@ one_fits scenario number (events.Send site source group payload) is = (packet_fi
 one_fits scenario number (events.Packet site octets) is = ((let few = is.1 in omega (arith, few)), tt)
 one_fits scenario number other is = tt
 
-all_fit : (scenario : Scenario) (refused : List ℕ) (number : ℕ) (list : List Timed) → AllByRecursion (λ (timed : Timed). IsEventOf scenario timed.event) list → AllByRecursion Fits (datagrams refused number list)
+all_fit : (scenario : Scenario) (refused : List ℕ) (number : ℕ) (list : List Timed)
+    → AllByRecursion (λ (timed : Timed). IsEventOf scenario timed.event) list → AllByRecursion Fits (datagrams refused number list)
 all_fit scenario refused number [] is = tt
 all_fit scenario refused number (timed ∷ more) is =
     each_append Fits (if is_accepted refused timed then sent_by number timed.event else []) (datagrams refused (number + 1) more)
-    (cond_both (is_accepted refused timed) (sent_by number timed.event) [] (AllByRecursion Fits) (λ t. one_fits scenario number timed.event is.0) (λ f. tt))
+    (cond_both (is_accepted refused timed) (sent_by number timed.event) [] (AllByRecursion Fits) (λ t. one_fits scenario number timed.event is.0)
+    (λ f. tt))
     (all_fit scenario refused (number + 1) more is.1)
 
 named_fits : (sent : List (List ℕ)) (number : ℕ) → AllByRecursion FitFrame sent → FitFrame (datagram_octets sent number)
@@ -64,7 +66,8 @@ named_fits sent (suc place) each = by (slice_get sent place) refl
     by None at = omega arith
     by (Some octets) at = all_at FitFrame sent place octets each at
 
-ticks_first : (scenario : Scenario) (count : ℕ) (list : List Timed) → AllByRecursion (λ (timed : Timed). IsEventOf scenario timed.event) list → ticks_in (take count list) ≤ 1000000 * length list
+ticks_first : (scenario : Scenario) (count : ℕ) (list : List Timed) → AllByRecursion (λ (timed : Timed). IsEventOf scenario timed.event) list
+    → ticks_in (take count list) ≤ 1000000 * length list
 ticks_first scenario zero list is = omega arith
 ticks_first scenario (suc count) [] is = omega arith
 ticks_first scenario (suc count) (timed ∷ more) is = omega (arith, ticks_few scenario timed.event is.0, ticks_first scenario count more is.1)
@@ -75,7 +78,8 @@ module _ (script : Script) (rules : ScriptRules script) where
   octets_fit refused count number =
       named_fits (sent_in script.events refused count) number
       (each_map FitFrame (λ (datagram : Datagram). datagram.octets) (datagrams refused 0 (take count script.events))
-      (all_fit script.scenario refused 0 (take count script.events) (all_take (λ (timed : Timed). IsEventOf script.scenario timed.event) count script.events rules.events)))
+      (all_fit script.scenario refused 0 (take count script.events)
+      (all_take (λ (timed : Timed). IsEventOf script.scenario timed.event) count script.events rules.events)))
 
   -- The clock of each hop fits.
   pub clock_fits : (count : ℕ) → ticks_in (take count script.events) / 1000 < 2 ^ 32

@@ -49,57 +49,81 @@ IsSaid script refused number line = IsPut (length (sent_in script.events refused
 abbrev AreSaid : Script → List ℕ → List Traced → Type 0
 AreSaid script refused trace = AllByRecursion (λ (step : Traced). AllByRecursion (IsSaid script refused step.event) step.happened.lines) trace
 
-acts_said : (script : Script) (refused : List ℕ) (number : ℕ) (acts : List Happened) → AllByRecursion (IsSaid script refused number) (lines_in acts) → AreSaid script refused (traced number acts)
+acts_said : (script : Script) (refused : List ℕ) (number : ℕ) (acts : List Happened) → AllByRecursion (IsSaid script refused number) (lines_in acts)
+    → AreSaid script refused (traced number acts)
 acts_said script refused number [] all = tt
 acts_said script refused number (happened ∷ more) all = (
   each_front (IsSaid script refused number) happened.lines (lines_in more) all,
   acts_said script refused number more (each_behind (IsSaid script refused number) happened.lines (lines_in more) all),
 )
 
-module _ (cores : Cores) (script : Script) (sound : SoundScenario script.scenario) (of_scenario : AreCoresOf script.scenario cores) (refused : List ℕ) where
-  abbrev begin : World
-  begin = start script.scenario cores
+module _ (cores : Cores) (script : Script) (sound : SoundScenario script.scenario) (of_scenario : AreCoresOf script.scenario cores) (refused : List ℕ)
+  where
+    abbrev begin : World
+    begin = start script.scenario cores
 
-  abbrev AreSoundEvents : List Timed → Type 0
-  AreSoundEvents events = AllByRecursion (λ (timed : Timed). IsSoundEvent script.scenario timed.event) events
+    abbrev AreSoundEvents : List Timed → Type 0
+    AreSoundEvents events = AllByRecursion (λ (timed : Timed). IsSoundEvent script.scenario timed.event) events
 
-  -- as many datagrams as the report says
-  counted : (upto : List Timed) (count : ℕ) (world : World) → take count script.events ≡ upto → world.datagrams ≡ in_networks (datagrams refused 0 upto) → length world.datagrams ≡ length (sent_in script.events refused count)
-  counted upto count world taken sent =
-      ap (λ (list : List Datagram). length list) sent
-      ∙ length_map in_network (datagrams refused 0 upto)
-      ∙ ap (λ (l : List Timed). length (datagrams refused 0 l)) (sym taken)
-      ∙ sym (length_map (λ (datagram : Accepted). datagram.octets) (datagrams refused 0 (take count script.events)))
+    -- as many datagrams as the report says
+    counted : (upto : List Timed) (count : ℕ) (world : World) → take count script.events ≡ upto
+        → world.datagrams ≡ in_networks (datagrams refused 0 upto) → length world.datagrams ≡ length (sent_in script.events refused count)
+    counted upto count world taken sent =
+        ap (λ (list : List Datagram). length list) sent
+        ∙ length_map in_network (datagrams refused 0 upto)
+        ∙ ap (λ (l : List Timed). length (datagrams refused 0 l)) (sym taken)
+        ∙ sym (length_map (λ (datagram : Accepted). datagram.octets) (datagrams refused 0 (take count script.events)))
 
-  -- the lines of later events, behind a run of the first ones
-  runs_said : (more before rest : List Timed) → script.events ≡ (before ++ more) ++ rest → AreSoundEvents (before ++ more) → TellsAccepted refused begin (before ++ more) → (early : List Traced) (old : World) → Run cores script before early old
-      → IsKept old → (number : ℕ) → number ≡ length before → (trace : List Traced) (new : World) → Runs old number more trace new → AreSaid script refused trace
-  runs_said [] before rest parts events_sound tells early old first kept number e trace new run = subst (AreSaid script refused) (sym run.0) tt
-  runs_said (timed ∷ more) before rest parts events_sound tells early old first kept number e trace new run =
-      let upto : List Timed = before ++ timed ∷ [] in
-      let own : List Traced = traced number run.0 in
-      let so_far : List Traced = early ++ (own ++ []) in
-      let grouped : upto ++ more ≡ before ++ timed ∷ more = append_assoc before (timed ∷ []) more in
-      let count : length upto ≡ number + 1 = (let long = length-append before (timed ∷ []) in omega (arith, long, e)) in
-      let joined : Run cores script upto so_far run.1 = runs_one_more before timed begin old run.1 0 early run.0 first run.3 number (omega (arith, e)) in
-      let sound_then : AreSoundEvents (upto ++ more) = subst AreSoundEvents (sym grouped) events_sound in
-      let tells_then : TellsAccepted refused begin (upto ++ more) = subst (TellsAccepted refused begin) (sym grouped) tells in
-      let sent : run.1.datagrams ≡ in_networks (datagrams refused 0 upto) = runs_send refused upto begin 0 so_far run.1 (tells_first refused upto more begin tells_then) joined in
-      let whole : script.events ≡ upto ++ (more ++ rest) = parts ∙ ap (λ (l : List Timed). l ++ rest) (sym grouped) ∙ append_assoc upto more rest in
-      let taken : take (number + 1) script.events ≡ upto = ap (λ (l : List Timed). take (number + 1) l) whole ∙ take_at upto (more ++ rest) (number + 1) count in
-      let puts = event_puts old kept timed run.0 run.1 run.3 in
-      let put : ArePut (length (sent_in script.events refused (number + 1))) (lines_in run.0) =
-      subst (λ (n : ℕ). ArePut n (lines_in run.0)) (counted upto (number + 1) run.1 taken sent) puts.0 in
-      let sound_first : SoundRun cores script before early old = record { scenario = sound; of_scenario = of_scenario; sound_events = each_front (λ (t : Timed). IsSoundEvent script.scenario t.event) before (timed ∷ more) events_sound; run = first } in
-      let here : IsSoundEvent script.scenario timed.event = (each_behind (λ (t : Timed). IsSoundEvent script.scenario t.event) before (timed ∷ more) events_sound).0 in
-      let names = recursion_from_All (IsLineOf script.scenario) (lines_in run.0) (done_names cores script before early old sound_first timed here run.0 run.1 run.3) in
-      let said : AreSaid script refused own = acts_said script refused number run.0 (both_of (IsPut (length (sent_in script.events refused (number + 1)))) (IsLineOf script.scenario) (lines_in run.0) put names) in
-      let later : AreSaid script refused run.2 = runs_said more upto rest (parts ∙ ap (λ (l : List Timed). l ++ rest) (sym grouped)) sound_then tells_then so_far run.1 joined puts.1 (number + 1) (sym count) run.2 new run.5 in
-      subst (AreSaid script refused) (sym run.4) (each_append (λ (step : Traced). AllByRecursion (IsSaid script refused step.event) step.happened.lines) own run.2 said later)
+    -- the lines of later events, behind a run of the first ones
+    runs_said : (more before rest : List Timed) → script.events ≡ (before ++ more) ++ rest → AreSoundEvents (before ++ more)
+        → TellsAccepted refused begin (before ++ more) → (early : List Traced) (old : World) → Run cores script before early old
+        → IsKept old → (number : ℕ) → number ≡ length before → (trace : List Traced) (new : World) → Runs old number more trace new
+        → AreSaid script refused trace
+    runs_said [] before rest parts events_sound tells early old first kept number e trace new run = subst (AreSaid script refused) (sym run.0) tt
+    runs_said (timed ∷ more) before rest parts events_sound tells early old first kept number e trace new run =
+        let upto : List Timed = before ++ timed ∷ [] in
+        let own : List Traced = traced number run.0 in
+        let so_far : List Traced = early ++ (own ++ []) in
+        let grouped : upto ++ more ≡ before ++ timed ∷ more = append_assoc before (timed ∷ []) more in
+        let count : length upto ≡ number + 1 = (let long = length-append before (timed ∷ []) in omega (arith, long, e)) in
+        let joined : Run cores script upto so_far run.1 =
+        runs_one_more before timed begin old run.1 0 early run.0 first run.3 number (omega (arith, e)) in
+        let sound_then : AreSoundEvents (upto ++ more) = subst AreSoundEvents (sym grouped) events_sound in
+        let tells_then : TellsAccepted refused begin (upto ++ more) = subst (TellsAccepted refused begin) (sym grouped) tells in
+        let sent : run.1.datagrams ≡ in_networks (datagrams refused 0 upto) =
+        runs_send refused upto begin 0 so_far run.1 (tells_first refused upto more begin tells_then) joined in
+        let whole : script.events ≡ upto ++ (more ++ rest) = parts ∙ ap (λ (l : List Timed). l ++ rest) (sym grouped) ∙ append_assoc upto more rest in
+        let taken : take (number + 1) script.events ≡ upto =
+        ap (λ (l : List Timed). take (number + 1) l) whole ∙ take_at upto (more ++ rest) (number + 1) count in
+        let puts = event_puts old kept timed run.0 run.1 run.3 in
+        let put : ArePut (length (sent_in script.events refused (number + 1))) (lines_in run.0) =
+        subst (λ (n : ℕ). ArePut n (lines_in run.0)) (counted upto (number + 1) run.1 taken sent) puts.0 in
+        let sound_first : SoundRun cores script before early old =
+        record {
+          scenario = sound;
+          of_scenario = of_scenario;
+          sound_events =
+              each_front (λ (t : Timed). IsSoundEvent script.scenario t.event) before (timed ∷ more) events_sound;
+          run = first;
+        } in
+        let here : IsSoundEvent script.scenario timed.event =
+        (each_behind (λ (t : Timed). IsSoundEvent script.scenario t.event) before (timed ∷ more) events_sound).0 in
+        let names =
+        recursion_from_All (IsLineOf script.scenario) (lines_in run.0)
+        (done_names cores script before early old sound_first timed here run.0 run.1 run.3) in
+        let said : AreSaid script refused own =
+        acts_said script refused number run.0 (both_of (IsPut (length (sent_in script.events refused (number + 1)))) (IsLineOf script.scenario)
+        (lines_in run.0) put names) in
+        let later : AreSaid script refused run.2 =
+        runs_said more upto rest (parts ∙ ap (λ (l : List Timed). l ++ rest) (sym grouped)) sound_then tells_then so_far run.1 joined puts.1
+        (number + 1) (sym count) run.2 new run.5 in
+        subst (AreSaid script refused) (sym run.4) (each_append
+        (λ (step : Traced). AllByRecursion (IsSaid script refused step.event) step.happened.lines) own run.2 said later)
 
 -- ---- runs of the first events of a script
 
-module _ (cores : Cores) (script : Script) (count : ℕ) (trace : List Traced) (new : World) (rules : ScriptRules script) (run : SoundRun cores script (take count script.events) trace new) where
+module _ (cores : Cores) (script : Script) (count : ℕ) (trace : List Traced) (new : World) (rules : ScriptRules script)
+    (run : SoundRun cores script (take count script.events) trace new) where
   abbrev first : List Timed
   first = take count script.events
 
@@ -110,8 +134,10 @@ module _ (cores : Cores) (script : Script) (count : ℕ) (trace : List Traced) (
   rises = rises_first 0 first (drop count script.events) (subst (Rises 0) (sym (take-append-drop count script.events)) rules.lines)
 
   said : AreSaid script refused trace
-  said = runs_said cores script run.scenario run.of_scenario refused first [] (drop count script.events) (sym (take-append-drop count script.events)) run.sound_events
-      (tells_accepted first (start script.scenario cores) 0 trace new 0 [] refused rises (λ line less. refl) refl run.run) [] (start script.scenario cores) (refl, refl) (λ u n. tt) 0 refl trace new run.run
+  said = runs_said cores script run.scenario run.of_scenario refused first [] (drop count script.events) (sym (take-append-drop count script.events))
+      run.sound_events
+      (tells_accepted first (start script.scenario cores) 0 trace new 0 [] refused rises (λ line less. refl) refl run.run) []
+      (start script.scenario cores) (refl, refl) (λ u n. tt) 0 refl trace new run.run
 
   -- ---- names
 
@@ -119,11 +145,14 @@ module _ (cores : Cores) (script : Script) (count : ℕ) (trace : List Traced) (
   named number (lines.Hop from to label ttl own) is = (is.0.counted, is.0.known)
   named number other is = tt
 
-  all_named : (number : ℕ) (all : List ReportLine) → AllByRecursion (IsSaid script refused number) all → AllByRecursion (NamesDatagram (sent_in script.events refused (number + 1))) all
+  all_named : (number : ℕ) (all : List ReportLine) → AllByRecursion (IsSaid script refused number) all
+      → AllByRecursion (NamesDatagram (sent_in script.events refused (number + 1))) all
   all_named number [] is = tt
   all_named number (line ∷ more) is = (named number line is.0, all_named number more is.1)
 
-  steps_named : (steps : List Traced) → AreSaid script refused steps → AllByRecursion (λ (entry : Entry). AllByRecursion (NamesDatagram (sent_in script.events refused (entry.event + 1))) entry.lines) (report_of steps)
+  steps_named : (steps : List Traced) → AreSaid script refused steps
+      → AllByRecursion (λ (entry : Entry). AllByRecursion (NamesDatagram (sent_in script.events refused (entry.event + 1))) entry.lines)
+      (report_of steps)
   steps_named [] is = tt
   steps_named (step ∷ more) is = (all_named step.event step.happened.lines is.0, steps_named more is.1)
 
@@ -158,11 +187,13 @@ module _ (cores : Cores) (script : Script) (count : ℕ) (trace : List Traced) (
       let hops = hop_by (ticks_in (take number script.events)) (sent_in script.events refused (number + 1)) in
       each_append IsHop (hops line) (flat_map hops more) (hop_spelled number line is.0 labelled.0) (lines_spelled number more is.1 labelled.1)
 
-  steps_spelled : (steps : List Traced) → AreSaid script refused steps → AllByRecursion (λ (step : Traced). AllByRecursion IsLabelled step.happened.lines) steps →
+  steps_spelled : (steps : List Traced) → AreSaid script refused steps
+      → AllByRecursion (λ (step : Traced). AllByRecursion IsLabelled step.happened.lines) steps →
       AllByRecursion IsHop (flat_map (hops_in script.events refused) (report_of steps))
   steps_spelled [] is labelled = tt
   steps_spelled (step ∷ more) is labelled =
-      each_append IsHop (flat_map (hop_by (ticks_in (take step.event script.events)) (sent_in script.events refused (step.event + 1))) step.happened.lines) (flat_map (hops_in script.events refused) (report_of more))
+      each_append IsHop (flat_map (hop_by (ticks_in (take step.event script.events)) (sent_in script.events refused (step.event + 1)))
+      step.happened.lines) (flat_map (hops_in script.events refused) (report_of more))
       (lines_spelled step.event step.happened.lines is.0 labelled.0) (steps_spelled more is.1 labelled.1)
 
   pub all_spelled : HopsMay trace → All IsHop (hops_of script.events (report_of trace))

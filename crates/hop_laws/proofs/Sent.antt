@@ -48,13 +48,15 @@ second_false false false e = refl
 -- ---- what an event brings
 
 -- its number is not part of the octets
-any_number : (number : ℕ) (event : Event) → map (λ (datagram : Datagram). datagram.octets) (sent_by number event) ≡ map (λ (datagram : Datagram). datagram.octets) (sent_by 0 event)
+any_number : (number : ℕ) (event : Event) → map (λ (datagram : Datagram). datagram.octets) (sent_by number event)
+    ≡ map (λ (datagram : Datagram). datagram.octets) (sent_by 0 event)
 any_number number (events.Send site source group payload) = refl
 any_number number (events.Packet site octets) = refl
 any_number number other = refl
 
 brings : (accepted refused : Bool) (number : ℕ) (event : Event) → accepted ≡ not refused →
-    map (λ (datagram : Datagram). datagram.octets) ((if accepted then sent_by number event else []) ++ []) ≡ (if refused then [] else map (λ (datagram : Datagram). datagram.octets) (sent_by 0 event))
+    map (λ (datagram : Datagram). datagram.octets) ((if accepted then sent_by number event else []) ++ [])
+    ≡ (if refused then [] else map (λ (datagram : Datagram). datagram.octets) (sent_by 0 event))
 brings accepted true number event e = ap (λ b. map (λ (datagram : Datagram). datagram.octets) ((if b then sent_by number event else []) ++ [])) e
 brings accepted false number event e =
     ap (λ b. map (λ (datagram : Datagram). datagram.octets) ((if b then sent_by number event else []) ++ [])) e
@@ -70,7 +72,9 @@ module _ (old : World) (timed : Timed) (acts : List Happened) (next : World) (is
       ap not (sym (list_any-append (λ l. l == timed.line) front own)) ∙ accepted ∙ taken in
       sym (among_lines timed.line (lines_in acts)) ∙ second_false (list_any (λ l. l == timed.line) front) (list_any (λ l. l == timed.line) own) none
 
-  by_refusal : (o : Option Refusal) → refusal old timed.event ≡ o → (elim o [ None ↦ done old timed.event | Some reason ↦ Done (record { act = None; lines = lines.Refused timed.line reason ∷ [] } ∷ []) old ]) ≡ Done acts next →
+  by_refusal : (o : Option Refusal) → refusal old timed.event ≡ o
+      → (elim o [ None ↦ done old timed.event | Some reason ↦ Done (record { act = None; lines = lines.Refused timed.line reason ∷ [] } ∷ []) old ])
+      ≡ Done acts next →
       accepts o ≡ not (list_any (refuses timed.line) (lines_in acts))
   by_refusal None e same = ap not (sym (not_refused (ap accepts e)))
   by_refusal (Some reason) e same =
@@ -84,8 +88,10 @@ module _ (old : World) (timed : Timed) (acts : List Happened) (next : World) (is
 
 -- ---- behind the first events
 
-module _ (cores : Cores) (script : Script) (count : ℕ) (trace : List Traced) (state : World) (run : Run cores script (take count script.events) trace state) (rules : ScriptRules script)
-    (timed : Timed) (at : slice_get script.events count ≡ Some timed) (acts : List Happened) (next : World) (is : outcome state timed ≡ Done acts next) where
+module _ (cores : Cores) (script : Script) (count : ℕ) (trace : List Traced) (state : World)
+    (run : Run cores script (take count script.events) trace state) (rules : ScriptRules script)
+    (timed : Timed) (at : slice_get script.events count ≡ Some timed) (acts : List Happened) (next : World)
+    (is : outcome state timed ≡ Done acts next) where
   abbrev first : List Timed
   first = take count script.events
 
@@ -97,20 +103,29 @@ module _ (cores : Cores) (script : Script) (count : ℕ) (trace : List Traced) (
 
   -- What was sent up to the event is what was sent before it, and what it sends, unless one of its lines refuses it.
   pub sent_next : sent_in script.events all_refused (count + 1)
-      ≡ sent_in script.events refused count ++ (if list_any (refuses timed.line) (lines_in acts) then [] else map (λ (datagram : Datagram). datagram.octets) (sent_by 0 timed.event))
+      ≡ sent_in script.events refused count ++ (if list_any (refuses timed.line) (lines_in acts) then [] else map
+      (λ (datagram : Datagram). datagram.octets) (sent_by 0 timed.event))
   sent_next =
       let octets = λ (list : List Datagram). map (λ (datagram : Datagram). datagram.octets) list in
       let begin = start script.scenario cores in
-      let lists : refused ++ refused_lines (report_of (traced count acts)) ≡ all_refused = ap (λ (own : List ℕ). refused ++ own) (acts_refused count acts) in
+      let lists : refused ++ refused_lines (report_of (traced count acts)) ≡ all_refused =
+      ap (λ (own : List ℕ). refused ++ own) (acts_refused count acts) in
       let rises = rises_next cores script count trace state run rules timed at in
       let whole = run_next cores script count trace state run rules timed at acts next is in
-      let tells = subst (λ (l : List ℕ). TellsAccepted l begin (first ++ timed ∷ [])) lists (all_tell cores script count trace state run (timed ∷ []) (traced count acts) next rises whole) in
-      let alike = subst (λ (l : List ℕ). AreAlike l refused first) lists (first_alike cores script count trace state run (timed ∷ []) (traced count acts) next rises whole) in
-      let accepted : is_accepted all_refused timed ≡ accepts (refusal state timed.event) = (tells_later all_refused first (timed ∷ []) begin 0 trace state tells run).0 in
+      let tells =
+      subst (λ (l : List ℕ). TellsAccepted l begin (first ++ timed ∷ [])) lists
+      (all_tell cores script count trace state run (timed ∷ []) (traced count acts) next rises whole) in
+      let alike =
+      subst (λ (l : List ℕ). AreAlike l refused first) lists
+      (first_alike cores script count trace state run (timed ∷ []) (traced count acts) next rises whole) in
+      let accepted : is_accepted all_refused timed ≡ accepts (refusal state timed.event) =
+      (tells_later all_refused first (timed ∷ []) begin 0 trace state tells run).0 in
       let place : count ≡ 0 + length first = omega (arith, length_at script.events count timed at) in
-      let taken : take (count + 1) script.events ≡ first ++ timed ∷ [] = (let same : count + 1 ≡ suc count = omega arith in ap (λ (n : ℕ). take n script.events) same ∙ take_to script.events count timed at) in
+      let taken : take (count + 1) script.events ≡ first ++ timed ∷ [] =
+      (let same : count + 1 ≡ suc count = omega arith in ap (λ (n : ℕ). take n script.events) same ∙ take_to script.events count timed at) in
       ap (λ (l : List Timed). octets (datagrams all_refused 0 l)) taken
       ∙ ap octets (datagrams_both all_refused first (timed ∷ []) 0 count place)
       ∙ map-append (λ (datagram : Datagram). datagram.octets) (datagrams all_refused 0 first) (datagrams all_refused count (timed ∷ []))
       ∙ (λ i. octets (same_datagrams all_refused refused 0 first alike i)
-      ++ brings (is_accepted all_refused timed) (list_any (refuses timed.line) (lines_in acts)) count timed.event (accepted ∙ lines_accept state timed acts next is refused accepted) i)
+      ++ brings (is_accepted all_refused timed) (list_any (refuses timed.line) (lines_in acts)) count timed.event
+      (accepted ∙ lines_accept state timed acts next is refused accepted) i)

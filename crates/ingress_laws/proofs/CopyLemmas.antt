@@ -60,7 +60,8 @@ module _ (root : Rooted) (lines : List Line) (said : IsSaid root lines) where
   label_by n label (Some copy) e is =
       let c : IsCopy root.request (table_at n) copy = copy_from root.request (table_at n) copy e in
       let same : copy.label ≡ label = cc in
-      let kept : (own root n (octets n)).answer ≡ Some c.advert = sole_row (own root n (octets n)).answer (answer_key root.request (leaf_at n)) c.advert c.there in
+      let kept : (own root n (octets n)).answer ≡ Some c.advert =
+      sole_row (own root n (octets n)).answer (answer_key root.request (leaf_at n)) c.advert c.there in
       record {
         advert = c.advert;
         route = route_from root.request (to_be_bytes w32 n) (octets n) (octets_fit root lines said n) c.advert kept;
@@ -73,9 +74,11 @@ module _ (root : Rooted) (lines : List Line) (said : IsSaid root lines) where
   label_to : (n label : ℕ) → LeavesLabel root lines n label → label_at n ≡ Some label
   label_to n label leaves =
       let copy : LeafCopy = laws.copy_to (n, label) in
-      let kept : (own root n (octets n)).answer ≡ Some leaves.advert = route_to root.request (to_be_bytes w32 n) (octets n) (octets_fit root lines said n) leaves.advert leaves.route in
+      let kept : (own root n (octets n)).answer ≡ Some leaves.advert =
+      route_to root.request (to_be_bytes w32 n) (octets n) (octets_fit root lines said n) leaves.advert leaves.route in
       let there : IsFirst (rows (own root n (octets n)).answer) (answer_key root.request (leaf_at n)) leaves.advert =
-      subst (λ (o : Option Advert). IsFirst (rows o) (answer_key root.request (leaf_at n)) leaves.advert) (sym kept) (row_first (answer_key root.request (leaf_at n)) leaves.advert leaves.route.last.same) in
+      subst (λ (o : Option Advert). IsFirst (rows o) (answer_key root.request (leaf_at n)) leaves.advert) (sym kept)
+      (row_first (answer_key root.request (leaf_at n)) leaves.advert leaves.route.last.same) in
       ap copy_label (copy_to root.request (table_at n) copy (record { advert = leaves.advert; leaf = refl; there = there; tells = leaves.tells }))
 
   -- ---- the peers
@@ -96,7 +99,8 @@ module _ (root : Rooted) (lines : List Line) (said : IsSaid root lines) where
       ap (λ (xs : List ℕ). copy_label (copy_of root.request (table_of (n, own root n xs)))) none
       ∙ ap (λ (p : Peer). copy_label (copy_of root.request (table_of (n, p)))) (heard_none root.request (to_be_bytes w32 n))
 
-  pub copies_are_under : (peers : List (ℕ × Peer)) → AreThePeers (peers_from root nobody lines) peers → AreUnder (LeavesLabel root lines) (copies_of (request_of root.advert) (map table_of peers))
+  pub copies_are_under : (peers : List (ℕ × Peer)) → AreThePeers (peers_from root nobody lines) peers
+      → AreUnder (LeavesLabel root lines) (copies_of (request_of root.advert) (map table_of peers))
   unfolding copies_of
   copies_are_under peers are =
       let under : (n : ℕ) (peer : Peer) → lookup (is_at (nat_cmp n)) peers ≡ Some peer → IsCopiedUnder root.request label_at n peer = λ n peer there.
@@ -114,7 +118,8 @@ module _ (root : Rooted) (lines : List Line) (said : IsSaid root lines) where
             ∙ copies_under root.request label_at peers (all_found (IsCopiedUnder root.request label_at) peers are.rising under);
       }
 
-  pub last_are_under : (labels : ℕ → List ℕ) → ((n : ℕ) → AreAnswers root n (octets n) (labels n)) → (peers : List (ℕ × Peer)) → AreThePeers (peers_from root nobody lines) peers
+  pub last_are_under : (labels : ℕ → List ℕ) → ((n : ℕ) → AreAnswers root n (octets n) (labels n)) → (peers : List (ℕ × Peer))
+      → AreThePeers (peers_from root nobody lines) peers
       → AreUnder (HasLast labels) (copies_of (request_of root.advert) (map table_of peers))
   last_are_under labels answers peers are =
       let all = copies_are_under peers are in

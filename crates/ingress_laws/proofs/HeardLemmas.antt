@@ -31,7 +31,8 @@ emptied d = record d { waiting = [] }
 
 -- the messages that wait already change nothing of what a piece does
 waited_by : {M E : Type 0} (front : List ℕ → Front M E) (o : Option (ℕ × E)) (d : Fed M E) (piece : List ℕ) →
-    fed_unless front o d piece ≡ record (fed_unless front o (emptied d) piece) { waiting = d.waiting ++ (fed_unless front o (emptied d) piece).waiting }
+    fed_unless front o d piece ≡ record (fed_unless front o (emptied d) piece)
+    { waiting = d.waiting ++ (fed_unless front o (emptied d) piece).waiting }
 waited_by front None d piece = refl
 waited_by front (Some f) d piece = ap (λ (ms : List _). record d { waiting = ms }) (sym (append-nil d.waiting))
 
@@ -80,10 +81,12 @@ brought_fits : (root : Rooted) (line : Line) (b : Bool) → IsOctets (octets_by 
 brought_fits root line true fits = fits
 brought_fits root line false fits = none_fits
 
-all_fit : (root : Rooted) (lines : List Line) → AllByRecursion (λ (line : Line). IsOctets (octets_by root line.said)) lines → (n : ℕ) → IsOctets (octets_of root n lines)
+all_fit : (root : Rooted) (lines : List Line) → AllByRecursion (λ (line : Line). IsOctets (octets_by root line.said)) lines → (n : ℕ)
+    → IsOctets (octets_of root n lines)
 all_fit root [] fit n = none_fits
 all_fit root (line ∷ more) fit n =
-    both_octets (brought root n line) (octets_of root n more) (brought_fits root line (is_at (nat_cmp (number_by line)) n) fit.0) (all_fit root more fit.1 n)
+    both_octets (brought root n line) (octets_of root n more) (brought_fits root line (is_at (nat_cmp (number_by line)) n) fit.0)
+    (all_fit root more fit.1 n)
 
 pub octets_fit : (root : Rooted) (lines : List Line) → IsSaid root lines → (n : ℕ) → IsOctets (octets_of root n lines)
 octets_fit root lines said n = all_fit root lines said.octets n
@@ -104,20 +107,23 @@ module _ (root : Rooted) (n : ℕ) where
   pub address_is : (line : Line) → number_by line ≡ n → IsAddress (peer_of line.said) → peer_of line.said ≡ to_be_bytes w32 n
   address_is line same address = sym (be_bytes_4 (peer_of line.said) n address.0 address.1 (sym same))
 
-  pub after_is : (peers : Peers) (so : List ℕ) (line : Line) → IsBehind peers so → number_by line ≡ n → IsAddress (peer_of line.said) → IsOctets (so ++ octets_by root line.said)
+  pub after_is : (peers : Peers) (so : List ℕ) (line : Line) → IsBehind peers so → number_by line ≡ n → IsAddress (peer_of line.said)
+      → IsOctets (so ++ octets_by root line.said)
       → after root peers line ≡ own (so ++ octets_by root line.said)
   after_is peers so line is same address fits =
       let old : before peers line ≡ own so = ap (λ (k : ℕ). unwrap_or (peers k) fresh) same ∙ before_is peers so is (peers n) refl in
       (λ i. taken root.request (address_is line same address i) (old i) (octets_by root line.said))
       ∙ heard_more root.request (to_be_bytes w32 n) so (octets_by root line.said) fits
 
-  one_line : (peers : Peers) (so : List ℕ) (line : Line) → IsBehind peers so → IsAddress (peer_of line.said) → (b : Bool) → is_at (nat_cmp (number_by line)) n ≡ b
+  one_line : (peers : Peers) (so : List ℕ) (line : Line) → IsBehind peers so → IsAddress (peer_of line.said) → (b : Bool)
+      → is_at (nat_cmp (number_by line)) n ≡ b
       → IsOctets (so ++ cond b (octets_by root line.said) []) → IsBehind (behind root peers line) (so ++ cond b (octets_by root line.said) [])
   one_line peers so line is address true e fits =
       let same : number_by line ≡ n = one_key nat_cmp-IsAntisymmetric (number_by line) n e in
       let put : behind root peers line n ≡ Some (after root peers line) = ap (λ (b : Bool). cond b (Some (after root peers line)) (peers n)) e in
       record {
-        known = λ peer k. (let own_is : after root peers line ≡ peer = (let h = sym put ∙ k in cc) in sym own_is ∙ after_is peers so line is same address fits);
+        known = λ peer k. (let own_is : after root peers line ≡ peer = (let h = sym put ∙ k in cc) in
+            sym own_is ∙ after_is peers so line is same address fits);
         unknown = λ k. (let h = sym put ∙ k in absurd cc);
       }
   one_line peers so line is address false e fits =
@@ -128,7 +134,8 @@ module _ (root : Rooted) (n : ℕ) where
         unknown = λ k. none ∙ is.unknown (sym stays ∙ k);
       }
 
-  pub all_lines : (lines : List Line) (peers : Peers) (so : List ℕ) → AllByRecursion (λ (line : Line). IsAddress (peer_of line.said)) lines → IsOctets (so ++ octets_of root n lines)
+  pub all_lines : (lines : List Line) (peers : Peers) (so : List ℕ) → AllByRecursion (λ (line : Line). IsAddress (peer_of line.said)) lines
+      → IsOctets (so ++ octets_of root n lines)
       → IsBehind peers so → IsBehind (peers_from root peers lines) (so ++ octets_of root n lines)
   all_lines [] peers so addresses fits is = subst (IsBehind peers) (sym (append-nil so)) is
   all_lines (line ∷ more) peers so addresses fits is =
@@ -138,7 +145,9 @@ module _ (root : Rooted) (n : ℕ) where
       let fits' : IsOctets ((so ++ own_part) ++ rest) = subst IsOctets grouped fits in
       let one : IsBehind (behind root peers line) (so ++ own_part) =
       one_line peers so line is addresses.0 (is_at (nat_cmp (number_by line)) n) refl (IsOctets-before (so ++ own_part) rest fits') in
-      subst (IsBehind (peers_from root (behind root peers line) more)) (sym grouped) (all_lines more (behind root peers line) (so ++ own_part) addresses.1 fits' one)
+      subst (IsBehind (peers_from root (behind root peers line) more)) (sym grouped)
+      (all_lines more (behind root peers line) (so ++ own_part) addresses.1 fits' one)
 
-  pub at_end : (lines : List Line) → AllByRecursion (λ (line : Line). IsAddress (peer_of line.said)) lines → IsOctets (octets_of root n lines) → IsBehind (peers_from root nobody lines) (octets_of root n lines)
+  pub at_end : (lines : List Line) → AllByRecursion (λ (line : Line). IsAddress (peer_of line.said)) lines → IsOctets (octets_of root n lines)
+      → IsBehind (peers_from root nobody lines) (octets_of root n lines)
   at_end lines addresses fits = all_lines lines nobody [] addresses fits (record { known = λ peer k. absurd cc; unknown = λ k. refl })

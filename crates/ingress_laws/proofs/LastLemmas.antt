@@ -78,7 +78,8 @@ module _ (root : Rooted) (leaf_octets : List ℕ) (is : IsRequest root.request l
   unit_messages [] = refl
   unit_messages (label ∷ more) = ap (λ (ms : List Message). message label ∷ ms) (unit_messages more)
 
-  begins : (labels : List ℕ) → AllByRecursion IsLabel labels → Begins SpellsMessage (flat_map (answer_octets root leaf_octets) labels) (map message labels) []
+  begins : (labels : List ℕ) → AllByRecursion IsLabel labels
+      → Begins SpellsMessage (flat_map (answer_octets root leaf_octets) labels) (map message labels) []
   begins labels fit = record {
     units = map unit labels;
     each = each_spells labels fit;
@@ -86,7 +87,8 @@ module _ (root : Rooted) (leaf_octets : List ℕ) (is : IsRequest root.request l
     carried = unit_messages labels;
   }
 
-  messages_are : (labels : List ℕ) → AllByRecursion IsLabel labels → messages_in (flat_map (answer_octets root leaf_octets) labels) ≡ map message labels
+  messages_are : (labels : List ℕ) → AllByRecursion IsLabel labels
+      → messages_in (flat_map (answer_octets root leaf_octets) labels) ≡ map message labels
   messages_are labels fit =
       let octets : List ℕ = flat_map (answer_octets root leaf_octets) labels in
       let whole_cut : cut message_front octets ≡ with_front (map message labels) (record { messages = []; rest = []; fault = None }) =
@@ -97,10 +99,12 @@ module _ (root : Rooted) (leaf_octets : List ℕ) (is : IsRequest root.request l
   one_answer : (label : ℕ) (found : Option Advert) → answer_by root.request leaf_octets found (message label) ≡ Some (answer label)
   one_answer label found = ap (λ (b : Bool). cond b (Some (answer label)) found) (answer_own root.request (V4 leaf_octets))
 
-  last_answer : (labels : List ℕ) (o : Option ℕ) → fold (answer_by root.request leaf_octets) (option_map answer o) (map message labels) ≡ option_map answer (fold later o labels)
+  last_answer : (labels : List ℕ) (o : Option ℕ)
+      → fold (answer_by root.request leaf_octets) (option_map answer o) (map message labels) ≡ option_map answer (fold later o labels)
   last_answer [] o = refl
   last_answer (label ∷ more) o =
-      ap (λ (found : Option Advert). fold (answer_by root.request leaf_octets) found (map message more)) (one_answer label (option_map answer o)) ∙ last_answer more (Some label)
+      ap (λ (found : Option Advert). fold (answer_by root.request leaf_octets) found (map message more)) (one_answer label (option_map answer o))
+      ∙ last_answer more (Some label)
 
   pub answer_heard : (labels : List ℕ) → AllByRecursion IsLabel labels → (octets : List ℕ) → octets ≡ flat_map (answer_octets root leaf_octets) labels
       → (heard root.request leaf_octets octets).answer ≡ option_map answer (last_of labels)
@@ -116,17 +120,21 @@ module _ (root : Rooted) (leaf_octets : List ℕ) (is : IsRequest root.request l
       absurd (omega (arith, ap (λ (xs : List ℕ). length xs) e, length-append own_text (flat_map (answer_octets root leaf_octets) more)))
 
 -- a label among these is not reserved
-last_fits : (labels : List ℕ) (o : Option ℕ) → ((label : ℕ) → o ≡ Some label → 16 ≤ label) → AllByRecursion IsLabel labels → (label : ℕ) → fold later o labels ≡ Some label → 16 ≤ label
+last_fits : (labels : List ℕ) (o : Option ℕ) → ((label : ℕ) → o ≡ Some label → 16 ≤ label) → AllByRecursion IsLabel labels → (label : ℕ)
+    → fold later o labels ≡ Some label → 16 ≤ label
 last_fits [] o old fit label e = old label e
-last_fits (first ∷ more) o old fit label e = last_fits more (Some first) (λ n is. subst (λ (m : ℕ). 16 ≤ m) (let same : first ≡ n = cc in same) fit.0.0) fit.1 label e
+last_fits (first ∷ more) o old fit label e =
+    last_fits more (Some first) (λ n is. subst (λ (m : ℕ). 16 ≤ m) (let same : first ≡ n = cc in same) fit.0.0) fit.1 label e
 
-request_is : (root : Rooted) → request_of root.advert ≡ Some root.request → IsSpelledSelective root.advert.key → (n : ℕ) → IsRequest root.request (to_be_bytes w32 n)
+request_is : (root : Rooted) → request_of root.advert ≡ Some root.request → IsSpelledSelective root.advert.key → (n : ℕ)
+    → IsRequest root.request (to_be_bytes w32 n)
 request_is root asks spelled n =
     let a : Asks root.advert root.request = asks_from root.advert root.request asks in
     let route = subst IsSpelledSelective a.key spelled in
     record { root = route.1.1.1; four = omega arith; key = subst (IsKey root.request.afi) (sym a.asked) route }
 
-module _ (root : Rooted) (lines : List Line) (said : IsSaid root lines) (n : ℕ) (labels : List ℕ) (are : AreAnswers root n (octets_of root n lines) labels) where
+module _ (root : Rooted) (lines : List Line) (said : IsSaid root lines) (n : ℕ) (labels : List ℕ)
+    (are : AreAnswers root n (octets_of root n lines) labels) where
   abbrev octets : List ℕ
   octets = octets_of root n lines
 
@@ -146,21 +154,25 @@ module _ (root : Rooted) (lines : List Line) (said : IsSaid root lines) (n : ℕ
       let both : Some label ≡ Some other = ap (λ (p : Pmsi). p.label) same ∙ tells.has in
       cc
 
-  last_is : (o : Option ℕ) (advert : Advert) (label : ℕ) → option_map last_advert o ≡ Some advert → TellsLabel root.request (leaf_at n) advert label → o ≡ Some label
+  last_is : (o : Option ℕ) (advert : Advert) (label : ℕ) → option_map last_advert o ≡ Some advert → TellsLabel root.request (leaf_at n) advert label
+      → o ≡ Some label
   last_is None advert label e tells = absurd cc
   last_is (Some own_one) advert label e tells =
       let same : last_advert own_one ≡ advert = cc in
-      let t : TellsLabel root.request (leaf_at n) (last_advert own_one) label = subst (λ (a : Advert). TellsLabel root.request (leaf_at n) a label) (sym same) tells in
+      let t : TellsLabel root.request (leaf_at n) (last_advert own_one) label =
+      subst (λ (a : Advert). TellsLabel root.request (leaf_at n) a label) (sym same) tells in
       ap (λ (l : ℕ). Some l) (own_label own_one label t)
 
   pub last_from : (label : ℕ) → LeavesLabel root lines n label → last_of labels ≡ Some label
   last_from label leaves =
-      last_is (last_of labels) leaves.advert label (sym kept ∙ route_to root.request (to_be_bytes w32 n) octets (octets_fit root lines said n) leaves.advert leaves.route) leaves.tells
+      last_is (last_of labels) leaves.advert label
+      (sym kept ∙ route_to root.request (to_be_bytes w32 n) octets (octets_fit root lines said n) leaves.advert leaves.route) leaves.tells
 
   pub last_to : (label : ℕ) → last_of labels ≡ Some label → LeavesLabel root lines n label
   last_to label e = record {
     advert = last_advert label;
-    route = route_from root.request (to_be_bytes w32 n) octets (octets_fit root lines said n) (last_advert label) (kept ∙ ap (option_map last_advert) e);
+    route = route_from root.request (to_be_bytes w32 n) octets (octets_fit root lines said n) (last_advert label)
+        (kept ∙ ap (option_map last_advert) e);
     tells = record {
       pmsi = leaf_tunnel (leaf_at n) label;
       next_hop = refl;
@@ -182,12 +194,16 @@ module _ (root : Rooted) (n : ℕ) where
   abbrev answers_by : List ℕ → List ℕ
   answers_by labels = flat_map (answer_octets root (to_be_bytes w32 n)) labels
 
-  said_by : (said : Said) → LetsAnswer said → peer_of said ≡ to_be_bytes w32 n → (octets_by root said ≡ answers_by (said_labels said)) × AllByRecursion IsLabel (said_labels said)
-  said_by (Leaf leaf label) fits same = (ap (λ (xs : List ℕ). answer_octets root xs label) same ∙ sym (append-nil (answer_octets root (to_be_bytes w32 n) label)), (fits, tt))
+  said_by : (said : Said) → LetsAnswer said → peer_of said ≡ to_be_bytes w32 n
+      → (octets_by root said ≡ answers_by (said_labels said)) × AllByRecursion IsLabel (said_labels said)
+  said_by (Leaf leaf label) fits same =
+      (ap (λ (xs : List ℕ). answer_octets root xs label) same ∙ sym (append-nil (answer_octets root (to_be_bytes w32 n) label)), (fits, tt))
   said_by (From peer piece) fits same = absurd fits
 
-  line_by : (line : Line) → IsAddress (peer_of line.said) → (number_by line ≡ n → LetsAnswer line.said) → (b : Bool) → is_at (nat_cmp (number_by line)) n ≡ b
-      → (cond b (octets_by root line.said) [] ≡ answers_by (cond b (said_labels line.said) [])) × AllByRecursion IsLabel (cond b (said_labels line.said) [])
+  line_by : (line : Line) → IsAddress (peer_of line.said) → (number_by line ≡ n → LetsAnswer line.said) → (b : Bool)
+      → is_at (nat_cmp (number_by line)) n ≡ b
+      → (cond b (octets_by root line.said) [] ≡ answers_by (cond b (said_labels line.said) []))
+      × AllByRecursion IsLabel (cond b (said_labels line.said) [])
   line_by line address lets false e = (refl, tt)
   line_by line address lets true e =
       let same : number_by line ≡ n = one_key nat_cmp-IsAntisymmetric (number_by line) n e in

@@ -94,7 +94,8 @@ asking_is (Some pmsi) e =
 pub asks_from : (advert : Advert) (request : Request) → request_of advert ≡ Some request → Asks advert request
 unfolding request_of
 asks_from advert request e =
-    let b = bind_some (selective_of advert.key) (λ (r : Request). only_if (asks_leaves advert.pmsi && same_addr advert.next_hop (V4 r.root)) r) request e in
+    let b = bind_some (selective_of advert.key) (λ (r : Request). only_if (asks_leaves advert.pmsi && same_addr advert.next_hop (V4 r.root)) r)
+    request e in
     let o = only_some (asks_leaves advert.pmsi && same_addr advert.next_hop (V4 b.0.root)) b.0 request b.2 in
     let both = and_parts (asks_leaves advert.pmsi) (same_addr advert.next_hop (V4 b.0.root)) o.0 in
     let s = selective_is advert.key request (b.1 ∙ ap (λ (r : Request). Some r) o.1) in
@@ -125,7 +126,8 @@ asks_to advert request a =
     let asking : asks_leaves advert.pmsi ≡ true = ap asks_leaves a.attribute ∙ asks_true a.pmsi a.end a.required a.tunnel in
     let near : same_addr advert.next_hop (V4 request.root) ≡ true =
     ap (λ (addr : Addr). same_addr addr (V4 request.root)) a.next_hop ∙ same_addr_equiv.refl (V4 request.root) in
-    ap (λ (o : Option Request). o >>? f) own ∙ ap (λ (b : Bool). only_if b request) (and_from (asks_leaves advert.pmsi) (same_addr advert.next_hop (V4 request.root)) asking near)
+    ap (λ (o : Option Request). o >>? f) own ∙ ap (λ (b : Bool). only_if b request)
+    (and_from (asks_leaves advert.pmsi) (same_addr advert.next_hop (V4 request.root)) asking near)
 
 module _ (leaf : Addr) (label : ℕ) where
   abbrev octets_for : Request → List ℕ
@@ -135,14 +137,16 @@ module _ (leaf : Addr) (label : ℕ) where
   none_by None e = refl
   none_by (Some request) e = absurd cc
 
-  some_by : (o : Option Request) (octets : List ℕ) → option_map octets_for o ≡ Some octets → (request : Request) × (o ≡ Some request) × (octets ≡ octets_for request)
+  some_by : (o : Option Request) (octets : List ℕ) → option_map octets_for o ≡ Some octets
+      → (request : Request) × (o ≡ Some request) × (octets ≡ octets_for request)
   some_by None octets e = absurd cc
   some_by (Some request) octets e = (request, refl, cc)
 
   pub unanswered_from : (advert : Advert) → answer_to leaf label advert ≡ None → (request : Request) → ¬ (Asks advert request)
   unanswered_from advert e request asks = let some = asks_to advert request asks in let none = none_by (request_of advert) e in absurd cc
 
-  unanswered_by : (advert : Advert) (o : Option Request) → request_of advert ≡ o → ((request : Request) → ¬ (Asks advert request)) → answer_to leaf label advert ≡ None
+  unanswered_by : (advert : Advert) (o : Option Request) → request_of advert ≡ o → ((request : Request) → ¬ (Asks advert request))
+      → answer_to leaf label advert ≡ None
   unanswered_by advert None e not_asked = ap (option_map octets_for) e
   unanswered_by advert (Some request) e not_asked = absurd (not_asked request (asks_from advert request e))
 
@@ -186,7 +190,8 @@ leaf_key_is (keys.Selective rd source group originator) (keys.Selective others s
     let front = and_parts (pointwise nat_eq rd.0 others.0 && flow) (same_addr originator originators) e in
     let both = and_parts (pointwise nat_eq rd.0 others.0) flow front.0 in
     let pair = and_parts (same_any source sources) (same_any group groups) both.1 in
-    λ i. keys.Selective (rd_is rd others both.0 i) (any_is source sources pair.0 i) (any_is group groups pair.1 i) (same_addr_equal originator originators front.1 i)
+    λ i. keys.Selective (rd_is rd others both.0 i) (any_is source sources pair.0 i) (any_is group groups pair.1 i)
+    (same_addr_equal originator originators front.1 i)
 leaf_key_is (keys.Inter rd source_as) (keys.Selective others sources groups originators) e = absurd cc
 leaf_key_is (keys.Selective rd source group originator) (keys.Inter others number) e = absurd cc
 
@@ -216,17 +221,20 @@ number_own : (n : ℕ) → (n == n) ≡ true
 number_own n = search rules
 
 leaf_key_own : (key : LeafKey) → same_leaf_key key key ≡ true
-leaf_key_own (keys.Inter rd source_as) = and_from (pointwise nat_eq rd.0 rd.0) (source_as == source_as) (nat_list_eq_equiv.refl rd.0) (number_own source_as)
+leaf_key_own (keys.Inter rd source_as) =
+    and_from (pointwise nat_eq rd.0 rd.0) (source_as == source_as) (nat_list_eq_equiv.refl rd.0) (number_own source_as)
 leaf_key_own (keys.Selective rd source group originator) =
     let flow = same_any source source && same_any group group in
     and_from (pointwise nat_eq rd.0 rd.0 && flow) (same_addr originator originator)
-    (and_from (pointwise nat_eq rd.0 rd.0) flow (nat_list_eq_equiv.refl rd.0) (and_from (same_any source source) (same_any group group) (any_own source) (any_own group)))
+    (and_from (pointwise nat_eq rd.0 rd.0) flow (nat_list_eq_equiv.refl rd.0)
+    (and_from (same_any source source) (same_any group group) (any_own source) (any_own group)))
     (same_addr_equiv.refl originator)
 
 pub answer_own : (request : Request) (leaf : Addr) → is_answer request leaf (answer_key request leaf) ≡ true
 answer_own request leaf =
     and_from (same_afi request.afi request.afi && same_leaf_key request.key request.key) (same_addr leaf leaf)
-    (and_from (same_afi request.afi request.afi) (same_leaf_key request.key request.key) (afi_own request.afi) (leaf_key_own request.key)) (same_addr_equiv.refl leaf)
+    (and_from (same_afi request.afi request.afi) (same_leaf_key request.key request.key) (afi_own request.afi) (leaf_key_own request.key))
+    (same_addr_equiv.refl leaf)
 
 -- ---- tables
 
@@ -237,14 +245,29 @@ module _ (request : Request) (leaf : Addr) where
   other_key : (key : Key) → is_answer request leaf key ≡ false → key ≢ answer_key request leaf
   other_key key e is = let own = ap (is_answer request leaf) is ∙ answer_own request leaf in absurd cc
 
-  first_by : (advert : Advert) (table : List Advert) (found : Advert) (b : Bool) → tests advert ≡ b → find tests (advert ∷ table) ≡ Some found → (find tests table ≡ Some found → IsFirst table (answer_key request leaf) found) → IsFirst (advert ∷ table) (answer_key request leaf) found
+  first_by : (advert : Advert) (table : List Advert) (found : Advert) (b : Bool) → tests advert ≡ b → find tests (advert ∷ table) ≡ Some found
+      → (find tests table ≡ Some found → IsFirst table (answer_key request leaf) found) → IsFirst (advert ∷ table) (answer_key request leaf) found
   first_by advert table found true e is rest =
       let same : advert ≡ found = (let step : find tests (advert ∷ table) ≡ Some advert = (λ i. cond (e i) (Some advert) (find tests table)) in cc) in
-      record { before = []; after = table; parts = ap (λ (a : Advert). a ∷ table) same; same = answer_is request leaf found.key (ap tests (sym same) ∙ e); first = tt }
+      record {
+        before = [];
+        after = table;
+        parts = ap (λ (a : Advert). a ∷ table) same;
+        same =
+            answer_is request leaf found.key (ap tests (sym same) ∙ e);
+        first = tt;
+      }
   first_by advert table found false e is rest =
       let step : find tests (advert ∷ table) ≡ find tests table = (λ i. cond (e i) (Some advert) (find tests table)) in
       let behind = rest (sym step ∙ is) in
-      record { before = advert ∷ behind.before; after = behind.after; parts = ap (λ (xs : List Advert). advert ∷ xs) behind.parts; same = behind.same; first = (other_key advert.key e, behind.first) }
+      record {
+        before = advert ∷ behind.before;
+        after = behind.after;
+        parts = ap (λ (xs : List Advert). advert ∷ xs) behind.parts;
+        same =
+            behind.same;
+        first = (other_key advert.key e, behind.first);
+      }
 
   first_from : (table : List Advert) (found : Advert) → answer_in request leaf table ≡ Some found → IsFirst table (answer_key request leaf) found
   first_from [] found is = absurd cc
@@ -257,11 +280,14 @@ module _ (request : Request) (leaf : Addr) where
       by true e = absurd (other (answer_is request leaf advert.key e))
       by false e = e
 
-  find_behind : (before : List Advert) (advert : Advert) (after : List Advert) → AllByRecursion (λ (other : Advert). other.key ≢ answer_key request leaf) before → advert.key ≡ answer_key request leaf
+  find_behind : (before : List Advert) (advert : Advert) (after : List Advert)
+      → AllByRecursion (λ (other : Advert). other.key ≢ answer_key request leaf) before → advert.key ≡ answer_key request leaf
       → find tests (before ++ (advert ∷ after)) ≡ Some advert
-  find_behind [] advert after none is = ap (λ (b : Bool). cond b (Some advert) (find tests after)) (ap (is_answer request leaf) is ∙ answer_own request leaf)
+  find_behind [] advert after none is =
+      ap (λ (b : Bool). cond b (Some advert) (find tests after)) (ap (is_answer request leaf) is ∙ answer_own request leaf)
   find_behind (other ∷ before) advert after none is =
-      ap (λ (b : Bool). cond b (Some other) (find tests (before ++ (advert ∷ after)))) (not_tested other none.0) ∙ find_behind before advert after none.1 is
+      ap (λ (b : Bool). cond b (Some other) (find tests (before ++ (advert ∷ after)))) (not_tested other none.0)
+      ∙ find_behind before advert after none.1 is
 
   first_to : (table : List Advert) (found : Advert) → IsFirst table (answer_key request leaf) found → answer_in request leaf table ≡ Some found
   first_to table found f = ap (find tests) f.parts ∙ find_behind f.before found f.after f.first f.same
@@ -271,8 +297,10 @@ module _ (request : Request) (leaf : Addr) where
 comm_is : (own other : ExtComm) → same_comm own other ≡ true → own ≡ other
 comm_is own other e = ap (λ (octets : List ℕ). record { 0 = octets }) (same_text own.0 other.0 (sym e))
 
-among_by : (comm first : ExtComm) (comms : List ExtComm) (b : Bool) → same_comm comm first ≡ b → list_any (same_comm comm) (first ∷ comms) ≡ true → (list_any (same_comm comm) comms ≡ true → IsAmong comms comm) → IsAmong (first ∷ comms) comm
-among_by comm first comms true e any rest = record { before = []; after = comms; parts = ap (λ (c : ExtComm). c ∷ comms) (sym (comm_is comm first e)) }
+among_by : (comm first : ExtComm) (comms : List ExtComm) (b : Bool) → same_comm comm first ≡ b → list_any (same_comm comm) (first ∷ comms) ≡ true
+    → (list_any (same_comm comm) comms ≡ true → IsAmong comms comm) → IsAmong (first ∷ comms) comm
+among_by comm first comms true e any rest =
+    record { before = []; after = comms; parts = ap (λ (c : ExtComm). c ∷ comms) (sym (comm_is comm first e)) }
 among_by comm first comms false e any rest =
     let behind = rest (sym (ap (λ (b : Bool). b || list_any (same_comm comm) comms) e) ∙ any) in
     record { before = first ∷ behind.before; after = behind.after; parts = ap (λ (xs : List ExtComm). first ∷ xs) behind.parts }
@@ -283,7 +311,8 @@ among_from comm (first ∷ comms) any = among_by comm first comms (same_comm com
 
 any_behind : (comm : ExtComm) (before after : List ExtComm) → list_any (same_comm comm) (before ++ (comm ∷ after)) ≡ true
 any_behind comm [] after = ap (λ (b : Bool). b || list_any (same_comm comm) after) (nat_list_eq_equiv.refl comm.0)
-any_behind comm (first ∷ before) after = or_right (same_comm comm first) (list_any (same_comm comm) (before ++ (comm ∷ after))) (any_behind comm before after)
+any_behind comm (first ∷ before) after =
+    or_right (same_comm comm first) (list_any (same_comm comm) (before ++ (comm ∷ after))) (any_behind comm before after)
   where
     or_right : (x y : Bool) → y ≡ true → (x || y) ≡ true
     or_right true y e = refl
@@ -300,7 +329,8 @@ record IsLabelTo (leaf : Addr) (o : Option Pmsi) (label : ℕ) : Type 0 where
   tunnel : pmsi.tunnel ≡ tunnels.Ingress leaf
   has : pmsi.label ≡ Some label
 
-tunnel_label_is : (leaf : Addr) (tunnel : Tunnel) (o : Option ℕ) (label : ℕ) → tunnel_label leaf tunnel o ≡ Some label → (tunnel ≡ tunnels.Ingress leaf) × (o ≡ Some label)
+tunnel_label_is : (leaf : Addr) (tunnel : Tunnel) (o : Option ℕ) (label : ℕ) → tunnel_label leaf tunnel o ≡ Some label
+    → (tunnel ≡ tunnels.Ingress leaf) × (o ≡ Some label)
 tunnel_label_is leaf tunnels.None o label e = absurd cc
 tunnel_label_is leaf (tunnels.Mldp element) o label e = absurd cc
 tunnel_label_is leaf (tunnels.Other kind octets) o label e = absurd cc
@@ -318,7 +348,8 @@ label_to_is leaf (Some pmsi) label e =
 tunnel_label_own : (leaf : Addr) (label : ℕ) → tunnel_label leaf (tunnels.Ingress leaf) (Some label) ≡ Some label
 tunnel_label_own leaf label = ap (λ (b : Bool). only_if b label) (same_addr_equiv.refl leaf)
 
-label_to_own : (leaf : Addr) (pmsi : Pmsi) (label : ℕ) → pmsi.tunnel ≡ tunnels.Ingress leaf → pmsi.label ≡ Some label → label_to leaf (Some pmsi) ≡ Some label
+label_to_own : (leaf : Addr) (pmsi : Pmsi) (label : ℕ) → pmsi.tunnel ≡ tunnels.Ingress leaf → pmsi.label ≡ Some label
+    → label_to leaf (Some pmsi) ≡ Some label
 label_to_own leaf pmsi label tunnel is = (λ i. tunnel_label leaf (tunnel i) (is i)) ∙ tunnel_label_own leaf label
 
 module _ (request : Request) (leaf : Addr) (advert : Advert) where
@@ -352,7 +383,8 @@ module _ (request : Request) (leaf : Addr) (advert : Advert) where
       let high : nat_le 16 label ≡ true = search (rules, t.unreserved) in
       let p : passes label ≡ true =
       and_from (same_addr advert.next_hop leaf) (list_any (same_comm (root_target request)) advert.comms && nat_le 16 label) near
-      (and_from (list_any (same_comm (root_target request)) advert.comms) (nat_le 16 label) (among_to (root_target request) advert.comms t.target) high) in
+      (and_from (list_any (same_comm (root_target request)) advert.comms) (nat_le 16 label) (among_to (root_target request) advert.comms t.target)
+      high) in
       ap (λ (o : Option ℕ). o >>? λ (l : ℕ). only_if (passes l) l) to ∙ ap (λ (b : Bool). only_if b label) p
 
 -- ---- copies
@@ -361,7 +393,8 @@ pub copy_from : (request : Request) (taken : TakenTable) (copy : LeafCopy) → c
 unfolding copy_of
 copy_from request taken copy e =
     let own : ℕ → LeafCopy = λ label. record { leaf = taken.peer; label = label } in
-    let a = bind_some (answer_in request taken.peer taken.table) (λ (advert : Advert). label_told request taken.peer advert >>? λ (label : ℕ). Some (own label)) copy e in
+    let a = bind_some (answer_in request taken.peer taken.table)
+    (λ (advert : Advert). label_told request taken.peer advert >>? λ (label : ℕ). Some (own label)) copy e in
     let b = bind_some (label_told request taken.peer a.0) (λ (label : ℕ). Some (own label)) copy a.2 in
     let is : own b.0 ≡ copy = (let h = b.2 in cc) in
     record {
@@ -378,33 +411,44 @@ copy_to request taken copy c =
     let found : answer_in request taken.peer taken.table ≡ Some c.advert = first_to request taken.peer taken.table c.advert c.there in
     let told : label_told request taken.peer c.advert ≡ Some copy.label = told_to request taken.peer c.advert copy.label c.tells in
     ap (λ (o : Option Advert). o >>? λ (advert : Advert). label_told request taken.peer advert >>? λ (label : ℕ). Some (own label)) found
-    ∙ (ap (λ (o : Option ℕ). o >>? λ (label : ℕ). Some (own label)) told ∙ ap (λ (leaf : Addr). Some (record { leaf = leaf; label = copy.label })) (sym c.leaf))
+    ∙ (ap (λ (o : Option ℕ). o >>? λ (label : ℕ). Some (own label)) told
+    ∙ ap (λ (leaf : Addr). Some (record { leaf = leaf; label = copy.label })) (sym c.leaf))
 
 adds_by : (request : Request) (taken : TakenTable) (more : List TakenTable) (o : Option LeafCopy) → copy_of request taken ≡ o
     → Adds request taken (filter_map (copy_of request) more) (filter_map (copy_of request) (taken ∷ more))
-adds_by request taken more None e = passed (λ copy is. let some = copy_to request taken copy is in absurd cc) (ap (λ (o : Option LeafCopy). cons_option o (filter_map (copy_of request) more)) e)
-adds_by request taken more (Some copy) e = sent copy (copy_from request taken copy e) (ap (λ (o : Option LeafCopy). cons_option o (filter_map (copy_of request) more)) e)
+adds_by request taken more None e =
+    passed (λ copy is. let some = copy_to request taken copy is in absurd cc)
+    (ap (λ (o : Option LeafCopy). cons_option o (filter_map (copy_of request) more)) e)
+adds_by request taken more (Some copy) e =
+    sent copy (copy_from request taken copy e) (ap (λ (o : Option LeafCopy). cons_option o (filter_map (copy_of request) more)) e)
 
 all_copies : (request : Request) (taken : List TakenTable) → AreCopies request taken (filter_map (copy_of request) taken)
 all_copies request [] = refl
-all_copies request (taken ∷ more) = (filter_map (copy_of request) more, all_copies request more, adds_by request taken more (copy_of request taken) refl)
+all_copies request (taken ∷ more) =
+    (filter_map (copy_of request) more, all_copies request more, adds_by request taken more (copy_of request taken) refl)
 
-pub copies_from : (request : Request) (taken : List TakenTable) (copies : List LeafCopy) → copies ≡ copies_of (Some request) taken → AreCopies request taken copies
+pub copies_from : (request : Request) (taken : List TakenTable) (copies : List LeafCopy) → copies ≡ copies_of (Some request) taken
+    → AreCopies request taken copies
 unfolding copies_of
 copies_from request taken copies e = subst (AreCopies request taken) (sym e) (all_copies request taken)
 
-added_by : (request : Request) (taken : TakenTable) (more : List TakenTable) (rest copies : List LeafCopy) (o : Option LeafCopy) → copy_of request taken ≡ o → rest ≡ filter_map (copy_of request) more
+added_by : (request : Request) (taken : TakenTable) (more : List TakenTable) (rest copies : List LeafCopy) (o : Option LeafCopy)
+    → copy_of request taken ≡ o → rest ≡ filter_map (copy_of request) more
     → Adds request taken rest copies → copies ≡ filter_map (copy_of request) (taken ∷ more)
 added_by request taken more rest copies o e is (sent copy c put) =
     put ∙ ((λ i. copy ∷ is i) ∙ ap (λ (o : Option LeafCopy). cons_option o (filter_map (copy_of request) more)) (sym (copy_to request taken copy c)))
-added_by request taken more rest copies None e is (passed none put) = put ∙ (is ∙ ap (λ (o : Option LeafCopy). cons_option o (filter_map (copy_of request) more)) (sym e))
+added_by request taken more rest copies None e is (passed none put) =
+    put ∙ (is ∙ ap (λ (o : Option LeafCopy). cons_option o (filter_map (copy_of request) more)) (sym e))
 added_by request taken more rest copies (Some copy) e is (passed none put) = absurd (none copy (copy_from request taken copy e))
 
-listed : (request : Request) (taken : List TakenTable) (copies : List LeafCopy) → AreCopies request taken copies → copies ≡ filter_map (copy_of request) taken
+listed : (request : Request) (taken : List TakenTable) (copies : List LeafCopy) → AreCopies request taken copies
+    → copies ≡ filter_map (copy_of request) taken
 listed request [] copies none = none
-listed request (taken ∷ more) copies are = added_by request taken more are.0 copies (copy_of request taken) refl (listed request more are.0 are.1) are.2
+listed request (taken ∷ more) copies are =
+    added_by request taken more are.0 copies (copy_of request taken) refl (listed request more are.0 are.1) are.2
 
-pub copies_to : (request : Request) (taken : List TakenTable) (copies : List LeafCopy) → AreCopies request taken copies → copies ≡ copies_of (Some request) taken
+pub copies_to : (request : Request) (taken : List TakenTable) (copies : List LeafCopy) → AreCopies request taken copies
+    → copies ≡ copies_of (Some request) taken
 unfolding copies_of
 copies_to request taken copies are = listed request taken copies are
 

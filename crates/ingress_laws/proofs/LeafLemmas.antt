@@ -29,26 +29,31 @@ module _ (label_at : ℕ → Option ℕ) where
   above_by k q None more less rest = rest
   above_by k q (Some label) more less rest = (less, rest)
 
-  above : (k : ℕ) (entries : List (ℕ × Peer)) → AllByRecursion (λ (y : ℕ). nat_cmp k y ≡ Less) (keys_of entries) → AllByRecursion (λ (y : ℕ). nat_cmp k y ≡ Less) (keys_of (leaves_of entries))
+  above : (k : ℕ) (entries : List (ℕ × Peer)) → AllByRecursion (λ (y : ℕ). nat_cmp k y ≡ Less) (keys_of entries)
+      → AllByRecursion (λ (y : ℕ). nat_cmp k y ≡ Less) (keys_of (leaves_of entries))
   above k [] all = tt
   above k (entry ∷ entries) all = above_by k entry.0 (label_at entry.0) (leaves_of entries) all.0 (above k entries all.1)
 
-  rise_by : (q : ℕ) (o : Option ℕ) (more : List (ℕ × ℕ)) → AllByRecursion (λ (y : ℕ). nat_cmp q y ≡ Less) (keys_of more) → IsStrictlySortedBy nat_cmp (keys_of more)
+  rise_by : (q : ℕ) (o : Option ℕ) (more : List (ℕ × ℕ)) → AllByRecursion (λ (y : ℕ). nat_cmp q y ≡ Less) (keys_of more)
+      → IsStrictlySortedBy nat_cmp (keys_of more)
       → IsStrictlySortedBy nat_cmp (keys_of (cons_option (option_map (λ label. (q, label)) o) more))
   unfolding IsStrictlySortedBy
   rise_by q None more less rest = rest
   rise_by q (Some label) more less rest = (less, rest)
 
-  pub leaves_rise : (entries : List (ℕ × Peer)) → IsStrictlySortedBy nat_cmp (keys_of entries) → IsStrictlySortedBy nat_cmp (keys_of (leaves_of entries))
+  pub leaves_rise : (entries : List (ℕ × Peer)) → IsStrictlySortedBy nat_cmp (keys_of entries)
+      → IsStrictlySortedBy nat_cmp (keys_of (leaves_of entries))
   unfolding IsStrictlySortedBy
   leaves_rise [] rises = tt
-  leaves_rise (entry ∷ entries) rises = rise_by entry.0 (label_at entry.0) (leaves_of entries) (above entry.0 entries rises.0) (leaves_rise entries rises.1)
+  leaves_rise (entry ∷ entries) rises =
+      rise_by entry.0 (label_at entry.0) (leaves_of entries) (above entry.0 entries rises.0) (leaves_rise entries rises.1)
 
   module _ (n : ℕ) where
     abbrev found : {X : Type 0} → List (ℕ × X) → Option X
     found entries = lookup (is_at (nat_cmp n)) entries
 
-    none_by : (q : ℕ) (b : Bool) → is_at (nat_cmp n) q ≡ b → (o : Option ℕ) → label_at q ≡ o → label_at n ≡ None → (more : List (ℕ × ℕ)) → found more ≡ None
+    none_by : (q : ℕ) (b : Bool) → is_at (nat_cmp n) q ≡ b → (o : Option ℕ) → label_at q ≡ o → label_at n ≡ None → (more : List (ℕ × ℕ))
+        → found more ≡ None
         → found (cons_option (option_map (λ label. (q, label)) o) more) ≡ None
     none_by q b e None is none more rest = rest
     none_by q false e (Some label) is none more rest = ap (λ (b : Bool). cond b (Some label) (found more)) e ∙ rest
@@ -66,18 +71,23 @@ module _ (label_at : ℕ → Option ℕ) where
         → cond b (Some p) (found entries) ≡ Some peer → (found entries ≡ Some peer → found (leaves_of entries) ≡ Some label)
         → (o : Option ℕ) → label_at q ≡ o → found (cons_option (option_map (λ l. (q, l)) o) (leaves_of entries)) ≡ Some label
     some_by q p peer entries label some false e there rest None is = rest there
-    some_by q p peer entries label some false e there rest (Some other) is = ap (λ (b : Bool). cond b (Some other) (found (leaves_of entries))) e ∙ rest there
+    some_by q p peer entries label some false e there rest (Some other) is =
+        ap (λ (b : Bool). cond b (Some other) (found (leaves_of entries))) e ∙ rest there
     some_by q p peer entries label some true e there rest o is =
         let same : n ≡ q = one_key nat_cmp-IsAntisymmetric n q e in
         let told : o ≡ Some label = sym is ∙ (sym (ap (λ (k : ℕ). label_at k) same) ∙ some) in
-        ap (λ (o : Option ℕ). found (cons_option (option_map (λ l. (q, l)) o) (leaves_of entries))) told ∙ ap (λ (b : Bool). cond b (Some label) (found (leaves_of entries))) e
+        ap (λ (o : Option ℕ). found (cons_option (option_map (λ l. (q, l)) o) (leaves_of entries))) told
+        ∙ ap (λ (b : Bool). cond b (Some label) (found (leaves_of entries))) e
 
-    some_found : (entries : List (ℕ × Peer)) (peer : Peer) (label : ℕ) → label_at n ≡ Some label → found entries ≡ Some peer → found (leaves_of entries) ≡ Some label
+    some_found : (entries : List (ℕ × Peer)) (peer : Peer) (label : ℕ) → label_at n ≡ Some label → found entries ≡ Some peer
+        → found (leaves_of entries) ≡ Some label
     some_found [] peer label some there = absurd cc
     some_found (entry ∷ entries) peer label some there =
-        some_by entry.0 entry.1 peer entries label some (is_at (nat_cmp n) entry.0) refl there (some_found entries peer label some) (label_at entry.0) refl
+        some_by entry.0 entry.1 peer entries label some (is_at (nat_cmp n) entry.0) refl there (some_found entries peer label some) (label_at entry.0)
+        refl
 
-    each_by : (entries : List (ℕ × Peer)) → (found entries ≡ None → label_at n ≡ None) → (p : Option Peer) → found entries ≡ p → (o : Option ℕ) → label_at n ≡ o → found (leaves_of entries) ≡ o
+    each_by : (entries : List (ℕ × Peer)) → (found entries ≡ None → label_at n ≡ None) → (p : Option Peer) → found entries ≡ p → (o : Option ℕ)
+        → label_at n ≡ o → found (leaves_of entries) ≡ o
     each_by entries none p is None e = none_found entries e
     each_by entries none (Some peer) is (Some label) e = some_found entries peer label e is
     each_by entries none None is (Some label) e = absurd (let both : None ≡ Some label = sym (none is) ∙ e in cc)
@@ -87,7 +97,8 @@ module _ (label_at : ℕ → Option ℕ) where
 
 -- ---- the entries of a sorted list are found
 
-not_by : (n k q : ℕ) (b : Bool) → is_at (nat_cmp n) q ≡ b → is_at (nat_cmp n) k ≡ true → nat_cmp k q ≡ Less → (b ≡ false → true ≡ false) → true ≡ false
+not_by : (n k q : ℕ) (b : Bool) → is_at (nat_cmp n) q ≡ b → is_at (nat_cmp n) k ≡ true → nat_cmp k q ≡ Less → (b ≡ false → true ≡ false)
+    → true ≡ false
 not_by n k q false at e less rest = rest refl
 not_by n k q true at e less rest =
     let same : n ≡ k = one_key nat_cmp-IsAntisymmetric n k e in
@@ -96,30 +107,35 @@ not_by n k q true at e less rest =
     let below : nat_cmp k k ≡ Less = subst (λ (m : ℕ). nat_cmp k m ≡ Less) (sym here ∙ same) less in
     absurd (let both = sym below ∙ tied in cc)
 
-not_at : (n k : ℕ) (peer : Peer) (entries : List (ℕ × Peer)) → AllByRecursion (λ (y : ℕ). nat_cmp k y ≡ Less) (keys_of entries) → lookup (is_at (nat_cmp n)) entries ≡ Some peer
+not_at : (n k : ℕ) (peer : Peer) (entries : List (ℕ × Peer)) → AllByRecursion (λ (y : ℕ). nat_cmp k y ≡ Less) (keys_of entries)
+    → lookup (is_at (nat_cmp n)) entries ≡ Some peer
     → (b : Bool) → is_at (nat_cmp n) k ≡ b → b ≡ false
 not_at n k peer entries above there false e = refl
 not_at n k peer [] above there true e = absurd cc
 not_at n k peer (entry ∷ entries) above there true e =
     let at : Bool = is_at (nat_cmp n) entry.0 in
-    let step : at ≡ false → lookup (is_at (nat_cmp n)) entries ≡ Some peer = λ gone. sym (ap (λ (b : Bool). cond b (Some entry.1) (lookup (is_at (nat_cmp n)) entries)) gone) ∙ there in
+    let step : at ≡ false → lookup (is_at (nat_cmp n)) entries ≡ Some peer =
+    λ gone. sym (ap (λ (b : Bool). cond b (Some entry.1) (lookup (is_at (nat_cmp n)) entries)) gone) ∙ there in
     not_by n k entry.0 at refl e above.0 (λ gone. not_at n k peer entries above.1 (step gone) true e)
 
 module _ (P : ℕ → Peer → Type 0) where
-  pub all_found : (entries : List (ℕ × Peer)) → IsStrictlySortedBy nat_cmp (keys_of entries) → ((n : ℕ) (peer : Peer) → lookup (is_at (nat_cmp n)) entries ≡ Some peer → P n peer)
+  pub all_found : (entries : List (ℕ × Peer)) → IsStrictlySortedBy nat_cmp (keys_of entries)
+      → ((n : ℕ) (peer : Peer) → lookup (is_at (nat_cmp n)) entries ≡ Some peer → P n peer)
       → AllByRecursion (λ (e : ℕ × Peer). P e.0 e.1) entries
   unfolding IsStrictlySortedBy
   all_found [] rises each = tt
   all_found (entry ∷ entries) rises each = (
     each entry.0 entry.1 (ap (λ (b : Bool). cond b (Some entry.1) (lookup (is_at (nat_cmp entry.0)) entries)) (own_key nat_cmp_total entry.0)),
     all_found entries rises.1 (λ n peer there. each n peer (
-        ap (λ (b : Bool). cond b (Some entry.1) (lookup (is_at (nat_cmp n)) entries)) (not_at n entry.0 peer entries rises.0 there (is_at (nat_cmp n) entry.0) refl) ∙ there
+        ap (λ (b : Bool). cond b (Some entry.1) (lookup (is_at (nat_cmp n)) entries))
+        (not_at n entry.0 peer entries rises.0 there (is_at (nat_cmp n) entry.0) refl) ∙ there
         )),
   )
 
 -- ---- their copies
 
-map_cons : (o : Option (ℕ × ℕ)) (more : List (ℕ × ℕ)) → cons_option (option_map laws.copy_to o) (map laws.copy_to more) ≡ map laws.copy_to (cons_option o more)
+map_cons : (o : Option (ℕ × ℕ)) (more : List (ℕ × ℕ))
+    → cons_option (option_map laws.copy_to o) (map laws.copy_to more) ≡ map laws.copy_to (cons_option o more)
 map_cons None more = refl
 map_cons (Some leaf) more = refl
 
@@ -136,4 +152,5 @@ module _ (request : Request) (label_at : ℕ → Option ℕ) where
       → filter_map (copy_of request) (map table_of entries) ≡ map laws.copy_to (leaves_of label_at entries)
   copies_under [] all = refl
   copies_under (entry ∷ entries) all =
-      (λ i. cons_option ((all.0 ∙ joined entry.0 (label_at entry.0)) i) (copies_under entries all.1 i)) ∙ map_cons (leaf_of label_at entry) (leaves_of label_at entries)
+      (λ i. cons_option ((all.0 ∙ joined entry.0 (label_at entry.0)) i) (copies_under entries all.1 i))
+      ∙ map_cons (leaf_of label_at entry) (leaves_of label_at entries)

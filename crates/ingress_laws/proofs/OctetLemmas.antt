@@ -52,8 +52,10 @@ both_hold P (m ∷ ms) ns all more = (all.0, both_hold P ms ns all.1 more)
 behind_one : (x : ℕ) (xs : List ℕ) → IsOctets (x ∷ xs) → IsOctets xs
 behind_one x xs fits i = fits (suc i)
 
-module _ {M : Type 0} (Spells : List M → List ℕ → Type 0) (P : M → Type 0) (each : (ms : List M) (text : List ℕ) → Spells ms text → IsOctets text → AllByRecursion P ms) where
-  units_hold : (units : List (Spelled M)) (rest : List ℕ) → AreUnits Spells units → IsOctets (octets_of units ++ rest) → AllByRecursion P (messages_of units)
+module _ {M : Type 0} (Spells : List M → List ℕ → Type 0) (P : M → Type 0)
+    (each : (ms : List M) (text : List ℕ) → Spells ms text → IsOctets text → AllByRecursion P ms) where
+  units_hold : (units : List (Spelled M)) (rest : List ℕ) → AreUnits Spells units → IsOctets (octets_of units ++ rest)
+      → AllByRecursion P (messages_of units)
   units_hold [] rest are fits = tt
   units_hold (u ∷ units) rest are fits =
       let whole : IsOctets (u.octets ++ (octets_of units ++ rest)) = subst IsOctets (append_assoc u.octets (octets_of units) rest) fits in
@@ -63,8 +65,10 @@ module _ {M : Type 0} (Spells : List M → List ℕ → Type 0) (P : M → Type 
   pub begun_hold : (stream : List ℕ) (ms : List M) (rest : List ℕ) → Begins Spells stream ms rest → IsOctets stream → AllByRecursion P ms
   begun_hold stream ms rest b fits = subst (AllByRecursion P) (sym b.carried) (units_hold b.units rest b.each (subst IsOctets b.parts fits))
 
-module _ {M : Type 0} (Spells : M → List ℕ → Type 0) (Fits : List M → M → Type 0) (P : M → Type 0) (each : (m : M) (text : List ℕ) → Spells m text → IsOctets text → P m) where
-  parts_hold : (before : List M) (octets : List ℕ) (ms : List M) (rest : List ℕ) → ArePartsAfter Spells Fits before octets ms rest → IsOctets octets → AllByRecursion P ms
+module _ {M : Type 0} (Spells : M → List ℕ → Type 0) (Fits : List M → M → Type 0) (P : M → Type 0)
+    (each : (m : M) (text : List ℕ) → Spells m text → IsOctets text → P m) where
+  parts_hold : (before : List M) (octets : List ℕ) (ms : List M) (rest : List ℕ) → ArePartsAfter Spells Fits before octets ms rest → IsOctets octets
+      → AllByRecursion P ms
   parts_hold before octets [] rest are fits = tt
   parts_hold before octets (m ∷ ms) rest are fits =
       let whole : IsOctets (are.0 ++ are.1) = subst IsOctets are.4 fits in
@@ -98,9 +102,12 @@ attribute_has : (a : Attribute) (text : List ℕ) → SpellsAttribute a text →
 attribute_has (Reach (Some r)) text s fits =
     let m = s.means in
     let field : List ℕ = len_field s.flags (length s.value) in
-    let value : IsOctets s.value = IsOctets-behind field s.value (behind_one 14 (field ++ s.value) (behind_one s.flags (14 ∷ (field ++ s.value)) (subst IsOctets s.parts fits))) in
+    let value : IsOctets s.value =
+    IsOctets-behind field s.value (behind_one 14 (field ++ s.value) (behind_one s.flags (14 ∷ (field ++ s.value)) (subst IsOctets s.parts fits)))
+    in
     let hop : IsOctets (m.hop ++ (m.reserved ∷ m.nlri)) =
-    behind_one (length m.hop) (m.hop ++ (m.reserved ∷ m.nlri)) (IsOctets-behind (pair m.family) (length m.hop ∷ (m.hop ++ (m.reserved ∷ m.nlri))) (subst IsOctets m.parts value)) in
+    behind_one (length m.hop) (m.hop ++ (m.reserved ∷ m.nlri))
+    (IsOctets-behind (pair m.family) (length m.hop ∷ (m.hop ++ (m.reserved ∷ m.nlri))) (subst IsOctets m.parts value)) in
     let nlri : IsOctets m.nlri = behind_one m.reserved m.nlri (IsOctets-behind m.hop (m.reserved ∷ m.nlri) hop) in
     begun_hold (SpellsUnit m.family) HasRoute (unit_has m.family) m.nlri r.keys [] m.routes nlri
 attribute_has (Reach None) text s fits = tt
@@ -144,7 +151,9 @@ means_has (messages.Update u) kind body means fits =
     let list_len : List ℕ = to_be_bytes w16 (length b.list) in
     let len : List ℕ = to_be_bytes w16 (length b.withdrawn) in
     let whole : IsOctets (len ++ (b.withdrawn ++ (list_len ++ last))) = subst IsOctets b.parts fits in
-    let list : IsOctets b.list = IsOctets-before b.list b.rest (IsOctets-behind list_len last (IsOctets-behind b.withdrawn (list_len ++ last) (IsOctets-behind len (b.withdrawn ++ (list_len ++ last)) whole))) in
+    let list : IsOctets b.list =
+    IsOctets-before b.list b.rest (IsOctets-behind list_len last
+    (IsOctets-behind b.withdrawn (list_len ++ last) (IsOctets-behind len (b.withdrawn ++ (list_len ++ last)) whole))) in
     update_has u b.list b.spelled list
 means_has (messages.Other k) kind body means fits = tt
 
@@ -156,8 +165,10 @@ pub record IsRead (m : Message) : Type 0 where
 pub message_read : (ms : List Message) (text : List ℕ) → SpellsMessage ms text → IsOctets text → AllByRecursion IsRead ms
 message_read ms text s fits =
     let body : IsOctets s.body = IsOctets-behind (header (19 + length s.body) s.kind) s.body (subst IsOctets s.parts fits) in
-    subst (AllByRecursion IsRead) (sym s.one)
-    (record { spelled = (text, subst (λ (xs : List Message). SpellsMessage xs text) s.one s); has = means_has s.message s.kind s.body s.means body }, tt)
+    subst (AllByRecursion IsRead) (sym s.one) (
+      record { spelled = (text, subst (λ (xs : List Message). SpellsMessage xs text) s.one s); has = means_has s.message s.kind s.body s.means body },
+      tt,
+    )
 
 -- ---- answers
 
@@ -167,11 +178,14 @@ pair_octets Ipv6 = octets_append (to_be_bytes w16 2) (5 ∷ []) (octets_of_16 2)
 
 path_octets : IsOctets path_text
 path_octets =
-    octets_append (attribute 0x40 1 (0 ∷ [])) (attribute 0x40 2 [] ++ attribute 0x40 5 (to_be_bytes w32 100)) (attribute_fits 0x40 1 (0 ∷ []) (omega arith) (omega arith) (omega arith) (one_octet 0 (omega arith)))
-    (octets_append (attribute 0x40 2 []) (attribute 0x40 5 (to_be_bytes w32 100)) (attribute_fits 0x40 2 [] (omega arith) (omega arith) (omega arith) no_octets)
+    octets_append (attribute 0x40 1 (0 ∷ [])) (attribute 0x40 2 [] ++ attribute 0x40 5 (to_be_bytes w32 100))
+    (attribute_fits 0x40 1 (0 ∷ []) (omega arith) (omega arith) (omega arith) (one_octet 0 (omega arith)))
+    (octets_append (attribute 0x40 2 []) (attribute 0x40 5 (to_be_bytes w32 100))
+    (attribute_fits 0x40 2 [] (omega arith) (omega arith) (omega arith) no_octets)
     (attribute_fits 0x40 5 (to_be_bytes w32 100) (omega arith) (omega arith) (omega arith) (octets_of_32 100)))
 
-module _ (request : Request) (leaf : List ℕ) (label : ℕ) (root : IsAddress request.root) (own : IsAddress leaf) (key : routes.IsKey request.afi request.key) (has : IsOctets (routes.key request.key)) where
+module _ (request : Request) (leaf : List ℕ) (label : ℕ) (root : IsAddress request.root) (own : IsAddress leaf)
+    (key : routes.IsKey request.afi request.key) (has : IsOctets (routes.key request.key)) where
   abbrev advert : Advert
   advert = answer_of request (V4 leaf) label
 
@@ -179,13 +193,15 @@ module _ (request : Request) (leaf : List ℕ) (label : ℕ) (root : IsAddress r
   route_octets =
       let fields : List ℕ = routes.key request.key ++ leaf in
       let few : length fields < 256 = fields_room request.afi (Leaf request.key (V4 leaf)) (key, own.0) in
-      octets_cons 4 (length fields ∷ fields) (omega arith) (octets_cons (length fields) fields few (octets_append (routes.key request.key) leaf has own.1))
+      octets_cons 4 (length fields ∷ fields) (omega arith)
+      (octets_cons (length fields) fields few (octets_append (routes.key request.key) leaf has own.1))
 
   reach_octets : IsOctets (reach_value advert)
   reach_octets =
       let route : List ℕ = routes.written (Leaf request.key (V4 leaf)) in
       octets_append (pair (families.Mcast request.afi)) ((length leaf ∷ leaf) ++ (0 ∷ route)) (pair_octets request.afi)
-      (octets_append (length leaf ∷ leaf) (0 ∷ route) (octets_cons (length leaf) leaf (omega (arith, own.0)) own.1) (octets_cons 0 route (omega arith) route_octets))
+      (octets_append (length leaf ∷ leaf) (0 ∷ route) (octets_cons (length leaf) leaf (omega (arith, own.0)) own.1)
+      (octets_cons 0 route (omega arith) route_octets))
 
   target_octets : IsOctets (root_target request).0
   target_octets =
@@ -197,7 +213,8 @@ module _ (request : Request) (leaf : List ℕ) (label : ℕ) (root : IsAddress r
       let n : ℕ = 16 * label + 0 in
       let three : List ℕ = n / 65536 % 256 ∷ n / 256 % 256 ∷ n % 256 ∷ [] in
       octets_append (0 ∷ 6 ∷ three) leaf
-      (octets_cons 0 (6 ∷ three) (omega arith) (octets_cons 6 three (omega arith) (octets_cons (n / 65536 % 256) (n / 256 % 256 ∷ n % 256 ∷ []) (omega arith)
+      (octets_cons 0 (6 ∷ three) (omega arith) (octets_cons 6 three (omega arith)
+      (octets_cons (n / 65536 % 256) (n / 256 % 256 ∷ n % 256 ∷ []) (omega arith)
       (octets_cons (n / 256 % 256) (n % 256 ∷ []) (omega arith) (one_octet (n % 256) (omega arith)))))) own.1
 
   -- An answer is octets.
@@ -207,6 +224,9 @@ module _ (request : Request) (leaf : List ℕ) (label : ℕ) (root : IsAddress r
       let comms : List ℕ = attribute 0xC0 16 (comms_octets advert.comms) in
       let eight : length (root_target request).0 ≡ 8 = omega (arith, root.0, length-append request.root (0 ∷ 0 ∷ [])) in
       octets_append path_text (reach ++ (comms ++ tunnel_text advert.pmsi)) path_octets
-      (octets_append reach (comms ++ tunnel_text advert.pmsi) (attribute_fits 0x80 14 (reach_value advert) (omega arith) (omega arith) (omega arith) reach_octets)
-      (octets_append comms (tunnel_text advert.pmsi) (attribute_fits 0xC0 16 (comms_octets advert.comms) (omega arith) (omega arith) (omega arith) (comms_fit advert.comms ((eight, target_octets), tt)))
+      (octets_append reach (comms ++ tunnel_text advert.pmsi)
+      (attribute_fits 0x80 14 (reach_value advert) (omega arith) (omega arith) (omega arith) reach_octets)
+      (octets_append comms (tunnel_text advert.pmsi)
+      (attribute_fits 0xC0 16 (comms_octets advert.comms) (omega arith) (omega arith) (omega arith)
+      (comms_fit advert.comms ((eight, target_octets), tt)))
       (attribute_fits 0xC0 22 (tunnels.written (leaf_tunnel (V4 leaf) label)) (omega arith) (omega arith) (omega arith) tunnel_octets)))

@@ -55,7 +55,8 @@ module _ (octets : List ℕ) (fits : IsOctets octets) where
   yield_by None e =
       let splits = cut_splits message_front SpellsMessage message_format.stream.framing octets fits e in
       let left : IsOctets rest = behind_units (messages_in octets) rest splits.0.begins in
-      sound rest splits.0 (λ last offset fault is. let bad_is = message_format.faulty rest last offset fault left is in let more_is = splits.1 in absurd cc)
+      sound rest splits.0 (λ last offset fault is. let bad_is = message_format.faulty rest last offset fault left is in let more_is = splits.1 in
+      absurd cc)
   yield_by (Some f) e = faulty f.0 f.1 (fails_in f e)
 
   yielded : Yields SpellsMessage UnitFault octets (messages_in octets)
@@ -88,22 +89,33 @@ module _ (request : Request) (leaf : List ℕ) where
   abbrev LastOrOld : List Change → Option Advert → Advert → Type 0
   LastOrOld changes found advert = AnnouncesLast changes key advert ⊎ ((found ≡ Some advert) × NoneOwn changes)
 
-  told_is : (change : Change) (more : List Change) (advert : Advert) → is_answer request (V4 leaf) (key_of change) ≡ true → told_by change ≡ Some advert → NoneOwn more → AnnouncesLast (change ∷ more) key advert
+  told_is : (change : Change) (more : List Change) (advert : Advert) → is_answer request (V4 leaf) (key_of change) ≡ true
+      → told_by change ≡ Some advert → NoneOwn more → AnnouncesLast (change ∷ more) key advert
   told_is (Reach own) more advert e told none =
       let same : own ≡ advert = cc in
-      record { before = []; after = more; parts = ap (λ (a : Advert). Reach a ∷ more) same; same = sym (ap (λ (a : Advert). a.key) same) ∙ answer_is request (V4 leaf) own.key e; last = none }
+      record {
+        before = [];
+        after = more;
+        parts = ap (λ (a : Advert). Reach a ∷ more) same;
+        same =
+            sym (ap (λ (a : Advert). a.key) same) ∙ answer_is request (V4 leaf) own.key e;
+        last = none;
+      }
   told_is (Unreach gone) more advert e told none = absurd cc
 
   last_more : (change : Change) (more : List Change) (advert : Advert) → AnnouncesLast more key advert → AnnouncesLast (change ∷ more) key advert
-  last_more change more advert a = record { before = change ∷ a.before; after = a.after; parts = ap (λ (cs : List Change). change ∷ cs) a.parts; same = a.same; last = a.last }
+  last_more change more advert a =
+      record { before = change ∷ a.before; after = a.after; parts = ap (λ (cs : List Change). change ∷ cs) a.parts; same = a.same; last = a.last }
 
-  last_by : (change : Change) (more : List Change) (found : Option Advert) (advert : Advert) (b : Bool) → is_answer request (V4 leaf) (key_of change) ≡ b
+  last_by : (change : Change) (more : List Change) (found : Option Advert) (advert : Advert) (b : Bool)
+      → is_answer request (V4 leaf) (key_of change) ≡ b
       → LastOrOld more (cond b (told_by change) found) advert → LastOrOld (change ∷ more) found advert
   last_by change more found advert b e (inl a) = inl (last_more change more advert a)
   last_by change more found advert true e (inr old) = inl (told_is change more advert e old.0 old.1)
   last_by change more found advert false e (inr old) = inr (old.0, (other_key change e, old.1))
 
-  last_from : (changes : List Change) (found : Option Advert) (advert : Advert) → fold step found changes ≡ Some advert → LastOrOld changes found advert
+  last_from : (changes : List Change) (found : Option Advert) (advert : Advert) → fold step found changes ≡ Some advert
+      → LastOrOld changes found advert
   last_from [] found advert e = inr (e, tt)
   last_from (change ∷ more) found advert e =
       last_by change more found advert (is_answer request (V4 leaf) (key_of change)) refl (last_from more (step found change) advert e)
@@ -128,7 +140,8 @@ module _ (request : Request) (leaf : List ℕ) where
   only_last changes advert (inl a) = a
   only_last changes advert (inr old) = absurd (let none = old.0 in cc)
 
-  pub route_from : (octets : List ℕ) → IsOctets octets → (advert : Advert) → fold (answer_by request leaf) None (messages_in octets) ≡ Some advert → LeavesRoute octets key advert
+  pub route_from : (octets : List ℕ) → IsOctets octets → (advert : Advert) → fold (answer_by request leaf) None (messages_in octets) ≡ Some advert
+      → LeavesRoute octets key advert
   route_from octets fits advert e =
       let changes : List Change = flat_map changes_of (messages_in octets) in
       record {
@@ -137,7 +150,9 @@ module _ (request : Request) (leaf : List ℕ) where
         last = only_last changes advert (last_from changes None advert (sym (by_changes (messages_in octets) None) ∙ e));
       }
 
-  pub route_to : (octets : List ℕ) → IsOctets octets → (advert : Advert) → LeavesRoute octets key advert → fold (answer_by request leaf) None (messages_in octets) ≡ Some advert
+  pub route_to : (octets : List ℕ) → IsOctets octets → (advert : Advert) → LeavesRoute octets key advert
+      → fold (answer_by request leaf) None (messages_in octets) ≡ Some advert
   route_to octets fits advert l =
-      let is : messages_in octets ≡ l.messages = yields_cut message_front SpellsMessage UnitFault 4096 message_format octets l.messages fits l.yields in
+      let is : messages_in octets ≡ l.messages =
+      yields_cut message_front SpellsMessage UnitFault 4096 message_format octets l.messages fits l.yields in
       ap (fold (answer_by request leaf) None) is ∙ (by_changes l.messages None ∙ last_to (flat_map changes_of l.messages) advert l.last)

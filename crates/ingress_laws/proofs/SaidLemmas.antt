@@ -65,7 +65,9 @@ use Rattle.ingress_laws.proofs.OctetLemmas.{answer_fits, begun_hold, message_rea
 -- ---- the route of the root
 
 -- octets of which one message is cut, and nothing is left
-sole_by : (octets : List ℕ) (message : Message) → IsOctets octets → (before : ℕ) (failed : Option (ℕ × StreamFault)) (rest : List ℕ) (ms : List Message) → (cut message_front octets).fault ≡ failed → (cut message_front octets).messages ≡ ms
+sole_by : (octets : List ℕ) (message : Message) → IsOctets octets
+    → (before : ℕ) (failed : Option (ℕ × StreamFault)) (rest : List ℕ) (ms : List Message) → (cut message_front octets).fault ≡ failed
+    → (cut message_front octets).messages ≡ ms
     → unless_faulty (record { waiting = ms; held = held_of failed rest; before = before; fault = moved 0 failed }) ≡ Some message → IsRead message
 sole_by octets message fits before (Some f) rest ms e m h = absurd cc
 sole_by octets message fits before None (b ∷ bs) ms e m h = absurd cc
@@ -73,19 +75,24 @@ sole_by octets message fits before None [] [] e m h = absurd cc
 sole_by octets message fits before None [] (first ∷ second ∷ more) e m h = absurd cc
 sole_by octets message fits before None [] (first ∷ []) e m h =
     let c : Cut Message StreamFault = cut message_front octets in
-    let all : AllByRecursion IsRead c.messages = begun_hold SpellsMessage IsRead message_read octets c.messages c.rest (cut_splits message_front SpellsMessage message_format.stream.framing octets fits e).0.begins fits in
+    let all : AllByRecursion IsRead c.messages =
+    begun_hold SpellsMessage IsRead message_read octets c.messages c.rest
+    (cut_splits message_front SpellsMessage message_format.stream.framing octets fits e).0.begins fits in
     let own : IsRead first = (subst (AllByRecursion IsRead) m all).0 in
     subst IsRead (same_Some first message h) own
 
 sole_read : (octets : List ℕ) (message : Message) → IsOctets octets → sole_message octets ≡ Some message → IsRead message
-sole_read octets message fits h = sole_by octets message fits (fed message_front unfed octets).before (cut message_front octets).fault (cut message_front octets).rest (cut message_front octets).messages refl refl h
+sole_read octets message fits h =
+    sole_by octets message fits (fed message_front unfed octets).before (cut message_front octets).fault (cut message_front octets).rest
+    (cut message_front octets).messages refl refl h
 
 -- the route is spelled, and is octets
 record IsRoute (advert : Advert) : Type 0 where
   pub spelled : IsSpelledSelective advert.key
   pub has : HasRoute advert.key
 
-announced_by : (update : Update) (advert : Advert) → IsRead (messages.Update update) → (reach : List Advert) (unreach : List Key) → update.reach ≡ reach → only_announced reach unreach ≡ Some advert → IsRoute advert
+announced_by : (update : Update) (advert : Advert) → IsRead (messages.Update update) → (reach : List Advert) (unreach : List Key)
+    → update.reach ≡ reach → only_announced reach unreach ≡ Some advert → IsRoute advert
 announced_by update advert is reach (key ∷ keys) e h = absurd cc
 announced_by update advert is [] [] e h = absurd cc
 announced_by update advert is (first ∷ second ∷ more) [] e h = absurd cc
@@ -104,11 +111,13 @@ record IsRoot (root : Rooted) : Type 0 where
 
 asking : (addr : List ℕ) (advert : Advert) → IsRoute advert → Finds IsRoot (root_by addr advert)
 asking addr advert route =
-    bind_finds IsRoot (request_of advert) _ (λ request r. only_finds IsRoot (pointwise nat_eq request.root addr) (record { request = request; advert = advert }) (λ same. record { asks = r; route = route }))
+    bind_finds IsRoot (request_of advert) _ (λ request r. only_finds IsRoot (pointwise nat_eq request.root addr)
+    (record { request = request; advert = advert }) (λ same. record { asks = r; route = route }))
 
 root_finds : (addr octets : List ℕ) → IsOctets octets → Finds IsRoot (root_of addr octets)
 root_finds addr octets fits =
-    bind_finds IsRoot (sole_message octets) _ (λ message m. bind_finds IsRoot (sole_advert message) _ (λ advert a. asking addr advert (advert_read message advert (sole_read octets message fits m) a)))
+    bind_finds IsRoot (sole_message octets) _ (λ message m. bind_finds IsRoot (sole_advert message) _
+    (λ advert a. asking addr advert (advert_read message advert (sole_read octets message fits m) a)))
 
 -- ---- the answers to it
 
@@ -118,7 +127,8 @@ module _ (root : Rooted) (is : IsRoot root) where
 
   key_octets : IsOctets (routes.key root.request.key)
   key_octets =
-      let route : IsOctets (routes.written (Selective asked.rd asked.source asked.group (V4 root.request.root))) = subst HasRoute asked.key is.route.has in
+      let route : IsOctets (routes.written (Selective asked.rd asked.source asked.group (V4 root.request.root))) =
+      subst HasRoute asked.key is.route.has in
       subst (λ (k : LeafKey). IsOctets (routes.key k)) (sym asked.asked) route
 
   root_address : IsAddress root.request.root
@@ -129,8 +139,11 @@ module _ (root : Rooted) (is : IsRoot root) where
       let own : List ℕ = root.request.root in
       let fields : List ℕ = rd ++ (source ++ (group ++ own)) in
       let route : IsOctets (routes.written (Selective asked.rd asked.source asked.group (V4 own))) = subst HasRoute asked.key is.route.has in
-      let spelled = subst IsSpelledSelective asked.key is.route.spelled in
-      (spelled.1.1.1, IsOctets-behind group own (IsOctets-behind source (group ++ own) (IsOctets-behind rd (source ++ (group ++ own)) (IsOctets-behind (3 ∷ length fields ∷ []) fields route))))
+      let spelled = subst IsSpelledSelective asked.key is.route.spelled in (
+        spelled.1.1.1,
+        IsOctets-behind group own (IsOctets-behind source (group ++ own)
+            (IsOctets-behind rd (source ++ (group ++ own)) (IsOctets-behind (3 ∷ length fields ∷ []) fields route))),
+      )
 
   leaf_fits : (leaf : List ℕ) (label : ℕ) → IsAddress leaf → IsOctets (answer_octets root leaf label)
   unfolding answer_octets
@@ -183,7 +196,8 @@ is_label number h = (grind (arith, nat_tests), grind (arith, nat_tests))
 
 label_finds : (text : List ℕ) → Finds IsLabel (label_of text)
 unfolding label_of
-label_finds text = bind_finds IsLabel (number_of text) _ (λ number _. only_finds IsLabel (nat_le 16 number && nat_le number 1048575) number (is_label number))
+label_finds text =
+    bind_finds IsLabel (number_of text) _ (λ number _. only_finds IsLabel (nat_le 16 number && nat_le number 1048575) number (is_label number))
 
 module _ (before : List Line) where
   root_words_meet : (row : Row) (a b : Placed) → Meets (IsStep before None) (root_words row a b)
@@ -192,7 +206,8 @@ module _ (before : List Line) where
       bind_meets (IsStep before None) (address_at row a) _ (λ addr _. bind_meets (IsStep before None) (payload_at row b) _ (λ octets o.
       bind_meets (IsStep before None) (or_fault (root_of addr octets) row b reasons.Root) _ (λ root r.
       ok_meets (IsStep before None) (steps.Root root)
-      ((or_fault_meets IsRoot (root_of addr octets) row b reasons.Root (root_finds addr octets ((payload_octets row b).holds octets o))).holds root r))))
+      ((or_fault_meets IsRoot (root_of addr octets) row b reasons.Root (root_finds addr octets ((payload_octets row b).holds octets o))).holds root
+      r))))
 
   root_line_meets : (row : Row) (words : List Placed) → Meets (IsStep before None) (root_line row words)
   unfolding root_line
@@ -204,7 +219,8 @@ module _ (before : List Line) where
   first_line_meets : (row : Row) (first : Placed) (rest : List Placed) → Meets (IsStep before None) (first_line row first rest)
   unfolding first_line
   first_line_meets row first rest =
-      either_meets (IsStep before None) (pointwise nat_eq first.text (codes "root")) (root_line row rest) (fault row.number 1 reasons.Root) (root_line_meets row rest) (err_meets _ _)
+      either_meets (IsStep before None) (pointwise nat_eq first.text (codes "root")) (root_line row rest) (fault row.number 1 reasons.Root)
+      (root_line_meets row rest) (err_meets _ _)
 
 module _ (draft : Drafted) (root : Rooted) (is : IsRoot root) where
   abbrev Is : Step → Type 0
@@ -217,11 +233,14 @@ module _ (draft : Drafted) (root : Rooted) (is : IsRoot root) where
   claimed_meets : (role : Role) (row : Row) (word : Placed) → Meets (IsClaimed role) (claimed draft role row word)
   unfolding claimed
   claimed_meets role row word =
-      bind_meets (IsClaimed role) (address_at row word) _ (λ addr a. if_meets (IsClaimed role) (is_other role (role_at draft.lines (from_be_bytes w32 addr))) _ (Ok addr) (λ free.
+      bind_meets (IsClaimed role) (address_at row word) _
+      (λ addr a. if_meets (IsClaimed role) (is_other role (role_at draft.lines (from_be_bytes w32 addr))) _ (Ok addr) (λ free.
       ok_meets (IsClaimed role) addr ((address_meets row word).holds addr a, free)))
 
-  distinct_meets : (addr : List ℕ) (row : Row) (word : Placed) (said : Said) → IsNewBy draft.lines root said → Meets Is (distinct root addr row word said)
-  distinct_meets addr row word said by = if_meets Is (pointwise nat_eq root.request.root addr) _ (Ok (steps.Said said)) (λ other. ok_meets Is (steps.Said said) by)
+  distinct_meets : (addr : List ℕ) (row : Row) (word : Placed) (said : Said) → IsNewBy draft.lines root said
+      → Meets Is (distinct root addr row word said)
+  distinct_meets addr row word said by =
+      if_meets Is (pointwise nat_eq root.request.root addr) _ (Ok (steps.Said said)) (λ other. ok_meets Is (steps.Said said) by)
 
   leaf_words_meet : (row : Row) (a b : Placed) → Meets Is (leaf_words draft root row a b)
   unfolding leaf_words
@@ -229,7 +248,8 @@ module _ (draft : Drafted) (root : Rooted) (is : IsRoot root) where
       bind_meets Is (claimed draft roles.Leaf row a) _ (λ leaf l. bind_meets Is (or_fault (label_of b.text) row b reasons.Number) _ (λ label n.
       let own : IsClaimed roles.Leaf leaf = (claimed_meets roles.Leaf row a).holds leaf l in
       let fits : IsLabel label = (or_fault_meets IsLabel (label_of b.text) row b reasons.Number (label_finds b.text)).holds label n in
-      distinct_meets leaf row a (says.Leaf leaf label) (record { by = record { address = own.0; octets = leaf_fits root is leaf label own.0; label = fits }; free = own.1 })))
+      distinct_meets leaf row a (says.Leaf leaf label)
+      (record { by = record { address = own.0; octets = leaf_fits root is leaf label own.0; label = fits }; free = own.1 })))
 
   leaf_line_meets : (row : Row) (words : List Placed) → Meets Is (leaf_line draft root row words)
   unfolding leaf_line
@@ -243,7 +263,8 @@ module _ (draft : Drafted) (root : Rooted) (is : IsRoot root) where
   from_words_meet row a b =
       bind_meets Is (claimed draft roles.From row a) _ (λ peer p. bind_meets Is (payload_at row b) _ (λ octets o.
       let own : IsClaimed roles.From peer = (claimed_meets roles.From row a).holds peer p in
-      distinct_meets peer row a (says.From peer octets) (record { by = record { address = own.0; octets = (payload_octets row b).holds octets o; label = tt }; free = own.1 })))
+      distinct_meets peer row a (says.From peer octets)
+      (record { by = record { address = own.0; octets = (payload_octets row b).holds octets o; label = tt }; free = own.1 })))
 
   from_line_meets : (row : Row) (words : List Placed) → Meets Is (from_line draft root row words)
   unfolding from_line
@@ -279,7 +300,8 @@ same_role roles.From roles.From h = refl
 same_role roles.Leaf roles.From h = absurd cc
 same_role roles.From roles.Leaf h = absurd cc
 
-role_behind_one : (all : List Line) (line : Line) (n : ℕ) → role_at (all ++ line ∷ []) n ≡ cond (is_at (nat_cmp (number_by line)) n) (Some (role_of line.said)) (role_at all n)
+role_behind_one : (all : List Line) (line : Line) (n : ℕ)
+    → role_at (all ++ line ∷ []) n ≡ cond (is_at (nat_cmp (number_by line)) n) (Some (role_of line.said)) (role_at all n)
 role_behind_one all line n = fold-append (role_behind n) None all (line ∷ [])
 
 module _ (all : List Line) (line : Line) (free : IsFree all (role_of line.said) (peer_of line.said)) where
@@ -289,7 +311,8 @@ module _ (all : List Line) (line : Line) (free : IsFree all (role_of line.said) 
   still_by old has true e =
       let one : number_by line ≡ number_by old = one_key nat_cmp-IsAntisymmetric (number_by line) (number_by old) e in
       let there : role_at all (number_by line) ≡ Some (role_of old.said) = ap (role_at all) one ∙ has in
-      let same : role_of line.said ≡ role_of old.said = same_role (role_of line.said) (role_of old.said) (sym (ap (is_other (role_of line.said)) there) ∙ free) in
+      let same : role_of line.said ≡ role_of old.said =
+      same_role (role_of line.said) (role_of old.said) (sym (ap (is_other (role_of line.said)) there) ∙ free) in
       ap (λ (r : Role). Some r) same
 
   still_has : (old : Line) → HasRole all old → HasRole (all ++ line ∷ []) old
@@ -315,7 +338,8 @@ record IsSoFar (draft : Drafted) : Type 0 where
 none_so_far : IsSoFar nothing
 none_so_far = record { none = λ e. refl; root = λ root e. absurd cc; lines = λ root e. tt; roles = tt }
 
-words_by : (draft : Drafted) (row : Row) (first : Placed) (rest : List Placed) (old : Option Rooted) → ((root : Rooted) → old ≡ Some root → IsRoot root)
+words_by : (draft : Drafted) (row : Row) (first : Placed) (rest : List Placed) (old : Option Rooted)
+    → ((root : Rooted) → old ≡ Some root → IsRoot root)
     → Meets (IsStep draft.lines old) (elim old [ None ↦ first_line row first rest | Some root ↦ next_line draft root row first rest ])
 words_by draft row first rest None is = first_line_meets draft.lines row first rest
 words_by draft row first rest (Some root) is = next_line_meets draft root (is root refl) row first rest
@@ -328,9 +352,11 @@ words_meet draft row (first ∷ rest) so = words_by draft row first rest draft.r
 line_meets : (draft : Drafted) (number : ℕ) (octets : List ℕ) → IsSoFar draft → Meets (IsStep draft.lines draft.root) (line_of draft number octets)
 unfolding line_of
 line_meets draft number octets so =
-    bind_meets (IsStep draft.lines draft.root) (words_in number octets) (words_line draft (row_of number octets)) (λ words w. words_meet draft (row_of number octets) words so)
+    bind_meets (IsStep draft.lines draft.root) (words_in number octets) (words_line draft (row_of number octets))
+    (λ words w. words_meet draft (row_of number octets) words so)
 
-said_so : (draft : Drafted) (number : ℕ) (said : Said) → IsSoFar draft → (old : Option Rooted) → draft.root ≡ old → IsNext draft.lines old said → IsSoFar (said_by draft number said)
+said_so : (draft : Drafted) (number : ℕ) (said : Said) → IsSoFar draft → (old : Option Rooted) → draft.root ≡ old → IsNext draft.lines old said
+    → IsSoFar (said_by draft number said)
 said_so draft number said so None e is = absurd is
 said_so draft number said so (Some own) e is =
     let line : Line = record { number = number; said = said } in
@@ -343,7 +369,8 @@ said_so draft number said so (Some own) e is =
       roles = roles_more draft.lines line is.free so.roles;
     }
 
-root_so : (draft : Drafted) (new : Rooted) → IsSoFar draft → (old : Option Rooted) → draft.root ≡ old → IsFirst old new → IsSoFar (record draft { root = Some new })
+root_so : (draft : Drafted) (new : Rooted) → IsSoFar draft → (old : Option Rooted) → draft.root ≡ old → IsFirst old new
+    → IsSoFar (record draft { root = Some new })
 root_so draft new so (Some own) e is = absurd is
 root_so draft new so None e is = record {
   none = λ n. absurd cc;
@@ -371,7 +398,8 @@ input_by draft old = old >>? λ root. Some (record { root = root; lines = draft.
 abbrev ended : ℕ → Option Input → Result Input TextFault
 ended number found = elim found [ Some input ↦ Ok input | None ↦ fault number 1 reasons.Root ]
 
-end_meets : (draft : Drafted) (number : ℕ) → IsSoFar draft → (old : Option Rooted) → draft.root ≡ old → Meets IsText (ended number (input_by draft old))
+end_meets : (draft : Drafted) (number : ℕ) → IsSoFar draft → (old : Option Rooted) → draft.root ≡ old
+    → Meets IsText (ended number (input_by draft old))
 end_meets draft number so None e = err_meets _ _
 end_meets draft number so (Some root) e =
     ok_meets IsText (record { root = root; lines = draft.lines }) (record { root = so.root root e; lines = so.lines root e; roles = so.roles })
@@ -379,10 +407,13 @@ end_meets draft number so (Some root) e =
 lines_meet : (draft : Drafted) (number : ℕ) (rows : List (List ℕ)) → IsSoFar draft → Meets IsText (input_from draft number rows)
 lines_meet draft number [] so = end_meets draft number so draft.root refl
 lines_meet draft number (octets ∷ more) so =
-    bind_meets IsText (line_of draft number octets) _ (λ step s. lines_meet (stepped draft number step) (number + 1) more (step_so draft number step so ((line_meets draft number octets so).holds step s)))
+    bind_meets IsText (line_of draft number octets) _
+    (λ step s. lines_meet (stepped draft number step) (number + 1) more
+    (step_so draft number step so ((line_meets draft number octets so).holds step s)))
 
 text_is : (text : List ℕ) (input : Input) → input_of text ≡ Ok input → IsText input
-text_is text input h = (if_meets IsText _ _ (input_from nothing 1 (lines text)) (λ short. lines_meet nothing 1 (lines text) none_so_far)).holds input h
+text_is text input h =
+    (if_meets IsText _ _ (input_from nothing 1 (lines text)) (λ short. lines_meet nothing 1 (lines text) none_so_far)).holds input h
 
 -- What a text says meets the premise of the laws.
 pub text_says : (text : List ℕ) (input : Input) → input_of text ≡ Ok input → IsSaid input.root input.lines
@@ -391,8 +422,11 @@ text_says text input h =
     record {
       asks = is.root.asks;
       spelled = is.root.route.spelled;
-      addresses = all_weaker (λ (line : Line). IsSaidBy input.root line.said) (λ (line : Line). IsAddress (peer_of line.said)) input.lines (λ line by. by.address) is.lines;
-      octets = all_weaker (λ (line : Line). IsSaidBy input.root line.said) (λ (line : Line). IsOctets (octets_by input.root line.said)) input.lines (λ line by. by.octets) is.lines;
+      addresses =
+          all_weaker (λ (line : Line). IsSaidBy input.root line.said) (λ (line : Line). IsAddress (peer_of line.said)) input.lines
+          (λ line by. by.address) is.lines;
+      octets = all_weaker (λ (line : Line). IsSaidBy input.root line.said) (λ (line : Line). IsOctets (octets_by input.root line.said)) input.lines
+          (λ line by. by.octets) is.lines;
     }
 
 -- ---- its peers
@@ -410,7 +444,8 @@ brings_octets (says.Leaf leaf label) e = absurd cc
 brings_octets (says.From peer octets) e = tt
 
 -- what the lines say that name a peer of one role
-role_is : (all : List Line) (line : Line) (n : ℕ) (role : Role) → HasRole all line → role_at all n ≡ Some role → number_by line ≡ n → role_of line.said ≡ role
+role_is : (all : List Line) (line : Line) (n : ℕ) (role : Role) → HasRole all line → role_at all n ≡ Some role → number_by line ≡ n
+    → role_of line.said ≡ role
 role_is all line n role has at named = same_Some (role_of line.said) role (sym has ∙ ap (role_at all) named ∙ at)
 
 no_role : (all : List Line) (line : Line) (n : ℕ) → HasRole all line → role_at all n ≡ None → number_by line ≡ n → LetsAnswer line.said
@@ -425,11 +460,14 @@ module _ (input : Input) (is : IsText input) (n : ℕ) where
 
   peer_by : (o : Option Role) → role_at input.lines n ≡ o → IsLeaf n input.lines ⊎ IsHeard n input.lines
   peer_by None e =
-      inl (all_weaker IsOwn (λ (line : Line). number_by line ≡ n → LetsAnswer line.said) input.lines (λ line by named. no_role input.lines line n by.1 e named) own)
+      inl (all_weaker IsOwn (λ (line : Line). number_by line ≡ n → LetsAnswer line.said) input.lines
+      (λ line by named. no_role input.lines line n by.1 e named) own)
   peer_by (Some roles.Leaf) e =
-      inl (all_weaker IsOwn (λ (line : Line). number_by line ≡ n → LetsAnswer line.said) input.lines (λ line by named. lets_answer line.said by.0.label (role_is input.lines line n roles.Leaf by.1 e named)) own)
+      inl (all_weaker IsOwn (λ (line : Line). number_by line ≡ n → LetsAnswer line.said) input.lines
+      (λ line by named. lets_answer line.said by.0.label (role_is input.lines line n roles.Leaf by.1 e named)) own)
   peer_by (Some roles.From) e =
-      inr (all_weaker IsOwn (λ (line : Line). number_by line ≡ n → BringsOctets line.said) input.lines (λ line by named. brings_octets line.said (role_is input.lines line n roles.From by.1 e named)) own)
+      inr (all_weaker IsOwn (λ (line : Line). number_by line ≡ n → BringsOctets line.said) input.lines
+      (λ line by named. brings_octets line.said (role_is input.lines line n roles.From by.1 e named)) own)
 
 -- Each peer of a text is one that lines let answer, or one whose octets they bring.
 pub text_peers : (text : List ℕ) (input : Input) → input_of text ≡ Ok input → (n : ℕ) → IsLeaf n input.lines ⊎ IsHeard n input.lines

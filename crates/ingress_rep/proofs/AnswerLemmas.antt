@@ -11,7 +11,8 @@ use Rattle.bgp_messages.specs.bgp_update.Written.{attribute, attribute_head, mes
 use Rattle.ingress_rep.specs.declared.request.Request.{Request}
 use Rattle.ingress_rep.specs.Ingress.{answer_of, leaf_tunnel, root_target}
 
-tunnel_spelled : (leaf : List ℕ) (label : ℕ) → length leaf ≡ 4 → 16 ≤ label → label ≤ 1048575 → tunnels.Spells (leaf_tunnel (V4 leaf) label) (tunnels.written (leaf_tunnel (V4 leaf) label))
+tunnel_spelled : (leaf : List ℕ) (label : ℕ) → length leaf ≡ 4 → 16 ≤ label → label ≤ 1048575
+    → tunnels.Spells (leaf_tunnel (V4 leaf) label) (tunnels.written (leaf_tunnel (V4 leaf) label))
 tunnel_spelled leaf label four least most = record {
   flags = 0;
   low = 0;
@@ -23,7 +24,8 @@ tunnel_spelled leaf label four least most = record {
   octets = refl;
 }
 
-pub answer_writable : (request : Request) (leaf : List ℕ) (label : ℕ) → length request.root ≡ 4 → length leaf ≡ 4 → IsKey request.afi request.key → 16 ≤ label → label ≤ 1048575
+pub answer_writable : (request : Request) (leaf : List ℕ) (label : ℕ) → length request.root ≡ 4 → length leaf ≡ 4 → IsKey request.afi request.key
+    → 16 ≤ label → label ≤ 1048575
     → IsWritable (Reach (answer_of request (V4 leaf) label))
 answer_writable request leaf label root four key least most = record {
   key = record { route = (key, four); octets = refl };
@@ -44,13 +46,15 @@ attribute_few flags kind value =
 message_few : (list : List ℕ) → length list ≤ 1000 → length (message_text list) ≤ 4096
 message_few list few = omega (arith, few)
 
-pub answer_short : (request : Request) (leaf : List ℕ) (label : ℕ) → length request.root ≡ 4 → length leaf ≡ 4 → IsKey request.afi request.key → length (written (Reach (answer_of request (V4 leaf) label))) ≤ 4096
+pub answer_short : (request : Request) (leaf : List ℕ) (label : ℕ) → length request.root ≡ 4 → length leaf ≡ 4 → IsKey request.afi request.key
+    → length (written (Reach (answer_of request (V4 leaf) label))) ≤ 4096
 answer_short request leaf label root four key =
     let advert = answer_of request (V4 leaf) label in
     let route : List ℕ = route_text (Leaf request.key (V4 leaf)) in
     let value : List ℕ = reach_value advert in
     let comms : List ℕ = comms_octets advert.comms in
-    let value_few : length value ≤ 300 = omega (arith, four, fields_room request.afi (Leaf request.key (V4 leaf)) (key, four), length-append leaf (0 ∷ route)) in
+    let value_few : length value ≤ 300 =
+    omega (arith, four, fields_room request.afi (Leaf request.key (V4 leaf)) (key, four), length-append leaf (0 ∷ route)) in
     let comms_few : length comms ≤ 8 = omega (arith, root, length-append request.root (0 ∷ 0 ∷ []), length-append (root_target request).0 []) in
     let tunnel_few : length (tunnels.written (leaf_tunnel (V4 leaf) label)) ≤ 9 = omega (arith, four) in
     let reached : List ℕ = attribute 0x80 14 value in

@@ -1,6 +1,7 @@
 //! Which routes are answered.
 ghost use Rattle.std.specs.Prelude.{◌≡◌, IfSome};
-ghost use Rattle.ingress_rep.specs.Ingress.{asks_leaves, is_answer, is_ingress, request_of, same_afi, same_any, same_leaf_key, selective_of, IsSpelledSelective};
+ghost use Rattle.ingress_rep.specs.Ingress.{asks_leaves, is_answer, is_ingress, request_of};
+ghost use Rattle.ingress_rep.specs.Ingress.{same_afi, same_any, same_leaf_key, selective_of, IsSpelledSelective};
 ghost use Rattle.bgp_values.specs.mvpn_nlri.Spelling.{IsKey};
 
 use bgp_messages::bgp_update::{Advert, Key};

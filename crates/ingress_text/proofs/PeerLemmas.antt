@@ -11,7 +11,8 @@ put_again true now old = refl
 put_again false now old = refl
 
 -- the map has the peer behind the octets that were taken, and the others as before
-pub put_back : (request : Request) (addr octets : List ℕ) (key own other : ℕ) (old mid new : BTreeMap ℕ Peer) (found : Option Peer) (made was now : Peer) →
+pub put_back : (request : Request) (addr octets : List ℕ) (key own other : ℕ) (old mid new : BTreeMap ℕ Peer) (found : Option Peer)
+    (made was now : Peer) →
     own ≡ key → other ≡ key → found ≡ tree.get nat_cmp old own →
     ((q : ℕ) → tree.get nat_cmp mid q ≡ cond (is_at (nat_cmp own) q) None (tree.get nat_cmp old q)) →
     made ≡ fresh → was ≡ unwrap_or found made → now ≡ taken request addr was octets →
@@ -26,4 +27,5 @@ put_back request addr octets key own other old mid new found made was now own_is
     let is : now ≡ taken request addr (unwrap_or (tree.get nat_cmp old key) fresh) octets =
     now_is ∙ ap (λ (p : Peer). taken request addr p octets) (was_is ∙ (λ i. unwrap_or (own_found i) (made_is i))) in
     λ q. back_at q ∙ (ap (λ (o : Option Peer). cond (is_at (nat_cmp key) q) (Some now) o) (out_at q)
-    ∙ (put_again (is_at (nat_cmp key) q) (Some now) (tree.get nat_cmp old q) ∙ ap (λ (p : Peer). cond (is_at (nat_cmp key) q) (Some p) (tree.get nat_cmp old q)) is))
+    ∙ (put_again (is_at (nat_cmp key) q) (Some now) (tree.get nat_cmp old q)
+    ∙ ap (λ (p : Peer). cond (is_at (nat_cmp key) q) (Some p) (tree.get nat_cmp old q)) is))

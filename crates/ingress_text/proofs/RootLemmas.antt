@@ -28,7 +28,8 @@ last_of P [] x all = all.0
 last_of P (y ∷ front) x all = last_of P front x all.1
 
 -- the last route that it announces
-pub update_spelled : (update : Update) (advert : Advert) (front : List Advert) → IsSpelled (messages.Update update) → update.reach ≡ front ++ advert ∷ [] → IsSpelledSelective advert.key
+pub update_spelled : (update : Update) (advert : Advert) (front : List Advert) → IsSpelled (messages.Update update)
+    → update.reach ≡ front ++ advert ∷ [] → IsSpelledSelective advert.key
 update_spelled update advert front is parts =
     let says = message_writable (messages.Update update) is in
     let last : IsWritableAdvert advert = last_of IsWritableAdvert front advert (subst (AllByRecursion IsWritableAdvert) parts says.0) in

@@ -33,12 +33,14 @@ first_item [] x some is = absurd (omega (arith, some))
 first_item (y ∷ xs) x some is = (λ i. sym is i ∷ xs) ∙ ap (λ (ys : List Line). x ∷ ys) (sym (take_all (length (y ∷ xs) - 1) xs (omega arith)))
 
 -- octets are taken as equal ones are
-pub takes_as : (request other : Request) (addr octets others : List ℕ) (old new : BTreeMap ℕ Peer) → request ≡ other → octets ≡ others → Takes request addr octets old new → Takes other addr others old new
+pub takes_as : (request other : Request) (addr octets others : List ℕ) (old new : BTreeMap ℕ Peer) → request ≡ other → octets ≡ others
+    → Takes request addr octets old new → Takes other addr others old new
 takes_as request other addr octets others old new same alike is =
     subst (λ (r : Request). Takes r addr others old new) same (subst (λ (xs : List ℕ). Takes request addr xs old new) alike is)
 
 -- the octets that a line brings are taken of its peer
-pub takes_said : (root : Rooted) (line : Line) (said : Said) (old new : BTreeMap ℕ Peer) → line.said ≡ said → Takes root.request (peer_of said) (octets_by root said) old new
+pub takes_said : (root : Rooted) (line : Line) (said : Said) (old new : BTreeMap ℕ Peer) → line.said ≡ said
+    → Takes root.request (peer_of said) (octets_by root said) old new
     → Changes (number_by line) (after root (peers_in old) line) old new
 takes_said root line said old new is takes =
     subst (λ (s : Said). Takes root.request (peer_of s) (octets_by root s) old new) (sym is) takes
@@ -53,7 +55,8 @@ pub record IsToldTo (root : Rooted) (lines : List Line) (text : List ℕ) (refus
   pub all_refused : (refused || refused_from root (peers_in peers) rest) ≡ refused_from root nobody lines
   pub all_peers : peers_from root (peers_in peers) rest ≡ peers_from root nobody lines
 
-pub told_none : (root : Rooted) (lines : List Line) (text : List ℕ) (peers : BTreeMap ℕ Peer) → text ≡ [] → peers.entries ≡ [] → IsToldTo root lines text false peers lines
+pub told_none : (root : Rooted) (lines : List Line) (text : List ℕ) (peers : BTreeMap ℕ Peer) → text ≡ [] → peers.entries ≡ []
+    → IsToldTo root lines text false peers lines
 told_none root lines text peers none e =
     let is = none_in peers e in
     record {
@@ -62,7 +65,8 @@ told_none root lines text peers none e =
       all_peers = ap (λ (f : Peers). peers_from root f lines) is;
     }
 
-pub told_more : (root : Rooted) (lines : List Line) (text new_text : List ℕ) (refused shows : Bool) (peers new_peers : BTreeMap ℕ Peer) (line : Line) (more : List Line) →
+pub told_more : (root : Rooted) (lines : List Line) (text new_text : List ℕ) (refused shows : Bool) (peers new_peers : BTreeMap ℕ Peer) (line : Line)
+    (more : List Line) →
     IsToldTo root lines text refused peers (line ∷ more) →
     Changes (number_by line) (after root (peers_in peers) line) peers new_peers →
     new_text ≡ text ++ line_text root (peers_in peers) line line.said →
@@ -88,7 +92,8 @@ pub told_all : (input : Input) (text all : List ℕ) (refused : Bool) (peers : B
     Tells refused input all
 told_all input text all refused peers rest so end ordered put =
     let root : Rooted = input.root in
-    let whole : IsToldTo root input.lines text refused peers [] = subst (λ (xs : List Line). IsToldTo root input.lines text refused peers xs) end so in
+    let whole : IsToldTo root input.lines text refused peers [] =
+    subst (λ (xs : List Line). IsToldTo root input.lines text refused peers xs) end so in
     let copies : List ℕ = flat_map copy_line (copies_of (request_of root.advert) (map table_of peers.entries)) in
     record {
       entries = peers.entries;

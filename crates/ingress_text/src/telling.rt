@@ -3,7 +3,8 @@ ghost use Rattle.std.specs.Prelude.{◌≡◌, ◌++◌, ◌||◌, is_some, map,
 ghost use Rattle.std.specs.Ordering.{nat_cmp};
 ghost use Rattle.std.specs.BTreeMap as tree;
 ghost use Rattle.ingress_text.specs.Drafted.{number_by};
-ghost use Rattle.ingress_text.specs.Telling.{after, answer_line, answer_octets, fault_by, fault_text, line_text, peers_in, shown, table_of, Changes, Takes, Tells};
+ghost use Rattle.ingress_text.specs.Telling.{after, answer_line, answer_octets, fault_by, fault_text, line_text};
+ghost use Rattle.ingress_text.specs.Telling.{peers_in, shown, table_of, Changes, Takes, Tells};
 
 use crate::input::{Input, Label, Line, Root, Said};
 use crate::peers::{Peer, Peers, take_from};

@@ -24,12 +24,15 @@ module _ {X : Type 0} (p : X → Bool) where
       count-cons p x xs ∙ ap (λ b. cond b 1 0 + count_by p xs) (none 0 x refl) ∙ ap (λ n. 0 + n) rest
 
   -- one element changes
-  pub count_set : (xs : List X) (k : ℕ) (old new : X) → slice_get xs k ≡ Some old → count_by p (slice_set xs k new) + cond (p old) 1 0 ≡ count_by p xs + cond (p new) 1 0
+  pub count_set : (xs : List X) (k : ℕ) (old new : X) → slice_get xs k ≡ Some old
+      → count_by p (slice_set xs k new) + cond (p old) 1 0 ≡ count_by p xs + cond (p new) 1 0
   count_set xs k old new e =
-      ap (λ x. count_by p (slice_set xs k new) + cond (p x) 1 0) (sym (get_or_from_slice_get xs k old old e)) ∙ sum_by-set (λ y. cond (p y) 1 0) xs k new old (slice_get_within xs k old e)
+      ap (λ x. count_by p (slice_set xs k new) + cond (p x) 1 0) (sym (get_or_from_slice_get xs k old old e))
+      ∙ sum_by-set (λ y. cond (p y) 1 0) xs k new old (slice_get_within xs k old e)
 
 -- a test of changed elements
-pub count-map : {X : Type 0} (p q : X → Bool) (change : X → X) → ((x : X) → p (change x) ≡ q x) → (xs : List X) → count_by p (map change xs) ≡ count_by q xs
+pub count-map : {X : Type 0} (p q : X → Bool) (change : X → X) → ((x : X) → p (change x) ≡ q x) → (xs : List X)
+    → count_by p (map change xs) ≡ count_by q xs
 count-map p q change same [] = refl
 count-map p q change same (x ∷ xs) =
     count-cons p (change x) (map change xs) ∙ (λ i. cond (same x i) 1 0 + count-map p q change same xs i) ∙ sym (count-cons q x xs)
@@ -52,15 +55,18 @@ any_filtered p q (x ∷ xs) = by (p x) refl (any_filtered p q xs)
     swap t true b e = absurd cc
     swap t false b e = refl
 
-    by : (t : Bool) → p x ≡ t → list_any (same_fec q) (filter p xs) ≡ (p q && list_any (same_fec q) xs) → list_any (same_fec q) (cond t (x ∷ filter p xs) (filter p xs)) ≡ (p q && (same_fec q x || list_any (same_fec q) xs))
+    by : (t : Bool) → p x ≡ t → list_any (same_fec q) (filter p xs) ≡ (p q && list_any (same_fec q) xs)
+        → list_any (same_fec q) (cond t (x ∷ filter p xs) (filter p xs)) ≡ (p q && (same_fec q x || list_any (same_fec q) xs))
     by true e rest = elim (fec_cases q x) [
       | inl same ↦
           let here : same_fec q x ≡ true = subst (λ y. same_fec q y ≡ true) same (same_fec_itself q) in
           or_left (same_fec q x) (list_any (same_fec q) (filter p xs)) here ∙ sym (λ i. (ap p same ∙ e) i && (here i || list_any (same_fec q) xs))
-      | inr ne ↦ ap (λ b. b || list_any (same_fec q) (filter p xs)) (fec_apart q x ne) ∙ rest ∙ swap (p q) (same_fec q x) (list_any (same_fec q) xs) (fec_apart q x ne)
+      | inr ne ↦ ap (λ b. b || list_any (same_fec q) (filter p xs)) (fec_apart q x ne) ∙ rest
+          ∙ swap (p q) (same_fec q x) (list_any (same_fec q) xs) (fec_apart q x ne)
     ]
     by false e rest = elim (fec_cases q x) [
-      | inl same ↦ rest ∙ (λ i. (ap p same ∙ e) i && list_any (same_fec q) xs) ∙ sym (λ i. (ap p same ∙ e) i && (same_fec q x || list_any (same_fec q) xs))
+      | inl same ↦ rest ∙ (λ i. (ap p same ∙ e) i && list_any (same_fec q) xs)
+          ∙ sym (λ i. (ap p same ∙ e) i && (same_fec q x || list_any (same_fec q) xs))
       | inr ne ↦ rest ∙ swap (p q) (same_fec q x) (list_any (same_fec q) xs) (fec_apart q x ne)
     ]
 
@@ -84,7 +90,8 @@ none_counted : (fec : Fec) (fecs : List Fec) → count_by (same_fec fec) fecs �
 none_counted fec [] e = refl
 none_counted fec (x ∷ more) e = by (none_counted fec more) (same_fec fec x) (sym (count-cons (same_fec fec) x more) ∙ e)
   where
-    by : (count_by (same_fec fec) more ≡ 0 → list_any (same_fec fec) more ≡ false) → (t : Bool) → cond t 1 0 + count_by (same_fec fec) more ≡ 0 → (t || list_any (same_fec fec) more) ≡ false
+    by : (count_by (same_fec fec) more ≡ 0 → list_any (same_fec fec) more ≡ false) → (t : Bool) → cond t 1 0 + count_by (same_fec fec) more ≡ 0
+        → (t || list_any (same_fec fec) more) ≡ false
     by rest true h = absurd (omega (arith, h))
     by rest false h = rest (omega (arith, h))
 
@@ -107,7 +114,8 @@ distinct_in_order s = each_once (in_order s) (λ fec. at_most (sets.contains s f
     at_most false e = omega (arith, e)
 
 -- how many pass, without the first
-module _ (p q : Fec → Bool) (fec : Fec) (more : List Fec) (apart : list_any (same_fec fec) more ≡ false) (same : (other : Fec) → (other ≡ fec → ⊥) → q other ≡ p other) where
+module _ (p q : Fec → Bool) (fec : Fec) (more : List Fec) (apart : list_any (same_fec fec) more ≡ false)
+    (same : (other : Fec) → (other ≡ fec → ⊥) → q other ≡ p other) where
   both_false : (a b : Bool) → (a && false) ≡ (b && false)
   both_false true true = refl
   both_false true false = refl
@@ -123,7 +131,9 @@ module _ (p q : Fec → Bool) (fec : Fec) (more : List Fec) (apart : list_any (s
   ]
 
   as_many : passing q more ≡ passing p more
-  as_many = sets.same_set fec_cmp_total fec_cmp_exact (passing q more) (passing p more) (λ x. contains-passing q x more ∙ among x ∙ sym (contains-passing p x more))
+  as_many =
+      sets.same_set fec_cmp_total fec_cmp_exact (passing q more) (passing p more)
+      (λ x. contains-passing q x more ∙ among x ∙ sym (contains-passing p x more))
 
   not_in : sets.contains (passing p more) fec ≡ false
   not_in = contains-passing p fec more ∙ (λ i. p fec && apart i) ∙ both_false (p fec) false
@@ -131,6 +141,9 @@ module _ (p q : Fec → Bool) (fec : Fec) (more : List Fec) (apart : list_any (s
   pub fewer : sets.len (passing q more) + cond (p fec) 1 0 ≡ sets.len (passing p (fec ∷ more))
   fewer = (λ i. sets.len (as_many i) + cond (p fec) 1 0) ∙ by (p fec)
     where
-      by : (t : Bool) → sets.len (passing p more) + cond t 1 0 ≡ sets.len (sets.from_list {R = fec_cmp} (cond t (fec ∷ filter p more) (filter p more)))
-      by true = sym (sets.len-insert fec_cmp_total (passing p more) fec ∙ ap (λ b. cond b (sets.len (passing p more)) (sets.len (passing p more) + 1)) not_in)
+      by : (t : Bool) → sets.len (passing p more) + cond t 1 0
+          ≡ sets.len (sets.from_list {R = fec_cmp} (cond t (fec ∷ filter p more) (filter p more)))
+      by true =
+          sym (sets.len-insert fec_cmp_total (passing p more) fec
+          ∙ ap (λ b. cond b (sets.len (passing p more)) (sets.len (passing p more) + 1)) not_in)
       by false = omega arith

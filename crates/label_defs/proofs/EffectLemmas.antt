@@ -25,7 +25,8 @@ use Rattle.label_defs.proofs.TreeLemmas.{tied, Like, like_tied, like_settled, no
 use Rattle.label_defs.proofs.SettleLemmas.{Good}
 
 -- what maps and what is ready stays
-pub good_from : (place : Place) (fecs : List Fec) (old new : LabelData) → ((fec : Fec) → Like old new fec) → ((fec : Fec) (label : ℕ) (upstream : NodeId) → Maps old fec label upstream → Maps new fec label upstream)
+pub good_from : (place : Place) (fecs : List Fec) (old new : LabelData) → ((fec : Fec) → Like old new fec)
+    → ((fec : Fec) (label : ℕ) (upstream : NodeId) → Maps old fec label upstream → Maps new fec label upstream)
     → ((fec : Fec) → list_any (same_fec fec) fecs ≡ false → has_tree new fec ≡ has_tree old fec) → AllSettled place old → Good place fecs new
 good_from place fecs old new like back tree all =
     record {
@@ -45,22 +46,31 @@ any_branch : (fec : Fec) (s t : FinSet branch_cmp) → ((own : Branch) → same_
     → list_any (λ (own : Branch). same_fec own.fec fec) (in_order s) ≡ list_any (λ (own : Branch). same_fec own.fec fec) (in_order t)
 any_branch fec s t same = any_as branch_cmp_total branch_cmp_exact (λ own. same_fec own.fec fec) s t same
 
-pub branch_added : (place : Place) (part : LabelData) (branch : Branch) → AllSettled place part → Good place (branch.fec ∷ []) (record part { branches = sets.insert part.branches branch })
+pub branch_added : (place : Place) (part : LabelData) (branch : Branch) → AllSettled place part
+    → Good place (branch.fec ∷ []) (record part { branches = sets.insert part.branches branch })
 branch_added place part branch all =
-    good_from place (branch.fec ∷ []) part (record part { branches = sets.insert part.branches branch }) (λ fec. record { maps = λ l u p. p; ready = λ node. refl; waiting = refl }) (λ fec l u p. p)
+    good_from place (branch.fec ∷ []) part (record part { branches = sets.insert part.branches branch })
+    (λ fec. record { maps = λ l u p. p; ready = λ node. refl; waiting = refl }) (λ fec l u p. p)
     (λ fec h. ap (λ b. b || sets.contains part.leaves fec)
-    (any_branch fec (sets.insert part.branches branch) part.branches (λ own is. inserted_other branch_cmp_total branch_cmp_exact part.branches branch own (other_branch branch own fec (apart_of branch.fec fec h) is))))
+    (any_branch fec (sets.insert part.branches branch) part.branches
+    (λ own is. inserted_other branch_cmp_total branch_cmp_exact part.branches branch own
+    (other_branch branch own fec (apart_of branch.fec fec h) is))))
     all
 
-pub branch_dropped : (place : Place) (part : LabelData) (branch : Branch) → AllSettled place part → Good place (branch.fec ∷ []) (record part { branches = sets.remove part.branches branch })
+pub branch_dropped : (place : Place) (part : LabelData) (branch : Branch) → AllSettled place part
+    → Good place (branch.fec ∷ []) (record part { branches = sets.remove part.branches branch })
 branch_dropped place part branch all =
-    good_from place (branch.fec ∷ []) part (record part { branches = sets.remove part.branches branch }) (λ fec. record { maps = λ l u p. p; ready = λ node. refl; waiting = refl }) (λ fec l u p. p)
+    good_from place (branch.fec ∷ []) part (record part { branches = sets.remove part.branches branch })
+    (λ fec. record { maps = λ l u p. p; ready = λ node. refl; waiting = refl }) (λ fec l u p. p)
     (λ fec h. ap (λ b. b || sets.contains part.leaves fec)
-    (any_branch fec (sets.remove part.branches branch) part.branches (λ own is. removed_other branch_cmp_total branch_cmp_exact part.branches branch own (other_branch branch own fec (apart_of branch.fec fec h) is))))
+    (any_branch fec (sets.remove part.branches branch) part.branches
+    (λ own is. removed_other branch_cmp_total branch_cmp_exact part.branches branch own
+    (other_branch branch own fec (apart_of branch.fec fec h) is))))
     all
 
 pub nothing_changed : (place : Place) (fecs : List Fec) (part : LabelData) → AllSettled place part → Good place fecs part
-nothing_changed place fecs part all = good_from place fecs part part (λ fec. record { maps = λ l u p. p; ready = λ node. refl; waiting = refl }) (λ fec l u p. p) (λ fec h. refl) all
+nothing_changed place fecs part all =
+    good_from place fecs part part (λ fec. record { maps = λ l u p. p; ready = λ node. refl; waiting = refl }) (λ fec l u p. p) (λ fec h. refl) all
 
 pub mapping_taken : (place : Place) (part : LabelData) (from : NodeId) (fec : Fec) (label : ℕ) (is_tree : Bool) → AllSettled place part
     → Good place (fec ∷ []) (cond is_tree (record part { branches = sets.insert part.branches (branch_to from fec label) }) part)
@@ -69,14 +79,18 @@ mapping_taken place part from fec label false all = nothing_changed place (fec �
 
 -- ---- leaves
 
-pub leaf_added : (place : Place) (part : LabelData) (leaf : Fec) → AllSettled place part → Good place (leaf ∷ []) (record part { leaves = sets.insert part.leaves leaf })
+pub leaf_added : (place : Place) (part : LabelData) (leaf : Fec) → AllSettled place part
+    → Good place (leaf ∷ []) (record part { leaves = sets.insert part.leaves leaf })
 leaf_added place part leaf all =
-    good_from place (leaf ∷ []) part (record part { leaves = sets.insert part.leaves leaf }) (λ fec. record { maps = λ l u p. p; ready = λ node. refl; waiting = refl }) (λ fec l u p. p)
+    good_from place (leaf ∷ []) part (record part { leaves = sets.insert part.leaves leaf })
+    (λ fec. record { maps = λ l u p. p; ready = λ node. refl; waiting = refl }) (λ fec l u p. p)
     (λ fec h. ap (λ b. has_branch part fec || b) (inserted_other fec_cmp_total fec_cmp_exact part.leaves leaf fec (apart_of leaf fec h))) all
 
-pub leaf_dropped : (place : Place) (part : LabelData) (leaf : Fec) → AllSettled place part → Good place (leaf ∷ []) (record part { leaves = sets.remove part.leaves leaf })
+pub leaf_dropped : (place : Place) (part : LabelData) (leaf : Fec) → AllSettled place part
+    → Good place (leaf ∷ []) (record part { leaves = sets.remove part.leaves leaf })
 leaf_dropped place part leaf all =
-    good_from place (leaf ∷ []) part (record part { leaves = sets.remove part.leaves leaf }) (λ fec. record { maps = λ l u p. p; ready = λ node. refl; waiting = refl }) (λ fec l u p. p)
+    good_from place (leaf ∷ []) part (record part { leaves = sets.remove part.leaves leaf })
+    (λ fec. record { maps = λ l u p. p; ready = λ node. refl; waiting = refl }) (λ fec l u p. p)
     (λ fec h. ap (λ b. has_branch part fec || b) (removed_other fec_cmp_total fec_cmp_exact part.leaves leaf fec (apart_of leaf fec h))) all
 
 -- ---- a raise
@@ -99,7 +113,8 @@ raised place part peer now down all =
     (λ fec. record {
       maps = λ l u p. p;
       ready = λ node. elim (node_cases node peer) [
-        | inl e ↦ ap held (ap (maps.get (maps.insert part.ends peer end)) e ∙ put_here node_cmp_total node_cmp_exact part.ends peer end) ∙ sym (ap (λ x. held (maps.get part.ends x)) e ∙ not_up (maps.get part.ends peer) down)
+        | inl e ↦ ap held (ap (maps.get (maps.insert part.ends peer end)) e ∙ put_here node_cmp_total node_cmp_exact part.ends peer end)
+            ∙ sym (ap (λ x. held (maps.get part.ends x)) e ∙ not_up (maps.get part.ends peer) down)
         | inr ne ↦ ap held (put_other node_cmp_total node_cmp_exact part.ends peer end node ne)
       ];
       waiting = refl;
@@ -108,7 +123,8 @@ raised place part peer now down all =
 -- ---- a release
 
 -- a release maps nothing, and unmaps nothing
-pub released_maps : (from : NodeId) (fec own : Fec) (until : ℕ) (usage : LabelUse) (u : NodeId) → released from fec until usage ≡ uses.Mapped own u → usage ≡ uses.Mapped own u
+pub released_maps : (from : NodeId) (fec own : Fec) (until : ℕ) (usage : LabelUse) (u : NodeId) → released from fec until usage ≡ uses.Mapped own u
+    → usage ≡ uses.Mapped own u
 released_maps from fec own until uses.Free u e = e
 released_maps from fec own until (uses.Mapped f v) u e = e
 released_maps from fec own until (uses.Resting moment) u e = e
@@ -118,14 +134,16 @@ released_maps from fec own until (uses.Leaving f v) u e = by (same_fec f fec && 
     by true e = absurd cc
     by false e = e
 
-release_by : (place : Place) (part : LabelData) (from : NodeId) (fec : Fec) (label until : ℕ) (old : LabelUse) → use_of part label ≡ Some old → AllSettled place part → Good place [] (with_use part label (released from fec until old))
+release_by : (place : Place) (part : LabelData) (from : NodeId) (fec : Fec) (label until : ℕ) (old : LabelUse) → use_of part label ≡ Some old
+    → AllSettled place part → Good place [] (with_use part label (released from fec until old))
 release_by place part from fec label until old is all =
     let new : LabelData = with_use part label (released from fec until old) in
     good_from place [] part new
     (λ own. record {
       maps = λ l u p. elim (cases_eq l label) [
         | inl e ↦ ap (use_of part) e ∙ is ∙ ap (λ (x : LabelUse). Some x)
-            (released_maps from fec own until old u (same_Some (released from fec until old) (uses.Mapped own u) (sym (set_here part label old (released from fec until old) is) ∙ ap (use_of new) (sym e) ∙ p)))
+            (released_maps from fec own until old u (same_Some (released from fec until old) (uses.Mapped own u)
+            (sym (set_here part label old (released from fec until old) is) ∙ ap (use_of new) (sym e) ∙ p)))
         | inr ne ↦ sym (set_there part label old (released from fec until old) l is ne) ∙ p
       ];
       ready = λ node. refl;
@@ -139,9 +157,11 @@ release_by place part from fec label until old is all =
     ])
     (λ own h. refl) all
 
-pub release_taken : (place : Place) (part : LabelData) (from : NodeId) (fec : Fec) (label until : ℕ) → AllSettled place part → Good place [] (with_release part from fec label until)
+pub release_taken : (place : Place) (part : LabelData) (from : NodeId) (fec : Fec) (label until : ℕ) → AllSettled place part
+    → Good place [] (with_release part from fec label until)
 release_taken place part from fec label until all = by (use_of part label) refl
   where
-    by : (o : Option LabelUse) → use_of part label ≡ o → Good place [] (elim o [ None ↦ part | Some usage ↦ with_use part label (released from fec until usage) ])
+    by : (o : Option LabelUse) → use_of part label ≡ o
+        → Good place [] (elim o [ None ↦ part | Some usage ↦ with_use part label (released from fec until usage) ])
     by None e = nothing_changed place [] part all
     by (Some old) e = release_by place part from fec label until old e all

@@ -25,7 +25,8 @@ use Rattle.label_defs.proofs.SettleLemmas.{Good}
 use Rattle.label_defs.proofs.EffectLemmas.{held}
 
 -- what is mapped behind a loss was so before, and not towards that neighbour
-pub freed_maps : (node : NodeId) (usage : LabelUse) (fec : Fec) (u : NodeId) → freed node usage ≡ uses.Mapped fec u → (usage ≡ uses.Mapped fec u) × (u ≡ node → ⊥)
+pub freed_maps : (node : NodeId) (usage : LabelUse) (fec : Fec) (u : NodeId) → freed node usage ≡ uses.Mapped fec u
+    → (usage ≡ uses.Mapped fec u) × (u ≡ node → ⊥)
 freed_maps node uses.Free fec u e = absurd cc
 freed_maps node (uses.Resting until) fec u e = absurd cc
 freed_maps node (uses.Leaving own v) fec u e = by (v.0 == node.0) e
@@ -41,15 +42,18 @@ freed_maps node (uses.Mapped own v) fec u e = elim (node_cases v node) [
       (x, λ p. ne (to ∙ p))
 ]
 
-pub freed_was : (part : LabelData) (node : NodeId) (fec : Fec) (label : ℕ) (u : NodeId) → Maps (without_session part node) fec label u → Maps part fec label u × (u ≡ node → ⊥)
+pub freed_was : (part : LabelData) (node : NodeId) (fec : Fec) (label : ℕ) (u : NodeId) → Maps (without_session part node) fec label u
+    → Maps part fec label u × (u ≡ node → ⊥)
 freed_was part node fec label u p =
     let x = map_some (freed node) (use_of part label) (uses.Mapped fec u) (sym (used-map (freed node) part.labels label) ∙ p) in
     let y = freed_maps node x.0 fec u x.2 in
     (x.1 ∙ ap (λ (z : LabelUse). Some z) y.0, y.1)
 
-pub freed_stays : (part : LabelData) (node : NodeId) (fec : Fec) (label : ℕ) (u : NodeId) → (u ≡ node → ⊥) → Maps part fec label u → Maps (without_session part node) fec label u
+pub freed_stays : (part : LabelData) (node : NodeId) (fec : Fec) (label : ℕ) (u : NodeId) → (u ≡ node → ⊥) → Maps part fec label u
+    → Maps (without_session part node) fec label u
 freed_stays part node fec label u ne p =
-    used-map (freed node) part.labels label ∙ ap (option_map (freed node)) p ∙ ap (λ (x : LabelUse). Some x) (cond-false (u.0 == node.0) uses.Free (uses.Mapped fec u) (node_apart u node ne))
+    used-map (freed node) part.labels label ∙ ap (option_map (freed node)) p
+    ∙ ap (λ (x : LabelUse). Some x) (cond-false (u.0 == node.0) uses.Free (uses.Mapped fec u) (node_apart u node ne))
 
 pub ready_stays : (part : LabelData) (peer node : NodeId) → (node ≡ peer → ⊥) → is_ready (without_session part peer) node ≡ is_ready part node
 ready_stays part peer node ne = ap held (cut_other node_cmp_total node_cmp_exact part.ends peer node ne)
@@ -67,15 +71,20 @@ loss_tied place part peer fec t =
 
 -- ---- trees that the node does not have
 
-any_fec : (fec : Fec) (branches : List Branch) → list_any (same_fec fec) (map (λ (branch : Branch). branch.fec) branches) ≡ list_any (λ (branch : Branch). same_fec branch.fec fec) branches
+any_fec : (fec : Fec) (branches : List Branch)
+    → list_any (same_fec fec) (map (λ (branch : Branch). branch.fec) branches) ≡ list_any (λ (branch : Branch). same_fec branch.fec fec) branches
 any_fec fec [] = refl
 any_fec fec (branch ∷ more) = λ i. (eq_by_cmp_equiv fec_cmp_total).symm fec branch.fec i || any_fec fec more i
 
-in_mapped : (fec : Fec) (u : NodeId) (labels : List LabelUse) (k : ℕ) → slice_get labels k ≡ Some (uses.Mapped fec u) → list_any (same_fec fec) (mapped_trees labels) ≡ true
+in_mapped : (fec : Fec) (u : NodeId) (labels : List LabelUse) (k : ℕ) → slice_get labels k ≡ Some (uses.Mapped fec u)
+    → list_any (same_fec fec) (mapped_trees labels) ≡ true
 in_mapped fec u [] k e = absurd (none-some (uses.Mapped fec u) e)
-in_mapped fec u (usage ∷ more) zero e = subst (λ (x : LabelUse). list_any (same_fec fec) (mapped_trees (x ∷ more)) ≡ true) (sym (same_Some usage (uses.Mapped fec u) e)) (ap (λ b. b || list_any (same_fec fec) (mapped_trees more)) (same_fec_itself fec))
+in_mapped fec u (usage ∷ more) zero e =
+    subst (λ (x : LabelUse). list_any (same_fec fec) (mapped_trees (x ∷ more)) ≡ true) (sym (same_Some usage (uses.Mapped fec u) e))
+    (ap (λ b. b || list_any (same_fec fec) (mapped_trees more)) (same_fec_itself fec))
 in_mapped fec u (uses.Free ∷ more) (suc k) e = in_mapped fec u more k e
-in_mapped fec u (uses.Mapped own v ∷ more) (suc k) e = or_right (same_fec fec own) (list_any (same_fec fec) (mapped_trees more)) (in_mapped fec u more k e)
+in_mapped fec u (uses.Mapped own v ∷ more) (suc k) e =
+    or_right (same_fec fec own) (list_any (same_fec fec) (mapped_trees more)) (in_mapped fec u more k e)
 in_mapped fec u (uses.Leaving own v ∷ more) (suc k) e = in_mapped fec u more k e
 in_mapped fec u (uses.Resting until ∷ more) (suc k) e = in_mapped fec u more k e
 
@@ -90,17 +99,21 @@ absent part fec h =
     let leaves = in_order part.leaves in
     let mapped = mapped_trees part.labels in
     let all = branches ++ (leaves ++ mapped) in
-    let out : list_any (same_fec fec) all ≡ false = sym (sets.contains-from_list fec_cmp_total all fec) ∙ contains_in_order fec_cmp_total (sets.from_list {R = fec_cmp} all) fec ∙ h in
-    let x = or_parts (list_any (same_fec fec) branches) (list_any (same_fec fec) (leaves ++ mapped)) (sym (list_any-append (same_fec fec) branches (leaves ++ mapped)) ∙ out) in
+    let out : list_any (same_fec fec) all ≡ false =
+    sym (sets.contains-from_list fec_cmp_total all fec) ∙ contains_in_order fec_cmp_total (sets.from_list {R = fec_cmp} all) fec ∙ h in
+    let x = or_parts (list_any (same_fec fec) branches) (list_any (same_fec fec) (leaves ++ mapped))
+    (sym (list_any-append (same_fec fec) branches (leaves ++ mapped)) ∙ out) in
     let y = or_parts (list_any (same_fec fec) leaves) (list_any (same_fec fec) mapped) (sym (list_any-append (same_fec fec) leaves mapped) ∙ x.1) in
     record {
       branches = sym (any_fec fec (in_order part.branches)) ∙ x.0;
       leaves = contains_in_order fec_cmp_total part.leaves fec ∙ y.0;
-      none = λ label u p. not_both (list_any (same_fec fec) mapped) (in_mapped fec u part.labels _ (used_some part.labels label (uses.Mapped fec u) p).1) y.1;
+      none = λ label u p. not_both (list_any (same_fec fec) mapped)
+          (in_mapped fec u part.labels _ (used_some part.labels label (uses.Mapped fec u) p).1) y.1;
     }
 
 -- behind a loss the node has no branch that it had not
-pub loss_adds_no_branch : (part : LabelData) (peer : NodeId) (fec : Fec) → has_branch (without_session part peer) fec ≡ true → has_branch part fec ≡ true
+pub loss_adds_no_branch : (part : LabelData) (peer : NodeId) (fec : Fec) → has_branch (without_session part peer) fec ≡ true
+    → has_branch part fec ≡ true
 loss_adds_no_branch part peer fec h =
     let p : Branch → Bool = λ own. same_fec own.fec fec in
     let kept : Branch → Bool = λ own. not (own.node.0 == peer.0) in
@@ -108,13 +121,15 @@ loss_adds_no_branch part peer fec h =
     let y = and_parts (sets.contains part.branches x.0) (kept x.0) (sym (retained branch_cmp_total branch_cmp_exact part.branches kept x.0) ∙ x.1) in
     member_passes branch_cmp_total branch_cmp_exact p part.branches x.0 y.0 x.2
 
-loss_settled : (place : Place) (part : LabelData) (peer : NodeId) (fec : Fec) → list_any (same_fec fec) (trees part) ≡ false → Settled place part fec → Settled place (without_session part peer) fec
+loss_settled : (place : Place) (part : LabelData) (peer : NodeId) (fec : Fec) → list_any (same_fec fec) (trees part) ≡ false → Settled place part fec
+    → Settled place (without_session part peer) fec
 loss_settled place part peer fec h s =
     let a = absent part fec h in
     let t = loss_tied place part peer fec (tied place part fec s) in
     let new : LabelData = without_session part peer in
     let before : has_tree part fec ≡ false = or_from (has_branch part fec) (sets.contains part.leaves fec) a.branches a.leaves in
-    let branches : has_branch new fec ≡ false = false_from_ne_true (has_branch new fec) (λ e. not_both (has_branch part fec) (loss_adds_no_branch part peer fec e) a.branches) in
+    let branches : has_branch new fec ≡ false =
+    false_from_ne_true (has_branch new fec) (λ e. not_both (has_branch part fec) (loss_adds_no_branch part peer fec e) a.branches) in
     let after : has_tree new fec ≡ false = or_from (has_branch new fec) (sets.contains part.leaves fec) branches a.leaves in
     record {
       one = t.one;

@@ -26,7 +26,8 @@ use Rattle.label_defs.proofs.IdLemmas.{counted_ready}
 use Rattle.label_defs.proofs.OwnLemmas.{step_keeps, rest_tree, rest_ready, free_then, then_free}
 
 -- a part of a list with one more element behind it
-pub snoc_split : {A : Type 0} (xs front : List A) (x put : A) (behind : List A) → xs ++ x ∷ [] ≡ front ++ put ∷ behind → ((rest : List A) × (xs ≡ front ++ put ∷ rest)) ⊎ ((xs ≡ front) × (x ≡ put))
+pub snoc_split : {A : Type 0} (xs front : List A) (x put : A) (behind : List A) → xs ++ x ∷ [] ≡ front ++ put ∷ behind
+    → ((rest : List A) × (xs ≡ front ++ put ∷ rest)) ⊎ ((xs ≡ front) × (x ≡ put))
 snoc_split [] [] x put behind e = inr (refl, cc)
 snoc_split [] (y ∷ []) x put behind e = absurd cc
 snoc_split [] (y ∷ (z ∷ front)) x put behind e = absurd cc
@@ -55,11 +56,15 @@ record Traced (place : Place) (start part : LabelData) (puts : List Put) : Type 
   -- what is free was so, and what was free is so or was taken
   free : (label : ℕ) → use_of part label ≡ Some uses.Free → use_of start label ≡ Some uses.Free
   taken : (label : ℕ) → use_of start label ≡ Some uses.Free → (use_of part label ≡ Some uses.Free) ⊎ (list_any (takes_by label) puts ≡ true)
-  found : (before behind : List Put) (to : NodeId) (fec : Fec) (label : ℕ) → puts ≡ before ++ mapping_to to fec label ∷ behind → Found place start part before to fec label
+  found : (before behind : List Put) (to : NodeId) (fec : Fec) (label : ℕ) → puts ≡ before ++ mapping_to to fec label ∷ behind
+      → Found place start part before to fec label
 
-same_found : (place : Place) (start part : LabelData) (a b : List Put) (u v : NodeId) (f g : Fec) (l k : ℕ) → a ≡ b → u ≡ v → f ≡ g → l ≡ k → Found place start part a u f l → Found place start part b v g k
+same_found : (place : Place) (start part : LabelData) (a b : List Put) (u v : NodeId) (f g : Fec) (l k : ℕ) → a ≡ b → u ≡ v → f ≡ g → l ≡ k
+    → Found place start part a u f l → Found place start part b v g k
 same_found place start part a b u v f g l k ea eu ef el x =
-    subst (λ (n : ℕ). Found place start part b v g n) el (subst (λ (n : Fec). Found place start part b v n l) ef (subst (λ (n : NodeId). Found place start part b n f l) eu (subst (λ (n : List Put). Found place start part n u f l) ea x)))
+    subst (λ (n : ℕ). Found place start part b v g n) el
+    (subst (λ (n : Fec). Found place start part b v n l) ef
+    (subst (λ (n : NodeId). Found place start part b n f l) eu (subst (λ (n : List Put). Found place start part n u f l) ea x)))
 
 pub same_uses : (old next : LabelData) (labels : List LabelUse) → next.labels ≡ labels → (k : ℕ) → use_of next k ≡ used labels k
 same_uses old next labels e k = ap (λ (ls : List LabelUse). used ls k) e
@@ -77,15 +82,25 @@ module _ (place : Place) (start old : LabelData) (fec : Fec) (next : LabelData) 
         ];
         found = λ before behind to own label e.
             let f = x.found before behind to own label (sym none ∙ e) in
-            record { toward = f.toward; ready = rest_ready old next t.rest to ∙ f.ready; free = f.free; least = f.least; tree = rest_tree old next t.rest own ∙ f.tree; holds = same label ∙ f.holds };
+            record {
+              toward = f.toward;
+              ready = rest_ready old next t.rest to ∙ f.ready;
+              free = f.free;
+              least = f.least;
+              tree =
+                  rest_tree old next t.rest own ∙ f.tree;
+              holds = same label ∙ f.holds;
+            };
       }
 
   takes_traced : Turn place old fec next more → Takes place old fec next more → Traced place start old puts → Traced place start next (puts ++ more)
   takes_traced t m x =
       let one : Put = mapping_to m.to fec m.label in
-      let same : (k : ℕ) → use_of next k ≡ use_of (with_use old m.label (uses.Mapped fec m.to)) k = same_uses old next (with_use old m.label (uses.Mapped fec m.to)).labels m.labels in
+      let same : (k : ℕ) → use_of next k ≡ use_of (with_use old m.label (uses.Mapped fec m.to)) k =
+      same_uses old next (with_use old m.label (uses.Mapped fec m.to)).labels m.labels in
       let here : Maps next fec m.label m.to = same m.label ∙ set_here old m.label uses.Free (uses.Mapped fec m.to) m.least.free in
-      let there : (k : ℕ) → (k ≡ m.label → ⊥) → use_of next k ≡ use_of old k = λ k ne. same k ∙ set_there old m.label uses.Free (uses.Mapped fec m.to) k m.least.free ne in
+      let there : (k : ℕ) → (k ≡ m.label → ⊥) → use_of next k ≡ use_of old k =
+      λ k ne. same k ∙ set_there old m.label uses.Free (uses.Mapped fec m.to) k m.least.free ne in
       let all : puts ++ more ≡ puts ++ one ∷ [] = ap (λ (ps : List Put). puts ++ ps) m.put in
       record {
         free = λ k e. elim (cases_eq k m.label) [
@@ -93,7 +108,8 @@ module _ (place : Place) (start old : LabelData) (fec : Fec) (next : LabelData) 
           | inr ne ↦ x.free k (sym (there k ne) ∙ e)
         ];
         taken = λ k e. elim (x.taken k e) [
-          | inr is ↦ inr (ap (list_any (takes_by k)) all ∙ list_any-append (takes_by k) puts (one ∷ []) ∙ or_left (list_any (takes_by k) puts) (list_any (takes_by k) (one ∷ [])) is)
+          | inr is ↦ inr (ap (list_any (takes_by k)) all ∙ list_any-append (takes_by k) puts (one ∷ [])
+              ∙ or_left (list_any (takes_by k) puts) (list_any (takes_by k) (one ∷ [])) is)
           | inl is ↦ elim (cases_eq k m.label) [
             | inr ne ↦ inl (there k ne ∙ is)
             | inl p ↦ inr (ap (list_any (takes_by k)) all ∙ list_any-append (takes_by k) puts (one ∷ [])
@@ -109,7 +125,8 @@ module _ (place : Place) (start old : LabelData) (fec : Fec) (next : LabelData) 
                 free = f.free;
                 least = f.least;
                 tree = rest_tree old next t.rest own ∙ f.tree;
-                holds = there label (λ p. (let both = same_Some (uses.Mapped own to) uses.Free (sym f.holds ∙ ap (use_of old) p ∙ m.least.free) in absurd cc)) ∙ f.holds;
+                holds = there label (λ p. (let both = same_Some (uses.Mapped own to) uses.Free (sym f.holds ∙ ap (use_of old) p ∙ m.least.free) in
+                    absurd cc)) ∙ f.holds;
               }
           | inr r ↦
               let message : messages.Mapping fec m.label ≡ messages.Mapping own label = ap (λ (put : Put). put.message) r.1 in
@@ -129,9 +146,12 @@ module _ (place : Place) (start old : LabelData) (fec : Fec) (next : LabelData) 
   gives_traced : Turn place old fec next more → Gives place old fec next more → Traced place start old puts → Traced place start next (puts ++ more)
   gives_traced t w x =
       let one : Put = record { to = w.to; message = messages.Withdraw fec w.label } in
-      let same : (k : ℕ) → use_of next k ≡ use_of (with_use old w.label (uses.Leaving fec w.to)) k = same_uses old next (with_use old w.label (uses.Leaving fec w.to)).labels w.labels in
-      let here : use_of next w.label ≡ Some (uses.Leaving fec w.to) = same w.label ∙ set_here old w.label (uses.Mapped fec w.to) (uses.Leaving fec w.to) w.was in
-      let there : (k : ℕ) → (k ≡ w.label → ⊥) → use_of next k ≡ use_of old k = λ k ne. same k ∙ set_there old w.label (uses.Mapped fec w.to) (uses.Leaving fec w.to) k w.was ne in
+      let same : (k : ℕ) → use_of next k ≡ use_of (with_use old w.label (uses.Leaving fec w.to)) k =
+      same_uses old next (with_use old w.label (uses.Leaving fec w.to)).labels w.labels in
+      let here : use_of next w.label ≡ Some (uses.Leaving fec w.to) =
+      same w.label ∙ set_here old w.label (uses.Mapped fec w.to) (uses.Leaving fec w.to) w.was in
+      let there : (k : ℕ) → (k ≡ w.label → ⊥) → use_of next k ≡ use_of old k =
+      λ k ne. same k ∙ set_there old w.label (uses.Mapped fec w.to) (uses.Leaving fec w.to) k w.was ne in
       let all : puts ++ more ≡ puts ++ one ∷ [] = ap (λ (ps : List Put). puts ++ ps) w.put in
       record {
         free = λ k e. elim (cases_eq k w.label) [
@@ -139,7 +159,8 @@ module _ (place : Place) (start old : LabelData) (fec : Fec) (next : LabelData) 
           | inr ne ↦ x.free k (sym (there k ne) ∙ e)
         ];
         taken = λ k e. elim (x.taken k e) [
-          | inr is ↦ inr (ap (list_any (takes_by k)) all ∙ list_any-append (takes_by k) puts (one ∷ []) ∙ or_left (list_any (takes_by k) puts) (list_any (takes_by k) (one ∷ [])) is)
+          | inr is ↦ inr (ap (list_any (takes_by k)) all ∙ list_any-append (takes_by k) puts (one ∷ [])
+              ∙ or_left (list_any (takes_by k) puts) (list_any (takes_by k) (one ∷ [])) is)
           | inl is ↦ elim (cases_eq k w.label) [
             | inr ne ↦ inl (there k ne ∙ is)
             | inl p ↦ (let both = same_Some (uses.Mapped fec w.to) uses.Free (sym (ap (use_of old) p ∙ w.was) ∙ is) in absurd cc)
@@ -156,8 +177,10 @@ module _ (place : Place) (start old : LabelData) (fec : Fec) (next : LabelData) 
                 least = f.least;
                 tree = rest_tree old next t.rest own ∙ f.tree;
                 holds = there label (λ p.
-                    let both = one_tree own fec to w.to (same_Some (uses.Mapped own to) (uses.Mapped fec w.to) (sym f.holds ∙ ap (use_of old) p ∙ w.was)) in
-                    on_it place old own to f.tree f.toward (subst (λ (x : Fec). Off place old x to) (sym both.0) (subst (Off place old fec) (sym both.1) w.off))) ∙ f.holds;
+                    let both =
+                    one_tree own fec to w.to (same_Some (uses.Mapped own to) (uses.Mapped fec w.to) (sym f.holds ∙ ap (use_of old) p ∙ w.was)) in
+                    on_it place old own to f.tree f.toward (subst (λ (x : Fec). Off place old x to) (sym both.0)
+                    (subst (Off place old fec) (sym both.1) w.off))) ∙ f.holds;
               }
         ];
       }
@@ -179,7 +202,8 @@ pub none_first : (before behind : List Put) (put : Put) → [] ≡ before ++ put
 none_first [] behind put e = absurd cc
 none_first (first ∷ before) behind put e = absurd cc
 
-one_first : (from : NodeId) (fec : Fec) (label : ℕ) (before behind : List Put) (put : Put) → releases put.message ≡ false → record { to = from; message = messages.Release fec label } ∷ [] ≡ before ++ put ∷ behind → ⊥
+one_first : (from : NodeId) (fec : Fec) (label : ℕ) (before behind : List Put) (put : Put) → releases put.message ≡ false
+    → record { to = from; message = messages.Release fec label } ∷ [] ≡ before ++ put ∷ behind → ⊥
 one_first from fec label [] behind put none e =
     let release : Put = record { to = from; message = messages.Release fec label } in
     let same : release ≡ put = cc in
@@ -188,7 +212,8 @@ one_first from fec label [] behind put none e =
 one_first from fec label (first ∷ before) behind put none e = (let rest : [] ≡ before ++ put ∷ behind = cc in none_first before behind put rest)
 
 -- the call's own effect puts releases alone
-pub no_own_put : (place : Place) (now : ℕ) (part : LabelData) (call : Call) (before behind : List Put) (put : Put) → releases put.message ≡ false → (effect place now part call).0.puts ≡ before ++ put ∷ behind → ⊥
+pub no_own_put : (place : Place) (now : ℕ) (part : LabelData) (call : Call) (before behind : List Put) (put : Put) → releases put.message ≡ false
+    → (effect place now part call).0.puts ≡ before ++ put ∷ behind → ⊥
 no_own_put place now part (Taken from (messages.Mapping fec label)) before behind put none e = none_first before behind put e
 no_own_put place now part (Taken from (messages.Withdraw fec label)) before behind put none e = one_first from fec label before behind put none e
 no_own_put place now part (Taken from (messages.Release fec label)) before behind put none e = none_first before behind put e
@@ -200,13 +225,23 @@ no_own_put place now part (Noticed peer) before behind put none e = none_first b
 no_own_put place now part Timers before behind put none e = none_first before behind put e
 no_own_put place now part Rerouted before behind put none e = none_first before behind put e
 
-pub mapping_is : (place : Place) (now : ℕ) (part : LabelData) (call : Call) (new : Stepped) (before behind : List Put) (to : NodeId) (fec : Fec) (label : ℕ) → label_step place now part call ≡ Some new
+pub mapping_is : (place : Place) (now : ℕ) (part : LabelData) (call : Call) (new : Stepped) (before behind : List Put) (to : NodeId) (fec : Fec)
+    (label : ℕ) → label_step place now part call ≡ Some new
     → new.puts ≡ before ++ mapping_to to fec label ∷ behind → MappingIs place now part call new.part before to fec label
 mapping_is place now part call new before behind to fec label e is =
     let start = (effect place now part call).0.part in
-    let traced = step_keeps place now part call new (λ p puts. Traced place start p puts) (λ old puts own next more t x. turn_traced place start old own next puts more t x)
-    (λ old x. record { free = x.free; taken = x.taken; found = λ b r u f l h. (let y = x.found b r u f l h in record { toward = y.toward; ready = counted_ready old u ∙ y.ready; free = y.free; least = y.least; tree = y.tree; holds = y.holds }) })
-    (record { free = λ k h. h; taken = λ k h. inl h; found = λ b r u f l h. absurd (no_own_put place now part call b r (mapping_to u f l) refl h) }) e in
+    let traced =
+    step_keeps place now part call new (λ p puts. Traced place start p puts)
+    (λ old puts own next more t x. turn_traced place start old own next puts more t x)
+    (λ old x. record {
+      free = x.free;
+      taken = x.taken;
+      found =
+          λ b r u f l h. (let y = x.found b r u f l h in
+          record { toward = y.toward; ready = counted_ready old u ∙ y.ready; free = y.free; least = y.least; tree = y.tree; holds = y.holds });
+    })
+    (record { free = λ k h. h; taken = λ k h. inl h; found = λ b r u f l h. absurd (no_own_put place now part call b r (mapping_to u f l) refl h) }) e
+    in
     let f = traced.found before behind to fec label is in
     record {
       toward = f.toward;

@@ -43,18 +43,22 @@ module _ {K X : Type 0} {R : K → K → Ordering} (total : IsTotalOrder R) wher
       let rest = none_above k a e es (back_of (is_lt (R a x.0)) (below_all R a es) h) in
       omega (arith, count-cons (eq_by_cmp R k) x.0 (map (λ (y : K × X). y.0) es), none, rest)
 
-  once_sorted : (k : K) (es : List (K × X)) → T (is_sorted R es) → count_by (eq_by_cmp R k) (map (λ e. e.0) es) ≡ cond (list_any (eq_by_cmp R k) (map (λ e. e.0) es)) 1 0
+  once_sorted : (k : K) (es : List (K × X)) → T (is_sorted R es)
+      → count_by (eq_by_cmp R k) (map (λ e. e.0) es) ≡ cond (list_any (eq_by_cmp R k) (map (λ e. e.0) es)) 1 0
   once_sorted k [] h = refl
   once_sorted k (x ∷ es) h = elim (cases_Bool (eq_by_cmp R k x.0)) [
     | inl t ↦
         let one : cond {A = ℕ} (eq_by_cmp R k x.0) 1 0 ≡ 1 = cond-true (eq_by_cmp R k x.0) 1 0 t in
         let rest = none_above k x.0 t es (front_of (below_all R x.0 es) (is_sorted R es) h) in
-        let there : cond {A = ℕ} (eq_by_cmp R k x.0 || list_any (eq_by_cmp R k) (map (λ (y : K × X). y.0) es)) 1 0 ≡ 1 = ap (λ b. cond (b || list_any (eq_by_cmp R k) (map (λ (y : K × X). y.0) es)) 1 0) t in
+        let there : cond {A = ℕ} (eq_by_cmp R k x.0 || list_any (eq_by_cmp R k) (map (λ (y : K × X). y.0) es)) 1 0 ≡ 1 =
+        ap (λ b. cond (b || list_any (eq_by_cmp R k) (map (λ (y : K × X). y.0) es)) 1 0) t in
         omega (arith, count-cons (eq_by_cmp R k) x.0 (map (λ (y : K × X). y.0) es), one, rest, there)
     | inr f ↦
         let none : cond {A = ℕ} (eq_by_cmp R k x.0) 1 0 ≡ 0 = cond-false (eq_by_cmp R k x.0) 1 0 f in
         let rest = once_sorted k es (back_of (below_all R x.0 es) (is_sorted R es) h) in
-        let there : cond {A = ℕ} (eq_by_cmp R k x.0 || list_any (eq_by_cmp R k) (map (λ (y : K × X). y.0) es)) 1 0 ≡ cond (list_any (eq_by_cmp R k) (map (λ (y : K × X). y.0) es)) 1 0 = ap (λ b. cond (b || list_any (eq_by_cmp R k) (map (λ (y : K × X). y.0) es)) 1 0) f in
+        let there : cond {A = ℕ} (eq_by_cmp R k x.0 || list_any (eq_by_cmp R k) (map (λ (y : K × X). y.0) es)) 1 0
+        ≡ cond (list_any (eq_by_cmp R k) (map (λ (y : K × X). y.0) es)) 1 0 =
+        ap (λ b. cond (b || list_any (eq_by_cmp R k) (map (λ (y : K × X). y.0) es)) 1 0) f in
         omega (arith, count-cons (eq_by_cmp R k) x.0 (map (λ (y : K × X). y.0) es), none, rest, there)
   ]
 
@@ -65,7 +69,8 @@ module _ {K X : Type 0} {R : K → K → Ordering} (total : IsTotalOrder R) wher
 -- ---- members
 
 module _ {K : Type 0} {R : K → K → Ordering} (total : IsTotalOrder R) where
-  as_entries : (xs : List K) (k : K) → list_any (eq_by_cmp R k) (map (λ (e : K × Unit {0}). e.0) (map (λ x. (x, tt {0})) xs)) ≡ list_any (eq_by_cmp R k) xs
+  as_entries : (xs : List K) (k : K) → list_any (eq_by_cmp R k) (map (λ (e : K × Unit {0}). e.0) (map (λ x. (x, tt {0})) xs))
+      ≡ list_any (eq_by_cmp R k) xs
   as_entries [] k = refl
   as_entries (x ∷ xs) k = ap (λ b. eq_by_cmp R k x || b) (as_entries xs k)
 

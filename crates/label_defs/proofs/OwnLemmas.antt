@@ -28,7 +28,8 @@ rest_ready old new same node = ap (λ ends. held (maps.get ends node)) same.ends
 
 -- What the effect shows and each turn keeps holds behind the step.
 pub step_keeps : (place : Place) (now : ℕ) (part : LabelData) (call : Call) (new : Stepped) (P : LabelData → List Put → Type 0)
-    → ((old : LabelData) (puts : List Put) (fec : Fec) (next : LabelData) (more : List Put) → Turn place old fec next more → P old puts → P next (puts ++ more))
+    → ((old : LabelData) (puts : List Put) (fec : Fec) (next : LabelData) (more : List Put) → Turn place old fec next more → P old puts
+    → P next (puts ++ more))
     → ((old : Stepped) → P old.part old.puts → P (counted old).part old.puts)
     → P (effect place now part call).0.part (effect place now part call).0.puts → label_step place now part call ≡ Some new → P new.part new.puts
 step_keeps place now part call new P step ids start e =
@@ -51,19 +52,28 @@ map_same : {A : Type 0} (f : A → A) → ((x : A) → f x ≡ x) → (o : Optio
 map_same f same None = refl
 map_same f same (Some x) = ap Some (sym (same x))
 
-mapped_or_not : (part next : LabelData) (t : Bool) (label : ℕ) → (use_of next label ≡ use_of part label) → use_of (cond t next part) label ≡ use_of part label
+mapped_or_not : (part next : LabelData) (t : Bool) (label : ℕ) → (use_of next label ≡ use_of part label)
+    → use_of (cond t next part) label ≡ use_of part label
 mapped_or_not part next true label e = e
 mapped_or_not part next false label e = refl
 
-release_use : (part : LabelData) (from : NodeId) (fec : Fec) (own until label : ℕ) → use_of (with_release part from fec own until) label ≡ option_map (λ usage. cond (label == own) (released from fec until usage) usage) (use_of part label)
+release_use : (part : LabelData) (from : NodeId) (fec : Fec) (own until label : ℕ)
+    → use_of (with_release part from fec own until) label
+    ≡ option_map (λ usage. cond (label == own) (released from fec until usage) usage) (use_of part label)
 release_use part from fec own until label = by (use_of part own) refl
   where
-    other : (label ≡ own → ⊥) → use_of part label ≡ option_map (λ usage. cond (label == own) (released from fec until usage) usage) (use_of part label)
-    other ne = map_same (λ usage. cond (label == own) (released from fec until usage) usage) (λ x. cond-false (label == own) (released from fec until x) x (ne_eqb label own ne)) (use_of part label)
+    other : (label ≡ own → ⊥) → use_of part label
+        ≡ option_map (λ usage. cond (label == own) (released from fec until usage) usage) (use_of part label)
+    other ne =
+        map_same (λ usage. cond (label == own) (released from fec until usage) usage)
+        (λ x. cond-false (label == own) (released from fec until x) x (ne_eqb label own ne)) (use_of part label)
 
-    by : (o : Option LabelUse) → use_of part own ≡ o → use_of (elim o [ None ↦ part | Some usage ↦ with_use part own (released from fec until usage) ]) label ≡ option_map (λ usage. cond (label == own) (released from fec until usage) usage) (use_of part label)
+    by : (o : Option LabelUse) → use_of part own ≡ o
+        → use_of (elim o [ None ↦ part | Some usage ↦ with_use part own (released from fec until usage) ]) label
+        ≡ option_map (λ usage. cond (label == own) (released from fec until usage) usage) (use_of part label)
     by None e = elim (cases_eq label own) [
-      | inl same ↦ (let none = ap (use_of part) same ∙ e in none ∙ sym (ap (option_map (λ usage. cond (label == own) (released from fec until usage) usage)) none))
+      | inl same ↦ (let none = ap (use_of part) same ∙ e in
+          none ∙ sym (ap (option_map (λ usage. cond (label == own) (released from fec until usage) usage)) none))
       | inr ne ↦ other ne
     ]
     by (Some usage) e = elim (cases_eq label own) [
@@ -75,7 +85,8 @@ release_use part from fec own until label = by (use_of part own) refl
       | inr ne ↦ set_there part own usage (released from fec until usage) label e ne ∙ other ne
     ]
 
-pub effect_use : (place : Place) (now : ℕ) (part : LabelData) (call : Call) (label : ℕ) → use_of (effect place now part call).0.part label ≡ option_map (own_use place now call label) (use_of part label)
+pub effect_use : (place : Place) (now : ℕ) (part : LabelData) (call : Call) (label : ℕ)
+    → use_of (effect place now part call).0.part label ≡ option_map (own_use place now call label) (use_of part label)
 effect_use place now part (Taken from (messages.Mapping fec own)) label =
     mapped_or_not part _ (place.is_tree fec) label refl ∙ map_same (λ x. x) (λ x. refl) (use_of part label)
 effect_use place now part (Taken from (messages.Withdraw fec own)) label = map_same (λ x. x) (λ x. refl) (use_of part label)
@@ -111,8 +122,10 @@ is_free_then now call (uses.Leaving own v) e = absurd cc
 is_free_then now call (uses.Resting until) e = absurd cc
 
 -- a use that the call makes free
-pub own_free : (place : Place) (now : ℕ) (call : Call) (label : ℕ) (usage : LabelUse) → own_use place now call label usage ≡ uses.Free → is_free_in now call usage ≡ true
-own_free place now (Taken from (messages.Release fec own)) label usage e = is_free_then now (Taken from (messages.Release fec own)) usage (by (label == own) e)
+pub own_free : (place : Place) (now : ℕ) (call : Call) (label : ℕ) (usage : LabelUse) → own_use place now call label usage ≡ uses.Free
+    → is_free_in now call usage ≡ true
+own_free place now (Taken from (messages.Release fec own)) label usage e =
+    is_free_then now (Taken from (messages.Release fec own)) usage (by (label == own) e)
   where
     by : (t : Bool) → cond t (released from fec (now + place.life + 1) usage) usage ≡ uses.Free → usage ≡ uses.Free
     by true e = released_free from fec (now + place.life + 1) usage e
@@ -137,7 +150,8 @@ free_own_release : (t : Bool) (from : NodeId) (fec : Fec) (until : ℕ) → cond
 free_own_release true from fec until = refl
 free_own_release false from fec until = refl
 
-pub free_own : (place : Place) (now : ℕ) (call : Call) (label : ℕ) (usage : LabelUse) → is_free_in now call usage ≡ true → own_use place now call label usage ≡ uses.Free
+pub free_own : (place : Place) (now : ℕ) (call : Call) (label : ℕ) (usage : LabelUse) → is_free_in now call usage ≡ true
+    → own_use place now call label usage ≡ uses.Free
 free_own place now (Taken from (messages.Release fec own)) label uses.Free e = free_own_release (label == own) from fec (now + place.life + 1)
 free_own place now (Taken from (messages.Mapping fec own)) label uses.Free e = refl
 free_own place now (Taken from (messages.Withdraw fec own)) label uses.Free e = refl
@@ -170,11 +184,14 @@ free_own place now Rerouted label (uses.Resting until) e = absurd cc
 free_own place now (Raised peer) label (uses.Leaving own v) e = absurd cc
 free_own place now (Raised peer) label (uses.Resting until) e = absurd cc
 
-pub free_then : (place : Place) (now : ℕ) (part : LabelData) (call : Call) (label : ℕ) → use_of (effect place now part call).0.part label ≡ Some uses.Free → FreeIn now part call label
+pub free_then : (place : Place) (now : ℕ) (part : LabelData) (call : Call) (label : ℕ)
+    → use_of (effect place now part call).0.part label ≡ Some uses.Free → FreeIn now part call label
 free_then place now part call label e =
     let x = map_some (own_use place now call label) (use_of part label) uses.Free (sym (effect_use place now part call label) ∙ e) in
     (x.0, x.1, own_free place now call label x.0 x.2)
 
-pub then_free : (place : Place) (now : ℕ) (part : LabelData) (call : Call) (label : ℕ) → FreeIn now part call label → use_of (effect place now part call).0.part label ≡ Some uses.Free
+pub then_free : (place : Place) (now : ℕ) (part : LabelData) (call : Call) (label : ℕ) → FreeIn now part call label
+    → use_of (effect place now part call).0.part label ≡ Some uses.Free
 then_free place now part call label x =
-    effect_use place now part call label ∙ ap (option_map (own_use place now call label)) x.1 ∙ ap (λ (u : LabelUse). Some u) (free_own place now call label x.0 x.2)
+    effect_use place now part call label ∙ ap (option_map (own_use place now call label)) x.1
+    ∙ ap (λ (u : LabelUse). Some u) (free_own place now call label x.0 x.2)

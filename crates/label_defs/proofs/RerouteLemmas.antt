@@ -43,13 +43,20 @@ record TwoTurns (place : Place) (fec : Fec) (more : List Fec) (old new : Stepped
   second : changed mid fec (change_of place mid fec) ≡ Some next
   begun : Begun place old.part fec mid
   after : After place mid fec next
-  rest : settle_all place more (record { part = next; puts = (old.puts ++ put_by fec (change_of place old.part fec)) ++ put_by fec (change_of place mid fec) }) ≡ Some new
+  rest : settle_all place more (record {
+    part = next;
+    puts =
+        (old.puts ++ put_by fec (change_of place old.part fec)) ++ put_by fec (change_of place mid fec);
+  }) ≡ Some new
 
-two_turns : (place : Place) (fec : Fec) (more : List Fec) (old new : Stepped) → Loose old.part fec → settle_all place (fec ∷ fec ∷ more) old ≡ Some new → TwoTurns place fec more old new
+two_turns : (place : Place) (fec : Fec) (more : List Fec) (old new : Stepped) → Loose old.part fec
+    → settle_all place (fec ∷ fec ∷ more) old ≡ Some new → TwoTurns place fec more old new
 two_turns place fec more old new l e =
     let put = put_by fec (change_of place old.part fec) in
-    let x = bind_some (changed old.part fec (change_of place old.part fec)) (λ mid. settle_all place (fec ∷ more) (record { part = mid; puts = old.puts ++ put })) new e in
-    let y = bind_some (changed x.0 fec (change_of place x.0 fec)) (λ next. settle_all place more (record { part = next; puts = (old.puts ++ put) ++ put_by fec (change_of place x.0 fec) })) new x.2 in
+    let x = bind_some (changed old.part fec (change_of place old.part fec))
+    (λ mid. settle_all place (fec ∷ more) (record { part = mid; puts = old.puts ++ put })) new e in
+    let y = bind_some (changed x.0 fec (change_of place x.0 fec))
+    (λ next. settle_all place more (record { part = next; puts = (old.puts ++ put) ++ put_by fec (change_of place x.0 fec) })) new x.2 in
     let begun = step_begun place old.part fec x.0 l x.1 in
     record { mid = x.0; next = y.0; first = x.1; second = y.1; begun = begun; after = step_after place x.0 fec y.0 begun.here y.1; rest = y.2 }
 
@@ -61,23 +68,30 @@ module _ (place : Place) (old mid next : LabelData) (fec : Fec) (begun : Begun p
     | inr ne ↦ beside_loose mid next other (after.others other ne) (beside_loose old mid other (begun.others other ne) (all other))
   ]
 
-  pub more_settled : (more : List Fec) → ((other : Fec) → list_any (same_fec other) (fec ∷ more) ≡ false → Settled place old other) → (other : Fec) → list_any (same_fec other) more ≡ false → Settled place next other
+  pub more_settled : (more : List Fec) → ((other : Fec) → list_any (same_fec other) (fec ∷ more) ≡ false → Settled place old other) → (other : Fec)
+      → list_any (same_fec other) more ≡ false → Settled place next other
   more_settled more settled other h = elim (fec_cases other fec) [
     | inl e ↦ subst (Settled place next) (sym e) after.done
     | inr ne ↦ beside_settled place mid next other (after.others other ne) (beside_settled place old mid other (begun.others other ne)
         (settled other (ap (λ b. b || list_any (same_fec other) more) (fec_apart other fec ne) ∙ h)))
   ]
 
-moves_settle : (place : Place) (fecs : List Fec) (old new : Stepped) → ((fec : Fec) → Loose old.part fec) → ((fec : Fec) → list_any (same_fec fec) fecs ≡ false → Settled place old.part fec)
+moves_settle : (place : Place) (fecs : List Fec) (old new : Stepped) → ((fec : Fec) → Loose old.part fec)
+    → ((fec : Fec) → list_any (same_fec fec) fecs ≡ false → Settled place old.part fec)
     → settle_all place (twice fecs) old ≡ Some new → AllSettled place new.part
 moves_settle place [] old new all settled e = λ fec. subst (λ (s : Stepped). Settled place s.part fec) (same_Some old new e) (settled fec refl)
 moves_settle place (fec ∷ more) old new all settled e =
     let t = two_turns place fec (twice more) old new (all fec) e in
-    moves_settle place more (record { part = t.next; puts = (old.puts ++ put_by fec (change_of place old.part fec)) ++ put_by fec (change_of place t.mid fec) }) new
+    moves_settle place more (record {
+      part = t.next;
+      puts =
+          (old.puts ++ put_by fec (change_of place old.part fec)) ++ put_by fec (change_of place t.mid fec);
+    }) new
     (all_loose place old.part t.mid t.next fec t.begun t.after all) (more_settled place old.part t.mid t.next fec t.begun t.after more settled) t.rest
 
 -- a tree that the node does not have is settled by any next hops
-foreign_settled : (old place : Place) (part : LabelData) (fec : Fec) → Settled old part fec → list_any (same_fec fec) (trees part) ≡ false → Settled place part fec
+foreign_settled : (old place : Place) (part : LabelData) (fec : Fec) → Settled old part fec → list_any (same_fec fec) (trees part) ≡ false
+    → Settled place part fec
 foreign_settled old place part fec s h =
     let a = absent part fec h in
     let off : has_tree part fec ≡ false = or_from (has_branch part fec) (sets.contains part.leaves fec) a.branches a.leaves in
@@ -89,16 +103,20 @@ foreign_settled old place part fec s h =
       waiting = s.waiting ∙ and_left (has_tree part fec) _ off ∙ sym (and_left (has_tree part fec) _ off);
     }
 
-pub rerouted_settled : (old place : Place) (now : ℕ) (part : LabelData) (new : Stepped) → AllSettled old part → label_step place now part Rerouted ≡ Some new → AllSettled place new.part
+pub rerouted_settled : (old place : Place) (now : ℕ) (part : LabelData) (new : Stepped) → AllSettled old part
+    → label_step place now part Rerouted ≡ Some new → AllSettled place new.part
 rerouted_settled old place now part new all e fec =
     let start : Stepped = record { part = part; puts = [] } in
     let x = map_some counted (settle_all place (twice (trees part)) start) new e in
-    let settled = moves_settle place (trees part) start x.0 (λ own. loose old part own (all own)) (λ own h. foreign_settled old place part own (all own) h) x.1 in
+    let settled =
+    moves_settle place (trees part) start x.0 (λ own. loose old part own (all own)) (λ own h. foreign_settled old place part own (all own) h) x.1
+    in
     subst (λ (s : Stepped). Settled place s.part fec) x.2 (counted_settled place x.0 fec (settled fec))
 
 -- ---- a tree that moves leaves its old neighbour
 
-pub moved_leaves : (old place : Place) (now : ℕ) (part : LabelData) (new : Stepped) (fec : Fec) (label : ℕ) (old_hop : NodeId) → AllSettled old part → label_step place now part Rerouted ≡ Some new
+pub moved_leaves : (old place : Place) (now : ℕ) (part : LabelData) (new : Stepped) (fec : Fec) (label : ℕ) (old_hop : NodeId) → AllSettled old part
+    → label_step place now part Rerouted ≡ Some new
     → Maps part fec label old_hop → place.upstream fec ≢ Some old_hop → WithdrawnThen new.part new.puts fec old_hop label
 moved_leaves old place now part new fec label old_hop all e is away = elim (mapped_then place now part Rerouted new label fec old_hop e is) [
   | inl (inl still) ↦ (let x = (rerouted_settled old place now part new all e fec).toward label old_hop still in absurd (away x.0))
@@ -109,7 +127,8 @@ moved_leaves old place now part new fec label old_hop all e is away = elim (mapp
 -- ---- and is mapped to the new one
 
 -- behind the turn in which the label leaves, none is mapped
-none_left : (place : Place) (old : LabelData) (fec : Fec) (mid : LabelData) (puts : List Put) → Loose old fec → Gives place old fec mid puts → (label : ℕ) (u : NodeId) → Maps mid fec label u → ⊥
+none_left : (place : Place) (old : LabelData) (fec : Fec) (mid : LabelData) (puts : List Put) → Loose old fec → Gives place old fec mid puts
+    → (label : ℕ) (u : NodeId) → Maps mid fec label u → ⊥
 none_left place old fec mid puts l w label u is =
     withdraw_none old fec w.to w.label w.was l.one label u (sym (ap (λ (labels : List LabelUse). used labels label) w.labels) ∙ is)
 
@@ -125,7 +144,8 @@ record Moved (part : LabelData) (puts : List Put) (fec : Fec) (old_hop new_hop :
   moved : MovedThen part puts fec old_hop new_hop label
 
 moved_turn : (place : Place) (own : Fec) (old_hop new_hop : NodeId) (label : ℕ) → place.upstream own ≡ Some new_hop
-    → (old : LabelData) (puts : List Put) (fec : Fec) (next : LabelData) (more : List Put) → Turn place old fec next more → Moved old puts own old_hop new_hop label → Moved next (puts ++ more) own old_hop new_hop label
+    → (old : LabelData) (puts : List Put) (fec : Fec) (next : LabelData) (more : List Put) → Turn place old fec next more
+    → Moved old puts own old_hop new_hop label → Moved next (puts ++ more) own old_hop new_hop label
 moved_turn place own old_hop new_hop label toward old puts fec next more t x =
     let m = x.moved in
     record {
@@ -136,14 +156,17 @@ moved_turn place own old_hop new_hop label toward old puts fec next more t x =
         behind = m.behind ++ more;
         maps = stays_mapped place old fec next more t m.taken own new_hop x.tree toward m.maps;
         leaves = turn_stays place old fec next more t label (uses.Leaving own old_hop) (λ h. absurd cc) (λ f u h. absurd cc) m.leaves;
-        put = ap (λ (ps : List Put). ps ++ more) m.put ∙ append_assoc m.before (withdraw_to old_hop own label ∷ mapping_to new_hop own m.taken ∷ m.behind) more;
+        put = ap (λ (ps : List Put). ps ++ more) m.put
+            ∙ append_assoc m.before (withdraw_to old_hop own label ∷ mapping_to new_hop own m.taken ∷ m.behind) more;
       };
     }
 
 -- the two turns in which the tree moves
-module _ (place : Place) (old : LabelData) (fec : Fec) (mid next : LabelData) (puts first second : List Put) (l : Loose old fec) (begun : Begun place old fec mid)
+module _ (place : Place) (old : LabelData) (fec : Fec) (mid next : LabelData) (puts first second : List Put) (l : Loose old fec)
+    (begun : Begun place old fec mid)
     (t : Turn place old fec mid first) (s : Turn place mid fec next second)
-    (label : ℕ) (old_hop new_hop : NodeId) (is : Maps old fec label old_hop) (apart : old_hop ≢ new_hop) (toward : place.upstream fec ≡ Some new_hop) (ready : is_ready old new_hop ≡ true) where
+    (label : ℕ) (old_hop new_hop : NodeId) (is : Maps old fec label old_hop) (apart : old_hop ≢ new_hop) (toward : place.upstream fec ≡ Some new_hop)
+    (ready : is_ready old new_hop ≡ true) where
   not_quiet : Quiet place old fec mid first → ⊥
   not_quiet q =
       let still : Maps mid fec label old_hop = ap (λ (labels : List LabelUse). used labels label) q.labels ∙ is in
@@ -157,7 +180,8 @@ module _ (place : Place) (old : LabelData) (fec : Fec) (mid next : LabelData) (p
       let none = unmapped mid fec (none_left place old fec mid first l w) in
       let need : needs_label place mid fec ≡ true =
       and_from (has_tree mid fec) (not (is_some (mapped_label mid fec)) && is_ready_to mid (place.upstream fec)) on_mid
-      (and_from (not (is_some (mapped_label mid fec))) (is_ready_to mid (place.upstream fec)) (ap (λ (o : Option ℕ). not (is_some o)) none) (ap (is_ready_to mid) toward ∙ rest_ready old mid t.rest new_hop ∙ ready)) in
+      (and_from (not (is_some (mapped_label mid fec))) (is_ready_to mid (place.upstream fec)) (ap (λ (o : Option ℕ). not (is_some o)) none)
+      (ap (is_ready_to mid) toward ∙ rest_ready old mid t.rest new_hop ∙ ready)) in
       not_both (needs_label place mid fec) need q.content
 
   both : Gives place old fec mid first → Takes place mid fec next second → Moved next ((puts ++ first) ++ second) fec old_hop new_hop label
@@ -166,7 +190,8 @@ module _ (place : Place) (old : LabelData) (fec : Fec) (mid next : LabelData) (p
       let hops = one_tree fec fec w.to old_hop (same_Some (uses.Mapped fec w.to) (uses.Mapped fec old_hop) (sym w.was ∙ ap (use_of old) same ∙ is)) in
       let hop : m.to ≡ new_hop = same_Some m.to new_hop (sym m.toward ∙ toward) in
       let gone : use_of mid label ≡ Some (uses.Leaving fec old_hop) =
-      ap (λ (labels : List LabelUse). used labels label) w.labels ∙ ap (use_of (with_use old w.label (uses.Leaving fec w.to))) (sym same) ∙ set_here old w.label (uses.Mapped fec w.to) (uses.Leaving fec w.to) w.was
+      ap (λ (labels : List LabelUse). used labels label) w.labels ∙ ap (use_of (with_use old w.label (uses.Leaving fec w.to))) (sym same)
+      ∙ set_here old w.label (uses.Mapped fec w.to) (uses.Leaving fec w.to) w.was
       ∙ ap (λ (u : NodeId). Some (uses.Leaving fec u)) hops.1 in
       record {
         tree = rest_tree mid next s.rest fec ∙ on_mid;
@@ -174,7 +199,8 @@ module _ (place : Place) (old : LabelData) (fec : Fec) (mid next : LabelData) (p
           taken = m.label;
           before = puts;
           behind = [];
-          maps = ap (λ (labels : List LabelUse). used labels m.label) m.labels ∙ set_here mid m.label uses.Free (uses.Mapped fec m.to) m.least.free ∙ ap (λ (u : NodeId). Some (uses.Mapped fec u)) hop;
+          maps = ap (λ (labels : List LabelUse). used labels m.label) m.labels ∙ set_here mid m.label uses.Free (uses.Mapped fec m.to) m.least.free
+              ∙ ap (λ (u : NodeId). Some (uses.Mapped fec u)) hop;
           leaves = turn_stays place mid fec next second s label (uses.Leaving fec old_hop) (λ h. absurd cc) (λ f u h. absurd cc) gone;
           put = (λ i. (puts ++ w.put i) ++ m.put i) ∙ append_assoc puts (withdraw_to w.to fec w.label ∷ []) (mapping_to m.to fec m.label ∷ [])
               ∙ (λ i. puts ++ withdraw_to (hops.1 i) fec (same i) ∷ mapping_to (hop i) fec m.label ∷ []);
@@ -193,7 +219,8 @@ module _ (place : Place) (old : LabelData) (fec : Fec) (mid next : LabelData) (p
   ]
 
 moves_map : (place : Place) (fec : Fec) (label : ℕ) (old_hop new_hop : NodeId) → old_hop ≢ new_hop → place.upstream fec ≡ Some new_hop
-    → (fecs : List Fec) (old new : Stepped) → ((other : Fec) → Loose old.part other) → list_any (same_fec fec) fecs ≡ true → Maps old.part fec label old_hop → is_ready old.part new_hop ≡ true
+    → (fecs : List Fec) (old new : Stepped) → ((other : Fec) → Loose old.part other) → list_any (same_fec fec) fecs ≡ true
+    → Maps old.part fec label old_hop → is_ready old.part new_hop ≡ true
     → settle_all place (twice fecs) old ≡ Some new → Moved new.part new.puts fec old_hop new_hop label
 moves_map place fec label old_hop new_hop apart toward [] old new all listed is ready e = absurd cc
 moves_map place fec label old_hop new_hop apart toward (head ∷ more) old new all listed is ready e =
@@ -204,37 +231,50 @@ moves_map place fec label old_hop new_hop apart toward (head ∷ more) old new a
     elim (fec_cases head fec) [
       | inl same ↦
           let moved : Moved t.next ((old.puts ++ first) ++ second) head old_hop new_hop label =
-          moved_by_two place old.part head t.mid t.next old.puts first second (all head) t.begun (turn place old.part head t.mid t.first) (turn place t.mid head t.next t.second)
+          moved_by_two place old.part head t.mid t.next old.puts first second (all head) t.begun (turn place old.part head t.mid t.first)
+          (turn place t.mid head t.next t.second)
           label old_hop new_hop (subst (λ (f : Fec). Maps old.part f label old_hop) (sym same) is) apart (ap place.upstream same ∙ toward) ready in
-          settle_all_keeps place (λ p puts. Moved p puts fec old_hop new_hop label) (moved_turn place fec old_hop new_hop label toward) (twice more) next new
+          settle_all_keeps place (λ p puts. Moved p puts fec old_hop new_hop label) (moved_turn place fec old_hop new_hop label toward) (twice more)
+          next new
           (subst (λ (f : Fec). Moved t.next ((old.puts ++ first) ++ second) f old_hop new_hop label) same moved) t.rest
       | inr ne ↦
           let away : fec ≡ head → ⊥ = λ h. ne (sym h) in
           let begun = t.begun.others fec away in
           let after = t.after.others fec away in
           moves_map place fec label old_hop new_hop apart toward more next new (all_loose place old.part t.mid t.next head t.begun t.after all)
-          (sym (ap (λ b. b || list_any (same_fec fec) more) (fec_apart fec head away)) ∙ listed) (after.back label old_hop (begun.back label old_hop is)) (after.like.ready new_hop ∙ begun.like.ready new_hop ∙ ready) t.rest
+          (sym (ap (λ b. b || list_any (same_fec fec) more) (fec_apart fec head away)) ∙ listed)
+          (after.back label old_hop (begun.back label old_hop is)) (after.like.ready new_hop ∙ begun.like.ready new_hop ∙ ready) t.rest
     ]
 
-pub moved_maps : (old place : Place) (now : ℕ) (part : LabelData) (new : Stepped) (fec : Fec) (label : ℕ) (old_hop new_hop : NodeId) → AllSettled old part → label_step place now part Rerouted ≡ Some new
-    → Maps part fec label old_hop → old_hop ≢ new_hop → place.upstream fec ≡ Some new_hop → is_ready part new_hop ≡ true → MovedThen new.part new.puts fec old_hop new_hop label
+pub moved_maps : (old place : Place) (now : ℕ) (part : LabelData) (new : Stepped) (fec : Fec) (label : ℕ) (old_hop new_hop : NodeId)
+    → AllSettled old part → label_step place now part Rerouted ≡ Some new
+    → Maps part fec label old_hop → old_hop ≢ new_hop → place.upstream fec ≡ Some new_hop → is_ready part new_hop ≡ true
+    → MovedThen new.part new.puts fec old_hop new_hop label
 moved_maps old place now part new fec label old_hop new_hop all e is apart toward ready =
     let start : Stepped = record { part = part; puts = [] } in
     let x = map_some counted (settle_all place (twice (trees part)) start) new e in
-    let listed : list_any (same_fec fec) (trees part) ≡ true = true_from_ne_false (list_any (same_fec fec) (trees part)) (λ h. (absent part fec h).none label old_hop is) in
-    let moved = (moves_map place fec label old_hop new_hop apart toward (trees part) start x.0 (λ own. loose old part own (all own)) listed is ready x.1).moved in
+    let listed : list_any (same_fec fec) (trees part) ≡ true =
+    true_from_ne_false (list_any (same_fec fec) (trees part)) (λ h. (absent part fec h).none label old_hop is) in
+    let moved =
+    (moves_map place fec label old_hop new_hop apart toward (trees part) start x.0 (λ own. loose old part own (all own)) listed is ready
+    x.1).moved in
     subst (λ (s : Stepped). MovedThen s.part s.puts fec old_hop new_hop label) x.2
     (record { taken = moved.taken; before = moved.before; behind = moved.behind; maps = moved.maps; leaves = moved.leaves; put = moved.put })
 
 -- ---- where labels are lacking
 
-holder_cases : (part : LabelData) (fec : Fec) → ((holder_of part fec ≡ None) × ((label : ℕ) (u : NodeId) → Maps part fec label u → ⊥)) ⊎ ((label : ℕ) × (u : NodeId) × Maps part fec label u × (holder_of part fec ≡ Some u))
+holder_cases : (part : LabelData) (fec : Fec)
+    → ((holder_of part fec ≡ None) × ((label : ℕ) (u : NodeId) → Maps part fec label u → ⊥))
+    ⊎ ((label : ℕ) × (u : NodeId) × Maps part fec label u × (holder_of part fec ≡ Some u))
 holder_cases part fec = by (mapped_label part fec) refl
   where
     by : (o : Option ℕ) → mapped_label part fec ≡ o
-        → ((holder_of part fec ≡ None) × ((label : ℕ) (u : NodeId) → Maps part fec label u → ⊥)) ⊎ ((label : ℕ) × (u : NodeId) × Maps part fec label u × (holder_of part fec ≡ Some u))
+        → ((holder_of part fec ≡ None) × ((label : ℕ) (u : NodeId) → Maps part fec label u → ⊥))
+        ⊎ ((label : ℕ) × (u : NodeId) × Maps part fec label u × (holder_of part fec ≡ Some u))
     by None e = inl (ap (λ (o : Option ℕ). o >>? λ label. upstream_of (use_of part label)) e, mapped_none part fec e)
-    by (Some l) e = (let x = mapped_some part fec l e in inr (l, x.0, x.1, ap (λ (o : Option ℕ). o >>? λ label. upstream_of (use_of part label)) e ∙ holder part fec l x.0 x.1))
+    by (Some l) e =
+        (let x = mapped_some part fec l e in
+        inr (l, x.0, x.1, ap (λ (o : Option ℕ). o >>? λ label. upstream_of (use_of part label)) e ∙ holder part fec l x.0 x.1))
 
 holder_one : (part : LabelData) (fec : Fec) (label : ℕ) (u : NodeId) → Loose part fec → Maps part fec label u → holder_of part fec ≡ Some u
 holder_one part fec label u l is = elim (holder_cases part fec) [
@@ -254,9 +294,11 @@ same_holder old new fec l b = elim (holder_cases old fec) [
   ]
 ]
 
-hops_as : (place : Place) (old new : LabelData) (fec : Fec) → Loose old fec → Beside old new fec → needs_new_label place new fec ≡ needs_new_label place old fec
+hops_as : (place : Place) (old new : LabelData) (fec : Fec) → Loose old fec → Beside old new fec
+    → needs_new_label place new fec ≡ needs_new_label place old fec
 hops_as place old new fec l b =
-    λ i. b.tree i && (not (same_neighbour (same_holder old new fec l b i) (place.upstream fec)) && same_ready old new b.like.ready (place.upstream fec) i)
+    λ i. b.tree i && (not (same_neighbour (same_holder old new fec l b i) (place.upstream fec))
+    && same_ready old new b.like.ready (place.upstream fec) i)
 
 -- a tree that has no label needs one by any next hops
 needs_then_new : (place : Place) (part : LabelData) (fec : Fec) → needs_label place part fec ≡ true → needs_new_label place part fec ≡ true
@@ -264,9 +306,11 @@ needs_then_new place part fec need =
     let x = and_parts (has_tree part fec) (not (is_some (mapped_label part fec)) && is_ready_to part (place.upstream fec)) need in
     let y = and_parts (not (is_some (mapped_label part fec))) (is_ready_to part (place.upstream fec)) x.1 in
     and_from (has_tree part fec) (not (same_neighbour (holder_of part fec) (place.upstream fec)) && is_ready_to part (place.upstream fec)) x.0
-    (and_from (not (same_neighbour (holder_of part fec) (place.upstream fec))) (is_ready_to part (place.upstream fec)) (by (mapped_label part fec) (place.upstream fec) y.0 y.1) y.1)
+    (and_from (not (same_neighbour (holder_of part fec) (place.upstream fec))) (is_ready_to part (place.upstream fec))
+    (by (mapped_label part fec) (place.upstream fec) y.0 y.1) y.1)
   where
-    by : (o : Option ℕ) (up : Option NodeId) → not (is_some o) ≡ true → is_ready_to part up ≡ true → not (same_neighbour (o >>? λ label. upstream_of (use_of part label)) up) ≡ true
+    by : (o : Option ℕ) (up : Option NodeId) → not (is_some o) ≡ true → is_ready_to part up ≡ true
+        → not (same_neighbour (o >>? λ label. upstream_of (use_of part label)) up) ≡ true
     by None (Some u) e r = refl
     by None None e r = absurd cc
     by (Some label) up e r = absurd cc
@@ -279,14 +323,22 @@ one_label : (place : Place) (old : LabelData) (fec : Fec) (mid : LabelData) (put
     → cond {A = ℕ} (needs_label place old fec) 1 0 + cond (needs_label place mid fec) 1 0 ≡ cond (needs_new_label place old fec) 1 0
 one_label place old fec mid puts l t = elim t.how [
   | inl q ↦
-      let same : SameMaps old mid fec = record { back = λ k u p. sym (ap (λ (labels : List LabelUse). used labels k) q.labels) ∙ p; on = λ k u p. ap (λ (labels : List LabelUse). used labels k) q.labels ∙ p } in
+      let same : SameMaps old mid fec =
+      record {
+        back = λ k u p. sym (ap (λ (labels : List LabelUse). used labels k) q.labels) ∙ p;
+        on =
+            λ k u p. ap (λ (labels : List LabelUse). used labels k) q.labels ∙ p;
+      } in
       let still = needs_as place old mid fec t.rest same ∙ q.content in
       (λ i. cond {A = ℕ} (q.content i) 1 0 + cond (still i) 1 0) ∙ sym (λ i. cond {A = ℕ} (q.at_hop i) 1 0)
   | inr (inl m) ↦
       let need : needs_label place old fec ≡ true =
       and_from (has_tree old fec) (not (is_some (mapped_label old fec)) && is_ready_to old (place.upstream fec)) m.tree
-      (and_from (not (is_some (mapped_label old fec))) (is_ready_to old (place.upstream fec)) (ap (λ (o : Option ℕ). not (is_some o)) m.unmapped) (ap (is_ready_to old) m.toward ∙ m.ready)) in
-      let has = is_mapped_by mid fec m.label m.to (ap (λ (labels : List LabelUse). used labels m.label) m.labels ∙ set_here old m.label uses.Free (uses.Mapped fec m.to) m.least.free) in
+      (and_from (not (is_some (mapped_label old fec))) (is_ready_to old (place.upstream fec)) (ap (λ (o : Option ℕ). not (is_some o)) m.unmapped)
+      (ap (is_ready_to old) m.toward ∙ m.ready)) in
+      let has =
+      is_mapped_by mid fec m.label m.to (ap (λ (labels : List LabelUse). used labels m.label) m.labels
+      ∙ set_here old m.label uses.Free (uses.Mapped fec m.to) m.least.free) in
       let no_more = has_hop (has_tree mid fec) (is_some (mapped_label mid fec)) (is_ready_to mid (place.upstream fec)) has in
       (λ i. cond {A = ℕ} (need i) 1 0 + cond (no_more i) 1 0) ∙ sym (λ i. cond {A = ℕ} (needs_then_new place old fec need i) 1 0)
   | inr (inr w) ↦
@@ -295,11 +347,16 @@ one_label place old fec mid puts l t = elim t.how [
       let then : needs_label place mid fec ≡ (has_tree old fec && is_ready_to old (place.upstream fec)) =
       λ i. rest_tree old mid t.rest fec i && (not (is_some (none i)) && same_ready old mid (rest_ready old mid t.rest) (place.upstream fec) i) in
       let holds = holder_one old fec w.label w.to l w.was in
-      (λ i. cond {A = ℕ} (content i) 1 0 + cond (then i) 1 0) ∙ nothing_more (cond {A = ℕ} (has_tree old fec && is_ready_to old (place.upstream fec)) 1 0) ∙ ap (λ b. cond {A = ℕ} b 1 0) (by w.off (same_neighbour (Some w.to) (place.upstream fec)) (ap (λ o. same_neighbour o (place.upstream fec)) holds) refl)
+      (λ i. cond {A = ℕ} (content i) 1 0 + cond (then i) 1 0)
+      ∙ nothing_more (cond {A = ℕ} (has_tree old fec && is_ready_to old (place.upstream fec)) 1 0)
+      ∙ ap (λ b. cond {A = ℕ} b 1 0) (by w.off (same_neighbour (Some w.to) (place.upstream fec))
+      (ap (λ o. same_neighbour o (place.upstream fec)) holds) refl)
 ]
   where
-    by : {to : NodeId} → Off place old fec to → (s : Bool) → same_neighbour (holder_of old fec) (place.upstream fec) ≡ s → same_neighbour (Some to) (place.upstream fec) ≡ s
-        → (has_tree old fec && is_ready_to old (place.upstream fec)) ≡ (has_tree old fec && (not (same_neighbour (holder_of old fec) (place.upstream fec)) && is_ready_to old (place.upstream fec)))
+    by : {to : NodeId} → Off place old fec to → (s : Bool) → same_neighbour (holder_of old fec) (place.upstream fec) ≡ s
+        → same_neighbour (Some to) (place.upstream fec) ≡ s
+        → (has_tree old fec && is_ready_to old (place.upstream fec))
+        ≡ (has_tree old fec && (not (same_neighbour (holder_of old fec) (place.upstream fec)) && is_ready_to old (place.upstream fec)))
     by (inl off) s e h = and_left (has_tree old fec) _ off ∙ sym (and_left (has_tree old fec) _ off)
     by (inr away) false e h = sym (ap (λ b. has_tree old fec && (not b && is_ready_to old (place.upstream fec))) e)
     by (inr away) true e h = absurd (away (sym (neighbours_equal _ (place.upstream fec) h)))
@@ -307,22 +364,29 @@ one_label place old fec mid puts l t = elim t.how [
 abbrev lacks_new : Place → List Fec → LabelData → Type 0
 lacks_new place fecs part = count_by is_free part.labels < sets.len (passing (needs_new_label place part) fecs)
 
-pub none_moves : (place : Place) (fecs : List Fec) (old : Stepped) → Distinct fecs → ((fec : Fec) → Loose old.part fec) → (settle_all place (twice fecs) old ≡ None) ↔ lacks_new place fecs old.part
-none_moves place [] old once all = (λ e. absurd (none-some old (sym e)), λ lt. (let none = sets.len-empty fec_cmp in absurd (omega (arith, lt, none))))
+pub none_moves : (place : Place) (fecs : List Fec) (old : Stepped) → Distinct fecs → ((fec : Fec) → Loose old.part fec)
+    → (settle_all place (twice fecs) old ≡ None) ↔ lacks_new place fecs old.part
+none_moves place [] old once all =
+    (λ e. absurd (none-some old (sym e)), λ lt. (let none = sets.len-empty fec_cmp in absurd (omega (arith, lt, none))))
 none_moves place (fec ∷ more) old once all =
-    by (λ next puts loose. none_moves place more (record { part = next; puts = puts }) once.1 loose) (changed old.part fec (change_of place old.part fec)) refl
+    by (λ next puts loose. none_moves place more (record { part = next; puts = puts }) once.1 loose)
+    (changed old.part fec (change_of place old.part fec)) refl
   where
     first : List Put
     first = put_by fec (change_of place old.part fec)
 
     listed : needs_new_label place old.part fec ≡ true → 0 < sets.len (passing (needs_new_label place old.part) (fec ∷ more))
-    listed need = has_member (passing (needs_new_label place old.part) (fec ∷ more)) fec (contains-passing (needs_new_label place old.part) fec (fec ∷ more)
-        ∙ and_from (needs_new_label place old.part fec) (list_any (same_fec fec) (fec ∷ more)) need (or_left (same_fec fec fec) (list_any (same_fec fec) more) (same_fec_itself fec)))
+    listed need =
+        has_member (passing (needs_new_label place old.part) (fec ∷ more)) fec (contains-passing (needs_new_label place old.part) fec (fec ∷ more)
+        ∙ and_from (needs_new_label place old.part fec) (list_any (same_fec fec) (fec ∷ more)) need
+        (or_left (same_fec fec fec) (list_any (same_fec fec) more) (same_fec_itself fec)))
 
     behind : (mid : LabelData) → changed old.part fec (change_of place old.part fec) ≡ Some mid
-        → ((next : LabelData) (puts : List Put) → ((other : Fec) → Loose next other) → (settle_all place (twice more) (record { part = next; puts = puts }) ≡ None) ↔ lacks_new place more next)
+        → ((next : LabelData) (puts : List Put) → ((other : Fec) → Loose next other)
+        → (settle_all place (twice more) (record { part = next; puts = puts }) ≡ None) ↔ lacks_new place more next)
         → (o : Option LabelData) → changed mid fec (change_of place mid fec) ≡ o
-        → ((o >>? λ next. settle_all place (twice more) (record { part = next; puts = (old.puts ++ first) ++ put_by fec (change_of place mid fec) })) ≡ None) ↔ lacks_new place (fec ∷ more) old.part
+        → ((o >>? λ next. settle_all place (twice more) (record { part = next; puts = (old.puts ++ first) ++ put_by fec (change_of place mid fec) }))
+        ≡ None) ↔ lacks_new place (fec ∷ more) old.part
     behind mid e rest None h =
         let t = turn place old.part fec mid e in
         let s = stuck place mid fec h in
@@ -332,11 +396,17 @@ none_moves place (fec ∷ more) old once all =
         let need : cond {A = ℕ} (needs_label place mid fec) 1 0 ≡ 1 = ap (λ b. cond {A = ℕ} b 1 0) s.need in
         (λ x. lacking zero_free count one need (needs_new_label place old.part fec) refl, λ x. refl)
       where
-        lacking : count_by is_free mid.labels ≡ 0 → count_by is_free mid.labels + cond (needs_label place old.part fec) 1 0 ≡ count_by is_free old.part.labels
-            → cond {A = ℕ} (needs_label place old.part fec) 1 0 + cond (needs_label place mid fec) 1 0 ≡ cond (needs_new_label place old.part fec) 1 0 → cond {A = ℕ} (needs_label place mid fec) 1 0 ≡ 1
+        lacking : count_by is_free mid.labels ≡ 0 → count_by is_free mid.labels + cond (needs_label place old.part fec) 1 0
+            ≡ count_by is_free old.part.labels
+            → cond {A = ℕ} (needs_label place old.part fec) 1 0 + cond (needs_label place mid fec) 1 0 ≡ cond (needs_new_label place old.part fec) 1 0
+            → cond {A = ℕ} (needs_label place mid fec) 1 0 ≡ 1
             → (t : Bool) → needs_new_label place old.part fec ≡ t → lacks_new place (fec ∷ more) old.part
-        lacking z c o n true is = (let some = listed is in let top : cond {A = ℕ} (needs_new_label place old.part fec) 1 0 ≡ 1 = ap (λ b. cond {A = ℕ} b 1 0) is in omega (arith, z, c, o, n, some, top))
-        lacking z c o n false is = (let top : cond {A = ℕ} (needs_new_label place old.part fec) 1 0 ≡ 0 = ap (λ b. cond {A = ℕ} b 1 0) is in absurd (omega (arith, o, n, top)))
+        lacking z c o n true is =
+            (let some = listed is in let top : cond {A = ℕ} (needs_new_label place old.part fec) 1 0 ≡ 1 = ap (λ b. cond {A = ℕ} b 1 0) is in
+            omega (arith, z, c, o, n, some, top))
+        lacking z c o n false is =
+            (let top : cond {A = ℕ} (needs_new_label place old.part fec) 1 0 ≡ 0 = ap (λ b. cond {A = ℕ} b 1 0) is in
+            absurd (omega (arith, o, n, top)))
     behind mid e rest (Some next) h =
         let t = turn place old.part fec mid e in
         let s = turn place mid fec next h in
@@ -346,13 +416,16 @@ none_moves place (fec ∷ more) old once all =
         let again = turn_count place mid fec next (put_by fec (change_of place mid fec)) s in
         let one = one_label place old.part fec mid first (all fec) t in
         let len = fewer (needs_new_label place old.part) (needs_new_label place next) fec more once.0 (λ other ne.
-        hops_as place mid next other (beside_loose old.part mid other (begun.others other ne) (all other)) (after.others other ne) ∙ hops_as place old.part mid other (all other) (begun.others other ne)) in
+        hops_as place mid next other (beside_loose old.part mid other (begun.others other ne) (all other)) (after.others other ne)
+        ∙ hops_as place old.part mid other (all other) (begun.others other ne)) in
         let r = rest next ((old.puts ++ first) ++ put_by fec (change_of place mid fec)) (all_loose place old.part mid next fec begun after all) in
         (λ x. (let lt = r.0 x in omega (arith, count, again, one, len, lt)), λ lt. r.1 (omega (arith, count, again, one, len, lt)))
 
-    by : ((next : LabelData) (puts : List Put) → ((other : Fec) → Loose next other) → (settle_all place (twice more) (record { part = next; puts = puts }) ≡ None) ↔ lacks_new place more next)
+    by : ((next : LabelData) (puts : List Put) → ((other : Fec) → Loose next other)
+        → (settle_all place (twice more) (record { part = next; puts = puts }) ≡ None) ↔ lacks_new place more next)
         → (o : Option LabelData) → changed old.part fec (change_of place old.part fec) ≡ o
-        → ((o >>? λ mid. settle_all place (fec ∷ twice more) (record { part = mid; puts = old.puts ++ first })) ≡ None) ↔ lacks_new place (fec ∷ more) old.part
+        → ((o >>? λ mid. settle_all place (fec ∷ twice more) (record { part = mid; puts = old.puts ++ first })) ≡ None) ↔ lacks_new place (fec ∷ more)
+        old.part
     by rest None e =
         let s = stuck place old.part fec e in
         let zero_free = none_free old.part s.none in

@@ -36,12 +36,19 @@ none_mapped part count fec e = by (mapped_label part fec) refl
 
 -- and its first is the least free one
 first_free : (more : ℕ) → position is_free (replicate (suc more) uses.Free) ≡ Some 0
-first_free more = cond-true (nat_lt 0 (length (uses.Free ∷ replicate more uses.Free))) (Some 0) None (lt-ltb 0 (length (uses.Free ∷ replicate more uses.Free)) (omega arith))
+first_free more =
+    cond-true (nat_lt 0 (length (uses.Free ∷ replicate more uses.Free))) (Some 0) None
+    (lt-ltb 0 (length (uses.Free ∷ replicate more uses.Free)) (omega arith))
 
 -- a tree that needs a label gets the least free one
-maps_first : (place : Place) (part : LabelData) (fec : Fec) (to : NodeId) (label : ℕ) → has_tree part fec ≡ true → mapped_label part fec ≡ None → place.upstream fec ≡ Some to → is_ready part to ≡ true → free_label part ≡ Some label
+maps_first : (place : Place) (part : LabelData) (fec : Fec) (to : NodeId) (label : ℕ) → has_tree part fec ≡ true → mapped_label part fec ≡ None
+    → place.upstream fec ≡ Some to → is_ready part to ≡ true → free_label part ≡ Some label
     → settle_all place (fec ∷ []) (record { part = part; puts = [] })
-    ≡ Some (record { part = record (with_use part label (uses.Mapped fec to)) { waiting = sets.remove part.waiting fec }; puts = record { to = to; message = messages.Mapping fec label } ∷ [] })
+    ≡ Some (record {
+      part = record (with_use part label (uses.Mapped fec to)) { waiting = sets.remove part.waiting fec };
+      puts =
+          record { to = to; message = messages.Mapping fec label } ∷ [];
+    })
 maps_first place part fec to label tree none up ready free =
     let need : change_of place part fec ≡ changes.Map to label =
     λ i. change_by (tree i) (none i) (none i >>? λ label. upstream_of (use_of part label)) (up i) ((ap (is_ready_to part) up ∙ ready) i) (free i) in
@@ -49,7 +56,8 @@ maps_first place part fec to label tree none up ready free =
 
 -- a tree at its root needs none
 keeps_root : (place : Place) (part : LabelData) (fec : Fec) → has_tree part fec ≡ true → mapped_label part fec ≡ None → place.upstream fec ≡ None
-    → settle_all place (fec ∷ []) (record { part = part; puts = [] }) ≡ Some (record { part = record part { waiting = sets.remove part.waiting fec }; puts = [] })
+    → settle_all place (fec ∷ []) (record { part = part; puts = [] })
+    ≡ Some (record { part = record part { waiting = sets.remove part.waiting fec }; puts = [] })
 keeps_root place part fec tree none up =
     let need : change_of place part fec ≡ changes.Cancel =
     λ i. change_by (tree i) (none i) (none i >>? λ label. upstream_of (use_of part label)) (up i) (is_ready_to part (up i)) (free_label part) in
@@ -59,14 +67,16 @@ keeps_root place part fec tree none up =
 has_added : (part : LabelData) (branch : Branch) → has_tree (record part { branches = sets.insert part.branches branch }) branch.fec ≡ true
 has_added part branch =
     or_left (has_branch (record part { branches = sets.insert part.branches branch }) branch.fec) (sets.contains part.leaves branch.fec)
-    (member_passes branch_cmp_total branch_cmp_exact (λ own. same_fec own.fec branch.fec) (sets.insert part.branches branch) branch (inserted_here branch_cmp_total branch_cmp_exact part.branches branch) (same_fec_itself branch.fec))
+    (member_passes branch_cmp_total branch_cmp_exact (λ own. same_fec own.fec branch.fec) (sets.insert part.branches branch) branch
+    (inserted_here branch_cmp_total branch_cmp_exact part.branches branch) (same_fec_itself branch.fec))
 
 has_wanted : (part : LabelData) (fec : Fec) → has_tree (record part { leaves = sets.insert part.leaves fec }) fec ≡ true
 has_wanted part fec =
     or_right (has_branch part fec) (sets.contains (sets.insert part.leaves fec) fec) (inserted_here fec_cmp_total fec_cmp_exact part.leaves fec)
 
 -- a session whose hold was run is ready
-ready_first : (part : LabelData) (peer : NodeId) (raised : ℕ) → is_ready (record part { ends = maps.insert part.ends peer (record { raised = raised; held = true; next = 1 }) }) peer ≡ true
+ready_first : (part : LabelData) (peer : NodeId) (raised : ℕ)
+    → is_ready (record part { ends = maps.insert part.ends peer (record { raised = raised; held = true; next = 1 }) }) peer ≡ true
 ready_first part peer raised = ap held (put_here node_cmp_total node_cmp_exact part.ends peer (record { raised = raised; held = true; next = 1 }))
 
 leaf_reaches_root : (life now raised more : ℕ) (fec : Fec) → LeafToRoot life now raised (suc more) fec
@@ -77,9 +87,14 @@ leaf_reaches_root life now raised more fec =
     let branched : LabelData = record at_core { branches = sets.insert at_core.branches (branch_to leaf_node fec 16) } in
     let rooted : LabelData = record at_leaf { branches = sets.insert at_leaf.branches (branch_to core_node fec 16) } in
     let free = ap (option_map (λ place. 16 + place)) (first_free more) in
-    let leaf = maps_first (towards life (Some core_node)) wanted fec core_node 16 (has_wanted at_leaf fec) (none_mapped wanted (suc more) fec refl) refl (ready_first (fresh (suc more)) core_node raised) free in
-    let core = maps_first (towards life (Some root_node)) branched fec root_node 16 (has_added at_core (branch_to leaf_node fec 16)) (none_mapped branched (suc more) fec refl) refl (ready_first (joined_to (suc more) raised (leaf_node ∷ [])) root_node raised) free in
-    let root = keeps_root (towards life None) rooted fec (has_added at_leaf (branch_to core_node fec 16)) (none_mapped rooted (suc more) fec refl) refl in
+    let leaf =
+    maps_first (towards life (Some core_node)) wanted fec core_node 16 (has_wanted at_leaf fec) (none_mapped wanted (suc more) fec refl) refl
+    (ready_first (fresh (suc more)) core_node raised) free in
+    let core =
+    maps_first (towards life (Some root_node)) branched fec root_node 16 (has_added at_core (branch_to leaf_node fec 16))
+    (none_mapped branched (suc more) fec refl) refl (ready_first (joined_to (suc more) raised (leaf_node ∷ [])) root_node raised) free in
+    let root =
+    keeps_root (towards life None) rooted fec (has_added at_leaf (branch_to core_node fec 16)) (none_mapped rooted (suc more) fec refl) refl in
     record {
       leaf = _;
       core = _;

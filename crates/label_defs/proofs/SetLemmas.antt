@@ -36,7 +36,8 @@ module _ {K : Type 0} {R : K → K → Ordering} (total : IsTotalOrder R) (exact
   passing_member p s e = let x = any_to p (in_order s) e in (x.0, contains_in_order total s x.0 ∙ x.1, x.2)
 
   -- sets that agree on what passes
-  pub any_as : (p : K → Bool) (s t : FinSet R) → ((k : K) → p k ≡ true → sets.contains s k ≡ sets.contains t k) → list_any p (in_order s) ≡ list_any p (in_order t)
+  pub any_as : (p : K → Bool) (s t : FinSet R) → ((k : K) → p k ≡ true → sets.contains s k ≡ sets.contains t k)
+      → list_any p (in_order s) ≡ list_any p (in_order t)
   any_as p s t same = both_ways (list_any p (in_order s)) (list_any p (in_order t))
       (λ h. let x = passing_member p s h in member_passes p t x.0 (sym (same x.0 x.2) ∙ x.1) x.2)
       (λ h. let x = passing_member p t h in member_passes p s x.0 (same x.0 x.2 ∙ x.1) x.2)
@@ -59,13 +60,15 @@ module _ {K : Type 0} {R : K → K → Ordering} (total : IsTotalOrder R) (exact
   -- a set that has it, with it; and one that has it not, without it
   pub inserted_again : (s : FinSet R) (k : K) → sets.contains s k ≡ true → sets.insert s k ≡ s
   inserted_again s k e = sets.same_set total exact (sets.insert s k) s (λ q. elim (cases_Bool (eq_by_cmp R q k)) [
-    | inl t ↦ (let same = exact q k ((Equal-is (R q k)).0 t) in subst (λ x. sets.contains (sets.insert s k) x ≡ sets.contains s x) (sym same) (inserted_here s k ∙ sym e))
+    | inl t ↦ (let same = exact q k ((Equal-is (R q k)).0 t) in
+        subst (λ x. sets.contains (sets.insert s k) x ≡ sets.contains s x) (sym same) (inserted_here s k ∙ sym e))
     | inr f ↦ sets.contains-insert total s k q ∙ ap (λ b. b || sets.contains s q) f
   ])
 
   pub removed_again : (s : FinSet R) (k : K) → sets.contains s k ≡ false → sets.remove s k ≡ s
   removed_again s k e = sets.same_set total exact (sets.remove s k) s (λ q. elim (cases_Bool (eq_by_cmp R q k)) [
-    | inl t ↦ (let same = exact q k ((Equal-is (R q k)).0 t) in subst (λ x. sets.contains (sets.remove s k) x ≡ sets.contains s x) (sym same) (removed_here s k ∙ sym e))
+    | inl t ↦ (let same = exact q k ((Equal-is (R q k)).0 t) in
+        subst (λ x. sets.contains (sets.remove s k) x ≡ sets.contains s x) (sym same) (removed_here s k ∙ sym e))
     | inr f ↦ sets.contains-remove total s k q ∙ ap (λ b. not b && sets.contains s q) f
   ])
 
@@ -82,14 +85,19 @@ module _ {K : Type 0} {R : K → K → Ordering} (total : IsTotalOrder R) (exact
   pub cut_other : {X : Type 0} (m : FinMap R X) (k q : K) → (q ≡ k → ⊥) → maps.get (maps.remove m k) q ≡ maps.get m q
   cut_other m k q ne = maps.get-remove total m k q ∙ ap (λ b. cond b None (maps.get m q)) (apart R exact q k ne)
 
-  find-map : {X Y : Type 0} (f : X → Y) (q : K) (entries : List (K × X)) → find R q (map (λ entry. (entry.0, f entry.1)) entries) ≡ option_map f (find R q entries)
+  find-map : {X Y : Type 0} (f : X → Y) (q : K) (entries : List (K × X))
+      → find R q (map (λ entry. (entry.0, f entry.1)) entries) ≡ option_map f (find R q entries)
   find-map f q [] = refl
   find-map f q (e ∷ more) =
-      elim (eq_by_cmp R q e.0) as (λ b. cond b (Some (f e.1)) (find R q (map (λ entry. (entry.0, f entry.1)) more)) ≡ option_map f (cond b (Some e.1) (find R q more))) [
+      elim (eq_by_cmp R q e.0) as (λ b. cond b (Some (f e.1)) (find R q (map (λ entry. (entry.0, f entry.1)) more))
+      ≡ option_map f (cond b (Some e.1) (find R q more))) [
         | true ↦ refl
         | false ↦ find-map f q more
       ]
 
   -- each value changes
-  pub get-changed : {X Y : Type 0} (f : X → Y) (m : FinMap R X) (q : K) → maps.get (maps.from_entries {R = R} (map (λ entry. (entry.0, f entry.1)) (maps.entries m))) q ≡ option_map f (maps.get m q)
-  get-changed f m q = maps.get-from_entries total (map (λ entry. (entry.0, f entry.1)) (maps.entries m)) q ∙ find-map f q (maps.entries m) ∙ ap (option_map f) (sym (maps.get-entries m q))
+  pub get-changed : {X Y : Type 0} (f : X → Y) (m : FinMap R X) (q : K)
+      → maps.get (maps.from_entries {R = R} (map (λ entry. (entry.0, f entry.1)) (maps.entries m))) q ≡ option_map f (maps.get m q)
+  get-changed f m q =
+      maps.get-from_entries total (map (λ entry. (entry.0, f entry.1)) (maps.entries m)) q ∙ find-map f q (maps.entries m)
+      ∙ ap (option_map f) (sym (maps.get-entries m q))

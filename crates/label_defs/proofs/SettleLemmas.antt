@@ -19,7 +19,8 @@ pub record Good (place : Place) (fecs : List Fec) (part : LabelData) : Type 0 wh
   pub tied : (fec : Fec) → Tied place part fec
   pub settled : (fec : Fec) → list_any (same_fec fec) fecs ≡ false → Settled place part fec
 
-after_good : (place : Place) (fec : Fec) (more : List Fec) (old new : LabelData) → After place old fec new → ((own : Fec) → Settled place new own → Tied place new own) → Good place (fec ∷ more) old → Good place more new
+after_good : (place : Place) (fec : Fec) (more : List Fec) (old new : LabelData) → After place old fec new
+    → ((own : Fec) → Settled place new own → Tied place new own) → Good place (fec ∷ more) old → Good place more new
 after_good place fec more old new a weaker g =
     record {
       tied = λ x. elim (fec_cases x fec) [
@@ -32,9 +33,11 @@ after_good place fec more old new a weaker g =
       ];
     }
 
-pub settle_all_good : (place : Place) (fecs : List Fec) (old new : Stepped) → Good place fecs old.part → settle_all place fecs old ≡ Some new → AllSettled place new.part
+pub settle_all_good : (place : Place) (fecs : List Fec) (old new : Stepped) → Good place fecs old.part → settle_all place fecs old ≡ Some new
+    → AllSettled place new.part
 settle_all_good place [] old new g e = λ fec. subst (λ (s : Stepped). Settled place s.part fec) (same_Some old new e) (g.settled fec refl)
 settle_all_good place (fec ∷ more) old new g e =
-    let x = bind_some (changed old.part fec (change_of place old.part fec)) (λ next. settle_all place more (record { part = next; puts = old.puts ++ put_by fec (change_of place old.part fec) })) new e in
+    let x = bind_some (changed old.part fec (change_of place old.part fec))
+    (λ next. settle_all place more (record { part = next; puts = old.puts ++ put_by fec (change_of place old.part fec) })) new e in
     settle_all_good place more (record { part = x.0; puts = old.puts ++ put_by fec (change_of place old.part fec) }) new
     (after_good place fec more old.part x.0 (step_after place old.part fec x.0 (g.tied fec) x.1) (tied place x.0) g) x.2

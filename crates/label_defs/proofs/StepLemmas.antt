@@ -37,22 +37,28 @@ all_free (suc count) (suc k) usage e = all_free count k usage e
 
 pub fresh_settled : (place : Place) (count : ℕ) → AllSettled place (fresh count)
 fresh_settled place count fec =
-    let none : (label : ℕ) (u : NodeId) → use_of (fresh count) label ≡ Some (uses.Mapped fec u) → ⊥ = λ label u p. (let x = all_free count _ (uses.Mapped fec u) (used_some (replicate count uses.Free) label (uses.Mapped fec u) p).1 in absurd cc) in
+    let none : (label : ℕ) (u : NodeId) → use_of (fresh count) label ≡ Some (uses.Mapped fec u) → ⊥ =
+    λ label u p. (let x = all_free count _ (uses.Mapped fec u) (used_some (replicate count uses.Free) label (uses.Mapped fec u) p).1 in absurd cc)
+    in
     let no_branch : has_branch (fresh count) fec ≡ false = false_from_ne_true (has_branch (fresh count) fec) (λ e.
     let x = passing_member branch_cmp_total branch_cmp_exact (λ branch. same_fec branch.fec fec) (sets.empty {R = branch_cmp}) e in
     not_both (sets.contains (sets.empty {R = branch_cmp}) x.0) x.1 (sets.contains-empty branch_cmp x.0)) in
-    let off : has_tree (fresh count) fec ≡ false = or_from (has_branch (fresh count) fec) (sets.contains (sets.empty {R = fec_cmp}) fec) no_branch (sets.contains-empty fec_cmp fec) in
+    let off : has_tree (fresh count) fec ≡ false =
+    or_from (has_branch (fresh count) fec) (sets.contains (sets.empty {R = fec_cmp}) fec) no_branch (sets.contains-empty fec_cmp fec) in
     record {
       one = λ i j u v p q. absurd (none i u p);
       toward = λ i u p. absurd (none i u p);
       needed = λ i u p. absurd (none i u p);
       mapped = λ u h e r. absurd (not_both (has_tree (fresh count) fec) h off);
-      waiting = sets.contains-empty fec_cmp fec ∙ sym (and_left (has_tree (fresh count) fec) (is_some (place.upstream fec) && not (is_ready_to (fresh count) (place.upstream fec))) off);
+      waiting =
+          sets.contains-empty fec_cmp fec ∙ sym (and_left (has_tree (fresh count) fec)
+          (is_some (place.upstream fec) && not (is_ready_to (fresh count) (place.upstream fec))) off);
     }
 
 -- ---- steps
 
-effect_good : (place : Place) (now : ℕ) (part : LabelData) (call : Call) → MayBe part call → AllSettled place part → Good place (effect place now part call).1 (effect place now part call).0.part
+effect_good : (place : Place) (now : ℕ) (part : LabelData) (call : Call) → MayBe part call → AllSettled place part
+    → Good place (effect place now part call).1 (effect place now part call).0.part
 effect_good place now part (Taken from (messages.Mapping fec label)) may all = mapping_taken place part from fec label (place.is_tree fec) all
 effect_good place now part (Taken from (messages.Withdraw fec label)) may all = branch_dropped place part (branch_to from fec label) all
 effect_good place now part (Taken from (messages.Release fec label)) may all = release_taken place part from fec label (now + place.life + 1) all
@@ -69,7 +75,8 @@ pub counted_settled : (place : Place) (mid : Stepped) (fec : Fec) → Settled pl
 counted_settled place mid fec s =
     like_settled place mid.part (counted mid).part fec (record { maps = λ l u p. p; ready = counted_ready mid; waiting = refl }) (λ l u p. p) refl s
 
-pub step_settled : (place : Place) (now : ℕ) (part : LabelData) (call : Call) (new : Stepped) → MayBe part call → AllSettled place part → label_step place now part call ≡ Some new → AllSettled place new.part
+pub step_settled : (place : Place) (now : ℕ) (part : LabelData) (call : Call) (new : Stepped) → MayBe part call → AllSettled place part
+    → label_step place now part call ≡ Some new → AllSettled place new.part
 step_settled place now part call new may all e fec =
     let own = effect place now part call in
     let x = map_some counted (settle_all place own.1 own.0) new e in
@@ -84,7 +91,8 @@ record Nothing (part : LabelData) (fec : Fec) (change : Change) : Type 0 where
   silent : put_by fec change ≡ []
 
 nothing_by : (place : Place) (part : LabelData) (fec : Fec) (t : Bool) (mapped : Option ℕ) (holds up : Option NodeId) (ready : Bool) (free : Option ℕ)
-    → has_tree part fec ≡ t → mapped_label part fec ≡ mapped → (mapped >>? λ label. upstream_of (use_of part label)) ≡ holds → place.upstream fec ≡ up → is_ready_to part up ≡ ready → Settled place part fec → Nothing part fec (change_by t mapped holds up ready free)
+    → has_tree part fec ≡ t → mapped_label part fec ≡ mapped → (mapped >>? λ label. upstream_of (use_of part label)) ≡ holds → place.upstream fec ≡ up
+    → is_ready_to part up ≡ ready → Settled place part fec → Nothing part fec (change_by t mapped holds up ready free)
 nothing_by place part fec true (Some label) holds up ready free h m o p q s =
     let x = mapped_some part fec label m in
     let near = one_neighbour holds up (sym o ∙ holder part fec label x.0 x.1 ∙ sym (s.toward label x.0 x.1).0 ∙ p) in
@@ -92,23 +100,41 @@ nothing_by place part fec true (Some label) holds up ready free h m o p q s =
     record { stays = ap (changed part fec) kept; silent = ap (put_by fec) kept }
 nothing_by place part fec true None holds (Some u) true free h m o p q s = (let x = s.mapped u h p q in absurd (mapped_none part fec m x.0 u x.1))
 nothing_by place part fec true None holds (Some u) false free h m o p q s =
-    let waits = s.waiting ∙ needs_end (has_tree part fec) (place.upstream fec) u (is_ready_to part (place.upstream fec)) h p (is_ready_at place part fec u p ∙ q) in
-    record { stays = ap (λ (w : FinSet fec_cmp). Some (record part { waiting = w })) (inserted_again fec_cmp_total fec_cmp_exact part.waiting fec waits); silent = refl }
+    let waits =
+    s.waiting ∙ needs_end (has_tree part fec) (place.upstream fec) u (is_ready_to part (place.upstream fec)) h p
+    (is_ready_at place part fec u p ∙ q) in
+    record {
+      stays =
+          ap (λ (w : FinSet fec_cmp). Some (record part { waiting = w })) (inserted_again fec_cmp_total fec_cmp_exact part.waiting fec waits);
+      silent =
+          refl;
+    }
 nothing_by place part fec true None holds None ready free h m o p q s =
     let waits = s.waiting ∙ at_root (has_tree part fec) (place.upstream fec) (is_ready_to part (place.upstream fec)) p in
-    record { stays = ap (λ (w : FinSet fec_cmp). Some (record part { waiting = w })) (removed_again fec_cmp_total fec_cmp_exact part.waiting fec waits); silent = refl }
+    record {
+      stays =
+          ap (λ (w : FinSet fec_cmp). Some (record part { waiting = w })) (removed_again fec_cmp_total fec_cmp_exact part.waiting fec waits);
+      silent =
+          refl;
+    }
 nothing_by place part fec false (Some label) holds up ready free h m o p q s =
     let x = mapped_some part fec label m in
     absurd (not_both (has_tree part fec) (s.needed label x.0 x.1) h)
 nothing_by place part fec false None holds up ready free h m o p q s =
     let waits = s.waiting ∙ and_left (has_tree part fec) (is_some (place.upstream fec) && not (is_ready_to part (place.upstream fec))) h in
-    record { stays = ap (λ (w : FinSet fec_cmp). Some (record part { waiting = w })) (removed_again fec_cmp_total fec_cmp_exact part.waiting fec waits); silent = refl }
+    record {
+      stays =
+          ap (λ (w : FinSet fec_cmp). Some (record part { waiting = w })) (removed_again fec_cmp_total fec_cmp_exact part.waiting fec waits);
+      silent =
+          refl;
+    }
 
 pub needs_nothing : (place : Place) (old : Stepped) (fec : Fec) → Settled place old.part fec → settle_all place (fec ∷ []) old ≡ Some old
 needs_nothing place old fec s =
     let part = old.part in
     let change = change_of place part fec in
-    let x = nothing_by place part fec (has_tree part fec) (mapped_label part fec) (holder_of part fec) (place.upstream fec) (is_ready_to part (place.upstream fec)) (free_label part) refl refl refl refl refl s in
+    let x = nothing_by place part fec (has_tree part fec) (mapped_label part fec) (holder_of part fec) (place.upstream fec)
+    (is_ready_to part (place.upstream fec)) (free_label part) refl refl refl refl refl s in
     ap (λ (o : Option LabelData). o >>? λ new. Some (record { part = new; puts = old.puts ++ put_by fec change })) x.stays
     ∙ ap (λ (puts : List Put). Some (record { part = part; puts = old.puts ++ puts })) x.silent
     ∙ ap (λ (puts : List Put). Some (record { part = part; puts = puts })) (append-nil old.puts)

@@ -30,19 +30,22 @@ record Won (place : Place) (part : LabelData) (puts : List Put) (label : ℕ) : 
   put : puts ≡ before ++ mapping_to to fec label ∷ behind
 
 -- a label that is mapped towards the upstream of a tree that the node is on stays so
-pub stays_mapped : (place : Place) (old : LabelData) (fec : Fec) (next : LabelData) (more : List Put) → Turn place old fec next more → (label : ℕ) (own : Fec) (to : NodeId)
+pub stays_mapped : (place : Place) (old : LabelData) (fec : Fec) (next : LabelData) (more : List Put) → Turn place old fec next more
+    → (label : ℕ) (own : Fec) (to : NodeId)
     → has_tree old own ≡ true → place.upstream own ≡ Some to → Maps old own label to → Maps next own label to
 stays_mapped place old fec next more t label own to tree toward is = elim t.how [
   | inl q ↦ ap (λ (labels : List LabelUse). used labels label) q.labels ∙ is
   | inr (inl m) ↦ ap (λ (labels : List LabelUse). used labels label) m.labels
-      ∙ set_there old m.label uses.Free (uses.Mapped fec m.to) label m.least.free (λ e. (let both = same_Some (uses.Mapped own to) uses.Free (sym is ∙ ap (use_of old) e ∙ m.least.free) in absurd cc)) ∙ is
+      ∙ set_there old m.label uses.Free (uses.Mapped fec m.to) label m.least.free
+      (λ e. (let both = same_Some (uses.Mapped own to) uses.Free (sym is ∙ ap (use_of old) e ∙ m.least.free) in absurd cc)) ∙ is
   | inr (inr w) ↦ ap (λ (labels : List LabelUse). used labels label) w.labels
       ∙ set_there old w.label (uses.Mapped fec w.to) (uses.Leaving fec w.to) label w.was (λ e.
       let both = one_tree own fec to w.to (same_Some (uses.Mapped own to) (uses.Mapped fec w.to) (sym is ∙ ap (use_of old) e ∙ w.was)) in
       on_it place old own to tree toward (subst (λ (f : Fec). Off place old f to) (sym both.0) (subst (Off place old fec) (sym both.1) w.off))) ∙ is
 ]
 
-won_turn : (place : Place) (old : LabelData) (puts : List Put) (fec : Fec) (next : LabelData) (more : List Put) → Turn place old fec next more → (label : ℕ) → Won place old puts label → Won place next (puts ++ more) label
+won_turn : (place : Place) (old : LabelData) (puts : List Put) (fec : Fec) (next : LabelData) (more : List Put) → Turn place old fec next more
+    → (label : ℕ) → Won place old puts label → Won place next (puts ++ more) label
 won_turn place old puts fec next more t label x =
     record {
       fec = x.fec;
@@ -55,13 +58,15 @@ won_turn place old puts fec next more t label x =
       put = ap (λ (ps : List Put). ps ++ more) x.put ∙ append_assoc x.before (mapping_to x.to x.fec label ∷ x.behind) more;
     }
 
-free_turn : (place : Place) (old : LabelData) (puts : List Put) (fec : Fec) (next : LabelData) (more : List Put) → Turn place old fec next more → (label : ℕ)
+free_turn : (place : Place) (old : LabelData) (puts : List Put) (fec : Fec) (next : LabelData) (more : List Put) → Turn place old fec next more
+    → (label : ℕ)
     → (use_of old label ≡ Some uses.Free) ⊎ Won place old puts label → (use_of next label ≡ Some uses.Free) ⊎ Won place next (puts ++ more) label
 free_turn place old puts fec next more t label (inr x) = inr (won_turn place old puts fec next more t label x)
 free_turn place old puts fec next more t label (inl is) = elim t.how [
   | inl q ↦ inl (ap (λ (labels : List LabelUse). used labels label) q.labels ∙ is)
   | inr (inl m) ↦ elim (cases_eq label m.label) [
-    | inr ne ↦ inl (ap (λ (labels : List LabelUse). used labels label) m.labels ∙ set_there old m.label uses.Free (uses.Mapped fec m.to) label m.least.free ne ∙ is)
+    | inr ne ↦ inl (ap (λ (labels : List LabelUse). used labels label) m.labels
+        ∙ set_there old m.label uses.Free (uses.Mapped fec m.to) label m.least.free ne ∙ is)
     | inl e ↦ inr (record {
       fec = fec;
       to = m.to;
@@ -69,22 +74,28 @@ free_turn place old puts fec next more t label (inl is) = elim t.how [
       behind = [];
       tree = rest_tree old next t.rest fec ∙ m.tree;
       toward = m.toward;
-      maps = ap (λ (labels : List LabelUse). used labels label) m.labels ∙ ap (use_of (with_use old m.label (uses.Mapped fec m.to))) e ∙ set_here old m.label uses.Free (uses.Mapped fec m.to) m.least.free;
+      maps = ap (λ (labels : List LabelUse). used labels label) m.labels ∙ ap (use_of (with_use old m.label (uses.Mapped fec m.to))) e
+          ∙ set_here old m.label uses.Free (uses.Mapped fec m.to) m.least.free;
       put = ap (λ (ps : List Put). puts ++ ps) m.put ∙ (λ i. puts ++ mapping_to m.to fec (sym e i) ∷ []);
     })
   ]
   | inr (inr w) ↦ inl (ap (λ (labels : List LabelUse). used labels label) w.labels
-      ∙ set_there old w.label (uses.Mapped fec w.to) (uses.Leaving fec w.to) label w.was (λ e. (let both = same_Some uses.Free (uses.Mapped fec w.to) (sym is ∙ ap (use_of old) e ∙ w.was) in absurd cc)) ∙ is)
+      ∙ set_there old w.label (uses.Mapped fec w.to) (uses.Leaving fec w.to) label w.was
+      (λ e. (let both = same_Some uses.Free (uses.Mapped fec w.to) (sym is ∙ ap (use_of old) e ∙ w.was) in absurd cc)) ∙ is)
 ]
 
-pub free_label_then : (place : Place) (now : ℕ) (part : LabelData) (call : Call) (new : Stepped) (label : ℕ) → label_step place now part call ≡ Some new → FreeIn now part call label → FreeThen new.part new.puts label
+pub free_label_then : (place : Place) (now : ℕ) (part : LabelData) (call : Call) (new : Stepped) (label : ℕ)
+    → label_step place now part call ≡ Some new → FreeIn now part call label → FreeThen new.part new.puts label
 free_label_then place now part call new label e free =
-    by (step_keeps place now part call new (λ p puts. (use_of p label ≡ Some uses.Free) ⊎ Won place p puts label) (λ old puts fec next more t x. free_turn place old puts fec next more t label x) (λ old x. same old x)
+    by (step_keeps place now part call new (λ p puts. (use_of p label ≡ Some uses.Free) ⊎ Won place p puts label)
+    (λ old puts fec next more t x. free_turn place old puts fec next more t label x) (λ old x. same old x)
     (inl (then_free place now part call label free)) e)
   where
-    same : (old : Stepped) → (use_of old.part label ≡ Some uses.Free) ⊎ Won place old.part old.puts label → (use_of old.part label ≡ Some uses.Free) ⊎ Won place (counted old).part old.puts label
+    same : (old : Stepped) → (use_of old.part label ≡ Some uses.Free) ⊎ Won place old.part old.puts label
+        → (use_of old.part label ≡ Some uses.Free) ⊎ Won place (counted old).part old.puts label
     same old (inl x) = inl x
-    same old (inr x) = inr (record { fec = x.fec; to = x.to; before = x.before; behind = x.behind; maps = x.maps; tree = x.tree; toward = x.toward; put = x.put })
+    same old (inr x) =
+        inr (record { fec = x.fec; to = x.to; before = x.before; behind = x.behind; maps = x.maps; tree = x.tree; toward = x.toward; put = x.put })
 
     by : (use_of new.part label ≡ Some uses.Free) ⊎ Won place new.part new.puts label → FreeThen new.part new.puts label
     by (inl x) = inl x

@@ -41,7 +41,8 @@ module _ (place : Place) (now : ℕ) (part : LabelData) where
   timed_maps : (fec : Fec) (label : ℕ) (u : NodeId) → Maps part fec label u → Maps (timed place now part) fec label u
   timed_maps fec label u p = used-map (woken now) part.labels label ∙ ap (option_map (woken now)) p
 
-  pub timed_end : (node : NodeId) → maps.get (holds_run place.life now part.ends) node ≡ option_map (hold_run place.life now) (maps.get part.ends node)
+  pub timed_end : (node : NodeId) → maps.get (holds_run place.life now part.ends) node
+      ≡ option_map (hold_run place.life now) (maps.get part.ends node)
   timed_end node = get-changed node_cmp_total node_cmp_exact (hold_run place.life now) part.ends node
 
   stays_held : (o : Option End) → held o ≡ true → held (option_map (hold_run place.life now) o) ≡ true
@@ -60,7 +61,8 @@ module _ (place : Place) (now : ℕ) (part : LabelData) where
       }
 
   -- a tree whose binding does not wait is towards an end that is ready, where it needs one
-  ready_by : (t : Bool) (o : Option NodeId) (u : NodeId) → t ≡ true → o ≡ Some u → (t && (is_some o && not (is_ready_to part o))) ≡ false → is_ready part u ≡ true
+  ready_by : (t : Bool) (o : Option NodeId) (u : NodeId) → t ≡ true → o ≡ Some u → (t && (is_some o && not (is_ready_to part o))) ≡ false
+      → is_ready part u ≡ true
   ready_by true (Some v) u h p e = subst (λ (x : NodeId). is_ready part x ≡ true) (same_Some v u p) (not_not (is_ready part v) e)
     where
       not_not : (b : Bool) → not b ≡ false → b ≡ true
@@ -69,7 +71,8 @@ module _ (place : Place) (now : ℕ) (part : LabelData) where
   ready_by true None u h p e = absurd (none-some u p)
   ready_by false o u h p e = absurd cc
 
-  none_waits : (t : Bool) (o : Option NodeId) → (t && (is_some o && not (is_ready_to part o))) ≡ false → (t && (is_some o && not (is_ready_to (timed place now part) o))) ≡ false
+  none_waits : (t : Bool) (o : Option NodeId) → (t && (is_some o && not (is_ready_to part o))) ≡ false
+      → (t && (is_some o && not (is_ready_to (timed place now part) o))) ≡ false
   none_waits false o e = refl
   none_waits true None e = refl
   none_waits true (Some u) e = ap not (stays_ready u (ready_by true (Some u) u refl refl e))
@@ -82,7 +85,8 @@ module _ (place : Place) (now : ℕ) (part : LabelData) where
         one = t.one;
         toward = t.toward;
         needed = λ i u p. s.needed i u (timed_was fec i u p);
-        mapped = λ u e p r. (let x = s.mapped u e p (ready_by (has_tree part fec) (place.upstream fec) u e p quiet) in (x.0, timed_maps fec x.0 u x.1));
+        mapped = λ u e p r. (let x = s.mapped u e p (ready_by (has_tree part fec) (place.upstream fec) u e p quiet) in
+            (x.0, timed_maps fec x.0 u x.1));
         waiting = h ∙ sym (none_waits (has_tree part fec) (place.upstream fec) quiet);
       }
 

@@ -53,7 +53,8 @@ not_both false e h = absurd cc
 
 -- ---- settled trees
 
-pub is_ready_at : (place : Place) (part : LabelData) (fec : Fec) (upstream : NodeId) → place.upstream fec ≡ Some upstream → is_ready_to part (place.upstream fec) ≡ is_ready part upstream
+pub is_ready_at : (place : Place) (part : LabelData) (fec : Fec) (upstream : NodeId) → place.upstream fec ≡ Some upstream
+    → is_ready_to part (place.upstream fec) ≡ is_ready part upstream
 is_ready_at place part fec upstream e = ap (is_ready_to part) e
 
 pub tied : (place : Place) (part : LabelData) (fec : Fec) → Settled place part fec → Tied place part fec
@@ -63,7 +64,8 @@ tied place part fec s =
       toward = s.toward;
       apart = λ label upstream is.
           let x = s.toward label upstream is in
-          s.waiting ∙ ready_ends (has_tree part fec) (is_some (place.upstream fec)) (is_ready_to part (place.upstream fec)) (is_ready_at place part fec upstream x.0 ∙ x.1);
+          s.waiting ∙ ready_ends (has_tree part fec) (is_some (place.upstream fec)) (is_ready_to part (place.upstream fec))
+          (is_ready_at place part fec upstream x.0 ∙ x.1);
     }
 
 -- what a change keeps of one tree
@@ -80,11 +82,13 @@ like_tied place old new fec k t =
       apart = λ i u p. k.waiting ∙ t.apart i u (k.maps i u p);
     }
 
-pub same_ready : (old new : LabelData) → ((node : NodeId) → is_ready new node ≡ is_ready old node) → (o : Option NodeId) → is_ready_to new o ≡ is_ready_to old o
+pub same_ready : (old new : LabelData) → ((node : NodeId) → is_ready new node ≡ is_ready old node) → (o : Option NodeId)
+    → is_ready_to new o ≡ is_ready_to old o
 same_ready old new same None = refl
 same_ready old new same (Some u) = same u
 
-pub like_settled : (place : Place) (old new : LabelData) (fec : Fec) → Like old new fec → ((label : ℕ) (upstream : NodeId) → Maps old fec label upstream → Maps new fec label upstream) → has_tree new fec ≡ has_tree old fec
+pub like_settled : (place : Place) (old new : LabelData) (fec : Fec) → Like old new fec
+    → ((label : ℕ) (upstream : NodeId) → Maps old fec label upstream → Maps new fec label upstream) → has_tree new fec ≡ has_tree old fec
     → Settled place old fec → Settled place new fec
 like_settled place old new fec k back tree s =
     let t = like_tied place old new fec k (tied place old fec s) in
@@ -116,19 +120,22 @@ pub record After (place : Place) (old : LabelData) (fec : Fec) (new : LabelData)
   pub done : Settled place new fec
 
 -- one label changes to a use that maps no other tree, and waiting trees change at this one alone
-use_like : (part : LabelData) (label : ℕ) (old new : LabelUse) (waiting : FinSet fec_cmp) (other : Fec) → use_of part label ≡ Some old → ((upstream : NodeId) → new ≡ uses.Mapped other upstream → ⊥)
+use_like : (part : LabelData) (label : ℕ) (old new : LabelUse) (waiting : FinSet fec_cmp) (other : Fec) → use_of part label ≡ Some old
+    → ((upstream : NodeId) → new ≡ uses.Mapped other upstream → ⊥)
     → sets.contains waiting other ≡ sets.contains part.waiting other → Like part (record (with_use part label new) { waiting = waiting }) other
 use_like part label old new waiting other is never same =
     record {
       maps = λ k u p. elim (cases_eq k label) [
-        | inl e ↦ absurd (never u (same_Some new (uses.Mapped other u) (sym (set_here part label old new is) ∙ ap (use_of (with_use part label new)) (sym e) ∙ p)))
+        | inl e ↦ absurd (never u (same_Some new (uses.Mapped other u)
+            (sym (set_here part label old new is) ∙ ap (use_of (with_use part label new)) (sym e) ∙ p)))
         | inr e ↦ sym (set_there part label old new k is e) ∙ p
       ];
       ready = λ node. refl;
       waiting = same;
     }
 
-use_back : (part : LabelData) (label : ℕ) (old new : LabelUse) (other : Fec) → use_of part label ≡ Some old → ((upstream : NodeId) → old ≡ uses.Mapped other upstream → ⊥)
+use_back : (part : LabelData) (label : ℕ) (old new : LabelUse) (other : Fec) → use_of part label ≡ Some old
+    → ((upstream : NodeId) → old ≡ uses.Mapped other upstream → ⊥)
     → (k : ℕ) (upstream : NodeId) → Maps part other k upstream → use_of (with_use part label new) k ≡ Some (uses.Mapped other upstream)
 use_back part label old new other is never k u p = elim (cases_eq k label) [
   | inl e ↦ absurd (never u (same_Some old (uses.Mapped other u) (sym is ∙ ap (use_of part) (sym e) ∙ p)))
@@ -138,25 +145,42 @@ use_back part label old new other is never k u p = elim (cases_eq k label) [
 pub one_tree : (a b : Fec) (u v : NodeId) → uses.Mapped a u ≡ uses.Mapped b v → (a ≡ b) × (u ≡ v)
 one_tree a b u v e = (cc, cc)
 
-map_after : (place : Place) (part : LabelData) (fec : Fec) (upstream : NodeId) (label : ℕ) → has_tree part fec ≡ true → place.upstream fec ≡ Some upstream → is_ready part upstream ≡ true
+map_after : (place : Place) (part : LabelData) (fec : Fec) (upstream : NodeId) (label : ℕ) → has_tree part fec ≡ true
+    → place.upstream fec ≡ Some upstream → is_ready part upstream ≡ true
     → ((k : ℕ) (u : NodeId) → Maps part fec k u → ⊥) → use_of part label ≡ Some uses.Free
     → After place part fec (record (with_use part label (uses.Mapped fec upstream)) { waiting = sets.remove part.waiting fec })
 map_after place part fec upstream label tree up ready none free =
     let new : LabelData = record (with_use part label (uses.Mapped fec upstream)) { waiting = sets.remove part.waiting fec } in
     let here = set_here part label uses.Free (uses.Mapped fec upstream) free in
-    let like : (other : Fec) → (other ≡ fec → ⊥) → Like part new other = λ other ne. use_like part label uses.Free (uses.Mapped fec upstream) (sets.remove part.waiting fec) other free
+    let like : (other : Fec) → (other ≡ fec → ⊥) → Like part new other =
+    λ other ne. use_like part label uses.Free (uses.Mapped fec upstream) (sets.remove part.waiting fec) other free
     (λ u e. ne (sym (one_tree fec other upstream u e).0)) (removed_other fec_cmp_total fec_cmp_exact part.waiting fec other ne) in
-    let at : (k : ℕ) (u : NodeId) → Maps new fec k u → k ≡ label = λ k u p. elim (cases_eq k label) [ inl e ↦ e | inr e ↦ absurd (none k u (sym (set_there part label uses.Free (uses.Mapped fec upstream) k free e) ∙ p)) ] in
+    let at : (k : ℕ) (u : NodeId) → Maps new fec k u → k ≡ label =
+    λ k u p. elim (cases_eq k label) [
+      | inl e ↦ e
+      | inr e ↦
+          absurd (none k u (sym (set_there part label uses.Free (uses.Mapped fec upstream) k free e) ∙ p))
+    ] in
     record {
-      others = λ other ne. record { like = like other ne; back = use_back part label uses.Free (uses.Mapped fec upstream) other free (λ u e. absurd cc); tree = refl };
+      others = λ other ne. record {
+        like = like other ne;
+        back =
+            use_back part label uses.Free (uses.Mapped fec upstream) other free (λ u e. absurd cc);
+        tree = refl;
+      };
       done = record {
         one = λ i j u v p q. at i u p ∙ sym (at j v q);
         toward = λ i u p.
-            let same = (one_tree fec fec upstream u (same_Some (uses.Mapped fec upstream) (uses.Mapped fec u) (sym here ∙ ap (use_of (with_use part label (uses.Mapped fec upstream))) (sym (at i u p)) ∙ p))).1 in
+            let same =
+            (one_tree fec fec upstream u (same_Some (uses.Mapped fec upstream) (uses.Mapped fec u)
+            (sym here ∙ ap (use_of (with_use part label (uses.Mapped fec upstream))) (sym (at i u p)) ∙ p))).1 in
             (up ∙ ap (λ (x : NodeId). Some x) same, ap (is_ready part) (sym same) ∙ ready);
         needed = λ i u p. tree;
         mapped = λ u h e r. (let same = same_Some upstream u (sym up ∙ e) in (label, here ∙ ap (λ (x : NodeId). Some (uses.Mapped fec x)) same));
-        waiting = removed_here fec_cmp_total fec_cmp_exact part.waiting fec ∙ sym (ready_ends (has_tree part fec) (is_some (place.upstream fec)) (is_ready_to part (place.upstream fec)) (is_ready_at place part fec upstream up ∙ ready));
+        waiting =
+            removed_here fec_cmp_total fec_cmp_exact part.waiting fec
+            ∙ sym (ready_ends (has_tree part fec) (is_some (place.upstream fec)) (is_ready_to part (place.upstream fec))
+            (is_ready_at place part fec upstream up ∙ ready));
       };
     }
 
@@ -166,7 +190,8 @@ withdraw_others : (part : LabelData) (fec : Fec) (upstream : NodeId) (label : �
 withdraw_others part fec upstream label is other ne =
     record {
       like = use_like part label (uses.Mapped fec upstream) (uses.Leaving fec upstream) part.waiting other is (λ u e. absurd cc) refl;
-      back = use_back part label (uses.Mapped fec upstream) (uses.Leaving fec upstream) other is (λ u e. ne (sym (one_tree fec other upstream u e).0));
+      back = use_back part label (uses.Mapped fec upstream) (uses.Leaving fec upstream) other is
+          (λ u e. ne (sym (one_tree fec other upstream u e).0));
       tree = refl;
     }
 
@@ -177,11 +202,13 @@ withdraw_none part fec upstream label is one k u p =
     let new : LabelData = with_use part label (uses.Leaving fec upstream) in
     let like = use_like part label (uses.Mapped fec upstream) (uses.Leaving fec upstream) part.waiting fec is (λ v e. absurd cc) refl in
     elim (cases_eq k label) [
-      | inl e ↦ (let x = same_Some (uses.Leaving fec upstream) (uses.Mapped fec u) (sym (set_here part label (uses.Mapped fec upstream) (uses.Leaving fec upstream) is) ∙ ap (use_of new) (sym e) ∙ p) in absurd cc)
+      | inl e ↦ (let x = same_Some (uses.Leaving fec upstream) (uses.Mapped fec u)
+          (sym (set_here part label (uses.Mapped fec upstream) (uses.Leaving fec upstream) is) ∙ ap (use_of new) (sym e) ∙ p) in absurd cc)
       | inr e ↦ e (one k label u upstream (like.maps k u p) is)
     ]
 
-withdraw_after : (place : Place) (part : LabelData) (fec : Fec) (upstream : NodeId) (label : ℕ) → has_tree part fec ≡ false → Maps part fec label upstream → Tied place part fec
+withdraw_after : (place : Place) (part : LabelData) (fec : Fec) (upstream : NodeId) (label : ℕ) → has_tree part fec ≡ false
+    → Maps part fec label upstream → Tied place part fec
     → After place part fec (with_use part label (uses.Leaving fec upstream))
 withdraw_after place part fec upstream label tree is t =
     let none = withdraw_none part fec upstream label is t.one in
@@ -197,12 +224,16 @@ withdraw_after place part fec upstream label tree is t =
     }
 
 -- no label is mapped to the tree, and waiting trees alone change, to what it needs
-waiting_after : (place : Place) (part : LabelData) (fec : Fec) (waiting : FinSet fec_cmp) → ((other : Fec) → (other ≡ fec → ⊥) → sets.contains waiting other ≡ sets.contains part.waiting other)
-    → ((k : ℕ) (u : NodeId) → Maps part fec k u → ⊥) → (has_tree part fec ≡ true → (u : NodeId) → place.upstream fec ≡ Some u → is_ready part u ≡ true → ⊥) → sets.contains waiting fec ≡ waits place part fec
+waiting_after : (place : Place) (part : LabelData) (fec : Fec) (waiting : FinSet fec_cmp)
+    → ((other : Fec) → (other ≡ fec → ⊥) → sets.contains waiting other ≡ sets.contains part.waiting other)
+    → ((k : ℕ) (u : NodeId) → Maps part fec k u → ⊥)
+    → (has_tree part fec ≡ true → (u : NodeId) → place.upstream fec ≡ Some u → is_ready part u ≡ true → ⊥)
+    → sets.contains waiting fec ≡ waits place part fec
     → After place part fec (record part { waiting = waiting })
 waiting_after place part fec waiting same none never is =
     let new : LabelData = record part { waiting = waiting } in
-    let like : (other : Fec) → (other ≡ fec → ⊥) → Like part new other = λ other ne. record { maps = λ i u p. p; ready = λ node. refl; waiting = same other ne } in
+    let like : (other : Fec) → (other ≡ fec → ⊥) → Like part new other =
+    λ other ne. record { maps = λ i u p. p; ready = λ node. refl; waiting = same other ne } in
     record {
       others = λ other ne. record { like = like other ne; back = λ i u p. p; tree = refl };
       done = record {
@@ -210,7 +241,9 @@ waiting_after place part fec waiting same none never is =
         toward = λ i u p. absurd (none i u p);
         needed = λ i u p. absurd (none i u p);
         mapped = λ u h e r. absurd (never h u e r);
-        waiting = is ∙ ap (λ x. has_tree part fec && (is_some (place.upstream fec) && not x)) (sym (same_ready part new (λ node. refl) (place.upstream fec)));
+        waiting =
+            is ∙ ap (λ x. has_tree part fec && (is_some (place.upstream fec) && not x))
+            (sym (same_ready part new (λ node. refl) (place.upstream fec)));
       };
     }
 
@@ -218,7 +251,8 @@ pub beside_itself : (part : LabelData) (fec : Fec) → Beside part part fec
 beside_itself part fec = record { like = record { maps = λ i u p. p; ready = λ node. refl; waiting = refl }; back = λ i u p. p; tree = refl }
 
 -- the label that is mapped stays
-keep_after : (place : Place) (part : LabelData) (fec : Fec) (upstream : NodeId) (label : ℕ) → has_tree part fec ≡ true → Maps part fec label upstream → Tied place part fec → After place part fec part
+keep_after : (place : Place) (part : LabelData) (fec : Fec) (upstream : NodeId) (label : ℕ) → has_tree part fec ≡ true → Maps part fec label upstream
+    → Tied place part fec → After place part fec part
 keep_after place part fec upstream label tree is t =
     let x = t.toward label upstream is in
     record {
@@ -228,12 +262,15 @@ keep_after place part fec upstream label tree is t =
         toward = t.toward;
         needed = λ i u p. tree;
         mapped = λ u h e r. (let same = same_Some upstream u (sym x.0 ∙ e) in (label, is ∙ ap (λ (y : NodeId). Some (uses.Mapped fec y)) same));
-        waiting = t.apart label upstream is ∙ sym (ready_ends (has_tree part fec) (is_some (place.upstream fec)) (is_ready_to part (place.upstream fec)) (is_ready_at place part fec upstream x.0 ∙ x.1));
+        waiting =
+            t.apart label upstream is ∙ sym (ready_ends (has_tree part fec) (is_some (place.upstream fec)) (is_ready_to part (place.upstream fec))
+            (is_ready_at place part fec upstream x.0 ∙ x.1));
       };
     }
 
 -- who holds the mapped label
-pub holder : (part : LabelData) (fec : Fec) (label : ℕ) (upstream : NodeId) → Maps part fec label upstream → upstream_of (use_of part label) ≡ Some upstream
+pub holder : (part : LabelData) (fec : Fec) (label : ℕ) (upstream : NodeId) → Maps part fec label upstream
+    → upstream_of (use_of part label) ≡ Some upstream
 holder part fec label upstream is = ap upstream_of is
 
 -- ---- the holder and the upstream
@@ -254,10 +291,12 @@ pub neighbours_apart : (a b : Option NodeId) → same_neighbour a b ≡ false �
 neighbours_apart a b e same = not_both (same_neighbour a b) (one_neighbour a b same) e
 
 -- a label that is mapped towards the upstream is kept, and one towards another neighbour is withdrawn
-pub kept_change : (holds up : Option NodeId) (label : ℕ) (ready : Bool) (free : Option ℕ) → same_neighbour holds up ≡ true → change_by true (Some label) holds up ready free ≡ changes.Keep
+pub kept_change : (holds up : Option NodeId) (label : ℕ) (ready : Bool) (free : Option ℕ) → same_neighbour holds up ≡ true
+    → change_by true (Some label) holds up ready free ≡ changes.Keep
 kept_change holds up label ready free e = cond-true (same_neighbour holds up) changes.Keep (withdrawn label holds) e
 
-pub moved_change : (holds up : Option NodeId) (label : ℕ) (ready : Bool) (free : Option ℕ) → same_neighbour holds up ≡ false → change_by true (Some label) holds up ready free ≡ withdrawn label holds
+pub moved_change : (holds up : Option NodeId) (label : ℕ) (ready : Bool) (free : Option ℕ) → same_neighbour holds up ≡ false
+    → change_by true (Some label) holds up ready free ≡ withdrawn label holds
 moved_change holds up label ready free e = cond-false (same_neighbour holds up) changes.Keep (withdrawn label holds) e
 
 -- no label is mapped to the tree
@@ -265,26 +304,36 @@ unmapped_by : (place : Place) (part : LabelData) (fec : Fec) (t : Bool) (holds u
     → has_tree part fec ≡ t → mapped_label part fec ≡ None → place.upstream fec ≡ up → is_ready_to part up ≡ ready → free_label part ≡ free
     → changed part fec (change_by t None holds up ready free) ≡ Some new → After place part fec new
 unmapped_by place part fec true holds (Some u) true (Some label) new h m p q e is =
-    subst (After place part fec) (same_Some (record (with_use part label (uses.Mapped fec u)) { waiting = sets.remove part.waiting fec }) new is) (map_after place part fec u label h p q (mapped_none part fec m) (free_some part label e).free)
+    subst (After place part fec) (same_Some (record (with_use part label (uses.Mapped fec u)) { waiting = sets.remove part.waiting fec }) new is)
+    (map_after place part fec u label h p q (mapped_none part fec m) (free_some part label e).free)
 unmapped_by place part fec true holds (Some u) true None new h m p q e is = absurd (none-some new is)
 unmapped_by place part fec true holds (Some u) false free new h m p q e is =
     subst (After place part fec) (same_Some (record part { waiting = sets.insert part.waiting fec }) new is)
-    (waiting_after place part fec (sets.insert part.waiting fec) (λ other ne. inserted_other fec_cmp_total fec_cmp_exact part.waiting fec other ne) (mapped_none part fec m)
+    (waiting_after place part fec (sets.insert part.waiting fec) (λ other ne. inserted_other fec_cmp_total fec_cmp_exact part.waiting fec other ne)
+    (mapped_none part fec m)
     (λ tree v to ready. (let same = same_Some u v (sym p ∙ to) in not_both (is_ready part u) (ap (is_ready part) same ∙ ready) q))
-    (inserted_here fec_cmp_total fec_cmp_exact part.waiting fec ∙ sym (needs_end (has_tree part fec) (place.upstream fec) u (is_ready_to part (place.upstream fec)) h p (is_ready_at place part fec u p ∙ q))))
+    (inserted_here fec_cmp_total fec_cmp_exact part.waiting fec
+    ∙ sym (needs_end (has_tree part fec) (place.upstream fec) u (is_ready_to part (place.upstream fec)) h p
+    (is_ready_at place part fec u p ∙ q))))
 unmapped_by place part fec true holds None ready free new h m p q e is =
     subst (After place part fec) (same_Some (record part { waiting = sets.remove part.waiting fec }) new is)
-    (waiting_after place part fec (sets.remove part.waiting fec) (λ other ne. removed_other fec_cmp_total fec_cmp_exact part.waiting fec other ne) (mapped_none part fec m)
+    (waiting_after place part fec (sets.remove part.waiting fec) (λ other ne. removed_other fec_cmp_total fec_cmp_exact part.waiting fec other ne)
+    (mapped_none part fec m)
     (λ tree v to ready. none-some v (sym p ∙ to))
-    (removed_here fec_cmp_total fec_cmp_exact part.waiting fec ∙ sym (at_root (has_tree part fec) (place.upstream fec) (is_ready_to part (place.upstream fec)) p)))
+    (removed_here fec_cmp_total fec_cmp_exact part.waiting fec
+    ∙ sym (at_root (has_tree part fec) (place.upstream fec) (is_ready_to part (place.upstream fec)) p)))
 unmapped_by place part fec false holds up ready free new h m p q e is =
     subst (After place part fec) (same_Some (record part { waiting = sets.remove part.waiting fec }) new is)
-    (waiting_after place part fec (sets.remove part.waiting fec) (λ other ne. removed_other fec_cmp_total fec_cmp_exact part.waiting fec other ne) (mapped_none part fec m)
+    (waiting_after place part fec (sets.remove part.waiting fec) (λ other ne. removed_other fec_cmp_total fec_cmp_exact part.waiting fec other ne)
+    (mapped_none part fec m)
     (λ tree v to ready. not_both (has_tree part fec) tree h)
-    (removed_here fec_cmp_total fec_cmp_exact part.waiting fec ∙ sym (ap (λ x. x && (is_some (place.upstream fec) && not (is_ready_to part (place.upstream fec)))) h)))
+    (removed_here fec_cmp_total fec_cmp_exact part.waiting fec
+    ∙ sym (ap (λ x. x && (is_some (place.upstream fec) && not (is_ready_to part (place.upstream fec)))) h)))
 
-after_by : (place : Place) (part : LabelData) (fec : Fec) (t : Bool) (mapped : Option ℕ) (holds up : Option NodeId) (ready : Bool) (free : Option ℕ) (new : LabelData)
-    → has_tree part fec ≡ t → mapped_label part fec ≡ mapped → (mapped >>? λ label. upstream_of (use_of part label)) ≡ holds → place.upstream fec ≡ up → is_ready_to part up ≡ ready → free_label part ≡ free
+after_by : (place : Place) (part : LabelData) (fec : Fec) (t : Bool) (mapped : Option ℕ) (holds up : Option NodeId) (ready : Bool) (free : Option ℕ)
+    (new : LabelData)
+    → has_tree part fec ≡ t → mapped_label part fec ≡ mapped → (mapped >>? λ label. upstream_of (use_of part label)) ≡ holds → place.upstream fec ≡ up
+    → is_ready_to part up ≡ ready → free_label part ≡ free
     → Tied place part fec → changed part fec (change_by t mapped holds up ready free) ≡ Some new → After place part fec new
 after_by place part fec t None holds up ready free new h m o p q e d is = unmapped_by place part fec t holds up ready free new h m p q e is
 after_by place part fec true (Some label) holds up ready free new h m o p q e d is =
@@ -298,9 +347,11 @@ after_by place part fec false (Some label) holds up ready free new h m o p q e d
     subst (After place part fec) (same_Some (with_use part label (uses.Leaving fec x.0)) new gone) (withdraw_after place part fec x.0 label h x.1 d)
 
 -- what a tree needs, and gets, settles it
-pub step_after : (place : Place) (part : LabelData) (fec : Fec) (new : LabelData) → Tied place part fec → changed part fec (change_of place part fec) ≡ Some new → After place part fec new
+pub step_after : (place : Place) (part : LabelData) (fec : Fec) (new : LabelData) → Tied place part fec
+    → changed part fec (change_of place part fec) ≡ Some new → After place part fec new
 step_after place part fec new t is =
-    after_by place part fec (has_tree part fec) (mapped_label part fec) (holder_of part fec) (place.upstream fec) (is_ready_to part (place.upstream fec)) (free_label part) new
+    after_by place part fec (has_tree part fec) (mapped_label part fec) (holder_of part fec) (place.upstream fec)
+    (is_ready_to part (place.upstream fec)) (free_label part) new
     refl refl refl refl refl refl t is
 
 -- ---- a tree that was settled by other next hops
@@ -328,8 +379,10 @@ pub record Begun (place : Place) (old : LabelData) (fec : Fec) (mid : LabelData)
   pub others : (other : Fec) → (other ≡ fec → ⊥) → Beside old mid other
   pub here : Tied place mid fec
 
-begun_by : (place : Place) (part : LabelData) (fec : Fec) (t : Bool) (mapped : Option ℕ) (holds up : Option NodeId) (ready : Bool) (free : Option ℕ) (mid : LabelData)
-    → has_tree part fec ≡ t → mapped_label part fec ≡ mapped → (mapped >>? λ label. upstream_of (use_of part label)) ≡ holds → place.upstream fec ≡ up → is_ready_to part up ≡ ready → free_label part ≡ free
+begun_by : (place : Place) (part : LabelData) (fec : Fec) (t : Bool) (mapped : Option ℕ) (holds up : Option NodeId) (ready : Bool) (free : Option ℕ)
+    (mid : LabelData)
+    → has_tree part fec ≡ t → mapped_label part fec ≡ mapped → (mapped >>? λ label. upstream_of (use_of part label)) ≡ holds → place.upstream fec ≡ up
+    → is_ready_to part up ≡ ready → free_label part ≡ free
     → Loose part fec → changed part fec (change_by t mapped holds up ready free) ≡ Some mid → Begun place part fec mid
 begun_by place part fec t None holds up ready free mid h m o p q e l is =
     let a = unmapped_by place part fec t holds up ready free mid h m p q e is in
@@ -348,14 +401,17 @@ begun_by place part fec true (Some label) holds up ready free mid h m o p q e l 
           one = l.one;
           toward = λ i u is_u.
               let same = l.one i label u x.0 is_u x.1 in
-              let both = one_tree fec fec x.0 u (same_Some (uses.Mapped fec x.0) (uses.Mapped fec u) (sym x.1 ∙ ap (use_of part) (sym same) ∙ is_u)) in
+              let both =
+              one_tree fec fec x.0 u (same_Some (uses.Mapped fec x.0) (uses.Mapped fec u) (sym x.1 ∙ ap (use_of part) (sym same) ∙ is_u)) in
               (toward ∙ ap (λ (y : NodeId). Some y) both.1, l.ready i u is_u);
           apart = l.apart;
         };
       })
   | inr far ↦
       let x = mapped_some part fec label m in
-      let gone = sym (ap (changed part fec) (moved_change holds up label ready free far) ∙ ap (λ (own : Option NodeId). changed part fec (withdrawn label own)) (sym o ∙ holder part fec label x.0 x.1)) ∙ is in
+      let gone =
+      sym (ap (changed part fec) (moved_change holds up label ready free far)
+      ∙ ap (λ (own : Option NodeId). changed part fec (withdrawn label own)) (sym o ∙ holder part fec label x.0 x.1)) ∙ is in
       let none = withdraw_none part fec x.0 label x.1 l.one in
       subst (Begun place part fec) (same_Some (with_use part label (uses.Leaving fec x.0)) mid gone) (record {
         others = withdraw_others part fec x.0 label x.1;
@@ -363,6 +419,8 @@ begun_by place part fec true (Some label) holds up ready free mid h m o p q e l 
       })
 ]
 
-pub step_begun : (place : Place) (part : LabelData) (fec : Fec) (mid : LabelData) → Loose part fec → changed part fec (change_of place part fec) ≡ Some mid → Begun place part fec mid
+pub step_begun : (place : Place) (part : LabelData) (fec : Fec) (mid : LabelData) → Loose part fec
+    → changed part fec (change_of place part fec) ≡ Some mid → Begun place part fec mid
 step_begun place part fec mid l is =
-    begun_by place part fec (has_tree part fec) (mapped_label part fec) (holder_of part fec) (place.upstream fec) (is_ready_to part (place.upstream fec)) (free_label part) mid refl refl refl refl refl refl l is
+    begun_by place part fec (has_tree part fec) (mapped_label part fec) (holder_of part fec) (place.upstream fec)
+    (is_ready_to part (place.upstream fec)) (free_label part) mid refl refl refl refl refl refl l is

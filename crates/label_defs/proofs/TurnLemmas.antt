@@ -45,7 +45,8 @@ pub record Takes (place : Place) (old : LabelData) (fec : Fec) (new : LabelData)
 abbrev pub Off : Place → LabelData → Fec → NodeId → Type 0
 Off place part fec to = (has_tree part fec ≡ false) ⊎ (place.upstream fec ≡ Some to → ⊥)
 
-pub on_it : (place : Place) (part : LabelData) (fec : Fec) (to : NodeId) → has_tree part fec ≡ true → place.upstream fec ≡ Some to → Off place part fec to → ⊥
+pub on_it : (place : Place) (part : LabelData) (fec : Fec) (to : NodeId) → has_tree part fec ≡ true → place.upstream fec ≡ Some to
+    → Off place part fec to → ⊥
 on_it place part fec to tree toward (inl off) = not_both (has_tree part fec) tree off
 on_it place part fec to tree toward (inr away) = away toward
 
@@ -82,7 +83,8 @@ not_ready true false r e = refl
 not_ready true true r e = e
 
 -- the mapped label is withdrawn from its holder
-given : (place : Place) (part : LabelData) (fec : Fec) (label : ℕ) (holds : Option NodeId) (new : LabelData) {to : NodeId} → mapped_label part fec ≡ Some label → holds ≡ Some to → Maps part fec label to
+given : (place : Place) (part : LabelData) (fec : Fec) (label : ℕ) (holds : Option NodeId) (new : LabelData) {to : NodeId}
+    → mapped_label part fec ≡ Some label → holds ≡ Some to → Maps part fec label to
     → Off place part fec to → changed part fec (withdrawn label holds) ≡ Some new → Turn place part fec new (put_by fec (withdrawn label holds))
 given place part fec label None new m holds_is was off is = absurd (none-some _ holds_is)
 given place part fec label (Some v) new {to} m holds_is was off is =
@@ -101,9 +103,12 @@ given place part fec label (Some v) new {to} m holds_is was off is =
       }));
     })
 
-turn_by : (place : Place) (part : LabelData) (fec : Fec) (t : Bool) (mapped : Option ℕ) (holds up : Option NodeId) (ready : Bool) (free : Option ℕ) (new : LabelData)
-    → has_tree part fec ≡ t → mapped_label part fec ≡ mapped → (mapped >>? λ label. upstream_of (use_of part label)) ≡ holds → place.upstream fec ≡ up → is_ready_to part up ≡ ready → free_label part ≡ free
-    → changed part fec (change_by t mapped holds up ready free) ≡ Some new → Turn place part fec new (put_by fec (change_by t mapped holds up ready free))
+turn_by : (place : Place) (part : LabelData) (fec : Fec) (t : Bool) (mapped : Option ℕ) (holds up : Option NodeId) (ready : Bool) (free : Option ℕ)
+    (new : LabelData)
+    → has_tree part fec ≡ t → mapped_label part fec ≡ mapped → (mapped >>? λ label. upstream_of (use_of part label)) ≡ holds → place.upstream fec ≡ up
+    → is_ready_to part up ≡ ready → free_label part ≡ free
+    → changed part fec (change_by t mapped holds up ready free) ≡ Some new
+    → Turn place part fec new (put_by fec (change_by t mapped holds up ready free))
 turn_by place part fec true (Some label) holds up ready free new h m o p q e is = elim (cases_Bool (same_neighbour holds up)) [
   | inl near ↦
       let kept = kept_change holds up label ready free near in
@@ -113,7 +118,8 @@ turn_by place part fec true (Some label) holds up ready free new h m o p q e is 
         how = inl (record {
           content = has_label (has_tree part fec) (mapped_label part fec) label (is_ready_to part (place.upstream fec)) m;
           at_hop = has_hop (has_tree part fec) (same_neighbour (holder_of part fec) (place.upstream fec)) (is_ready_to part (place.upstream fec))
-              (ap (λ (x : Option ℕ). same_neighbour (x >>? λ own. upstream_of (use_of part own)) (place.upstream fec)) m ∙ (λ i. same_neighbour (o i) (p i)) ∙ near);
+              (ap (λ (x : Option ℕ). same_neighbour (x >>? λ own. upstream_of (use_of part own)) (place.upstream fec)) m
+              ∙ (λ i. same_neighbour (o i) (p i)) ∙ near);
           labels = refl;
           silent = ap (put_by fec) kept;
         });
@@ -130,30 +136,82 @@ turn_by place part fec true None holds (Some u) true (Some label) new h m o p q 
     let puts : List Put = record { to = u; message = messages.Mapping fec label } ∷ [] in
     subst (λ x. Turn place part fec x puts) (same_Some _ new is) (record {
       rest = record { branches = refl; leaves = refl; ends = refl };
-      how = inr (inl (record { to = u; label = label; tree = h; unmapped = m; toward = p; ready = q; least = free_some part label e; labels = refl; put = refl }));
+      how = inr (inl (record {
+        to = u;
+        label = label;
+        tree = h;
+        unmapped = m;
+        toward = p;
+        ready = q;
+        least = free_some part label e;
+        labels =
+            refl;
+        put = refl;
+      }));
     })
 turn_by place part fec true None holds (Some u) true None new h m o p q e is = absurd (none-some new is)
 turn_by place part fec true None holds (Some u) false free new h m o p q e is =
-    subst (λ x. Turn place part fec x []) (same_Some _ new is) (record { rest = record { branches = refl; leaves = refl; ends = refl }; how = inl (record { content = not_ready (has_tree part fec) (not (is_some (mapped_label part fec))) (is_ready_to part (place.upstream fec)) (ap (is_ready_to part) p ∙ q); at_hop = not_ready (has_tree part fec) (not (same_neighbour (holder_of part fec) (place.upstream fec))) (is_ready_to part (place.upstream fec)) (ap (is_ready_to part) p ∙ q); labels = refl; silent = refl }) })
+    subst (λ x. Turn place part fec x []) (same_Some _ new is)
+    (record {
+      rest = record { branches = refl; leaves = refl; ends = refl };
+      how =
+          inl (record {
+            content =
+                not_ready (has_tree part fec) (not (is_some (mapped_label part fec))) (is_ready_to part (place.upstream fec)) (ap (is_ready_to part) p ∙ q);
+            at_hop = not_ready (has_tree part fec) (not (same_neighbour (holder_of part fec) (place.upstream fec)))
+                (is_ready_to part (place.upstream fec)) (ap (is_ready_to part) p ∙ q);
+            labels = refl;
+            silent = refl;
+          });
+    })
 turn_by place part fec true None holds None ready free new h m o p q e is =
-    subst (λ x. Turn place part fec x []) (same_Some _ new is) (record { rest = record { branches = refl; leaves = refl; ends = refl }; how = inl (record { content = not_ready (has_tree part fec) (not (is_some (mapped_label part fec))) (is_ready_to part (place.upstream fec)) (ap (is_ready_to part) p); at_hop = not_ready (has_tree part fec) (not (same_neighbour (holder_of part fec) (place.upstream fec))) (is_ready_to part (place.upstream fec)) (ap (is_ready_to part) p); labels = refl; silent = refl }) })
+    subst (λ x. Turn place part fec x []) (same_Some _ new is)
+    (record {
+      rest = record { branches = refl; leaves = refl; ends = refl };
+      how =
+          inl (record {
+            content =
+                not_ready (has_tree part fec) (not (is_some (mapped_label part fec))) (is_ready_to part (place.upstream fec)) (ap (is_ready_to part) p);
+            at_hop = not_ready (has_tree part fec) (not (same_neighbour (holder_of part fec) (place.upstream fec)))
+                (is_ready_to part (place.upstream fec)) (ap (is_ready_to part) p);
+            labels = refl;
+            silent = refl;
+          });
+    })
 turn_by place part fec false (Some label) holds up ready free new h m o p q e is =
     let x = mapped_some part fec label m in
     given place part fec label holds new m (sym o ∙ holder part fec label x.0 x.1) x.1 (inl h) is
 turn_by place part fec false None holds up ready free new h m o p q e is =
-    subst (λ x. Turn place part fec x []) (same_Some _ new is) (record { rest = record { branches = refl; leaves = refl; ends = refl }; how = inl (record { content = and_left (has_tree part fec) (not (is_some (mapped_label part fec)) && is_ready_to part (place.upstream fec)) h; at_hop = and_left (has_tree part fec) (not (same_neighbour (holder_of part fec) (place.upstream fec)) && is_ready_to part (place.upstream fec)) h; labels = refl; silent = refl }) })
+    subst (λ x. Turn place part fec x []) (same_Some _ new is)
+    (record {
+      rest = record { branches = refl; leaves = refl; ends = refl };
+      how =
+          inl (record {
+            content =
+                and_left (has_tree part fec) (not (is_some (mapped_label part fec)) && is_ready_to part (place.upstream fec)) h;
+            at_hop =
+                and_left (has_tree part fec) (not (same_neighbour (holder_of part fec) (place.upstream fec)) && is_ready_to part (place.upstream fec)) h;
+            labels = refl;
+            silent = refl;
+          });
+    })
 
-pub turn : (place : Place) (part : LabelData) (fec : Fec) (new : LabelData) → changed part fec (change_of place part fec) ≡ Some new → Turn place part fec new (put_by fec (change_of place part fec))
+pub turn : (place : Place) (part : LabelData) (fec : Fec) (new : LabelData) → changed part fec (change_of place part fec) ≡ Some new
+    → Turn place part fec new (put_by fec (change_of place part fec))
 turn place part fec new is =
-    turn_by place part fec (has_tree part fec) (mapped_label part fec) (holder_of part fec) (place.upstream fec) (is_ready_to part (place.upstream fec)) (free_label part) new
+    turn_by place part fec (has_tree part fec) (mapped_label part fec) (holder_of part fec) (place.upstream fec)
+    (is_ready_to part (place.upstream fec)) (free_label part) new
     refl refl refl refl refl refl is
 
 -- What each turn keeps holds behind a row of them.
 pub settle_all_keeps : (place : Place) (P : LabelData → List Put → Type 0)
-    → ((old : LabelData) (puts : List Put) (fec : Fec) (new : LabelData) (more : List Put) → Turn place old fec new more → P old puts → P new (puts ++ more))
+    → ((old : LabelData) (puts : List Put) (fec : Fec) (new : LabelData) (more : List Put) → Turn place old fec new more → P old puts
+    → P new (puts ++ more))
     → (fecs : List Fec) (old new : Stepped) → P old.part old.puts → settle_all place fecs old ≡ Some new → P new.part new.puts
 settle_all_keeps place P step [] old new p e = subst (λ (s : Stepped). P s.part s.puts) (same_Some old new e) p
 settle_all_keeps place P step (fec ∷ more) old new p e =
     let put = put_by fec (change_of place old.part fec) in
-    let x = bind_some (changed old.part fec (change_of place old.part fec)) (λ next. settle_all place more (record { part = next; puts = old.puts ++ put })) new e in
-    settle_all_keeps place P step more (record { part = x.0; puts = old.puts ++ put }) new (step old.part old.puts fec x.0 put (turn place old.part fec x.0 x.1) p) x.2
+    let x = bind_some (changed old.part fec (change_of place old.part fec))
+    (λ next. settle_all place more (record { part = next; puts = old.puts ++ put })) new e in
+    settle_all_keeps place P step more (record { part = x.0; puts = old.puts ++ put }) new
+    (step old.part old.puts fec x.0 put (turn place old.part fec x.0 x.1) p) x.2

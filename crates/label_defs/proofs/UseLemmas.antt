@@ -62,9 +62,11 @@ used labels label = cond (nat_lt label 16) None (slice_get labels (label - 16))
 pub used_place : (labels : List LabelUse) (place : ℕ) → used labels (16 + place) ≡ slice_get labels place
 used_place labels place =
     let same : 16 + place - 16 ≡ place = omega arith in
-    cond-false (nat_lt (16 + place) 16) None (slice_get labels (16 + place - 16)) (le-ltb (16 + place) 16 (omega arith)) ∙ ap (λ k. slice_get labels k) same
+    cond-false (nat_lt (16 + place) 16) None (slice_get labels (16 + place - 16)) (le-ltb (16 + place) 16 (omega arith))
+    ∙ ap (λ k. slice_get labels k) same
 
-pub used_some : (labels : List LabelUse) (label : ℕ) (usage : LabelUse) → used labels label ≡ Some usage → (16 ≤ label) × (slice_get labels (label - 16) ≡ Some usage)
+pub used_some : (labels : List LabelUse) (label : ℕ) (usage : LabelUse) → used labels label ≡ Some usage
+    → (16 ≤ label) × (slice_get labels (label - 16) ≡ Some usage)
 used_some labels label usage e = elim (cases_lt label 16) [
   | inl lt ↦ absurd (none-some usage (sym (cond-true (nat_lt label 16) None (slice_get labels (label - 16)) (lt-ltb label 16 lt)) ∙ e))
   | inr ge ↦ (ge, sym (cond-false (nat_lt label 16) None (slice_get labels (label - 16)) (le-ltb label 16 ge)) ∙ e)
@@ -82,7 +84,8 @@ set_here part label old new e =
     let x = used_some part.labels label old e in
     used_high (slice_set part.labels (label - 16) new) label x.0 ∙ set_same part.labels (label - 16) old new x.1
 
-pub set_there : (part : LabelData) (label : ℕ) (old new : LabelUse) (k : ℕ) → use_of part label ≡ Some old → (k ≡ label → ⊥) → use_of (with_use part label new) k ≡ use_of part k
+pub set_there : (part : LabelData) (label : ℕ) (old new : LabelUse) (k : ℕ) → use_of part label ≡ Some old → (k ≡ label → ⊥)
+    → use_of (with_use part label new) k ≡ use_of part k
 set_there part label old new k e ne =
     let x = used_some part.labels label old e in
     elim (cases_lt k 16) [
@@ -93,10 +96,12 @@ set_there part label old new k e ne =
     ]
 
 -- all labels change
-pub used-map : (change : LabelUse → LabelUse) (labels : List LabelUse) (label : ℕ) → used (map change labels) label ≡ option_map change (used labels label)
+pub used-map : (change : LabelUse → LabelUse) (labels : List LabelUse) (label : ℕ)
+    → used (map change labels) label ≡ option_map change (used labels label)
 used-map change labels label = elim (cases_lt label 16) [
   | inl lt ↦ used_low (map change labels) label lt ∙ sym (ap (option_map change) (used_low labels label lt))
-  | inr ge ↦ used_high (map change labels) label ge ∙ slice_get-map change labels (label - 16) ∙ sym (ap (option_map change) (used_high labels label ge))
+  | inr ge ↦ used_high (map change labels) label ge ∙ slice_get-map change labels (label - 16)
+      ∙ sym (ap (option_map change) (used_high labels label ge))
 ]
 
 -- ---- the mapped label, the least free one
@@ -124,7 +129,9 @@ map_some f (Some x) y e = (x, refl, same_Some (f x) y e)
 pub mapped_none : (part : LabelData) (fec : Fec) → mapped_label part fec ≡ None → (label : ℕ) (upstream : NodeId) → Maps part fec label upstream → ⊥
 mapped_none part fec e label upstream is =
     let x = used_some part.labels label (uses.Mapped fec upstream) is in
-    let fails = none_passes (is_mapped fec) part.labels (map_none (λ place. first_label + place) (position (is_mapped fec) part.labels) e) (label - 16) (uses.Mapped fec upstream) x.1 in
+    let fails =
+    none_passes (is_mapped fec) part.labels (map_none (λ place. first_label + place) (position (is_mapped fec) part.labels) e) (label - 16)
+    (uses.Mapped fec upstream) x.1 in
     let yes = same_fec_itself fec in
     absurd cc
 
@@ -138,7 +145,8 @@ mapped_some part fec label e =
 pub free_none : (part : LabelData) → free_label part ≡ None → (label : ℕ) → use_of part label ≡ Some uses.Free → ⊥
 free_none part e label is =
     let x = used_some part.labels label uses.Free is in
-    let fails = none_passes is_free part.labels (map_none (λ place. first_label + place) (position is_free part.labels) e) (label - 16) uses.Free x.1 in
+    let fails =
+    none_passes is_free part.labels (map_none (λ place. first_label + place) (position is_free part.labels) e) (label - 16) uses.Free x.1 in
     absurd cc
 
 -- the label is free, and none below it is
@@ -152,7 +160,8 @@ free_some part label e =
     let first = first_passes is_free part.labels x.0 uses.Free x.1 in
     let sum = x.2 in
     record {
-      free = ap (used part.labels) (sym x.2) ∙ used_place part.labels x.0 ∙ first.at ∙ ap (λ (u : LabelUse). Some u) (free_is first.value first.passes);
+      free = ap (used part.labels) (sym x.2) ∙ used_place part.labels x.0 ∙ first.at
+          ∙ ap (λ (u : LabelUse). Some u) (free_is first.value first.passes);
       lower = λ k lt is.
           let y = used_some part.labels k uses.Free is in
           let high = y.0 in

@@ -40,21 +40,25 @@ none_sorted = tt
 
 -- ---- what is read
 
-pub hops_are : (pairs : Pairs) (slots : Slots) → IsFib pairs slots → (fec : Fec) (slot : Slot) → get is_fec slots fec ≡ Some slot → (hops : List Branch) → hops ≡ maps.keys slot.entry.branches → AreHops (fib_of pairs slots) fec hops
+pub hops_are : (pairs : Pairs) (slots : Slots) → IsFib pairs slots → (fec : Fec) (slot : Slot) → get is_fec slots fec ≡ Some slot
+    → (hops : List Branch) → hops ≡ maps.keys slot.entry.branches → AreHops (fib_of pairs slots) fec hops
 hops_are pairs slots fib fec slot at hops is =
     subst (λ (xs : List Branch). AreHops (fib_of pairs slots) fec xs) (sym is) (record {
       ordered = map_sorted hop_cmp slot.entry.branches;
-      each = λ own. sym (maps.contains_key-keys slot.entry.branches own) ∙ (ap (λ (o : Option Slot). has_hop o own) (sym at) ∙ sym (branch_seen slots.entries fib.one_slot (branch_in fec own)));
+      each = λ own. sym (maps.contains_key-keys slot.entry.branches own)
+          ∙ (ap (λ (o : Option Slot). has_hop o own) (sym at) ∙ sym (branch_seen slots.entries fib.one_slot (branch_in fec own)));
     })
 
-pub no_hops_are : (pairs : Pairs) (slots : Slots) → IsFib pairs slots → (fec : Fec) → get is_fec slots fec ≡ None → (hops : List Branch) → hops ≡ [] → AreHops (fib_of pairs slots) fec hops
+pub no_hops_are : (pairs : Pairs) (slots : Slots) → IsFib pairs slots → (fec : Fec) → get is_fec slots fec ≡ None → (hops : List Branch) → hops ≡ []
+    → AreHops (fib_of pairs slots) fec hops
 no_hops_are pairs slots fib fec at hops is =
     subst (λ (xs : List Branch). AreHops (fib_of pairs slots) fec xs) (sym is) (record {
       ordered = none_sorted;
       each = λ own. ap (λ (o : Option Slot). has_hop o own) (sym at) ∙ sym (branch_seen slots.entries fib.one_slot (branch_in fec own));
     })
 
-pub entry_is : (pairs : Pairs) (slots : Slots) → IsFib pairs slots → (fec : Fec) (slot : Slot) → get is_fec slots fec ≡ Some slot → IsEntry (fib_of pairs slots) slot.entry
+pub entry_is : (pairs : Pairs) (slots : Slots) → IsFib pairs slots → (fec : Fec) (slot : Slot) → get is_fec slots fec ≡ Some slot
+    → IsEntry (fib_of pairs slots) slot.entry
 entry_is pairs slots fib fec slot at =
     let own : slot.entry.fec ≡ fec = fib.own fec slot at in
     let here : get is_fec slots slot.entry.fec ≡ Some slot = ap (λ (x : Fec). get is_fec slots x) own ∙ at in
@@ -85,14 +89,17 @@ pub one_noted : (q : Branch) (fec : Fec) (es : List (Branch × Fec)) → lookup 
 one_noted q fec [] at = absurd cc
 one_noted q fec (e ∷ es) at = by (one_noted q fec es) (is_hop q e.0) refl at (noted-cons fec e es)
   where
-    by : (lookup (is_hop q) es ≡ Some fec → 1 ≤ noted fec es) → (t : Bool) → is_hop q e.0 ≡ t → cond (is_hop q e.0) (Some e.1) (lookup (is_hop q) es) ≡ Some fec → noted fec (e ∷ es) ≡ cond (is_fec fec e.1) 1 0 + noted fec es → 1 ≤ noted fec (e ∷ es)
+    by : (lookup (is_hop q) es ≡ Some fec → 1 ≤ noted fec es) → (t : Bool) → is_hop q e.0 ≡ t
+        → cond (is_hop q e.0) (Some e.1) (lookup (is_hop q) es) ≡ Some fec → noted fec (e ∷ es) ≡ cond (is_fec fec e.1) 1 0 + noted fec es
+        → 1 ≤ noted fec (e ∷ es)
     by behind true s at sum =
         let here : Some e.1 ≡ Some fec = sym (ap (λ (b : Bool). cond b (Some e.1) (lookup (is_hop q) es)) s) ∙ at in
         let same : e.1 ≡ fec = cc in
         let one : is_fec fec e.1 ≡ true = subst (λ (x : Fec). is_fec x e.1 ≡ true) same (fec_itself e.1) in
         at_least (noted fec (e ∷ es)) (cond (is_fec fec e.1) 1 0) (noted fec es) sum (ap (λ (b : Bool). cond b 1 0) one)
     by behind false s at sum =
-        at_least_rest (noted fec (e ∷ es)) (cond (is_fec fec e.1) 1 0) (noted fec es) sum (behind (sym (ap (λ (b : Bool). cond b (Some e.1) (lookup (is_hop q) es)) s) ∙ at))
+        at_least_rest (noted fec (e ∷ es)) (cond (is_fec fec e.1) 1 0) (noted fec es) sum
+        (behind (sym (ap (λ (b : Bool). cond b (Some e.1) (lookup (is_hop q) es)) s) ∙ at))
 
 -- ---- one slot that changes
 
@@ -102,15 +109,18 @@ pub record Changed (old new : Slots) (fec : Fec) (slot : Slot) : Type 0 where
   pub each : (other : Fec) → get is_fec new other ≡ cond (is_fec fec other) (kept slot) (get is_fec old other)
   pub unique : IsUnique is_fec new
 
-pub changed_by : (old mid new : Slots) (fec : Fec) (slot : Slot) → slot.entry.fec ≡ fec → ((other : Fec) → is_fec fec other ≡ false → get is_fec mid other ≡ get is_fec old other)
-    → ((other : Fec) → get is_fec new other ≡ cond (is_fec fec other) (kept slot) (get is_fec mid other)) → IsUnique is_fec new → Changed old new fec slot
+pub changed_by : (old mid new : Slots) (fec : Fec) (slot : Slot) → slot.entry.fec ≡ fec
+    → ((other : Fec) → is_fec fec other ≡ false → get is_fec mid other ≡ get is_fec old other)
+    → ((other : Fec) → get is_fec new other ≡ cond (is_fec fec other) (kept slot) (get is_fec mid other)) → IsUnique is_fec new
+    → Changed old new fec slot
 changed_by old mid new fec slot own others each unique = record {
   own = own;
   each = λ other. each other ∙ by other (is_fec fec other) refl;
   unique = unique;
 }
   where
-    by : (other : Fec) (t : Bool) → is_fec fec other ≡ t → cond (is_fec fec other) (kept slot) (get is_fec mid other) ≡ cond (is_fec fec other) (kept slot) (get is_fec old other)
+    by : (other : Fec) (t : Bool) → is_fec fec other ≡ t
+        → cond (is_fec fec other) (kept slot) (get is_fec mid other) ≡ cond (is_fec fec other) (kept slot) (get is_fec old other)
     by other true e = rw e refl
     by other false e = rw e (others other e)
 
@@ -118,16 +128,24 @@ inside : {A B : Type 0} (f : A → B) (t : Bool) (x y : A) → f (cond t x y) �
 inside f true x y = refl
 inside f false x y = refl
 
-pub leaf_then : (old new : Slots) (fec : Fec) (slot : Slot) → Changed old new fec slot → (q : Fec) → leaf_of (get is_fec new q) ≡ cond (is_fec fec q) slot.entry.leaf (leaf_of (get is_fec old q))
-leaf_then old new fec slot h q = ap leaf_of (h.each q) ∙ (inside leaf_of (is_fec fec q) (kept slot) (get is_fec old q) ∙ ap (λ (b : Bool). cond (is_fec fec q) b (leaf_of (get is_fec old q))) (kept_leaf slot))
+pub leaf_then : (old new : Slots) (fec : Fec) (slot : Slot) → Changed old new fec slot → (q : Fec)
+    → leaf_of (get is_fec new q) ≡ cond (is_fec fec q) slot.entry.leaf (leaf_of (get is_fec old q))
+leaf_then old new fec slot h q =
+    ap leaf_of (h.each q) ∙ (inside leaf_of (is_fec fec q) (kept slot) (get is_fec old q)
+    ∙ ap (λ (b : Bool). cond (is_fec fec q) b (leaf_of (get is_fec old q))) (kept_leaf slot))
 
-pub hop_then : (old new : Slots) (fec : Fec) (slot : Slot) → Changed old new fec slot → (q : Fec) (own : Branch) → has_hop (get is_fec new q) own ≡ cond (is_fec fec q) (maps.contains_key slot.entry.branches own) (has_hop (get is_fec old q) own)
+pub hop_then : (old new : Slots) (fec : Fec) (slot : Slot) → Changed old new fec slot → (q : Fec) (own : Branch)
+    → has_hop (get is_fec new q) own ≡ cond (is_fec fec q) (maps.contains_key slot.entry.branches own) (has_hop (get is_fec old q) own)
 hop_then old new fec slot h q own =
     let has : Option Slot → Bool = λ o. has_hop o own in
-    ap has (h.each q) ∙ (inside has (is_fec fec q) (kept slot) (get is_fec old q) ∙ ap (λ (b : Bool). cond (is_fec fec q) b (has_hop (get is_fec old q) own)) (kept_hop slot own))
+    ap has (h.each q) ∙ (inside has (is_fec fec q) (kept slot) (get is_fec old q)
+    ∙ ap (λ (b : Bool). cond (is_fec fec q) b (has_hop (get is_fec old q) own)) (kept_hop slot own))
 
-pub count_then : (old new : Slots) (fec : Fec) (slot : Slot) → Changed old new fec slot → (q : Fec) → mapped_of (get is_fec new q) ≡ cond (is_fec fec q) slot.mapped (mapped_of (get is_fec old q))
-count_then old new fec slot h q = ap mapped_of (h.each q) ∙ (inside mapped_of (is_fec fec q) (kept slot) (get is_fec old q) ∙ ap (λ (n : ℕ). cond (is_fec fec q) n (mapped_of (get is_fec old q))) (kept_count slot))
+pub count_then : (old new : Slots) (fec : Fec) (slot : Slot) → Changed old new fec slot → (q : Fec)
+    → mapped_of (get is_fec new q) ≡ cond (is_fec fec q) slot.mapped (mapped_of (get is_fec old q))
+count_then old new fec slot h q =
+    ap mapped_of (h.each q) ∙ (inside mapped_of (is_fec fec q) (kept slot) (get is_fec old q)
+    ∙ ap (λ (n : ℕ). cond (is_fec fec q) n (mapped_of (get is_fec old q))) (kept_count slot))
 
 -- where the value at the FEC stays, it stays everywhere
 stays : {A : Type 0} (f : Fec → A) (fec q : Fec) → cond (is_fec fec q) (f fec) (f q) ≡ f q
@@ -140,16 +158,21 @@ stays f fec q = by (is_fec fec q) refl
 -- ---- the leaves
 
 leaves_by : (old new : Slots) (fec : Fec) (slot : Slot) → Changed old new fec slot → IsUnique is_fec old → (leaves : FinSet fec_cmp)
-    → ((q : Fec) → sets.contains leaves q ≡ cond (is_fec fec q) slot.entry.leaf (sets.contains (sets.from_list {R = fec_cmp} (leaves_in old.entries)) q)) → sets.from_list (leaves_in new.entries) ≡ leaves
+    → ((q : Fec) → sets.contains leaves q ≡ cond (is_fec fec q) slot.entry.leaf
+    (sets.contains (sets.from_list {R = fec_cmp} (leaves_in old.entries)) q)) → sets.from_list (leaves_in new.entries) ≡ leaves
 leaves_by old new fec slot h one leaves is = sets.same_set fec_cmp_total fec_cmp_exact _ _ (λ q.
-    leaf_seen new.entries h.unique q ∙ (leaf_then old new fec slot h q ∙ (ap (λ (b : Bool). cond (is_fec fec q) slot.entry.leaf b) (sym (leaf_seen old.entries one q)) ∙ sym (is q))))
+    leaf_seen new.entries h.unique q ∙ (leaf_then old new fec slot h q
+    ∙ (ap (λ (b : Bool). cond (is_fec fec q) slot.entry.leaf b) (sym (leaf_seen old.entries one q)) ∙ sym (is q))))
 
-pub leaves_stay : (old new : Slots) (fec : Fec) (slot : Slot) → Changed old new fec slot → IsUnique is_fec old → slot.entry.leaf ≡ leaf_of (get is_fec old fec) → sets.from_list {R = fec_cmp} (leaves_in new.entries) ≡ sets.from_list (leaves_in old.entries)
+pub leaves_stay : (old new : Slots) (fec : Fec) (slot : Slot) → Changed old new fec slot → IsUnique is_fec old
+    → slot.entry.leaf ≡ leaf_of (get is_fec old fec) → sets.from_list {R = fec_cmp} (leaves_in new.entries) ≡ sets.from_list (leaves_in old.entries)
 leaves_stay old new fec slot h one same = leaves_by old new fec slot h one (sets.from_list (leaves_in old.entries)) (λ q.
-    sym (ap (λ (b : Bool). cond (is_fec fec q) b (sets.contains (sets.from_list {R = fec_cmp} (leaves_in old.entries)) q)) (same ∙ sym (leaf_seen old.entries one fec))
+    sym (ap (λ (b : Bool). cond (is_fec fec q) b (sets.contains (sets.from_list {R = fec_cmp} (leaves_in old.entries)) q))
+    (same ∙ sym (leaf_seen old.entries one fec))
     ∙ stays (λ x. sets.contains (sets.from_list {R = fec_cmp} (leaves_in old.entries)) x) fec q))
 
-pub leaves_change : (old new : Slots) (fec : Fec) (slot : Slot) (leaf : Bool) → Changed old new fec slot → IsUnique is_fec old → slot.entry.leaf ≡ leaf → sets.from_list (leaves_in new.entries) ≡ with_leaf (sets.from_list (leaves_in old.entries)) fec leaf
+pub leaves_change : (old new : Slots) (fec : Fec) (slot : Slot) (leaf : Bool) → Changed old new fec slot → IsUnique is_fec old
+    → slot.entry.leaf ≡ leaf → sets.from_list (leaves_in new.entries) ≡ with_leaf (sets.from_list (leaves_in old.entries)) fec leaf
 leaves_change old new fec slot leaf h one is = leaves_by old new fec slot h one _ (λ q. by q leaf is)
   where
     tie : (q : Fec) → eq_by_cmp fec_cmp q fec ≡ is_fec fec q
@@ -163,23 +186,32 @@ leaves_change old new fec slot leaf h one is = leaves_by old new fec slot h one 
     and_cond true x = refl
     and_cond false x = refl
 
-    by : (q : Fec) (b : Bool) → slot.entry.leaf ≡ b → sets.contains (with_leaf (sets.from_list (leaves_in old.entries)) fec b) q ≡ cond (is_fec fec q) slot.entry.leaf (sets.contains (sets.from_list {R = fec_cmp} (leaves_in old.entries)) q)
-    by q true e = rw e (sets.contains-insert fec_cmp_total _ fec q ∙ (ap (λ (t : Bool). t || sets.contains (sets.from_list {R = fec_cmp} (leaves_in old.entries)) q) (tie q) ∙ or_cond (is_fec fec q) _))
-    by q false e = rw e (sets.contains-remove fec_cmp_total _ fec q ∙ (ap (λ (t : Bool). not t && sets.contains (sets.from_list {R = fec_cmp} (leaves_in old.entries)) q) (tie q) ∙ and_cond (is_fec fec q) _))
+    by : (q : Fec) (b : Bool) → slot.entry.leaf ≡ b
+        → sets.contains (with_leaf (sets.from_list (leaves_in old.entries)) fec b) q
+        ≡ cond (is_fec fec q) slot.entry.leaf (sets.contains (sets.from_list {R = fec_cmp} (leaves_in old.entries)) q)
+    by q true e =
+        rw e (sets.contains-insert fec_cmp_total _ fec q
+        ∙ (ap (λ (t : Bool). t || sets.contains (sets.from_list {R = fec_cmp} (leaves_in old.entries)) q) (tie q) ∙ or_cond (is_fec fec q) _))
+    by q false e =
+        rw e (sets.contains-remove fec_cmp_total _ fec q
+        ∙ (ap (λ (t : Bool). not t && sets.contains (sets.from_list {R = fec_cmp} (leaves_in old.entries)) q) (tie q) ∙ and_cond (is_fec fec q) _))
 
 -- ---- what is looked up
 
 -- A FEC that a note names has a slot.
-pub not_missing : (pairs : Pairs) (slots : Slots) → IsFib pairs slots → (at : Branch) (fec : Fec) → get is_hop pairs at ≡ Some fec → get is_fec slots fec ≡ None → ⊥
+pub not_missing : (pairs : Pairs) (slots : Slots) → IsFib pairs slots → (at : Branch) (fec : Fec) → get is_hop pairs at ≡ Some fec
+    → get is_fec slots fec ≡ None → ⊥
 not_missing pairs slots fib at fec note none =
     let one : 1 ≤ noted fec pairs.entries = one_noted at fec pairs.entries note in
     let zero : mapped_of (get is_fec slots fec) ≡ 0 = ap mapped_of none in
     let count = fib.counts fec in
     omega (arith, one, zero, count)
 
-pub found_is : (pairs : Pairs) (slots : Slots) → IsFib pairs slots → (at : Branch) (fec : Fec) (slot : Slot) → get is_hop pairs at ≡ Some fec → get is_fec slots fec ≡ Some slot
+pub found_is : (pairs : Pairs) (slots : Slots) → IsFib pairs slots → (at : Branch) (fec : Fec) (slot : Slot) → get is_hop pairs at ≡ Some fec
+    → get is_fec slots fec ≡ Some slot
     → (maps.get (fib_of pairs slots).pairs at ≡ Some slot.entry.fec) × IsEntry (fib_of pairs slots) slot.entry
-found_is pairs slots fib at fec slot note here = (pair_seen pairs slots at ∙ (note ∙ ap (λ (x : Fec). Some x) (sym (fib.own fec slot here))), entry_is pairs slots fib fec slot here)
+found_is pairs slots fib at fec slot note here =
+    (pair_seen pairs slots at ∙ (note ∙ ap (λ (x : Fec). Some x) (sym (fib.own fec slot here))), entry_is pairs slots fib fec slot here)
 
 -- ---- whether the node is on a tree
 
@@ -192,17 +224,21 @@ hops_none fib fec h true e =
     let x = passing_member branch_cmp_total branch_cmp_exact (λ b. same_fec b.fec fec) fib.branches e in
     sym (h.each (hop_of x.0) ∙ (ap (λ (b : TreeBranch). sets.contains fib.branches b) (hop_back x.0 fec x.2) ∙ x.1))
 
-pub hops_any : (fib : FibData) (fec : Fec) (hops : List Branch) → AreHops fib fec hops → list_any (λ b. same_fec b.fec fec) (in_order fib.branches) ≡ not (length hops == 0)
+pub hops_any : (fib : FibData) (fec : Fec) (hops : List Branch) → AreHops fib fec hops
+    → list_any (λ b. same_fec b.fec fec) (in_order fib.branches) ≡ not (length hops == 0)
 hops_any fib fec [] h = hops_none fib fec h _ refl
 hops_any fib fec (own ∷ more) h = member_passes branch_cmp_total branch_cmp_exact (λ b. same_fec b.fec fec) fib.branches (branch_in fec own)
-    (sym (h.each own) ∙ or_left (eq_by_cmp hop_cmp own own) (list_any (eq_by_cmp hop_cmp own) more) (ap is_eq (tied_itself hop_cmp_total own))) (same_fec_itself fec)
+    (sym (h.each own) ∙ or_left (eq_by_cmp hop_cmp own own) (list_any (eq_by_cmp hop_cmp own) more) (ap is_eq (tied_itself hop_cmp_total own)))
+    (same_fec_itself fec)
     ∙ sym (ap not (ne_eqb (suc (length more)) 0 (λ e. omega (arith, e))))
 
 pub on_slot : (pairs : Pairs) (slots : Slots) → IsFib pairs slots → (fec : Fec) (slot : Slot) → get is_fec slots fec ≡ Some slot
     → (slot.entry.leaf || not (length (maps.keys slot.entry.branches) == 0)) ≡ is_on (fib_of pairs slots) fec
 on_slot pairs slots fib fec slot at =
     let leaf : sets.contains (fib_of pairs slots).leaves fec ≡ slot.entry.leaf = leaf_seen slots.entries fib.one_slot fec ∙ ap leaf_of at in
-    let any = hops_any (fib_of pairs slots) fec (maps.keys slot.entry.branches) (hops_are pairs slots fib fec slot at (maps.keys slot.entry.branches) refl) in
+    let any =
+    hops_any (fib_of pairs slots) fec (maps.keys slot.entry.branches) (hops_are pairs slots fib fec slot at (maps.keys slot.entry.branches) refl)
+    in
     sym ((λ i. any i || leaf i) ∙ or_flips (not (length (maps.keys slot.entry.branches) == 0)) slot.entry.leaf)
   where
     or_flips : (a b : Bool) → (a || b) ≡ (b || a)
@@ -211,7 +247,8 @@ on_slot pairs slots fib fec slot at =
     or_flips false true = refl
     or_flips false false = refl
 
-pub off_slot : (pairs : Pairs) (slots : Slots) → IsFib pairs slots → (fec : Fec) → get is_fec slots fec ≡ None → false ≡ is_on (fib_of pairs slots) fec
+pub off_slot : (pairs : Pairs) (slots : Slots) → IsFib pairs slots → (fec : Fec) → get is_fec slots fec ≡ None
+    → false ≡ is_on (fib_of pairs slots) fec
 off_slot pairs slots fib fec at =
     let leaf : sets.contains (fib_of pairs slots).leaves fec ≡ false = leaf_seen slots.entries fib.one_slot fec ∙ ap leaf_of at in
     let any = hops_any (fib_of pairs slots) fec [] (no_hops_are pairs slots fib fec at [] refl) in

@@ -33,26 +33,31 @@ pub record FourRead (octets : List ℕ) (f : FourFields) : Type 0 where
   pub header : 5 ≤ f.words → reading.unsummed (header_len octets) octets ≡ unsummed f
 
 -- The header with a checksum of 0, by what stands before and behind the checksum.
-header_is : (words service : ℕ) (total ignored sum source group rest octets : List ℕ) (count len : ℕ) → length total ≡ 2 → length ignored ≡ 6 → length source ≡ 4 → length group ≡ 4 → len ≡ 20 + count
+header_is : (words service : ℕ) (total ignored sum source group rest octets : List ℕ) (count len : ℕ) → length total ≡ 2 → length ignored ≡ 6
+    → length source ≡ 4 → length group ≡ 4 → len ≡ 20 + count
     → octets ≡ (64 + words) ∷ service ∷ (total ++ (ignored ++ (sum ++ (source ++ (group ++ rest))))) → drop 12 octets ≡ source ++ (group ++ rest)
     → reading.unsummed len octets ≡ (64 + words) ∷ service ∷ (total ++ (ignored ++ (0 ∷ 0 ∷ (source ++ (group ++ take count rest)))))
 header_is words service total ignored sum source group rest octets count len two six four_a four_b fit whole behind =
     let front : List ℕ = (64 + words) ∷ service ∷ (total ++ ignored) in
     let ten : length front ≡ 10 = omega (arith, length-append total ignored) in
-    let split : octets ≡ front ++ (sum ++ (source ++ (group ++ rest))) = whole ∙ ap (λ (xs : List ℕ). (64 + words) ∷ service ∷ xs) (sym (append_assoc total ignored (sum ++ (source ++ (group ++ rest))))) in
+    let split : octets ≡ front ++ (sum ++ (source ++ (group ++ rest))) =
+    whole ∙ ap (λ (xs : List ℕ). (64 + words) ∷ service ∷ xs) (sym (append_assoc total ignored (sum ++ (source ++ (group ++ rest))))) in
     let before : take 10 octets ≡ front = ap (take 10) split ∙ take_at front (sum ++ (source ++ (group ++ rest))) 10 ten in
     let left : len ≡ 12 + (4 + (4 + count)) = omega arith in
     let kept : drop 12 (take len octets) ≡ source ++ (group ++ take count rest) =
     ap (λ n. drop 12 (take n octets)) left ∙ (drop-take 12 (4 + (4 + count)) octets ∙ (ap (take (4 + (4 + count))) behind
     ∙ (ap (λ n. take (n + (4 + count)) (source ++ (group ++ rest))) (sym four_a) ∙ (take-append-add source (group ++ rest) (4 + count)
     ∙ ap (λ (xs : List ℕ). source ++ xs) (ap (λ n. take (n + count) (group ++ rest)) (sym four_b) ∙ take-append-add group rest count))))) in
-    joined before (ap (λ (xs : List ℕ). 0 ∷ 0 ∷ xs) kept) ∙ ap (λ (xs : List ℕ). (64 + words) ∷ service ∷ xs) (append_assoc total ignored (0 ∷ 0 ∷ (source ++ (group ++ take count rest))))
+    joined before (ap (λ (xs : List ℕ). 0 ∷ 0 ∷ xs) kept)
+    ∙ ap (λ (xs : List ℕ). (64 + words) ∷ service ∷ xs) (append_assoc total ignored (0 ∷ 0 ∷ (source ++ (group ++ take count rest))))
 
 pub four_read : (f : FourFields) → AreFour f → FourRead (four_octets f) f
 four_read f are =
     let octets : List ℕ = four_octets f in
     let at_two : drop 2 octets ≡ to_be_bytes w16 f.total ++ (f.ignored ++ (to_be_bytes w16 f.sum ++ (f.source ++ (f.group ++ f.rest)))) = refl in
-    let two = field_at 2 2 4 octets (to_be_bytes w16 f.total) (f.ignored ++ (to_be_bytes w16 f.sum ++ (f.source ++ (f.group ++ f.rest)))) at_two refl refl in
+    let two =
+    field_at 2 2 4 octets (to_be_bytes w16 f.total) (f.ignored ++ (to_be_bytes w16 f.sum ++ (f.source ++ (f.group ++ f.rest)))) at_two refl refl
+    in
     let four = field_at 4 6 10 octets f.ignored (to_be_bytes w16 f.sum ++ (f.source ++ (f.group ++ f.rest))) two.1 are.ignored refl in
     let ten = field_at 10 2 12 octets (to_be_bytes w16 f.sum) (f.source ++ (f.group ++ f.rest)) four.1 refl refl in
     let twelve = field_at 12 4 16 octets f.source (f.group ++ f.rest) ten.1 are.source refl in
@@ -62,7 +67,15 @@ four_read f are =
     record {
       version = omega arith;
       words = of_words;
-      len = omega (arith, are.ignored, are.source, are.group, length-append f.ignored (to_be_bytes w16 f.sum ++ (f.source ++ (f.group ++ f.rest))), length-append f.source (f.group ++ f.rest), length-append f.group f.rest);
+      len = omega (
+        arith,
+        are.ignored,
+        are.source,
+        are.group,
+        length-append f.ignored (to_be_bytes w16 f.sum ++ (f.source ++ (f.group ++ f.rest))),
+        length-append f.source (f.group ++ f.rest),
+        length-append f.group f.rest,
+      );
       total = ap (from_be_bytes w16) two.0 ∙ wide16.again f.total are.total;
       sum = ap (from_be_bytes w16) ten.0 ∙ wide16.again f.sum are.sum;
       source = twelve.0;
@@ -70,7 +83,8 @@ four_read f are =
       first = octet_in 16 0 16 octets f.group f.rest twelve.1 (omega (arith, are.group)) refl;
       second = octet_in 16 1 17 octets f.group f.rest twelve.1 (omega (arith, are.group)) refl;
       third = octet_in 16 2 18 octets f.group f.rest twelve.1 (omega (arith, are.group)) refl;
-      header = λ le. header_is f.words f.service (to_be_bytes w16 f.total) f.ignored (to_be_bytes w16 f.sum) f.source f.group f.rest octets (4 * f.words - 20) (header_len octets)
+      header = λ le. header_is f.words f.service (to_be_bytes w16 f.total) f.ignored (to_be_bytes w16 f.sum) f.source f.group f.rest octets
+          (4 * f.words - 20) (header_len octets)
           refl are.ignored are.source are.group (omega (arith, of_words)) refl ten.1;
     }
 
@@ -88,7 +102,8 @@ four_fields octets = record {
   rest = drop 20 octets;
 }
 
-pub four_laid : (octets : List ℕ) → IsOctets octets → 20 ≤ length octets → get_or octets 0 0 / 16 ≡ 4 → AreFour (four_fields octets) × (octets ≡ four_octets (four_fields octets))
+pub four_laid : (octets : List ℕ) → IsOctets octets → 20 ≤ length octets → get_or octets 0 0 / 16 ≡ 4
+    → AreFour (four_fields octets) × (octets ≡ four_octets (four_fields octets))
 four_laid octets fits le version =
     let first : get_or octets 0 0 < 256 = fits 0 in
     let octet : get_or octets 0 0 ≡ 64 + get_or octets 0 0 % 16 = omega arith in
@@ -109,7 +124,9 @@ four_laid octets fits le version =
 -- ---- the tests
 
 chain : Bool → Bool → Bool → Bool → Bool → Option (ℕ × PacketFault)
-chain a b c d e = cond a (bad 0 reasons.HeaderLength) (cond b (bad 2 reasons.TotalLength) (cond c (bad 10 reasons.Checksum) (cond d (bad 16 reasons.NotMulticast) (cond e (bad 16 reasons.LinkLocal) None))))
+chain a b c d e =
+    cond a (bad 0 reasons.HeaderLength) (cond b (bad 2 reasons.TotalLength)
+    (cond c (bad 10 reasons.Checksum) (cond d (bad 16 reasons.NotMulticast) (cond e (bad 16 reasons.LinkLocal) None))))
 
 -- what the five tests tell of fields
 record FourTold (a b c d e : Bool) (f : FourFields) : Type 0 where
@@ -119,7 +136,8 @@ record FourTold (a b c d e : Bool) (f : FourFields) : Type 0 where
   pub multicast : Tells d (IsFourGroup f.group) (¬ IsFourGroup f.group)
   pub global : Tells e (¬ IsFourLocal f.group) (IsFourLocal f.group)
 
-chain_settles : (a b c d e : Bool) (f : FourFields) → FourTold a b c d e f → ((chain a b c d e ≡ None) × MeetsFour f) ⊎ ((x : ℕ × PacketFault) × (chain a b c d e ≡ Some x) × FourFault f x)
+chain_settles : (a b c d e : Bool) (f : FourFields) → FourTold a b c d e f
+    → ((chain a b c d e ≡ None) × MeetsFour f) ⊎ ((x : ℕ × PacketFault) × (chain a b c d e ≡ Some x) × FourFault f x)
 unfolding chain
 chain_settles a b c d e f told =
     elim told.header [
@@ -142,15 +160,31 @@ chain_settles a b c d e f told =
 chain_meets : (a b c d e : Bool) (f : FourFields) → FourTold a b c d e f → MeetsFour f → chain a b c d e ≡ None
 unfolding chain
 chain_meets a b c d e f told m =
-    rw (holds told.header (λ n. n m.header), holds told.total (λ n. n m.total), holds (told.sum m.header) (λ n. n m.sum), holds told.multicast (λ n. n m.multicast), holds told.global m.global) refl
+    rw (
+      holds told.header (λ n. n m.header),
+      holds told.total (λ n. n m.total),
+      holds (told.sum m.header) (λ n. n m.sum),
+      holds told.multicast (λ n. n m.multicast),
+      holds told.global m.global,
+    ) refl
 
 chain_fails : (a b c d e : Bool) (f : FourFields) (x : ℕ × PacketFault) → FourTold a b c d e f → FourFault f x → chain a b c d e ≡ Some x
 unfolding chain
 chain_fails a b c d e f x told (four_faults.header_length n is) = rw (fails told.header n, is) refl
 chain_fails a b c d e f x told (four_faults.total_length h n is) = rw (holds told.header (λ k. k h), fails told.total n, is) refl
-chain_fails a b c d e f x told (four_faults.sum h t n is) = rw (holds told.header (λ k. k h), holds told.total (λ k. k t), fails (told.sum h) n, is) refl
-chain_fails a b c d e f x told (four_faults.not_multicast h t s n is) = rw (holds told.header (λ k. k h), holds told.total (λ k. k t), holds (told.sum h) (λ k. k s), fails told.multicast n, is) refl
-chain_fails a b c d e f x told (four_faults.link_local h t s m l is) = rw (holds told.header (λ k. k h), holds told.total (λ k. k t), holds (told.sum h) (λ k. k s), holds told.multicast (λ k. k m), fails told.global (λ g. g l), is) refl
+chain_fails a b c d e f x told (four_faults.sum h t n is) =
+    rw (holds told.header (λ k. k h), holds told.total (λ k. k t), fails (told.sum h) n, is) refl
+chain_fails a b c d e f x told (four_faults.not_multicast h t s n is) =
+    rw (holds told.header (λ k. k h), holds told.total (λ k. k t), holds (told.sum h) (λ k. k s), fails told.multicast n, is) refl
+chain_fails a b c d e f x told (four_faults.link_local h t s m l is) =
+    rw (
+      holds told.header (λ k. k h),
+      holds told.total (λ k. k t),
+      holds (told.sum h) (λ k. k s),
+      holds told.multicast (λ k. k m),
+      fails told.global (λ g. g l),
+      is,
+    ) refl
 
 -- the tests of the octets of fields
 abbrev bad_header : List ℕ → Bool
@@ -172,32 +206,42 @@ is_chain : (octets : List ℕ) → four_fault octets ≡ chain (bad_header octet
 unfolding four_fault chain
 is_chain octets = refl
 
-header_told : (words rest len first : ℕ) → first ≡ words → len ≡ 20 + rest → Tells (ltb (first * 4) 20 || ltb len (first * 4)) ((5 ≤ words) × (4 * words ≤ 20 + rest)) (¬ ((5 ≤ words) × (4 * words ≤ 20 + rest)))
+header_told : (words rest len first : ℕ) → first ≡ words → len ≡ 20 + rest
+    → Tells (ltb (first * 4) 20 || ltb len (first * 4)) ((5 ≤ words) × (4 * words ≤ 20 + rest)) (¬ ((5 ≤ words) × (4 * words ≤ 20 + rest)))
 header_told words rest len first e l =
-    tells_as (λ h. let p = h.0 in let q = h.1 in (omega arith, omega arith)) (λ h k. let p = k.0 in let q = k.1 in elim h [ inl lt ↦ omega arith | inr lt ↦ omega arith ])
+    tells_as (λ h. let p = h.0 in let q = h.1 in (omega arith, omega arith))
+    (λ h k. let p = k.0 in let q = k.1 in elim h [ inl lt ↦ omega arith | inr lt ↦ omega arith ])
     (or_tells (ltb (first * 4) 20) (ltb len (first * 4)) (below_tells (first * 4) 20) (below_tells len (first * 4)))
 
-told_of : (octets : List ℕ) (f : FourFields) → FourRead octets f → FourTold (bad_header octets) (bad_total octets) (bad_sum octets) (bad_group octets) (is_local octets) f
+told_of : (octets : List ℕ) (f : FourFields) → FourRead octets f
+    → FourTold (bad_header octets) (bad_total octets) (bad_sum octets) (bad_group octets) (is_local octets) f
 told_of octets f read =
     let first = read.first in
     let second = read.second in
     let third = read.third in
     record {
       header = header_told f.words (length f.rest) (length octets) (get_or octets 0 0 % 16) read.words read.len;
-      total = tells_as (λ e. sym read.total ∙ (e ∙ read.len)) (λ ne e. ne (read.total ∙ (e ∙ sym read.len))) (differs_tells (number_at 2 octets) (length octets));
+      total = tells_as (λ e. sym read.total ∙ (e ∙ read.len)) (λ ne e. ne (read.total ∙ (e ∙ sym read.len)))
+          (differs_tells (number_at 2 octets) (length octets));
       sum = λ h. let same = ap checksum (read.header h.0) in
-          tells_as (λ e. sym read.sum ∙ (e ∙ same)) (λ ne e. ne (read.sum ∙ (e ∙ sym same))) (differs_tells (number_at 10 octets) (checksum (reading.unsummed (header_len octets) octets)));
-      multicast = tells_as (λ h. let p = h.0 in let q = h.1 in (omega arith, omega arith)) (λ h k. let p = k.0 in let q = k.1 in elim h [ inl lt ↦ omega arith | inr lt ↦ omega arith ])
-          (or_tells (ltb (get_or octets 16 0) 224) (ltb 239 (get_or octets 16 0)) (below_tells (get_or octets 16 0) 224) (below_tells 239 (get_or octets 16 0)));
+          tells_as (λ e. sym read.sum ∙ (e ∙ same)) (λ ne e. ne (read.sum ∙ (e ∙ sym same)))
+          (differs_tells (number_at 10 octets) (checksum (reading.unsummed (header_len octets) octets)));
+      multicast =
+          tells_as (λ h. let p = h.0 in let q = h.1 in (omega arith, omega arith))
+          (λ h k. let p = k.0 in let q = k.1 in elim h [ inl lt ↦ omega arith | inr lt ↦ omega arith ])
+          (or_tells (ltb (get_or octets 16 0) 224) (ltb 239 (get_or octets 16 0)) (below_tells (get_or octets 16 0) 224)
+          (below_tells 239 (get_or octets 16 0)));
       global = tells_as (λ h k. elim h [ inl g ↦ elim g [ inl ne ↦ ne (first ∙ k.0) | inr ne ↦ ne (second ∙ k.1) ] | inr ne ↦ ne (third ∙ k.2) ])
           (λ h. (sym first ∙ h.0.0, sym second ∙ h.0.1, sym third ∙ h.1))
           (and_tells (eqb (get_or octets 16 0) 224 && eqb (get_or octets 17 0) 0) (eqb (get_or octets 18 0) 0)
-          (and_tells (eqb (get_or octets 16 0) 224) (eqb (get_or octets 17 0) 0) (same_tells (get_or octets 16 0) 224) (same_tells (get_or octets 17 0) 0)) (same_tells (get_or octets 18 0) 0));
+          (and_tells (eqb (get_or octets 16 0) 224) (eqb (get_or octets 17 0) 0) (same_tells (get_or octets 16 0) 224)
+          (same_tells (get_or octets 17 0) 0)) (same_tells (get_or octets 18 0) 0));
     }
 
 -- ---- the first fault
 
-pub four_settles : (octets : List ℕ) (f : FourFields) → FourRead octets f → ((four_fault octets ≡ None) × MeetsFour f) ⊎ ((x : ℕ × PacketFault) × (four_fault octets ≡ Some x) × FourFault f x)
+pub four_settles : (octets : List ℕ) (f : FourFields) → FourRead octets f
+    → ((four_fault octets ≡ None) × MeetsFour f) ⊎ ((x : ℕ × PacketFault) × (four_fault octets ≡ Some x) × FourFault f x)
 four_settles octets f read =
     elim (chain_settles _ _ _ _ _ f (told_of octets f read)) [
       | inl fine ↦ inl (is_chain octets ∙ fine.0, fine.1)

@@ -73,7 +73,8 @@ below Less p = refl
 below Equal p = absurd cc
 below Greater p = absurd cc
 
-below_at : (x : Branch) (xs : List Branch) → T (below_all hop_cmp x (marked xs)) → (j : ℕ) (d : Branch) → j < length xs → hop_cmp x (get_or xs j d) ≡ Less
+below_at : (x : Branch) (xs : List Branch) → T (below_all hop_cmp x (marked xs)) → (j : ℕ) (d : Branch) → j < length xs
+    → hop_cmp x (get_or xs j d) ≡ Less
 below_at x [] h j d lt = absurd (omega arith)
 below_at x (y ∷ xs) h zero d lt = less _ (first _ _ h)
 below_at x (y ∷ xs) h (suc j) d lt = below_at x xs (second _ _ h) j d (omega arith)
@@ -110,19 +111,23 @@ put_there k (x ∷ xs) zero p e =
     let same : x ≡ k = cc in
     let tie : hop_cmp k x ≡ Equal = subst (λ (y : Branch). hop_cmp k y ≡ Equal) (sym same) (tied_itself hop_cmp_total k) in
     rw tie refl
-put_there k (x ∷ xs) (suc i) p e = rw (ahead k x xs i p) (ap (λ (es : List (Branch × Unit {0})). (x, tt) ∷ es) (put_there k xs i (behind_point k x xs i p) e))
+put_there k (x ∷ xs) (suc i) p e =
+    rw (ahead k x xs i p) (ap (λ (es : List (Branch × Unit {0})). (x, tt) ∷ es) (put_there k xs i (behind_point k x xs i p) e))
 
 -- Where it does not, the list with it there is in order.
-pub put_here : (k : Branch) (xs : List Branch) (i : ℕ) → Point k xs i → i ≤ length xs → (slice_get xs i ≡ Some k → ⊥) → marked (insert xs i k) ≡ put hop_cmp k tt (marked xs)
+pub put_here : (k : Branch) (xs : List Branch) (i : ℕ) → Point k xs i → i ≤ length xs → (slice_get xs i ≡ Some k → ⊥)
+    → marked (insert xs i k) ≡ put hop_cmp k tt (marked xs)
 put_here k [] zero p le ne = refl
 put_here k [] (suc i) p le ne = absurd (omega arith)
 put_here k (x ∷ xs) zero p le ne =
-    elim (hop_cmp k x) as (λ o. hop_cmp k x ≡ o → (k, tt) ∷ (x, tt) ∷ marked xs ≡ maps.Entries.by_order o ((k, tt) ∷ (x, tt) ∷ marked xs) ((x, tt) ∷ marked xs) ((x, tt) ∷ put hop_cmp k tt (marked xs))) [
+    elim (hop_cmp k x) as (λ o. hop_cmp k x ≡ o → (k, tt) ∷ (x, tt) ∷ marked xs
+    ≡ maps.Entries.by_order o ((k, tt) ∷ (x, tt) ∷ marked xs) ((x, tt) ∷ marked xs) ((x, tt) ∷ put hop_cmp k tt (marked xs))) [
       | Less ↦ λ e. refl
       | Equal ↦ λ e. absurd (ne (ap (λ (y : Branch). Some y) (sym (hop_cmp_exact k x e))))
       | Greater ↦ λ e. absurd (not_ahead k x xs p e)
     ] refl
-put_here k (x ∷ xs) (suc i) p le ne = rw (ahead k x xs i p) (ap (λ (es : List (Branch × Unit {0})). (x, tt) ∷ es) (put_here k xs i (behind_point k x xs i p) (omega arith) ne))
+put_here k (x ∷ xs) (suc i) p le ne =
+    rw (ahead k x xs i p) (ap (λ (es : List (Branch × Unit {0})). (x, tt) ∷ es) (put_here k xs i (behind_point k x xs i p) (omega arith) ne))
 
 -- ---- the set of a list
 
@@ -144,12 +149,17 @@ pub set-none : set_of [] ≡ maps.empty
 set-none = maps.same_map hop_cmp_total hop_cmp_exact _ _ (λ q. get-set [] tt q ∙ sym (maps.get-empty hop_cmp q))
 
 -- A list that is in order with one more.
-pub sorted_with : (xs ys : List Branch) (k : Branch) → T (is_sorted hop_cmp (marked xs)) → marked ys ≡ put hop_cmp k tt (marked xs) → T (is_sorted hop_cmp (marked ys))
-sorted_with xs ys k h e = subst (λ (es : List (Branch × Unit {0})). T (is_sorted hop_cmp es)) (sym e) (is_sorted-put hop_cmp hop_cmp_total k tt (marked xs) h)
+pub sorted_with : (xs ys : List Branch) (k : Branch) → T (is_sorted hop_cmp (marked xs)) → marked ys ≡ put hop_cmp k tt (marked xs)
+    → T (is_sorted hop_cmp (marked ys))
+sorted_with xs ys k h e =
+    subst (λ (es : List (Branch × Unit {0})). T (is_sorted hop_cmp es)) (sym e) (is_sorted-put hop_cmp hop_cmp_total k tt (marked xs) h)
 
-pub set_with : (xs ys : List Branch) (k : Branch) → T (is_sorted hop_cmp (marked xs)) → marked ys ≡ put hop_cmp k tt (marked xs) → set_of ys ≡ maps.insert (set_of xs) k tt
+pub set_with : (xs ys : List Branch) (k : Branch) → T (is_sorted hop_cmp (marked xs)) → marked ys ≡ put hop_cmp k tt (marked xs)
+    → set_of ys ≡ maps.insert (set_of xs) k tt
 set_with xs ys k h e = maps.same_entries_map _ _
-    (maps.entries-from_sorted hop_cmp (marked ys) (sorted_with xs ys k h e) ∙ (e ∙ (ap (put hop_cmp k tt) (sym (maps.entries-from_sorted hop_cmp (marked xs) h)) ∙ sym (maps.entries-insert hop_cmp_total (set_of xs) k tt))))
+    (maps.entries-from_sorted hop_cmp (marked ys) (sorted_with xs ys k h e)
+    ∙ (e ∙ (ap (put hop_cmp k tt) (sym (maps.entries-from_sorted hop_cmp (marked xs) h))
+    ∙ sym (maps.entries-insert hop_cmp_total (set_of xs) k tt))))
 
 -- the entries without a branch
 left : Branch → List Branch → List (Branch × Unit {0})
@@ -160,54 +170,72 @@ unfolding left
 filtered k [] = refl
 filtered k (x ∷ xs) = by (is_hop x k) refl (hop-ties x k ∙ (eq_by_cmp_equiv hop_cmp_total).symm x k) (filtered k xs)
   where
-    by : (b : Bool) → is_hop x k ≡ b → is_hop x k ≡ eq_by_cmp hop_cmp k x → marked (filter (λ item. not (is_hop item k)) xs) ≡ where_key hop_cmp (λ y. not (eq_by_cmp hop_cmp k y)) (marked xs)
+    by : (b : Bool) → is_hop x k ≡ b → is_hop x k ≡ eq_by_cmp hop_cmp k x
+        → marked (filter (λ item. not (is_hop item k)) xs) ≡ where_key hop_cmp (λ y. not (eq_by_cmp hop_cmp k y)) (marked xs)
         → marked (cond (not (is_hop x k)) (x ∷ filter (λ item. not (is_hop item k)) xs) (filter (λ item. not (is_hop item k)) xs))
-        ≡ cond (not (eq_by_cmp hop_cmp k x)) ((x, tt) ∷ where_key hop_cmp (λ y. not (eq_by_cmp hop_cmp k y)) (marked xs)) (where_key hop_cmp (λ y. not (eq_by_cmp hop_cmp k y)) (marked xs))
+        ≡ cond (not (eq_by_cmp hop_cmp k x)) ((x, tt) ∷ where_key hop_cmp (λ y. not (eq_by_cmp hop_cmp k y)) (marked xs))
+        (where_key hop_cmp (λ y. not (eq_by_cmp hop_cmp k y)) (marked xs))
     by true e tie rest = rw (e, sym tie ∙ e) rest
     by false e tie rest = rw (e, sym tie ∙ e) (ap (λ (es : List (Branch × Unit {0})). (x, tt) ∷ es) rest)
 
-pub sorted_without : (k : Branch) (xs : List Branch) → T (is_sorted hop_cmp (marked xs)) → T (is_sorted hop_cmp (marked (filter (λ item. not (is_hop item k)) xs)))
+pub sorted_without : (k : Branch) (xs : List Branch) → T (is_sorted hop_cmp (marked xs))
+    → T (is_sorted hop_cmp (marked (filter (λ item. not (is_hop item k)) xs)))
 unfolding left
-sorted_without k xs h = subst (λ (es : List (Branch × Unit {0})). T (is_sorted hop_cmp es)) (sym (filtered k xs)) (is_sorted-where_key hop_cmp (λ x. not (eq_by_cmp hop_cmp k x)) (marked xs) h)
+sorted_without k xs h =
+    subst (λ (es : List (Branch × Unit {0})). T (is_sorted hop_cmp es)) (sym (filtered k xs))
+    (is_sorted-where_key hop_cmp (λ x. not (eq_by_cmp hop_cmp k x)) (marked xs) h)
 
 turned : {A : Type 0} (b : Bool) (x y : A) → cond (not b) x y ≡ cond b y x
 turned true x y = refl
 turned false x y = refl
 
-pub set_without : (k : Branch) (xs : List Branch) → T (is_sorted hop_cmp (marked xs)) → set_of (filter (λ item. not (is_hop item k)) xs) ≡ maps.remove (set_of xs) k
+pub set_without : (k : Branch) (xs : List Branch) → T (is_sorted hop_cmp (marked xs))
+    → set_of (filter (λ item. not (is_hop item k)) xs) ≡ maps.remove (set_of xs) k
 unfolding left
 set_without k xs h = maps.same_map hop_cmp_total hop_cmp_exact _ _ (λ q.
     get-set (filter (λ item. not (is_hop item k)) xs) (sorted_without k xs h) q
     ∙ (ap (find hop_cmp q) (filtered k xs)
-    ∙ (find-where_key hop_cmp (λ x. not (eq_by_cmp hop_cmp k x)) q (λ x t. ap (λ (y : Branch). not (eq_by_cmp hop_cmp k y)) (sym (hop_cmp_exact q x t))) (marked xs)
+    ∙ (find-where_key hop_cmp (λ x. not (eq_by_cmp hop_cmp k x)) q
+    (λ x t. ap (λ (y : Branch). not (eq_by_cmp hop_cmp k y)) (sym (hop_cmp_exact q x t))) (marked xs)
     ∙ (turned (eq_by_cmp hop_cmp k q) (find hop_cmp q (marked xs)) None
     ∙ (ap (λ (b : Bool). cond b None (find hop_cmp q (marked xs))) ((eq_by_cmp_equiv hop_cmp_total).symm k q)
-    ∙ (ap (λ (o : Option (Unit {0})). cond (eq_by_cmp hop_cmp q k) None o) (sym (get-set xs h q)) ∙ sym (maps.get-remove hop_cmp_total (set_of xs) k q)))))))
+    ∙ (ap (λ (o : Option (Unit {0})). cond (eq_by_cmp hop_cmp q k) None o) (sym (get-set xs h q))
+    ∙ sym (maps.get-remove hop_cmp_total (set_of xs) k q)))))))
 
 -- ---- what a call left
 
-pub sorted_then : {E : Type 0} (r : Result (Unit {0}) E) (xs ys : List Branch) (k : Branch) → T (is_sorted hop_cmp (marked xs)) → OnOk r (marked ys ≡ put hop_cmp k tt (marked xs)) → OnErr r (ys ≡ xs) → T (is_sorted hop_cmp (marked ys))
+pub sorted_then : {E : Type 0} (r : Result (Unit {0}) E) (xs ys : List Branch) (k : Branch) → T (is_sorted hop_cmp (marked xs))
+    → OnOk r (marked ys ≡ put hop_cmp k tt (marked xs)) → OnErr r (ys ≡ xs) → T (is_sorted hop_cmp (marked ys))
 sorted_then (Ok u) xs ys k h ok err = sorted_with xs ys k h ok
 sorted_then (Err e) xs ys k h ok err = subst (λ (zs : List Branch). T (is_sorted hop_cmp (marked zs))) (sym err) h
 
-pub set_then : {E : Type 0} (r : Result (Unit {0}) E) (xs ys : List Branch) (k : Branch) (old : Hops) → set_of xs ≡ old → T (is_sorted hop_cmp (marked xs)) → OnOk r (marked ys ≡ put hop_cmp k tt (marked xs)) → OnOk r (set_of ys ≡ maps.insert old k tt)
+pub set_then : {E : Type 0} (r : Result (Unit {0}) E) (xs ys : List Branch) (k : Branch) (old : Hops) → set_of xs ≡ old
+    → T (is_sorted hop_cmp (marked xs)) → OnOk r (marked ys ≡ put hop_cmp k tt (marked xs)) → OnOk r (set_of ys ≡ maps.insert old k tt)
 set_then (Ok u) xs ys k old view h ok = set_with xs ys k h ok ∙ ap (λ (m : Hops). maps.insert m k tt) view
 set_then (Err e) xs ys k old view h ok = tt
 
-pub set_stays : {E : Type 0} (r : Result (Unit {0}) E) (xs ys : List Branch) (old : Hops) → set_of xs ≡ old → OnErr r (ys ≡ xs) → OnErr r (set_of ys ≡ old)
+pub set_stays : {E : Type 0} (r : Result (Unit {0}) E) (xs ys : List Branch) (old : Hops) → set_of xs ≡ old → OnErr r (ys ≡ xs)
+    → OnErr r (set_of ys ≡ old)
 set_stays (Ok u) xs ys old view err = tt
 set_stays (Err e) xs ys old view err = ap set_of err ∙ view
 
 -- ---- a branch that is added
 
-pub was_there : (k : Branch) (xs ds es : List Branch) (i : ℕ) → ds ≡ xs → es ≡ xs → T (is_sorted hop_cmp (marked xs)) → (IsPartitionedBy (is_before k) ds → Point k ds i) → slice_get es i ≡ Some k
+pub was_there : (k : Branch) (xs ds es : List Branch) (i : ℕ) → ds ≡ xs → es ≡ xs → T (is_sorted hop_cmp (marked xs))
+    → (IsPartitionedBy (is_before k) ds → Point k ds i) → slice_get es i ≡ Some k
     → marked xs ≡ put hop_cmp k tt (marked xs)
 was_there k xs ds es i d e h point there =
-    let at : Point k xs i = subst (λ (zs : List Branch). Point k zs i) d (point (subst (λ (zs : List Branch). IsPartitionedBy (is_before k) zs) (sym d) (partitioned k xs h))) in
+    let at : Point k xs i =
+    subst (λ (zs : List Branch). Point k zs i) d
+    (point (subst (λ (zs : List Branch). IsPartitionedBy (is_before k) zs) (sym d) (partitioned k xs h))) in
     put_there k xs i at (subst (λ (zs : List Branch). slice_get zs i ≡ Some k) e there)
 
-pub is_added : (k : Branch) (xs ds es ys : List Branch) (i : ℕ) → ds ≡ xs → es ≡ xs → T (is_sorted hop_cmp (marked xs)) → (IsPartitionedBy (is_before k) ds → Point k ds i) → i ≤ length ds
+pub is_added : (k : Branch) (xs ds es ys : List Branch) (i : ℕ) → ds ≡ xs → es ≡ xs → T (is_sorted hop_cmp (marked xs))
+    → (IsPartitionedBy (is_before k) ds → Point k ds i) → i ≤ length ds
     → (slice_get es i ≡ Some k → ⊥) → ys ≡ insert xs i k → marked ys ≡ put hop_cmp k tt (marked xs)
 is_added k xs ds es ys i d e h point le ne is =
-    let at : Point k xs i = subst (λ (zs : List Branch). Point k zs i) d (point (subst (λ (zs : List Branch). IsPartitionedBy (is_before k) zs) (sym d) (partitioned k xs h))) in
-    ap marked is ∙ put_here k xs i at (subst (λ (zs : List Branch). i ≤ length zs) d le) (λ there. ne (subst (λ (zs : List Branch). slice_get zs i ≡ Some k) (sym e) there))
+    let at : Point k xs i =
+    subst (λ (zs : List Branch). Point k zs i) d
+    (point (subst (λ (zs : List Branch). IsPartitionedBy (is_before k) zs) (sym d) (partitioned k xs h))) in
+    ap marked is ∙ put_here k xs i at (subst (λ (zs : List Branch). i ≤ length zs) d le)
+    (λ there. ne (subst (λ (zs : List Branch). slice_get zs i ≡ Some k) (sym e) there))

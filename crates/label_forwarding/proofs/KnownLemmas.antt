@@ -41,7 +41,8 @@ module _ {K X : Type 0} (passes : X → Bool) where
           rest.0,
           rest.1,
           elim (cases_Bool (eq rest.0 e.0)) [
-            | inl t ↦ (let none : lookup (eq rest.0) es ≡ None = lookup-none (eq rest.0) es (none_past_head laws rest.0 e es one t) in let some = rest.2 in absurd cc)
+            | inl t ↦ (let none : lookup (eq rest.0) es ≡ None = lookup-none (eq rest.0) es (none_past_head laws rest.0 e es one t) in let some =
+                rest.2 in absurd cc)
             | inr f ↦ lookup_tail (eq rest.0) e es f ∙ rest.2
           ],
           rest.3,
@@ -61,13 +62,16 @@ module _ {K X : Type 0} (passes : X → Bool) where
 
 module _ {K X : Type 0} {R : K → K → _} (passes : X → Bool) (m : FinMap R X) where
   -- the same in a map
-  pub passing_entry : IsTotalOrder R → list_any (λ (e : K × X). passes e.1) (maps.entries m) ≡ true → (q : K) × (x : X) × (maps.get m q ≡ Some x) × (passes x ≡ true)
+  pub passing_entry : IsTotalOrder R → list_any (λ (e : K × X). passes e.1) (maps.entries m) ≡ true
+      → (q : K) × (x : X) × (maps.get m q ≡ Some x) × (passes x ≡ true)
   passing_entry total h =
-      let at = passing_value passes (eq_by_cmp R) (eq_by_cmp_equiv total) (maps.entries m) (IsDistinct-from_sorted R (keys_of (maps.entries m)) (map_sorted R m)) h in
+      let at = passing_value passes (eq_by_cmp R) (eq_by_cmp_equiv total) (maps.entries m)
+      (IsDistinct-from_sorted R (keys_of (maps.entries m)) (map_sorted R m)) h in
       (at.0, at.1, maps.get-entries m at.0 ∙ (find-lookup R at.0 (maps.entries m) ∙ at.2), at.3)
 
   pub entry_passes : (q : K) (x : X) → maps.get m q ≡ Some x → passes x ≡ true → list_any (λ (e : K × X). passes e.1) (maps.entries m) ≡ true
-  entry_passes q x at h = value_passes passes (eq_by_cmp R q) (maps.entries m) x (sym (find-lookup R q (maps.entries m)) ∙ (sym (maps.get-entries m q) ∙ at)) h
+  entry_passes q x at h =
+      value_passes passes (eq_by_cmp R q) (maps.entries m) x (sym (find-lookup R q (maps.entries m)) ∙ (sym (maps.get-entries m q) ∙ at)) h
 
 hop_equiv : IsEquivalence is_hop
 hop_equiv = subst (λ (eq : Branch → Branch → Bool). IsEquivalence eq) (λ i a b. sym (hop-ties a b) i) (eq_by_cmp_equiv hop_cmp_total)
@@ -79,7 +83,8 @@ some_noted fec [] le = absurd (omega (arith, le))
 some_noted fec (e ∷ es) le = elim (cases_Bool (is_fec fec e.1)) [
   | inl t ↦ or_left (is_fec fec e.1) (list_any (λ note. is_fec fec note.1) es) t
   | inr f ↦
-      let sum : ◌≡◌ {A = ℕ} (noted fec (e ∷ es)) (cond (is_fec fec e.1) 1 0 + noted fec es) = sum_by-cons (λ note. cond (is_fec fec note.1) 1 0) e es in
+      let sum : ◌≡◌ {A = ℕ} (noted fec (e ∷ es)) (cond (is_fec fec e.1) 1 0 + noted fec es) =
+      sum_by-cons (λ note. cond (is_fec fec note.1) 1 0) e es in
       let none : ◌≡◌ {A = ℕ} (cond (is_fec fec e.1) 1 0) 0 = ap (λ (b : Bool). cond b 1 0) f in
       or_right (is_fec fec e.1) (list_any (λ note. is_fec fec note.1) es) (some_noted fec es (omega (arith, sum, none, le)))
 ]
@@ -98,10 +103,12 @@ pub named : (pairs : Pairs) (slots : Slots) → IsFib pairs slots → (fec : Fec
 named pairs slots fib fec = both_ways _ _
     (λ h.
     let at = passing_entry (λ own. same_fec own fec) (fib_of pairs slots).pairs hop_cmp_total h in
-    let note : lookup (is_hop at.0) pairs.entries ≡ Some fec = sym (pair_seen pairs slots at.0) ∙ (at.2 ∙ ap (λ (x : Fec). Some x) (same_fec_equal at.1 fec at.3)) in
+    let note : lookup (is_hop at.0) pairs.entries ≡ Some fec =
+    sym (pair_seen pairs slots at.0) ∙ (at.2 ∙ ap (λ (x : Fec). Some x) (same_fec_equal at.1 fec at.3)) in
     not_zero (noted fec pairs.entries) (one_noted at.0 fec pairs.entries note))
     (λ h.
-    let at = passing_value (λ own. is_fec fec own) is_hop hop_equiv pairs.entries fib.noted_once (some_noted fec pairs.entries (at_least_one (noted fec pairs.entries) h)) in
+    let at = passing_value (λ own. is_fec fec own) is_hop hop_equiv pairs.entries fib.noted_once
+    (some_noted fec pairs.entries (at_least_one (noted fec pairs.entries) h)) in
     let same : fec ≡ at.1 = fec_equal fec at.1 at.3 in
     entry_passes (λ own. same_fec own fec) (fib_of pairs slots).pairs at.0 at.1 (pair_seen pairs slots at.0 ∙ at.2)
     (subst (λ (x : Fec). same_fec x fec ≡ true) same (same_fec_itself fec)))
@@ -128,13 +135,17 @@ are_known pairs slots fib fec = by (get is_fec slots fec) refl
     by : (o : Option Slot) → get is_fec slots fec ≡ o → is_some o ≡ is_known (fib_of pairs slots) fec
     by None at =
         let count : 0 ≡ noted fec pairs.entries = sym (fib.counts fec ∙ ap mapped_of at) in
-        (λ i. off_slot pairs slots fib fec at i || not (count i == 0)) ∙ ap (λ (b : Bool). is_on (fib_of pairs slots) fec || b) (sym (named pairs slots fib fec))
+        (λ i. off_slot pairs slots fib fec at i || not (count i == 0))
+        ∙ ap (λ (b : Bool). is_on (fib_of pairs slots) fec || b) (sym (named pairs slots fib fec))
     by (Some slot) at =
         let count : slot.mapped ≡ noted fec pairs.entries = sym (fib.counts fec ∙ ap mapped_of at) in
         needs (slot.mapped == 0) slot.entry.leaf (length (maps.keys slot.entry.branches) == 0) (fib.needed fec slot at)
-        ∙ ((λ i. on_slot pairs slots fib fec slot at i || not (count i == 0)) ∙ ap (λ (b : Bool). is_on (fib_of pairs slots) fec || b) (sym (named pairs slots fib fec)))
+        ∙ ((λ i. on_slot pairs slots fib fec slot at i || not (count i == 0))
+        ∙ ap (λ (b : Bool). is_on (fib_of pairs slots) fec || b) (sym (named pairs slots fib fec)))
 
-pub all_known : (pairs : Pairs) (slots : Slots) (fib : FibData) → IsFib pairs slots → fib_of pairs slots ≡ fib → (fecs : List Fec) → fecs ≡ keys_of slots.entries
+pub all_known : (pairs : Pairs) (slots : Slots) (fib : FibData) → IsFib pairs slots → fib_of pairs slots ≡ fib → (fecs : List Fec)
+    → fecs ≡ keys_of slots.entries
     → (fec : Fec) → list_any (λ own. same_fec own fec) fecs ≡ is_known fib fec
 all_known pairs slots fib is view fecs own fec =
-    ap (list_any (λ own. same_fec own fec)) own ∙ (has_slot fec slots.entries ∙ (are_known pairs slots is fec ∙ ap (λ (f : FibData). is_known f fec) view))
+    ap (list_any (λ own. same_fec own fec)) own ∙
+    (has_slot fec slots.entries ∙ (are_known pairs slots is fec ∙ ap (λ (f : FibData). is_known f fec) view))

@@ -11,7 +11,8 @@ use Rattle.label_defs.specs.mldp.declared.mldp_fec.fec.Fec.{Fec}
 use Rattle.label_forwarding.specs.declared.branch.Branch.{Branch}
 use Rattle.label_forwarding.specs.Slots.{is_fec, noted}
 
-pub noted_push : (es : List (Branch × Fec)) (at : Branch) (fec own : Fec) → noted own (es ++ (at, fec) ∷ []) ≡ noted own es + cond (is_fec own fec) 1 0
+pub noted_push : (es : List (Branch × Fec)) (at : Branch) (fec own : Fec)
+    → noted own (es ++ (at, fec) ∷ []) ≡ noted own es + cond (is_fec own fec) 1 0
 noted_push es at fec own =
     let f : Branch × Fec → ℕ = λ note. cond (is_fec own note.1) 1 0 in
     let one = sum_by-append f es ((at, fec) ∷ []) in
@@ -21,7 +22,8 @@ noted_push es at fec own =
 place : (Branch → Bool) → List (Branch × Fec) → ℕ
 place test es = position_or_len test (keys_of es)
 
-place-cons : (test : Branch → Bool) (e : Branch × Fec) (es : List (Branch × Fec)) (t : Bool) → test e.0 ≡ t → place test (e ∷ es) ≡ cond t 0 (suc (place test es))
+place-cons : (test : Branch → Bool) (e : Branch × Fec) (es : List (Branch × Fec)) (t : Bool) → test e.0 ≡ t
+    → place test (e ∷ es) ≡ cond t 0 (suc (place test es))
 unfolding place
 place-cons test e es true h = rw h refl
 place-cons test e es false h = rw h (next (prefix_len (λ k. not (test k)) (keys_of es)))
@@ -30,7 +32,8 @@ place-cons test e es false h = rw h (next (prefix_len (λ k. not (test k)) (keys
     next n = omega arith
 
 -- the first entry that passes is the one that is looked up
-found : (test : Branch → Bool) (es : List (Branch × Fec)) (fec : Fec) → lookup test es ≡ Some fec → (place test es < length es) × ((d : Branch × Fec) → (get_or es (place test es) d).1 ≡ fec)
+found : (test : Branch → Bool) (es : List (Branch × Fec)) (fec : Fec) → lookup test es ≡ Some fec
+    → (place test es < length es) × ((d : Branch × Fec) → (get_or es (place test es) d).1 ≡ fec)
 found test [] fec at = absurd cc
 found test (e ∷ es) fec at = by (found test es fec) (test e.0) refl at
   where
@@ -40,11 +43,13 @@ found test (e ∷ es) fec at = by (found test es fec) (test e.0) refl at
     by behind true s at =
         let here : Some e.1 ≡ Some fec = sym (ap (λ (b : Bool). cond b (Some e.1) (lookup test es)) s) ∙ at in
         let same : e.1 ≡ fec = cc in
-        subst (λ (i : ℕ). (i < length (e ∷ es)) × ((d : Branch × Fec) → (get_or (e ∷ es) i d).1 ≡ fec)) (sym (place-cons test e es true s)) (omega arith, λ d. same)
+        subst (λ (i : ℕ). (i < length (e ∷ es)) × ((d : Branch × Fec) → (get_or (e ∷ es) i d).1 ≡ fec)) (sym (place-cons test e es true s))
+        (omega arith, λ d. same)
     by behind false s at =
         let rest = behind (sym (ap (λ (b : Bool). cond b (Some e.1) (lookup test es)) s) ∙ at) in
         let lt : place test es < length es = rest.0 in
-        subst (λ (i : ℕ). (i < length (e ∷ es)) × ((d : Branch × Fec) → (get_or (e ∷ es) i d).1 ≡ fec)) (sym (place-cons test e es false s)) (omega arith, rest.1)
+        subst (λ (i : ℕ). (i < length (e ∷ es)) × ((d : Branch × Fec) → (get_or (e ∷ es) i d).1 ≡ fec)) (sym (place-cons test e es false s))
+        (omega arith, rest.1)
 
 length-keys : (es : List (Branch × Fec)) → length (keys_of es) ≡ length es
 length-keys [] = refl
@@ -52,9 +57,12 @@ length-keys (e ∷ es) = ap suc (length-keys es)
 
 stands : (test : Branch → Bool) (es : List (Branch × Fec)) → place test es < length es → position test (keys_of es) ≡ Some (place test es)
 unfolding place
-stands test es lt = rw (lt-ltb (position_or_len test (keys_of es)) (length (keys_of es)) (subst (λ (n : ℕ). position_or_len test (keys_of es) < n) (sym (length-keys es)) lt)) refl
+stands test es lt =
+    rw (lt-ltb (position_or_len test (keys_of es)) (length (keys_of es))
+    (subst (λ (n : ℕ). position_or_len test (keys_of es) < n) (sym (length-keys es)) lt)) refl
 
-pub noted_cut : (test : Branch → Bool) (es : List (Branch × Fec)) (fec own : Fec) → lookup test es ≡ Some fec → noted own (swap_remove_entry test es) + cond (is_fec own fec) 1 0 ≡ noted own es
+pub noted_cut : (test : Branch → Bool) (es : List (Branch × Fec)) (fec own : Fec) → lookup test es ≡ Some fec
+    → noted own (swap_remove_entry test es) + cond (is_fec own fec) 1 0 ≡ noted own es
 noted_cut test [] fec own at = absurd cc
 noted_cut test (e ∷ es) fec own at =
     let f : Branch × Fec → ℕ = λ note. cond (is_fec own note.1) 1 0 in
@@ -62,7 +70,8 @@ noted_cut test (e ∷ es) fec own at =
     let here = found test (e ∷ es) fec at in
     let sum = sum_by-swap_remove f (e ∷ es) i e here.0 in
     let there : f (get_or (e ∷ es) i e) ≡ cond (is_fec own fec) 1 0 = ap (λ (x : Fec). cond (is_fec own x) 1 0) (here.1 e) in
-    ap (λ (o : Option ℕ). noted own (option_map_or (λ j. swap_remove (e ∷ es) j e) o (e ∷ es)) + cond (is_fec own fec) 1 0) (stands test (e ∷ es) here.0)
+    ap (λ (o : Option ℕ). noted own (option_map_or (λ j. swap_remove (e ∷ es) j e) o (e ∷ es)) + cond (is_fec own fec) 1 0)
+    (stands test (e ∷ es) here.0)
     ∙ (ap (λ (n : ℕ). sum_by f (swap_remove (e ∷ es) i e) + n) (sym there) ∙ sum)
 
 pub noted_few : (es : List (Branch × Fec)) (own : Fec) → length es < 2 ^ 64 → noted own es < 2 ^ 64

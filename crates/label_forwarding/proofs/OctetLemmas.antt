@@ -12,7 +12,8 @@ pub joined : {a b c d : List ℕ} → a ≡ b → c ≡ d → a ++ c ≡ b ++ d
 joined p q i = p i ++ q i
 
 -- A text that stands at a place is what the octets there are, and behind it stands the rest.
-pub field_at : (n k m : ℕ) (octets x rest : List ℕ) → drop n octets ≡ x ++ rest → length x ≡ k → n + k ≡ m → (octets_in k n octets ≡ x) × (drop m octets ≡ rest)
+pub field_at : (n k m : ℕ) (octets x rest : List ℕ) → drop n octets ≡ x ++ rest → length x ≡ k → n + k ≡ m
+    → (octets_in k n octets ≡ x) × (drop m octets ≡ rest)
 field_at n k m octets x rest e len at = (
   ap (take k) e ∙ take_at x rest k len,
   ap (λ j. drop j octets) (sym at) ∙ (sym (drop-drop k n octets) ∙ (ap (drop k) e ∙ drop_at x rest k len)),
@@ -25,14 +26,16 @@ octet_in n i m octets x rest e lt at =
 
 -- Octets from a place on are a field and what is behind it.
 pub cut : (n k m : ℕ) (octets : List ℕ) → n + k ≡ m → drop n octets ≡ octets_in k n octets ++ drop m octets
-cut n k m octets at = sym (take-append-drop k (drop n octets)) ∙ ap (λ (xs : List ℕ). octets_in k n octets ++ xs) (drop-drop k n octets ∙ ap (λ j. drop j octets) at)
+cut n k m octets at =
+    sym (take-append-drop k (drop n octets)) ∙ ap (λ (xs : List ℕ). octets_in k n octets ++ xs) (drop-drop k n octets ∙ ap (λ j. drop j octets) at)
 
 pub length_in : (k n : ℕ) (octets : List ℕ) → n + k ≤ length octets → length (octets_in k n octets) ≡ k
 length_in k n octets le = length-take-le k (drop n octets) (omega (arith, length-drop n octets))
 
 -- a number spells its two octets
 pub number_back : (n : ℕ) (octets : List ℕ) → IsOctets octets → n + 2 ≤ length octets → to_be_bytes w16 (number_at n octets) ≡ octets_in 2 n octets
-number_back n octets fits le = wide16.back (octets_in 2 n octets) (length_in 2 n octets le) (octets_before 2 (drop n octets) (octets_behind n octets fits))
+number_back n octets fits le =
+    wide16.back (octets_in 2 n octets) (length_in 2 n octets le) (octets_before 2 (drop n octets) (octets_behind n octets fits))
 
 pub number_below : (n : ℕ) (octets : List ℕ) → IsOctets octets → number_at n octets < 2 ^ 16
 number_below n octets fits = wide16.below (octets_in 2 n octets) (octets_before 2 (drop n octets) (octets_behind n octets fits))

@@ -33,43 +33,53 @@ own_fec : (p : Pairs) (old : Slots) → IsFib p old → (fec : Fec) (o : Option 
 own_fec p old fib fec None at = refl
 own_fec p old fib fec (Some slot) at = fib.own fec slot at
 
-pub taken_fec : (p : Pairs) (old : Slots) → IsFib p old → (fec : Fec) (taken : Slot) → taken ≡ unwrap_or (get is_fec old fec) (fresh fec) → taken.entry.fec ≡ fec
+pub taken_fec : (p : Pairs) (old : Slots) → IsFib p old → (fec : Fec) (taken : Slot) → taken ≡ unwrap_or (get is_fec old fec) (fresh fec)
+    → taken.entry.fec ≡ fec
 taken_fec p old fib fec taken e = ap (λ (x : Slot). x.entry.fec) e ∙ own_fec p old fib fec (get is_fec old fec) refl
 
-pub changed : (p : Pairs) (old mid new : Slots) (fec : Fec) (taken slot : Slot) → IsFib p old → Swapped old mid new fec taken slot → Changed old new fec slot
+pub changed : (p : Pairs) (old mid new : Slots) (fec : Fec) (taken slot : Slot) → IsFib p old → Swapped old mid new fec taken slot
+    → Changed old new fec slot
 changed p old mid new fec taken slot fib s = changed_by old mid new fec slot (s.own ∙ taken_fec p old fib fec taken s.value) s.others s.each s.unique
 
-leaf_was : (old : Slots) (fec : Fec) (taken : Slot) → taken ≡ unwrap_or (get is_fec old fec) (fresh fec) → taken.entry.leaf ≡ leaf_of (get is_fec old fec)
+leaf_was : (old : Slots) (fec : Fec) (taken : Slot) → taken ≡ unwrap_or (get is_fec old fec) (fresh fec)
+    → taken.entry.leaf ≡ leaf_of (get is_fec old fec)
 leaf_was old fec taken e = ap (λ (x : Slot). x.entry.leaf) e ∙ had_leaf (get is_fec old fec) fec
 
-hop_was : (old : Slots) (fec : Fec) (taken : Slot) → taken ≡ unwrap_or (get is_fec old fec) (fresh fec) → (q : Branch) → maps.contains_key taken.entry.branches q ≡ has_hop (get is_fec old fec) q
+hop_was : (old : Slots) (fec : Fec) (taken : Slot) → taken ≡ unwrap_or (get is_fec old fec) (fresh fec) → (q : Branch)
+    → maps.contains_key taken.entry.branches q ≡ has_hop (get is_fec old fec) q
 hop_was old fec taken e q = ap (λ (x : Slot). maps.contains_key x.entry.branches q) e ∙ had_hop (get is_fec old fec) fec q
 
-pub count_was : (old : Slots) (fec : Fec) (taken : Slot) → taken ≡ unwrap_or (get is_fec old fec) (fresh fec) → taken.mapped ≡ mapped_of (get is_fec old fec)
+pub count_was : (old : Slots) (fec : Fec) (taken : Slot) → taken ≡ unwrap_or (get is_fec old fec) (fresh fec)
+    → taken.mapped ≡ mapped_of (get is_fec old fec)
 count_was old fec taken e = ap (λ (x : Slot). x.mapped) e ∙ had_count (get is_fec old fec) fec
 
 -- ---- a note more, and a note less
 
 pub map_leaves : (p q : Pairs) (old mid new : Slots) (at : Branch) (fec : Fec) (taken slot : Slot) → IsFib p old → Swapped old mid new fec taken slot
-    → ((other : Branch) → get is_hop q other ≡ cond (is_hop at other) (Some fec) (get is_hop p other)) → IsUnique is_hop q → ((own : Fec) → noted own q.entries ≡ noted own p.entries + cond (is_fec own fec) 1 0)
+    → ((other : Branch) → get is_hop q other ≡ cond (is_hop at other) (Some fec) (get is_hop p other)) → IsUnique is_hop q
+    → ((own : Fec) → noted own q.entries ≡ noted own p.entries + cond (is_fec own fec) 1 0)
     → slot.entry ≡ taken.entry → slot.mapped ≡ taken.mapped + 1
     → IsFib q new × (fib_of q new ≡ record (fib_of p old) { pairs = maps.insert (fib_of p old).pairs at fec })
 map_leaves p q old mid new at fec taken slot fib s each unique counts entry more =
     let h = changed p old mid new fec taken slot fib s in
     let leaves = leaves_stay old new fec slot h fib.one_slot (ap (λ x. x.leaf) entry ∙ leaf_was old fec taken s.value) in
-    let branches = branches_stay old new fec slot h fib.one_slot (λ own. ap (λ x. maps.contains_key x.branches own) entry ∙ hop_was old fec taken s.value own) in (
+    let branches =
+    branches_stay old new fec slot h fib.one_slot (λ own. ap (λ x. maps.contains_key x.branches own) entry ∙ hop_was old fec taken s.value own) in (
       fib_kept p q old new fec slot fib h unique (more_counts p q old fec slot fib (more ∙ ap (λ n. n + 1) (count_was old fec taken s.value)) counts),
       λ i. record { pairs = pairs_put p q at fec each i; leaves = leaves i; branches = branches i },
     )
 
-pub unmap_leaves : (p q : Pairs) (old mid new : Slots) (at : Branch) (fec : Fec) (taken slot : Slot) → IsFib p old → Swapped old mid new fec taken slot
-    → ((other : Branch) → get is_hop q other ≡ cond (is_hop at other) None (get is_hop p other)) → IsUnique is_hop q → ((own : Fec) → noted own q.entries + cond (is_fec own fec) 1 0 ≡ noted own p.entries)
+pub unmap_leaves : (p q : Pairs) (old mid new : Slots) (at : Branch) (fec : Fec) (taken slot : Slot) → IsFib p old
+    → Swapped old mid new fec taken slot
+    → ((other : Branch) → get is_hop q other ≡ cond (is_hop at other) None (get is_hop p other)) → IsUnique is_hop q
+    → ((own : Fec) → noted own q.entries + cond (is_fec own fec) 1 0 ≡ noted own p.entries)
     → slot.entry ≡ taken.entry → slot.mapped + 1 ≡ taken.mapped
     → IsFib q new × (fib_of q new ≡ record (fib_of p old) { pairs = maps.remove (fib_of p old).pairs at })
 unmap_leaves p q old mid new at fec taken slot fib s each unique counts entry less =
     let h = changed p old mid new fec taken slot fib s in
     let leaves = leaves_stay old new fec slot h fib.one_slot (ap (λ x. x.leaf) entry ∙ leaf_was old fec taken s.value) in
-    let branches = branches_stay old new fec slot h fib.one_slot (λ own. ap (λ x. maps.contains_key x.branches own) entry ∙ hop_was old fec taken s.value own) in (
+    let branches =
+    branches_stay old new fec slot h fib.one_slot (λ own. ap (λ x. maps.contains_key x.branches own) entry ∙ hop_was old fec taken s.value own) in (
       fib_kept p q old new fec slot fib h unique (less_counts p q old fec slot fib (less ∙ count_was old fec taken s.value) counts),
       λ i. record { pairs = pairs_cut p q at each i; leaves = leaves i; branches = branches i },
     )
@@ -82,46 +92,59 @@ pub leaf_leaves : (p : Pairs) (old mid new : Slots) (fec : Fec) (leaf : Bool) (t
 leaf_leaves p old mid new fec leaf taken slot fib s is same count =
     let h = changed p old mid new fec taken slot fib s in
     let leaves = leaves_change old new fec slot leaf h fib.one_slot is in
-    let branches = branches_stay old new fec slot h fib.one_slot (λ own. ap (λ (m : Hops). maps.contains_key m own) same ∙ hop_was old fec taken s.value own) in (
+    let branches =
+    branches_stay old new fec slot h fib.one_slot (λ own. ap (λ (m : Hops). maps.contains_key m own) same ∙ hop_was old fec taken s.value own) in (
       fib_kept p p old new fec slot fib h fib.noted_once (same_counts p p old fec slot fib (count ∙ count_was old fec taken s.value) refl),
       λ i. record { pairs = (fib_of p old).pairs; leaves = leaves i; branches = branches i },
     )
 
 -- ---- a branch
 
-pub branches_keep : (p : Pairs) (old mid new : Slots) (fec : Fec) (taken slot : Slot) → IsFib p old → Swapped old mid new fec taken slot → slot.mapped ≡ taken.mapped → IsFib p new
+pub branches_keep : (p : Pairs) (old mid new : Slots) (fec : Fec) (taken slot : Slot) → IsFib p old → Swapped old mid new fec taken slot
+    → slot.mapped ≡ taken.mapped → IsFib p new
 branches_keep p old mid new fec taken slot fib s count =
-    fib_kept p p old new fec slot fib (changed p old mid new fec taken slot fib s) fib.noted_once (same_counts p p old fec slot fib (count ∙ count_was old fec taken s.value) refl)
+    fib_kept p p old new fec slot fib (changed p old mid new fec taken slot fib s) fib.noted_once
+    (same_counts p p old fec slot fib (count ∙ count_was old fec taken s.value) refl)
 
-branch_leaves : (p : Pairs) (old mid new : Slots) (fec : Fec) (own : Branch) (taken slot : Slot) → IsFib p old → Swapped old mid new fec taken slot → slot.entry.leaf ≡ taken.entry.leaf
-    → slot.entry.branches ≡ maps.insert taken.entry.branches own tt → fib_of p new ≡ record (fib_of p old) { branches = sets.insert (fib_of p old).branches (branch_in fec own) }
+branch_leaves : (p : Pairs) (old mid new : Slots) (fec : Fec) (own : Branch) (taken slot : Slot) → IsFib p old → Swapped old mid new fec taken slot
+    → slot.entry.leaf ≡ taken.entry.leaf
+    → slot.entry.branches ≡ maps.insert taken.entry.branches own tt
+    → fib_of p new ≡ record (fib_of p old) { branches = sets.insert (fib_of p old).branches (branch_in fec own) }
 branch_leaves p old mid new fec own taken slot fib s same is =
     let h = changed p old mid new fec taken slot fib s in
     let leaves = leaves_stay old new fec slot h fib.one_slot (same ∙ leaf_was old fec taken s.value) in
     let branches = branches_add old new fec slot taken.entry.branches own h fib.one_slot is (hop_was old fec taken s.value) in
     λ i. record { pairs = (fib_of p old).pairs; leaves = leaves i; branches = branches i }
 
-nothing_leaves : (p : Pairs) (old mid new : Slots) (fec : Fec) (taken slot : Slot) → IsFib p old → Swapped old mid new fec taken slot → slot.entry.leaf ≡ taken.entry.leaf
+nothing_leaves : (p : Pairs) (old mid new : Slots) (fec : Fec) (taken slot : Slot) → IsFib p old → Swapped old mid new fec taken slot
+    → slot.entry.leaf ≡ taken.entry.leaf
     → slot.entry.branches ≡ taken.entry.branches → fib_of p new ≡ fib_of p old
 nothing_leaves p old mid new fec taken slot fib s same is =
     let h = changed p old mid new fec taken slot fib s in
     let leaves = leaves_stay old new fec slot h fib.one_slot (same ∙ leaf_was old fec taken s.value) in
-    let branches = branches_stay old new fec slot h fib.one_slot (λ q. ap (λ (m : Hops). maps.contains_key m q) is ∙ hop_was old fec taken s.value q) in
+    let branches =
+    branches_stay old new fec slot h fib.one_slot (λ q. ap (λ (m : Hops). maps.contains_key m q) is ∙ hop_was old fec taken s.value q) in
     λ i. record { pairs = (fib_of p old).pairs; leaves = leaves i; branches = branches i }
 
-pub branch_ok : {E : Type 0} (r : Result (Unit {0}) E) (p : Pairs) (old mid new : Slots) (fec : Fec) (own : Branch) (taken slot : Slot) (f : FibData) → fib_of p old ≡ f → IsFib p old → Swapped old mid new fec taken slot
-    → slot.entry.leaf ≡ taken.entry.leaf → OnOk r (slot.entry.branches ≡ maps.insert taken.entry.branches own tt) → OnOk r (fib_of p new ≡ record f { branches = sets.insert f.branches (branch_in fec own) })
+pub branch_ok : {E : Type 0} (r : Result (Unit {0}) E) (p : Pairs) (old mid new : Slots) (fec : Fec) (own : Branch) (taken slot : Slot) (f : FibData)
+    → fib_of p old ≡ f → IsFib p old → Swapped old mid new fec taken slot
+    → slot.entry.leaf ≡ taken.entry.leaf → OnOk r (slot.entry.branches ≡ maps.insert taken.entry.branches own tt)
+    → OnOk r (fib_of p new ≡ record f { branches = sets.insert f.branches (branch_in fec own) })
 branch_ok (Ok u) p old mid new fec own taken slot f view fib s same is =
-    branch_leaves p old mid new fec own taken slot fib s same is ∙ ap (λ (g : FibData). record g { branches = sets.insert g.branches (branch_in fec own) }) view
+    branch_leaves p old mid new fec own taken slot fib s same is
+    ∙ ap (λ (g : FibData). record g { branches = sets.insert g.branches (branch_in fec own) }) view
 branch_ok (Err e) p old mid new fec own taken slot f view fib s same is = tt
 
-pub branch_err : {E : Type 0} (r : Result (Unit {0}) E) (p : Pairs) (old mid new : Slots) (fec : Fec) (taken slot : Slot) (f : FibData) → fib_of p old ≡ f → IsFib p old → Swapped old mid new fec taken slot → slot.entry.leaf ≡ taken.entry.leaf
+pub branch_err : {E : Type 0} (r : Result (Unit {0}) E) (p : Pairs) (old mid new : Slots) (fec : Fec) (taken slot : Slot) (f : FibData)
+    → fib_of p old ≡ f → IsFib p old → Swapped old mid new fec taken slot → slot.entry.leaf ≡ taken.entry.leaf
     → OnErr r (slot.entry.branches ≡ taken.entry.branches) → OnErr r (fib_of p new ≡ f)
 branch_err (Ok u) p old mid new fec taken slot f view fib s same is = tt
 branch_err (Err e) p old mid new fec taken slot f view fib s same is = nothing_leaves p old mid new fec taken slot fib s same is ∙ view
 
-pub unbranch_leaves : (p : Pairs) (old mid new : Slots) (fec : Fec) (own : Branch) (taken slot : Slot) → IsFib p old → Swapped old mid new fec taken slot → slot.entry.leaf ≡ taken.entry.leaf
-    → slot.entry.branches ≡ maps.remove taken.entry.branches own → fib_of p new ≡ record (fib_of p old) { branches = sets.remove (fib_of p old).branches (branch_in fec own) }
+pub unbranch_leaves : (p : Pairs) (old mid new : Slots) (fec : Fec) (own : Branch) (taken slot : Slot) → IsFib p old
+    → Swapped old mid new fec taken slot → slot.entry.leaf ≡ taken.entry.leaf
+    → slot.entry.branches ≡ maps.remove taken.entry.branches own
+    → fib_of p new ≡ record (fib_of p old) { branches = sets.remove (fib_of p old).branches (branch_in fec own) }
 unbranch_leaves p old mid new fec own taken slot fib s same is =
     let h = changed p old mid new fec taken slot fib s in
     let leaves = leaves_stay old new fec slot h fib.one_slot (same ∙ leaf_was old fec taken s.value) in
@@ -129,9 +152,11 @@ unbranch_leaves p old mid new fec own taken slot fib s same is =
     λ i. record { pairs = (fib_of p old).pairs; leaves = leaves i; branches = branches i }
 
 -- A tree without a slot has no branch.
-pub no_branch : (p : Pairs) (old : Slots) (fec : Fec) (own : Branch) → IsFib p old → is_some (get is_fec old fec) ≡ false → fib_of p old ≡ record (fib_of p old) { branches = sets.remove (fib_of p old).branches (branch_in fec own) }
+pub no_branch : (p : Pairs) (old : Slots) (fec : Fec) (own : Branch) → IsFib p old → is_some (get is_fec old fec) ≡ false
+    → fib_of p old ≡ record (fib_of p old) { branches = sets.remove (fib_of p old).branches (branch_in fec own) }
 no_branch p old fec own fib none =
-    let absent : sets.contains (fib_of p old).branches (branch_in fec own) ≡ false = branch_seen old.entries fib.one_slot (branch_in fec own) ∙ by (get is_fec old fec) none in
+    let absent : sets.contains (fib_of p old).branches (branch_in fec own) ≡ false =
+    branch_seen old.entries fib.one_slot (branch_in fec own) ∙ by (get is_fec old fec) none in
     let stays = sym (removed_again branch_cmp_total branch_cmp_exact (fib_of p old).branches (branch_in fec own) absent) in
     λ i. record { pairs = (fib_of p old).pairs; leaves = (fib_of p old).leaves; branches = stays i }
   where
@@ -151,11 +176,14 @@ no_label p q old at fib none es = (
     each other = ap (λ (xs : List (Branch × Fec)). lookup (is_hop other) xs) es ∙ by (is_hop at other) refl
       where
         by : (t : Bool) → is_hop at other ≡ t → get is_hop p other ≡ cond (is_hop at other) None (get is_hop p other)
-        by true e = ap (λ (x : Branch). get is_hop p x) (sym (hop_cmp_exact at other ((Equal-is (hop_cmp at other)).0 (sym (hop-ties at other) ∙ e)))) ∙ (none ∙ sym (ap (λ (t : Bool). cond t None (get is_hop p other)) e))
+        by true e =
+            ap (λ (x : Branch). get is_hop p x) (sym (hop_cmp_exact at other ((Equal-is (hop_cmp at other)).0 (sym (hop-ties at other) ∙ e))))
+            ∙ (none ∙ sym (ap (λ (t : Bool). cond t None (get is_hop p other)) e))
         by false e = sym (ap (λ (t : Bool). cond t None (get is_hop p other)) e)
 
 -- One note more fits.
-pub one_fits : (p q : Pairs) (old : Slots) (fec : Fec) (taken : Slot) → IsFib p old → taken ≡ unwrap_or (get is_fec old fec) (fresh fec) → ((own : Fec) → noted own q.entries ≡ noted own p.entries + cond (is_fec own fec) 1 0)
+pub one_fits : (p q : Pairs) (old : Slots) (fec : Fec) (taken : Slot) → IsFib p old → taken ≡ unwrap_or (get is_fec old fec) (fresh fec)
+    → ((own : Fec) → noted own q.entries ≡ noted own p.entries + cond (is_fec own fec) 1 0)
     → ((own : Fec) → noted own q.entries < 2 ^ 64) → taken.mapped + 1 < 2 ^ 64
 one_fits p q old fec taken fib value counts few =
     let here : cond {A = ℕ} (is_fec fec fec) 1 0 ≡ 1 = ap (λ (b : Bool). cond b 1 0) (fec_itself fec) in
@@ -166,7 +194,8 @@ if_none None p = p
 if_none (Some x) p = tt
 
 -- One note less was counted.
-pub one_less : (p q : Pairs) (old : Slots) (fec : Fec) (taken : Slot) → IsFib p old → taken ≡ unwrap_or (get is_fec old fec) (fresh fec) → ((own : Fec) → noted own q.entries + cond (is_fec own fec) 1 0 ≡ noted own p.entries)
+pub one_less : (p q : Pairs) (old : Slots) (fec : Fec) (taken : Slot) → IsFib p old → taken ≡ unwrap_or (get is_fec old fec) (fresh fec)
+    → ((own : Fec) → noted own q.entries + cond (is_fec own fec) 1 0 ≡ noted own p.entries)
     → taken.mapped - 1 + 1 ≡ taken.mapped
 one_less p q old fec taken fib value counts =
     let here : cond {A = ℕ} (is_fec fec fec) 1 0 ≡ 1 = ap (λ (b : Bool). cond b 1 0) (fec_itself fec) in

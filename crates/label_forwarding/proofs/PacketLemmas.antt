@@ -33,12 +33,15 @@ four_answers octets fits le version =
     let read : FourRead octets f = subst (λ (xs : List ℕ). FourRead xs f) (sym laid.1) (four_read f laid.0) in
     let packet : Packet = record { source = V4 (octets_in 4 12 octets); group = V4 (octets_in 4 16 octets); octets = octets } in
     elim (four_settles octets f read) [
-      | inl fine ↦ subst (λ (o : Option (ℕ × PacketFault)). Answers octets (unless o packet)) (sym fine.0) (packets.four f laid.0 fine.1 laid.1 refl refl, refl)
-      | inr found ↦ subst (λ (o : Option (ℕ × PacketFault)). Answers octets (unless o packet)) (sym found.1) (first_faults.in_four f laid.0 laid.1 found.2)
+      | inl fine ↦ subst (λ (o : Option (ℕ × PacketFault)). Answers octets (unless o packet)) (sym fine.0)
+          (packets.four f laid.0 fine.1 laid.1 refl refl, refl)
+      | inr found ↦ subst (λ (o : Option (ℕ × PacketFault)). Answers octets (unless o packet)) (sym found.1)
+          (first_faults.in_four f laid.0 laid.1 found.2)
     ]
 
 -- an octet whose high half is that of version 6
-low_half : (octets : List ℕ) → IsOctets octets → 1 ≤ length octets → get_or octets 0 0 / 16 ≡ 6 → (class : ℕ) × (rest : List ℕ) × (octets ≡ (96 + class) ∷ rest) × (class < 2 ^ 4)
+low_half : (octets : List ℕ) → IsOctets octets → 1 ≤ length octets → get_or octets 0 0 / 16 ≡ 6
+    → (class : ℕ) × (rest : List ℕ) × (octets ≡ (96 + class) ∷ rest) × (class < 2 ^ 4)
 low_half [] fits le version = absurd (omega arith)
 low_half (a ∷ rest) fits le version =
     let below : a < 256 = fits 0 in
@@ -53,27 +56,34 @@ six_answers octets fits le version =
     elim (cases_lt (length octets) 40) [
       | inl lt ↦
           let half = low_half octets fits (omega arith) version in
-          subst (λ (b : Bool). Answers octets (whole b)) (sym (lt-ltb (length octets) 40 lt)) (first_faults.six_short half.0 half.1 half.2 half.3 le lt refl)
+          subst (λ (b : Bool). Answers octets (whole b)) (sym (lt-ltb (length octets) 40 lt))
+          (first_faults.six_short half.0 half.1 half.2 half.3 le lt refl)
       | inr ge ↦
           let laid = six_laid octets fits ge version in
           let f : SixFields = six_fields octets in
           let read : SixRead octets f = subst (λ (xs : List ℕ). SixRead xs f) (sym laid.1) (six_read f laid.0) in
           subst (λ (b : Bool). Answers octets (whole b)) (sym (le-ltb (length octets) 40 ge))
           (elim (six_settles octets f read) [
-            | inl fine ↦ subst (λ (o : Option (ℕ × PacketFault)). Answers octets (unless o packet)) (sym fine.0) (packets.six f laid.0 fine.1 laid.1 refl refl, refl)
-            | inr found ↦ subst (λ (o : Option (ℕ × PacketFault)). Answers octets (unless o packet)) (sym found.1) (first_faults.in_six f laid.0 laid.1 found.2)
+            | inl fine ↦ subst (λ (o : Option (ℕ × PacketFault)). Answers octets (unless o packet)) (sym fine.0)
+                (packets.six f laid.0 fine.1 laid.1 refl refl, refl)
+            | inr found ↦ subst (λ (o : Option (ℕ × PacketFault)). Answers octets (unless o packet)) (sym found.1)
+                (first_faults.in_six f laid.0 laid.1 found.2)
           ])
     ]
 
 -- the choice by length and version
 choice : Bool → Bool → Bool → List ℕ → Result Packet (ℕ × PacketFault)
-choice short is_four is_six octets = cond short (Err (fault (length octets) reasons.Short)) (cond is_four (four_of octets) (cond is_six (six_of octets) (Err (fault 0 reasons.Version))))
+choice short is_four is_six octets =
+    cond short (Err (fault (length octets) reasons.Short))
+    (cond is_four (four_of octets) (cond is_six (six_of octets) (Err (fault 0 reasons.Version))))
 
-is_choice : (octets : List ℕ) → packet_of octets ≡ choice (ltb (length octets) 20) (eqb (get_or octets 0 0 / 16) 4) (eqb (get_or octets 0 0 / 16) 6) octets
+is_choice : (octets : List ℕ) → packet_of octets
+    ≡ choice (ltb (length octets) 20) (eqb (get_or octets 0 0 / 16) 4) (eqb (get_or octets 0 0 / 16) 6) octets
 unfolding packet_of choice
 is_choice octets = refl
 
-chosen_short : (octets : List ℕ) (four six : Bool) (short : Bool) → short ≡ true → choice short four six octets ≡ Err (fault (length octets) reasons.Short)
+chosen_short : (octets : List ℕ) (four six : Bool) (short : Bool) → short ≡ true
+    → choice short four six octets ≡ Err (fault (length octets) reasons.Short)
 unfolding choice
 chosen_short octets four six short e = rw e refl
 
@@ -85,7 +95,8 @@ chosen_six : (octets : List ℕ) (short four six : Bool) → short ≡ false →
 unfolding choice
 chosen_six octets short four six e g h = rw (e, g, h) refl
 
-chosen_none : (octets : List ℕ) (short four six : Bool) → short ≡ false → four ≡ false → six ≡ false → choice short four six octets ≡ Err (fault 0 reasons.Version)
+chosen_none : (octets : List ℕ) (short four six : Bool) → short ≡ false → four ≡ false → six ≡ false
+    → choice short four six octets ≡ Err (fault 0 reasons.Version)
 unfolding choice
 chosen_none octets short four six e g h = rw (e, g, h) refl
 
@@ -99,7 +110,8 @@ reads_six : (octets : List ℕ) → 20 ≤ length octets → get_or octets 0 0 /
 reads_six octets le version =
     is_choice octets ∙ chosen_six octets _ _ _ (le-ltb (length octets) 20 le) (ne_eqb _ 4 (λ four. omega (arith, four, version))) (eq-eqb _ 6 version)
 
-reads_none : (octets : List ℕ) → 20 ≤ length octets → get_or octets 0 0 / 16 ≢ 4 → get_or octets 0 0 / 16 ≢ 6 → packet_of octets ≡ Err (fault 0 reasons.Version)
+reads_none : (octets : List ℕ) → 20 ≤ length octets → get_or octets 0 0 / 16 ≢ 4 → get_or octets 0 0 / 16 ≢ 6
+    → packet_of octets ≡ Err (fault 0 reasons.Version)
 reads_none octets le four six = is_choice octets ∙ chosen_none octets _ _ _ (le-ltb (length octets) 20 le) (ne_eqb _ 4 four) (ne_eqb _ 6 six)
 
 answers_as : (octets : List ℕ) (r s : Result Packet (ℕ × PacketFault)) → r ≡ s → Answers octets s → Answers octets r
@@ -131,11 +143,13 @@ answer_is r octets fits e = answer_as octets r (answers_as octets r (packet_of o
 
 -- ---- the other way round
 
-made4 : (octets : List ℕ) (o : Option (ℕ × PacketFault)) → four_fault octets ≡ o → four_of octets ≡ unless o (record { source = V4 (octets_in 4 12 octets); group = V4 (octets_in 4 16 octets); octets = octets })
+made4 : (octets : List ℕ) (o : Option (ℕ × PacketFault)) → four_fault octets ≡ o
+    → four_of octets ≡ unless o (record { source = V4 (octets_in 4 12 octets); group = V4 (octets_in 4 16 octets); octets = octets })
 unfolding four_of
 made4 octets o e = rw e refl
 
-made6 : (octets : List ℕ) (o : Option (ℕ × PacketFault)) → 40 ≤ length octets → six_fault octets ≡ o → six_of octets ≡ unless o (record { source = V6 (octets_in 16 8 octets); group = V6 (octets_in 16 24 octets); octets = octets })
+made6 : (octets : List ℕ) (o : Option (ℕ × PacketFault)) → 40 ≤ length octets → six_fault octets ≡ o
+    → six_of octets ≡ unless o (record { source = V6 (octets_in 16 8 octets); group = V6 (octets_in 16 24 octets); octets = octets })
 unfolding six_of
 made6 octets o le e = rw (le-ltb (length octets) 40 le, e) refl
 
@@ -149,15 +163,26 @@ read_four_of octets f are e = subst (λ (xs : List ℕ). FourRead xs f) (sym e) 
 read_six_of : (octets : List ℕ) (f : SixFields) → AreSix f → octets ≡ six_octets f → SixRead octets f
 read_six_of octets f are e = subst (λ (xs : List ℕ). SixRead xs f) (sym e) (six_read f are)
 
-pub packet_again : (source group : Addr) (octets : List ℕ) → IsPacket source group octets → packet_of octets ≡ Ok (record { source = source; group = group; octets = octets })
+pub packet_again : (source group : Addr) (octets : List ℕ) → IsPacket source group octets
+    → packet_of octets ≡ Ok (record { source = source; group = group; octets = octets })
 packet_again source group octets (packets.four f are m e from to) =
     let read = read_four_of octets f are e in
     reads_four octets (omega (arith, read.len)) read.version ∙ (made4 octets None (four_meets octets f read m)
-    ∙ (λ i. Ok (record { source = (ap (λ (xs : List ℕ). V4 xs) read.source ∙ sym from) i; group = (ap (λ (xs : List ℕ). V4 xs) read.group ∙ sym to) i; octets = octets })))
+    ∙ (λ i. Ok (record {
+      source = (ap (λ (xs : List ℕ). V4 xs) read.source ∙ sym from) i;
+      group =
+          (ap (λ (xs : List ℕ). V4 xs) read.group ∙ sym to) i;
+      octets = octets;
+    })))
 packet_again source group octets (packets.six f are m e from to) =
     let read = read_six_of octets f are e in
     reads_six octets (omega (arith, read.len)) read.version ∙ (made6 octets None (omega (arith, read.len)) (six_meets octets f read m)
-    ∙ (λ i. Ok (record { source = (ap (λ (xs : List ℕ). V6 xs) read.source ∙ sym from) i; group = (ap (λ (xs : List ℕ). V6 xs) read.group ∙ sym to) i; octets = octets })))
+    ∙ (λ i. Ok (record {
+      source = (ap (λ (xs : List ℕ). V6 xs) read.source ∙ sym from) i;
+      group =
+          (ap (λ (xs : List ℕ). V6 xs) read.group ∙ sym to) i;
+      octets = octets;
+    })))
 
 abbrev bad_answer : ℕ × PacketFault → Result Packet (ℕ × PacketFault)
 bad_answer x = Err x
@@ -179,7 +204,8 @@ fails_packet octets x (first_faults.in_six f are e failed) =
 
 -- ---- laws
 
-pub one_flow : (source group other to : Addr) (octets : List ℕ) → IsPacket source group octets → IsPacket other to octets → (source ≡ other) × (group ≡ to)
+pub one_flow : (source group other to : Addr) (octets : List ℕ) → IsPacket source group octets → IsPacket other to octets
+    → (source ≡ other) × (group ≡ to)
 one_flow source group other to octets own others =
     let a : Packet = record { source = source; group = group; octets = octets } in
     let b : Packet = record { source = other; group = to; octets = octets } in

@@ -37,7 +37,17 @@ six_read f are =
     let class_lt = are.class in
     record {
       version = omega arith;
-      len = omega (arith, are.flow, are.ignored, are.source, are.group, length-append f.flow (to_be_bytes w16 f.len ++ (f.ignored ++ (f.source ++ (f.group ++ f.payload)))), length-append f.ignored (f.source ++ (f.group ++ f.payload)), length-append f.source (f.group ++ f.payload), length-append f.group f.payload);
+      len = omega (
+        arith,
+        are.flow,
+        are.ignored,
+        are.source,
+        are.group,
+        length-append f.flow (to_be_bytes w16 f.len ++ (f.ignored ++ (f.source ++ (f.group ++ f.payload)))),
+        length-append f.ignored (f.source ++ (f.group ++ f.payload)),
+        length-append f.source (f.group ++ f.payload),
+        length-append f.group f.payload,
+      );
       payload = ap (from_be_bytes w16) four.0 ∙ wide16.again f.len are.len;
       source = eight.0;
       group = behind.0;
@@ -58,7 +68,8 @@ six_fields octets = record {
   payload = drop 40 octets;
 }
 
-pub six_laid : (octets : List ℕ) → IsOctets octets → 40 ≤ length octets → get_or octets 0 0 / 16 ≡ 6 → AreSix (six_fields octets) × (octets ≡ six_octets (six_fields octets))
+pub six_laid : (octets : List ℕ) → IsOctets octets → 40 ≤ length octets → get_or octets 0 0 / 16 ≡ 6
+    → AreSix (six_fields octets) × (octets ≡ six_octets (six_fields octets))
 six_laid octets fits le version =
     let first : get_or octets 0 0 < 256 = fits 0 in
     let octet : get_or octets 0 0 ≡ 96 + get_or octets 0 0 % 16 = omega arith in
@@ -86,7 +97,8 @@ record SixTold (a b c : Bool) (f : SixFields) : Type 0 where
   pub multicast : Tells b (IsSixGroup f.group) (¬ IsSixGroup f.group)
   pub global : Tells c (¬ IsSixLocal f.group) (IsSixLocal f.group)
 
-chain_settles : (a b c : Bool) (f : SixFields) → SixTold a b c f → ((chain a b c ≡ None) × MeetsSix f) ⊎ ((x : ℕ × PacketFault) × (chain a b c ≡ Some x) × SixFault f x)
+chain_settles : (a b c : Bool) (f : SixFields) → SixTold a b c f
+    → ((chain a b c ≡ None) × MeetsSix f) ⊎ ((x : ℕ × PacketFault) × (chain a b c ≡ Some x) × SixFault f x)
 unfolding chain
 chain_settles a b c f told =
     elim told.len [
@@ -108,7 +120,8 @@ chain_fails : (a b c : Bool) (f : SixFields) (x : ℕ × PacketFault) → SixTol
 unfolding chain
 chain_fails a b c f x told (six_faults.total_length n is) = rw (fails told.len n, is) refl
 chain_fails a b c f x told (six_faults.not_multicast t n is) = rw (holds told.len (λ k. k t), fails told.multicast n, is) refl
-chain_fails a b c f x told (six_faults.link_local t m l is) = rw (holds told.len (λ k. k t), holds told.multicast (λ k. k m), fails told.global (λ g. g l), is) refl
+chain_fails a b c f x told (six_faults.link_local t m l is) =
+    rw (holds told.len (λ k. k t), holds told.multicast (λ k. k m), fails told.global (λ g. g l), is) refl
 
 abbrev bad_len : List ℕ → Bool
 bad_len octets = not (eqb (number_at 4 octets + 40) (length octets))
@@ -127,14 +140,16 @@ told_of : (octets : List ℕ) (f : SixFields) → SixRead octets f → SixTold (
 told_of octets f read =
     let second : get_or octets 25 0 % 16 ≡ get_or f.group 1 0 % 16 = ap (λ n. n % 16) read.second in
     record {
-      len = tells_as (λ e. omega (arith, e, read.len, read.payload)) (λ ne e. ne (omega (arith, e, read.len, read.payload))) (differs_tells (number_at 4 octets + 40) (length octets));
+      len = tells_as (λ e. omega (arith, e, read.len, read.payload)) (λ ne e. ne (omega (arith, e, read.len, read.payload)))
+          (differs_tells (number_at 4 octets + 40) (length octets));
       multicast = tells_as (λ e. sym read.first ∙ e) (λ ne e. ne (read.first ∙ e)) (differs_tells (get_or octets 24 0) 255);
       global = tells_as (λ h k. omega (arith, h, k, second)) (λ h. omega (arith, h, second)) (below_tells (get_or octets 25 0 % 16) 3);
     }
 
 -- ---- the first fault
 
-pub six_settles : (octets : List ℕ) (f : SixFields) → SixRead octets f → ((six_fault octets ≡ None) × MeetsSix f) ⊎ ((x : ℕ × PacketFault) × (six_fault octets ≡ Some x) × SixFault f x)
+pub six_settles : (octets : List ℕ) (f : SixFields) → SixRead octets f
+    → ((six_fault octets ≡ None) × MeetsSix f) ⊎ ((x : ℕ × PacketFault) × (six_fault octets ≡ Some x) × SixFault f x)
 six_settles octets f read =
     elim (chain_settles _ _ _ f (told_of octets f read)) [
       | inl fine ↦ inl (is_chain octets ∙ fine.0, fine.1)

@@ -63,25 +63,31 @@ apart : (q : Fec) (es : List (Fec × Slot)) → AllByRecursion (λ fec. is_fec q
 apart q [] h = refl
 apart q (e ∷ es) h = rw h.0 (apart q es h.1)
 
-behind : (q : Fec) (e : Fec × Slot) (es : List (Fec × Slot)) → IsDistinct is_fec (keys_of (e ∷ es)) → is_fec q e.0 ≡ true → lookup (is_fec q) es ≡ None
-behind q e es h t = subst (λ (x : Fec). lookup (is_fec x) es ≡ None) (sym (fec_equal q e.0 t)) (apart e.0 es (IsDistinct-head is_fec e.0 (keys_of es) h))
+behind : (q : Fec) (e : Fec × Slot) (es : List (Fec × Slot)) → IsDistinct is_fec (keys_of (e ∷ es)) → is_fec q e.0 ≡ true
+    → lookup (is_fec q) es ≡ None
+behind q e es h t =
+    subst (λ (x : Fec). lookup (is_fec x) es ≡ None) (sym (fec_equal q e.0 t)) (apart e.0 es (IsDistinct-head is_fec e.0 (keys_of es) h))
 
-leaf_any : (es : List (Fec × Slot)) → IsDistinct is_fec (keys_of es) → (q : Fec) → list_any (eq_by_cmp fec_cmp q) (leaves_in es) ≡ leaf_of (lookup (is_fec q) es)
+leaf_any : (es : List (Fec × Slot)) → IsDistinct is_fec (keys_of es) → (q : Fec)
+    → list_any (eq_by_cmp fec_cmp q) (leaves_in es) ≡ leaf_of (lookup (is_fec q) es)
 leaf_any [] h q = refl
 leaf_any (e ∷ es) h q = by (leaf_any es (IsDistinct-tail is_fec e.0 (keys_of es) h) q) (is_fec q e.0) e.1.entry.leaf refl refl
   where
     by : list_any (eq_by_cmp fec_cmp q) (leaves_in es) ≡ leaf_of (lookup (is_fec q) es) → (t b : Bool) → is_fec q e.0 ≡ t → e.1.entry.leaf ≡ b
-        → list_any (eq_by_cmp fec_cmp q) (cond e.1.entry.leaf (e.0 ∷ leaves_in es) (leaves_in es)) ≡ leaf_of (cond (is_fec q e.0) (Some e.1) (lookup (is_fec q) es))
+        → list_any (eq_by_cmp fec_cmp q) (cond e.1.entry.leaf (e.0 ∷ leaves_in es) (leaves_in es))
+        ≡ leaf_of (cond (is_fec q e.0) (Some e.1) (lookup (is_fec q) es))
     by rest true true s l = rw (s, l) (ap (λ (c : Bool). c || list_any (eq_by_cmp fec_cmp q) (leaves_in es)) (sym (fec-ties q e.0) ∙ s))
     by rest true false s l = rw (s, l) (rest ∙ ap leaf_of (behind q e es h s))
     by rest false true s l = rw (s, l) (ap (λ (c : Bool). c || list_any (eq_by_cmp fec_cmp q) (leaves_in es)) (sym (fec-ties q e.0) ∙ s) ∙ rest)
     by rest false false s l = rw (s, l) rest
 
-pub leaf_seen : (es : List (Fec × Slot)) → IsDistinct is_fec (keys_of es) → (q : Fec) → sets.contains (sets.from_list {R = fec_cmp} (leaves_in es)) q ≡ leaf_of (lookup (is_fec q) es)
+pub leaf_seen : (es : List (Fec × Slot)) → IsDistinct is_fec (keys_of es) → (q : Fec)
+    → sets.contains (sets.from_list {R = fec_cmp} (leaves_in es)) q ≡ leaf_of (lookup (is_fec q) es)
 leaf_seen es h q = sets.contains-from_list fec_cmp_total (leaves_in es) q ∙ leaf_any es h q
 
 -- Branches are one where their FECs and their neighbours and labels are.
-pub branch-ties : (b : TreeBranch) (fec : Fec) (own : Branch) → eq_by_cmp branch_cmp b (branch_in fec own) ≡ (is_fec b.fec fec && eq_by_cmp hop_cmp (hop_of b) own)
+pub branch-ties : (b : TreeBranch) (fec : Fec) (own : Branch)
+    → eq_by_cmp branch_cmp b (branch_in fec own) ≡ (is_fec b.fec fec && eq_by_cmp hop_cmp (hop_of b) own)
 branch-ties b fec own = both_ways (eq_by_cmp branch_cmp b (branch_in fec own)) (is_fec b.fec fec && eq_by_cmp hop_cmp (hop_of b) own)
     (λ h. let same : b ≡ branch_in fec own = branch_cmp_exact b (branch_in fec own) ((Equal-is (branch_cmp b (branch_in fec own))).0 h) in
     subst (λ (x : TreeBranch). (is_fec b.fec x.fec && eq_by_cmp hop_cmp (hop_of b) (hop_of x)) ≡ true) same
@@ -91,19 +97,23 @@ branch-ties b fec own = both_ways (eq_by_cmp branch_cmp b (branch_in fec own)) (
     subst (λ (x : Branch). eq_by_cmp branch_cmp b (branch_in fec x) ≡ true) hop
     (subst (λ (x : Fec). eq_by_cmp branch_cmp b (branch_in x (hop_of b)) ≡ true) tree (ap is_eq (tied_itself branch_cmp_total b))))
 
-own_any : (b : TreeBranch) (fec : Fec) (hops : List Branch) → list_any (eq_by_cmp branch_cmp b) (map (branch_in fec) hops) ≡ (is_fec b.fec fec && list_any (eq_by_cmp hop_cmp (hop_of b)) hops)
+own_any : (b : TreeBranch) (fec : Fec) (hops : List Branch)
+    → list_any (eq_by_cmp branch_cmp b) (map (branch_in fec) hops) ≡ (is_fec b.fec fec && list_any (eq_by_cmp hop_cmp (hop_of b)) hops)
 own_any b fec [] = none (is_fec b.fec fec)
   where
     none : (t : Bool) → false ≡ (t && false)
     none true = refl
     none false = refl
-own_any b fec (own ∷ hops) = (λ i. branch-ties b fec own i || own_any b fec hops i) ∙ shared (is_fec b.fec fec) (eq_by_cmp hop_cmp (hop_of b) own) (list_any (eq_by_cmp hop_cmp (hop_of b)) hops)
+own_any b fec (own ∷ hops) =
+    (λ i. branch-ties b fec own i || own_any b fec hops i)
+    ∙ shared (is_fec b.fec fec) (eq_by_cmp hop_cmp (hop_of b) own) (list_any (eq_by_cmp hop_cmp (hop_of b)) hops)
   where
     shared : (t x y : Bool) → ((t && x) || (t && y)) ≡ (t && (x || y))
     shared true x y = refl
     shared false x y = refl
 
-branch_any : (es : List (Fec × Slot)) → IsDistinct is_fec (keys_of es) → (b : TreeBranch) → list_any (eq_by_cmp branch_cmp b) (branches_in es) ≡ has_hop (lookup (is_fec b.fec) es) (hop_of b)
+branch_any : (es : List (Fec × Slot)) → IsDistinct is_fec (keys_of es) → (b : TreeBranch)
+    → list_any (eq_by_cmp branch_cmp b) (branches_in es) ≡ has_hop (lookup (is_fec b.fec) es) (hop_of b)
 branch_any [] h b = refl
 branch_any (e ∷ es) h b =
     list_any-append (eq_by_cmp branch_cmp b) (map (branch_in e.0) (maps.keys e.1.entry.branches)) (branches_in es)
@@ -115,20 +125,24 @@ branch_any (e ∷ es) h b =
     or_nothing false = refl
 
     by : list_any (eq_by_cmp branch_cmp b) (branches_in es) ≡ has_hop (lookup (is_fec b.fec) es) (hop_of b) → (t : Bool) → is_fec b.fec e.0 ≡ t
-        → ((is_fec b.fec e.0 && list_any (eq_by_cmp hop_cmp (hop_of b)) (maps.keys e.1.entry.branches)) || list_any (eq_by_cmp branch_cmp b) (branches_in es))
+        → ((is_fec b.fec e.0 && list_any (eq_by_cmp hop_cmp (hop_of b)) (maps.keys e.1.entry.branches))
+        || list_any (eq_by_cmp branch_cmp b) (branches_in es))
         ≡ has_hop (cond (is_fec b.fec e.0) (Some e.1) (lookup (is_fec b.fec) es)) (hop_of b)
     by rest true s =
-        let nothing : list_any (eq_by_cmp branch_cmp b) (branches_in es) ≡ false = rest ∙ ap (λ (o : Option Slot). has_hop o (hop_of b)) (behind b.fec e es h s) in
+        let nothing : list_any (eq_by_cmp branch_cmp b) (branches_in es) ≡ false =
+        rest ∙ ap (λ (o : Option Slot). has_hop o (hop_of b)) (behind b.fec e es h s) in
         rw (s, nothing) (or_nothing _ ∙ sym (maps.contains_key-keys e.1.entry.branches (hop_of b)))
     by rest false s = rw s rest
 
-pub branch_seen : (es : List (Fec × Slot)) → IsDistinct is_fec (keys_of es) → (b : TreeBranch) → sets.contains (sets.from_list {R = branch_cmp} (branches_in es)) b ≡ has_hop (lookup (is_fec b.fec) es) (hop_of b)
+pub branch_seen : (es : List (Fec × Slot)) → IsDistinct is_fec (keys_of es) → (b : TreeBranch)
+    → sets.contains (sets.from_list {R = branch_cmp} (branches_in es)) b ≡ has_hop (lookup (is_fec b.fec) es) (hop_of b)
 branch_seen es h b = sets.contains-from_list branch_cmp_total (branches_in es) b ∙ branch_any es h b
 
 -- ---- a slot that is put back
 
 idle_keys : (n : ℕ) (a b : Bool) → ((a && b) && (n == 0)) ≡ true → n ≡ 0
-idle_keys n a b h = elim (eqb_tells n 0) [ inl e ↦ e.1 | inr ne ↦ (let no : (n == 0) ≡ false = ne.0 in let yes : (n == 0) ≡ true = and_second _ _ h in absurd cc) ]
+idle_keys n a b h =
+    elim (eqb_tells n 0) [ inl e ↦ e.1 | inr ne ↦ (let no : (n == 0) ≡ false = ne.0 in let yes : (n == 0) ≡ true = and_second _ _ h in absurd cc) ]
 
 no_keys : (m : Hops) (own : Branch) → length (maps.keys m) ≡ 0 → maps.contains_key m own ≡ false
 no_keys m own e = maps.contains_key-keys m own ∙ nothing (maps.keys m) e
@@ -152,7 +166,8 @@ pub kept_hop : (slot : Slot) (own : Branch) → has_hop (kept slot) own ≡ maps
 kept_hop slot own = by (is_idle slot) refl
   where
     by : (t : Bool) → is_idle slot ≡ t → has_hop (cond (is_idle slot) None (Some slot)) own ≡ maps.contains_key slot.entry.branches own
-    by true e = rw e (sym (no_keys slot.entry.branches own (idle_keys (length (maps.keys slot.entry.branches)) (slot.mapped == 0) (not slot.entry.leaf) e)))
+    by true e =
+        rw e (sym (no_keys slot.entry.branches own (idle_keys (length (maps.keys slot.entry.branches)) (slot.mapped == 0) (not slot.entry.leaf) e)))
     by false e = rw e refl
 
 pub kept_count : (slot : Slot) → mapped_of (kept slot) ≡ slot.mapped

@@ -25,11 +25,14 @@ four_sent source group payload sum = record {
 grouped : (front x y z : List ℕ) → ((front ++ x) ++ y) ++ z ≡ front ++ (x ++ (y ++ z))
 grouped front x y z = append_assoc (front ++ x) y z ∙ append_assoc front x (y ++ z)
 
-four_laid_out : (source group payload : List ℕ) (sum : ℕ) → four_header (V4 source) (V4 group) (20 + length payload) sum ++ payload ≡ four_octets (four_sent source group payload sum)
-four_laid_out source group payload sum = grouped ((0x45 ∷ 0 ∷ []) ++ to_be_bytes w16 (20 + length payload) ++ (0 ∷ 0 ∷ 0 ∷ 0 ∷ 64 ∷ 17 ∷ []) ++ to_be_bytes w16 sum) source group payload
+four_laid_out : (source group payload : List ℕ) (sum : ℕ)
+    → four_header (V4 source) (V4 group) (20 + length payload) sum ++ payload ≡ four_octets (four_sent source group payload sum)
+four_laid_out source group payload sum =
+    grouped ((0x45 ∷ 0 ∷ []) ++ to_be_bytes w16 (20 + length payload) ++ (0 ∷ 0 ∷ 0 ∷ 0 ∷ 64 ∷ 17 ∷ []) ++ to_be_bytes w16 sum) source group payload
 
 -- the header without a payload
-header_alone : (source group payload : List ℕ) (sum : ℕ) → four_header (V4 source) (V4 group) (20 + length payload) 0 ≡ unsummed (four_sent source group payload sum)
+header_alone : (source group payload : List ℕ) (sum : ℕ)
+    → four_header (V4 source) (V4 group) (20 + length payload) 0 ≡ unsummed (four_sent source group payload sum)
 header_alone source group payload sum =
     let front : List ℕ = (0x45 ∷ 0 ∷ []) ++ to_be_bytes w16 (20 + length payload) ++ (0 ∷ 0 ∷ 0 ∷ 0 ∷ 64 ∷ 17 ∷ []) ++ to_be_bytes w16 0 in
     append_assoc front source group ∙ ap (λ (xs : List ℕ). front ++ (source ++ xs)) (sym (nothing_behind group))
@@ -39,7 +42,16 @@ header_alone source group payload sum =
     nothing_behind (x ∷ xs) = ap (λ (ys : List ℕ). x ∷ ys) (nothing_behind xs)
 
 six_laid_out : (source group payload : List ℕ) → six_written (V6 source) (V6 group) payload
-    ≡ six_octets (record { class = 0; flow = 0 ∷ 0 ∷ 0 ∷ []; len = length payload; ignored = 17 ∷ 64 ∷ []; source = source; group = group; payload = payload })
+    ≡ six_octets (record {
+      class = 0;
+      flow = 0 ∷ 0 ∷ 0 ∷ [];
+      len = length payload;
+      ignored = 17 ∷ 64 ∷ [];
+      source = source;
+      group = group;
+      payload =
+          payload;
+    })
 six_laid_out source group payload = grouped ((0x60 ∷ 0 ∷ 0 ∷ 0 ∷ []) ++ to_be_bytes w16 (length payload) ++ (17 ∷ 64 ∷ [])) source group payload
 
 pub written_spelled : (source group : Addr) (payload : List ℕ) → MayBeSent source group payload → IsPacket source group (written source group payload)
@@ -49,10 +61,26 @@ written_spelled (V4 source) (V4 group) payload h =
     let small : sum < 2 ^ 16 = omega arith in
     packets.four f
     (record { words = omega arith; total = h.4; ignored = refl; sum = small; source = h.0; group = h.1 })
-    (record { header = (omega arith, omega arith); total = refl; sum = ap checksum (header_alone source group payload sum); multicast = h.2; global = h.3 })
+    (record {
+      header = (omega arith, omega arith);
+      total = refl;
+      sum = ap checksum (header_alone source group payload sum);
+      multicast = h.2;
+      global =
+          h.3;
+    })
     (four_laid_out source group payload sum) refl refl
 written_spelled (V6 source) (V6 group) payload h =
-    packets.six (record { class = 0; flow = 0 ∷ 0 ∷ 0 ∷ []; len = length payload; ignored = 17 ∷ 64 ∷ []; source = source; group = group; payload = payload })
+    packets.six (record {
+      class = 0;
+      flow = 0 ∷ 0 ∷ 0 ∷ [];
+      len = length payload;
+      ignored = 17 ∷ 64 ∷ [];
+      source = source;
+      group = group;
+      payload =
+          payload;
+    })
     (record { class = omega arith; flow = refl; len = h.4; ignored = refl; source = h.0; group = h.1 })
     (record { len = refl; multicast = h.2; global = h.3 })
     (six_laid_out source group payload) refl refl

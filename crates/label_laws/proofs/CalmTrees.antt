@@ -21,7 +21,8 @@ use Rattle.label_laws.specs.Acts.{Notice, Raise, noticed, raised, act}
 use Rattle.label_laws.specs.Rule.{Kind, Mapping, Stands, MappingAndWithdraw, Withdraw, Release, Idle, PhaseIs, Kept, branch_trees, is_of_owner, is_release_of}
 use Rattle.label_laws.specs.Calm.{CalmLink, Calm, Reached, at_root, below}
 
-calm_at : (k : Kind) (u : NodeId) (l : ℕ) (f : Fec) (s : Option LabelUse) (ms bs : List LabelMessage) (o : Fec → Bool) → s ≡ Some (uses.Mapped f u) → ms ≡ [] → PhaseIs k u l s ms bs o → o f ≡ true
+calm_at : (k : Kind) (u : NodeId) (l : ℕ) (f : Fec) (s : Option LabelUse) (ms bs : List LabelMessage) (o : Fec → Bool) → s ≡ Some (uses.Mapped f u)
+    → ms ≡ [] → PhaseIs k u l s ms bs o → o f ≡ true
 calm_at (Mapping g) u l f s ms bs o e none h = absurd cc
 calm_at (Stands g) u l f s ms bs o e none h = let same : f ≡ g = cc in ap (λ (q : Fec → Bool). q f) h.branch ∙ same_fec_from f g same
 calm_at (MappingAndWithdraw g) u l f s ms bs o e none h = absurd cc
@@ -37,7 +38,8 @@ record Above (w : LabelNetwork) (depth : NodeId → ℕ) (fec : Fec) (n : NodeId
   branch : sets.contains (w.node node).branches (branch_to n fec label) ≡ true
   is : use_of (w.node n) label ≡ Some (uses.Mapped fec node)
 
-above : (w : LabelNetwork) (depth : NodeId → ℕ) (fec : Fec) (n : NodeId) → CalmLink w depth fec n → Kept w → has_tree (w.node n) fec ≡ true → Above w depth fec n
+above : (w : LabelNetwork) (depth : NodeId → ℕ) (fec : Fec) (n : NodeId) → CalmLink w depth fec n → Kept w → has_tree (w.node n) fec ≡ true
+    → Above w depth fec n
 above w depth fec n c k has =
     let u = c.above in
     let less = c.nearer in
@@ -48,16 +50,20 @@ above w depth fec n c k has =
       node = u;
       label = m.0;
       nearer = less;
-      branch = calm_at p.kind u m.0 fec (use_of (w.node n) m.0) (filter (is_of_owner m.0) (w.direction n u).transit) (filter (is_release_of m.0) (w.direction u n).transit) (branch_trees (w.node u) n m.0) m.1 (ap (filter (is_of_owner m.0)) c.quiet) p.holds;
+      branch = calm_at p.kind u m.0 fec (use_of (w.node n) m.0) (filter (is_of_owner m.0) (w.direction n u).transit)
+          (filter (is_release_of m.0) (w.direction u n).transit) (branch_trees (w.node u) n m.0) m.1 (ap (filter (is_of_owner m.0)) c.quiet) p.holds;
       is = m.1;
     }
 
-has_tree_by : (w : LabelNetwork) (u n : NodeId) (fec : Fec) (l : ℕ) → sets.contains (w.node u).branches (branch_to n fec l) ≡ true → has_tree (w.node u) fec ≡ true
+has_tree_by : (w : LabelNetwork) (u n : NodeId) (fec : Fec) (l : ℕ) → sets.contains (w.node u).branches (branch_to n fec l) ≡ true
+    → has_tree (w.node u) fec ≡ true
 has_tree_by w u n fec l h =
     or_left (has_branch (w.node u) fec) (sets.contains (w.node u).leaves fec)
-    (member_passes branch_cmp_total branch_cmp_exact (λ (b : Branch). same_fec b.fec fec) (w.node u).branches (branch_to n fec l) h (same_fec_itself fec))
+    (member_passes branch_cmp_total branch_cmp_exact (λ (b : Branch). same_fec b.fec fec) (w.node u).branches (branch_to n fec l) h
+    (same_fec_itself fec))
 
-reached_by : (k : ℕ) (w : LabelNetwork) (depth : NodeId → ℕ) (root n : NodeId) (fec : Fec) → Calm w depth root fec → Kept w → depth n ≤ k → has_tree (w.node n) fec ≡ true → Reached w fec root n
+reached_by : (k : ℕ) (w : LabelNetwork) (depth : NodeId → ℕ) (root n : NodeId) (fec : Fec) → Calm w depth root fec → Kept w → depth n ≤ k
+    → has_tree (w.node n) fec ≡ true → Reached w fec root n
 reached_by zero w depth root n fec calm kept le has =
     elim (node_cases n root) [
       | inl e ↦ subst (Reached w fec root) (sym e) at_root
@@ -69,10 +75,12 @@ reached_by (suc k) w depth root n fec calm kept le has =
       | inr ne ↦
           let a = above w depth fec n (calm n has ne) kept has in
           let less = a.nearer in
-          below a.node a.label (reached_by k w depth root a.node fec calm kept (omega (arith, le, less)) (has_tree_by w a.node n fec a.label a.branch)) a.branch a.is
+          below a.node a.label (reached_by k w depth root a.node fec calm kept (omega (arith, le, less))
+          (has_tree_by w a.node n fec a.label a.branch)) a.branch a.is
     ]
 
-pub reached : (w : LabelNetwork) (depth : NodeId → ℕ) (root n : NodeId) (fec : Fec) → Calm w depth root fec → Kept w → has_tree (w.node n) fec ≡ true → Reached w fec root n
+pub reached : (w : LabelNetwork) (depth : NodeId → ℕ) (root n : NodeId) (fec : Fec) → Calm w depth root fec → Kept w → has_tree (w.node n) fec ≡ true
+    → Reached w fec root n
 reached w depth root n fec calm kept has = reached_by (depth n) w depth root n fec calm kept (omega arith) has
 
 -- ---- losses and raises
@@ -82,7 +90,8 @@ stays_some w n None h e = h refl
 stays_some w n (Some s) h e = none-some (behind w n s) (sym e)
 
 noticed_some : (w : LabelNetwork) (a b : NodeId) (live up : Bool) → Kept w → noticed w a b live up ≢ None
-noticed_some w a b false true k = stays_some w a (label_step (place_of w a) w.clock (w.node a) (steps.Noticed b)) (loss_steps (place_of w a) w.clock (w.node a) b (k.settled a))
+noticed_some w a b false true k =
+    stays_some w a (label_step (place_of w a) w.clock (w.node a) (steps.Noticed b)) (loss_steps (place_of w a) w.clock (w.node a) b (k.settled a))
 noticed_some w a b false false k = λ e. none-some w (sym e)
 noticed_some w a b true up k = λ e. none-some w (sym e)
 

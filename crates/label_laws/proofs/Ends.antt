@@ -50,7 +50,8 @@ module _ (w : LabelNetwork) (a b : NodeId) (lost : a ≢ b → (w.direction a b)
   branch_is n l f = retained branch_cmp_total branch_cmp_exact (w.node a).branches (λ branch. not (branch.node.0 == b.0)) (branch_to n f l)
 
   branch_gone : (n : NodeId) (l : ℕ) → n ≡ b → branch_trees data_after n l ≡ none
-  branch_gone n l e = let each : (f : Fec) → branch_trees data_after n l f ≡ false = λ f. branch_is n l f ∙ and_right (branch_trees (w.node a) n l f) (not (n.0 == b.0)) (ap not (node_itself n b e)) in λ i f. each f i
+  branch_gone n l e = let each : (f : Fec) → branch_trees data_after n l f ≡ false =
+      λ f. branch_is n l f ∙ and_right (branch_trees (w.node a) n l f) (not (n.0 == b.0)) (ap not (node_itself n b e)) in λ i f. each f i
 
   and_true : (p : Bool) → (p && true) ≡ p
   and_true true = refl
@@ -58,7 +59,8 @@ module _ (w : LabelNetwork) (a b : NodeId) (lost : a ≢ b → (w.direction a b)
 
   branch_same : (n : NodeId) (l : ℕ) → n ≢ b → branch_trees data_after n l ≡ branch_trees (w.node a) n l
   branch_same n l ne =
-      let each : (f : Fec) → branch_trees data_after n l f ≡ branch_trees (w.node a) n l f = λ f. branch_is n l f ∙ ap (λ x. branch_trees (w.node a) n l f && not x) (node_apart n b ne) ∙ and_true (branch_trees (w.node a) n l f) in
+      let each : (f : Fec) → branch_trees data_after n l f ≡ branch_trees (w.node a) n l f =
+      λ f. branch_is n l f ∙ ap (λ x. branch_trees (w.node a) n l f && not x) (node_apart n b ne) ∙ and_true (branch_trees (w.node a) n l f) in
       λ i f. each f i
 
   lost_to : (n : NodeId) → a ≢ n → n ≡ b → (w.direction a n).joined ≡ false
@@ -71,10 +73,14 @@ module _ (w : LabelNetwork) (a b : NodeId) (lost : a ≢ b → (w.direction a b)
   owner u l ne v =
       elim (node_cases u b) [
         | inl e ↦ along_view refl (end_gone u e) refl (use_is l) refl refl refl
-            (down_view u l (w.direction u a).joined (end_of (w.node a) u) (end_of (w.node u) a) (use_of (w.node a) l) (option_map (freed b) (use_of (w.node a) l)) (filter (is_of_owner l) (transit a u)) (filter (is_release_of l) (transit u a)) (branch_trees (w.node u) a l) (lost_from u ne e)
+            (down_view u l (w.direction u a).joined (end_of (w.node a) u) (end_of (w.node u) a) (use_of (w.node a) l)
+            (option_map (freed b) (use_of (w.node a) l)) (filter (is_of_owner l) (transit a u)) (filter (is_release_of l) (transit u a))
+            (branch_trees (w.node u) a l) (lost_from u ne e)
             (subst (λ x. IsOther x (option_map (freed b) (use_of (w.node a) l))) (sym e) (freed_other b (use_of (w.node a) l))) v)
         | inr e ↦ along_view refl (end_same u e) refl (use_is l) refl refl refl
-            (same_view u l (w.direction u a).joined (end_of (w.node a) u) (end_of (w.node u) a) (use_of (w.node a) l) (option_map (freed b) (use_of (w.node a) l)) (filter (is_of_owner l) (transit a u)) (filter (is_release_of l) (transit u a)) (branch_trees (w.node u) a l)
+            (same_view u l (w.direction u a).joined (end_of (w.node a) u) (end_of (w.node u) a) (use_of (w.node a) l)
+            (option_map (freed b) (use_of (w.node a) l)) (filter (is_of_owner l) (transit a u)) (filter (is_release_of l) (transit u a))
+            (branch_trees (w.node u) a l)
             (map_same_or_other u b (freed b) e (freed_ends b) (use_of (w.node a) l)) v)
       ]
 
@@ -82,7 +88,8 @@ module _ (w : LabelNetwork) (a b : NodeId) (lost : a ≢ b → (w.direction a b)
   branch n l ne v =
       elim (node_cases n b) [
         | inl e ↦ along_view refl refl (end_gone n e) refl refl refl (branch_gone n l e)
-            (bare_view a l (w.direction a n).joined (end_of (w.node n) a) (end_of (w.node a) n) (use_of (w.node n) l) (filter (is_of_owner l) (transit n a)) (filter (is_release_of l) (transit a n)) (branch_trees (w.node a) n l) (lost_to n ne e) v)
+            (bare_view a l (w.direction a n).joined (end_of (w.node n) a) (end_of (w.node a) n) (use_of (w.node n) l)
+            (filter (is_of_owner l) (transit n a)) (filter (is_release_of l) (transit a n)) (branch_trees (w.node a) n l) (lost_to n ne e) v)
         | inr e ↦ along_view refl refl (end_same n e) refl refl refl (branch_same n l e) v
       ]
 
@@ -99,12 +106,16 @@ module _ (w : LabelNetwork) (a b : NodeId) (lost : a ≢ b → (w.direction a b)
         ];
         covered = λ u l vpn t ne past young h. elim (node_cases u b) [
           | inl e ↦ inl (end_gone u e)
-          | inr e ↦ covered_if w.life w.vpn_of u vpn t (end_of (w.node a) u) (end_of data_after u) (use_of (w.node a) l) (use_of data_after l) (end_same u e)
-              (λ st. stand_along w.life w.vpn_of u vpn t (option_map (freed b) (use_of (w.node a) l)) (use_of data_after l) (use_is l) (ends_stands w.life w.vpn_of u b vpn t (freed b) e (freed_ends b) (use_of (w.node a) l) st)) h
+          | inr e ↦ covered_if w.life w.vpn_of u vpn t (end_of (w.node a) u) (end_of data_after u) (use_of (w.node a) l) (use_of data_after l)
+              (end_same u e)
+              (λ st. stand_along w.life w.vpn_of u vpn t (option_map (freed b) (use_of (w.node a) l)) (use_of data_after l) (use_is l)
+              (ends_stands w.life w.vpn_of u b vpn t (freed b) e (freed_ends b) (use_of (w.node a) l) st)) h
         ];
         trees = fewer_trees w.is_tree (w.node a) data_after (λ f h. h)
-            (λ x h. (and_parts (sets.contains (w.node a).branches x) (not (x.node.0 == b.0)) (sym (retained branch_cmp_total branch_cmp_exact (w.node a).branches (λ branch. not (branch.node.0 == b.0)) x) ∙ h)).0)
-            (λ l f u h. map_held u b f (freed b) (freed_ends b) (use_of (w.node a) l) (holds_along f u (use_of data_after l) (option_map (freed b) (use_of (w.node a) l)) (use_is l) h)) (rule.trees a);
+            (λ x h. (and_parts (sets.contains (w.node a).branches x) (not (x.node.0 == b.0))
+            (sym (retained branch_cmp_total branch_cmp_exact (w.node a).branches (λ branch. not (branch.node.0 == b.0)) x) ∙ h)).0)
+            (λ l f u h. map_held u b f (freed b) (freed_ends b) (use_of (w.node a) l)
+            (holds_along f u (use_of data_after l) (option_map (freed b) (use_of (w.node a) l)) (use_is l) h)) (rule.trees a);
       }) rule
 
 -- ---- a node begins anew
@@ -134,15 +145,19 @@ fresh_trees is_tree count =
       labels = λ l f u h. absurd (fresh_other count u l f h);
     }
 
-pub fresh_rule : (w : LabelNetwork) (a : NodeId) (count : ℕ) → ((u : NodeId) → u ≢ a → (w.direction u a).joined ≡ false) → Rule w → Rule (with_node w a (fresh count))
+pub fresh_rule : (w : LabelNetwork) (a : NodeId) (count : ℕ) → ((u : NodeId) → u ≢ a → (w.direction u a).joined ≡ false) → Rule w
+    → Rule (with_node w a (fresh count))
 fresh_rule w a count lost rule =
     let transit : NodeId → NodeId → List LabelMessage = λ u n. (w.direction u n).transit in
     let out : (n : NodeId) → a ≢ n → (w.direction a n).joined ≡ false = λ n ne. (rule.session a n ne).alike ∙ lost n (λ e. ne (sym e)) in
     node_rule w a (fresh count) transit (record {
       owner = λ u l ne v. along_view refl (fresh_down count u) refl refl refl refl refl
-          (down_view u l (w.direction u a).joined (end_of (w.node a) u) (end_of (w.node u) a) (use_of (w.node a) l) (use_of (fresh count) l) (filter (is_of_owner l) (transit a u)) (filter (is_release_of l) (transit u a)) (branch_trees (w.node u) a l) (lost u ne) (fresh_other count u l) v);
+          (down_view u l (w.direction u a).joined (end_of (w.node a) u) (end_of (w.node u) a) (use_of (w.node a) l) (use_of (fresh count) l)
+          (filter (is_of_owner l) (transit a u)) (filter (is_release_of l) (transit u a)) (branch_trees (w.node u) a l) (lost u ne)
+          (fresh_other count u l) v);
       branch = λ n l ne v. along_view refl refl (fresh_down count n) refl refl refl (fresh_bare count n l)
-          (bare_view a l (w.direction a n).joined (end_of (w.node n) a) (end_of (w.node a) n) (use_of (w.node n) l) (filter (is_of_owner l) (transit n a)) (filter (is_release_of l) (transit a n)) (branch_trees (w.node a) n l) (out n ne) v);
+          (bare_view a l (w.direction a n).joined (end_of (w.node n) a) (end_of (w.node a) n) (use_of (w.node n) l)
+          (filter (is_of_owner l) (transit n a)) (filter (is_release_of l) (transit a n)) (branch_trees (w.node a) n l) (out n ne) v);
       others = λ u n p q. refl;
       quiet = λ u n j off e. e;
       ends = λ n ne up. (let x = out n ne in absurd cc);
@@ -164,7 +179,8 @@ risen_here d b now = put_here node_cmp_total node_cmp_exact d.ends b (new_end no
 pub risen_there : (d : LabelData) (b : NodeId) (now : ℕ) (u : NodeId) → u ≢ b → end_of (risen d b now) u ≡ end_of d u
 risen_there d b now u ne = put_other node_cmp_total node_cmp_exact d.ends b (new_end now) u ne
 
-pub risen_rule : (w : LabelNetwork) (a b : NodeId) → end_of (w.node a) b ≡ None → ((l : ℕ) → branch_trees (w.node b) a l ≡ none) → Rule w → Rule (with_node w a (risen (w.node a) b w.clock))
+pub risen_rule : (w : LabelNetwork) (a b : NodeId) → end_of (w.node a) b ≡ None → ((l : ℕ) → branch_trees (w.node b) a l ≡ none) → Rule w
+    → Rule (with_node w a (risen (w.node a) b w.clock))
 risen_rule w a b off bare rule =
     let d = risen (w.node a) b w.clock in
     let transit : NodeId → NodeId → List LabelMessage = λ u n. (w.direction u n).transit in
@@ -172,13 +188,15 @@ risen_rule w a b off bare rule =
     node_rule w a d transit (record {
       owner = λ u l ne v. elim (node_cases u b) [
         | inl e ↦ along_view refl (here u e) refl refl refl refl refl
-            (risen_view u l (w.direction u a).joined (end_of (w.node a) u) (end_of (w.node u) a) (Some (new_end w.clock)) (use_of (w.node a) l) (filter (is_of_owner l) (transit a u)) (filter (is_release_of l) (transit u a)) (branch_trees (w.node u) a l)
+            (risen_view u l (w.direction u a).joined (end_of (w.node a) u) (end_of (w.node u) a) (Some (new_end w.clock)) (use_of (w.node a) l)
+            (filter (is_of_owner l) (transit a u)) (filter (is_release_of l) (transit u a)) (branch_trees (w.node u) a l)
             (ap (end_of (w.node a)) e ∙ off) (ap (λ x. branch_trees (w.node x) a l) e ∙ bare l) v)
         | inr e ↦ along_view refl (risen_there (w.node a) b w.clock u e) refl refl refl refl refl v
       ];
       branch = λ n l ne v. elim (node_cases n b) [
         | inl e ↦ along_view refl refl (here n e) refl refl refl refl
-            (far_view a l (w.direction a n).joined (end_of (w.node n) a) (end_of (w.node a) n) (Some (new_end w.clock)) (use_of (w.node n) l) (filter (is_of_owner l) (transit n a)) (filter (is_release_of l) (transit a n)) (branch_trees (w.node a) n l) refl v)
+            (far_view a l (w.direction a n).joined (end_of (w.node n) a) (end_of (w.node a) n) (Some (new_end w.clock)) (use_of (w.node n) l)
+            (filter (is_of_owner l) (transit n a)) (filter (is_release_of l) (transit a n)) (branch_trees (w.node a) n l) refl v)
         | inr e ↦ along_view refl refl (risen_there (w.node a) b w.clock n e) refl refl refl refl v
       ];
       others = λ u n p q. refl;
@@ -189,7 +207,8 @@ risen_rule w a b off bare rule =
       ];
       covered = λ u l vpn t ne past young h. elim (node_cases u b) [
         | inl e ↦ inr (inl (record { end = new_end w.clock; up = here u e; since = past; unheld = refl }))
-        | inr e ↦ covered_along w.life w.vpn_of u vpn t (end_of (w.node a) u) (end_of d u) (use_of (w.node a) l) (use_of d l) (risen_there (w.node a) b w.clock u e) refl h
+        | inr e ↦ covered_along w.life w.vpn_of u vpn t (end_of (w.node a) u) (end_of d u) (use_of (w.node a) l) (use_of d l)
+            (risen_there (w.node a) b w.clock u e) refl h
       ];
       trees = let t = rule.trees a in record { leaves = t.leaves; branches = t.branches; labels = t.labels };
     }) rule

@@ -20,7 +20,8 @@ pub read_cond : {A X : Type 0} (F : A → X) (b : Bool) (x y : A) → (b ≡ tru
 read_cond F true x y h = h refl
 read_cond F false x y h = refl
 
-pub kept_node : {X : Type 0} (F : LabelData → X) (b : NodeId) (d : LabelData) (node : NodeId → LabelData) (n : NodeId) → (n ≡ b → F d ≡ F (node n)) → F (at_node b d node n) ≡ F (node n)
+pub kept_node : {X : Type 0} (F : LabelData → X) (b : NodeId) (d : LabelData) (node : NodeId → LabelData) (n : NodeId) → (n ≡ b → F d ≡ F (node n))
+    → F (at_node b d node n) ≡ F (node n)
 kept_node F b d node n h = read_cond F (n.0 == b.0) d (node n) (λ e. h (node_equal n b e))
 
 pub node_here : (b : NodeId) (d : LabelData) (node : NodeId → LabelData) → at_node b d node b ≡ d
@@ -73,79 +74,101 @@ one_skipped p true m h = skipped p m [] h
 one_skipped p false m h = refl
 
 -- a message that does not pass, to whom ever
-pub fails_to : (p : LabelMessage → Bool) (to n : NodeId) (m : LabelMessage) → p m ≡ false → filter p (messages_to n (record { to = to; message = m } ∷ [])) ≡ []
+pub fails_to : (p : LabelMessage → Bool) (to n : NodeId) (m : LabelMessage) → p m ≡ false
+    → filter p (messages_to n (record { to = to; message = m } ∷ [])) ≡ []
 fails_to p to n m h = one_skipped p (to.0 == n.0) m h
 
-pub sent_other : (from : NodeId) (puts : List Put) (direction : NodeId → NodeId → Direction) (u n : NodeId) → u ≢ from → sent from puts direction u n ≡ (direction u n).transit
+pub sent_other : (from : NodeId) (puts : List Put) (direction : NodeId → NodeId → Direction) (u n : NodeId) → u ≢ from
+    → sent from puts direction u n ≡ (direction u n).transit
 sent_other from puts direction u n ne =
-    cond-false ((u.0 == from.0) && (direction u n).joined) ((direction u n).transit ++ messages_to n puts) (direction u n).transit (and_left (u.0 == from.0) (direction u n).joined (node_apart u from ne))
+    cond-false ((u.0 == from.0) && (direction u n).joined) ((direction u n).transit ++ messages_to n puts) (direction u n).transit
+    (and_left (u.0 == from.0) (direction u n).joined (node_apart u from ne))
 
-pub sent_quiet : (from : NodeId) (puts : List Put) (direction : NodeId → NodeId → Direction) (u n : NodeId) → (direction u n).joined ≡ false → sent from puts direction u n ≡ (direction u n).transit
+pub sent_quiet : (from : NodeId) (puts : List Put) (direction : NodeId → NodeId → Direction) (u n : NodeId) → (direction u n).joined ≡ false
+    → sent from puts direction u n ≡ (direction u n).transit
 sent_quiet from puts direction u n off =
-    cond-false ((u.0 == from.0) && (direction u n).joined) ((direction u n).transit ++ messages_to n puts) (direction u n).transit (and_right (u.0 == from.0) (direction u n).joined off)
+    cond-false ((u.0 == from.0) && (direction u n).joined) ((direction u n).transit ++ messages_to n puts) (direction u n).transit
+    (and_right (u.0 == from.0) (direction u n).joined off)
 
-pub sent_skips : (p : LabelMessage → Bool) (from : NodeId) (puts : List Put) (direction : NodeId → NodeId → Direction) (u n : NodeId) → filter p (messages_to n puts) ≡ []
+pub sent_skips : (p : LabelMessage → Bool) (from : NodeId) (puts : List Put) (direction : NodeId → NodeId → Direction) (u n : NodeId)
+    → filter p (messages_to n puts) ≡ []
     → filter p (sent from puts direction u n) ≡ filter p (direction u n).transit
 sent_skips p from puts direction u n h =
     read_cond (filter p) ((u.0 == from.0) && (direction u n).joined) ((direction u n).transit ++ messages_to n puts) (direction u n).transit
-    (λ e. filter-append p (direction u n).transit (messages_to n puts) ∙ ap (λ ms. filter p (direction u n).transit ++ ms) h ∙ append-nil (filter p (direction u n).transit))
+    (λ e. filter-append p (direction u n).transit (messages_to n puts) ∙ ap (λ ms. filter p (direction u n).transit ++ ms) h
+    ∙ append-nil (filter p (direction u n).transit))
 
-pub sent_passes : (p : LabelMessage → Bool) (from n : NodeId) (m : LabelMessage) (direction : NodeId → NodeId → Direction) → (direction from n).joined ≡ true → p m ≡ true
+pub sent_passes : (p : LabelMessage → Bool) (from n : NodeId) (m : LabelMessage) (direction : NodeId → NodeId → Direction)
+    → (direction from n).joined ≡ true → p m ≡ true
     → filter p (sent from (record { to = n; message = m } ∷ []) direction from n) ≡ filter p (direction from n).transit ++ m ∷ []
 sent_passes p from n m direction joined h =
     let old = (direction from n).transit in
     let new = messages_to n (record { to = n; message = m } ∷ []) in
-    ap (filter p) (cond-true ((from.0 == from.0) && (direction from n).joined) (old ++ new) old (and_from (from.0 == from.0) (direction from n).joined (node_itself from from refl) joined))
+    ap (filter p) (cond-true ((from.0 == from.0) && (direction from n).joined) (old ++ new) old
+    (and_from (from.0 == from.0) (direction from n).joined (node_itself from from refl) joined))
     ∙ filter-append p old new ∙ ap (λ ms. filter p old ++ filter p ms) (one_to n m) ∙ ap (λ ms. filter p old ++ ms) (passed p m [] h)
 
 append_to : (to : NodeId) (ps qs : List Put) → messages_to to (ps ++ qs) ≡ messages_to to ps ++ messages_to to qs
 append_to to [] qs = refl
 append_to to (p ∷ ps) qs =
-    elim (p.to.0 == to.0) as (λ b. cond b (p.message ∷ messages_to to (ps ++ qs)) (messages_to to (ps ++ qs)) ≡ cond b (p.message ∷ messages_to to ps) (messages_to to ps) ++ messages_to to qs) [
+    elim (p.to.0 == to.0) as (λ b. cond b (p.message ∷ messages_to to (ps ++ qs)) (messages_to to (ps ++ qs))
+    ≡ cond b (p.message ∷ messages_to to ps) (messages_to to ps) ++ messages_to to qs) [
       | true ↦ ap (λ ms. p.message ∷ ms) (append_to to ps qs)
       | false ↦ append_to to ps qs
     ]
 
-twice_sent : (b : Bool) (old ps qs both : List LabelMessage) → both ≡ ps ++ qs → cond b (cond b (old ++ ps) old ++ qs) (cond b (old ++ ps) old) ≡ cond b (old ++ both) old
+twice_sent : (b : Bool) (old ps qs both : List LabelMessage) → both ≡ ps ++ qs
+    → cond b (cond b (old ++ ps) old ++ qs) (cond b (old ++ ps) old) ≡ cond b (old ++ both) old
 twice_sent true old ps qs both e = append_assoc old ps qs ∙ ap (λ ms. old ++ ms) (sym e)
 twice_sent false old ps qs both e = refl
 
 -- a node that steps twice
 pub behind_again : (w : LabelNetwork) (n : NodeId) (old next : LabelData) (puts more : List Put)
-    → behind (behind w n (record { part = old; puts = puts })) n (record { part = next; puts = more }) ≡ behind w n (record { part = next; puts = puts ++ more })
+    → behind (behind w n (record { part = old; puts = puts })) n (record { part = next; puts = more })
+    ≡ behind w n (record { part = next; puts = puts ++ more })
 behind_again w n old next puts more =
     let transit : (u v : NodeId) → _ ≡ sent n (puts ++ more) w.direction u v = λ u v.
-    twice_sent ((u.0 == n.0) && (w.direction u v).joined) (w.direction u v).transit (messages_to v puts) (messages_to v more) (messages_to v (puts ++ more)) (append_to v puts more) in
+    twice_sent ((u.0 == n.0) && (w.direction u v).joined) (w.direction u v).transit (messages_to v puts) (messages_to v more)
+    (messages_to v (puts ++ more)) (append_to v puts more) in
     λ i. record w {
       node = λ m. node_again n old next w.node m i;
       direction = λ u v. record (w.direction u v) { transit = transit u v i };
     }
 
 sent_nothing : (n : NodeId) (direction : NodeId → NodeId → Direction) (u v : NodeId) → sent n [] direction u v ≡ (direction u v).transit
-sent_nothing n direction u v = read_cond (λ ms. ms) ((u.0 == n.0) && (direction u v).joined) ((direction u v).transit ++ []) (direction u v).transit (λ e. append-nil (direction u v).transit)
+sent_nothing n direction u v =
+    read_cond (λ ms. ms) ((u.0 == n.0) && (direction u v).joined) ((direction u v).transit ++ []) (direction u v).transit
+    (λ e. append-nil (direction u v).transit)
 
 -- a node that steps and puts nothing
-pub behind_silent : (w : LabelNetwork) (n : NodeId) (next : LabelData) → record w { node = at_node n next w.node } ≡ behind w n (record { part = next; puts = [] })
-behind_silent w n next = λ i. record w { node = at_node n next w.node; direction = λ u v. record (w.direction u v) { transit = sym (sent_nothing n w.direction u v) i } }
+pub behind_silent : (w : LabelNetwork) (n : NodeId) (next : LabelData)
+    → record w { node = at_node n next w.node } ≡ behind w n (record { part = next; puts = [] })
+behind_silent w n next =
+    λ i. record w { node = at_node n next w.node; direction = λ u v. record (w.direction u v) { transit = sym (sent_nothing n w.direction u v) i } }
 
 -- ---- copies
 
-pub stand_along : (life : ℕ) (vpn_of : Fec → ℕ) (u : NodeId) (vpn t : ℕ) (r s : Option LabelUse) → s ≡ r → LabelCovers life vpn_of u r vpn t → LabelCovers life vpn_of u s vpn t
+pub stand_along : (life : ℕ) (vpn_of : Fec → ℕ) (u : NodeId) (vpn t : ℕ) (r s : Option LabelUse) → s ≡ r → LabelCovers life vpn_of u r vpn t
+    → LabelCovers life vpn_of u s vpn t
 stand_along life vpn_of u vpn t r s e h = let P : Option LabelUse → Type 0 = λ x. LabelCovers life vpn_of u x vpn t in subst P (sym e) h
 
-pub covered_along : (life : ℕ) (vpn_of : Fec → ℕ) (u : NodeId) (vpn t : ℕ) (c d : Option End) (r s : Option LabelUse) → d ≡ c → s ≡ r → Covered life vpn_of u c r vpn t → Covered life vpn_of u d s vpn t
+pub covered_along : (life : ℕ) (vpn_of : Fec → ℕ) (u : NodeId) (vpn t : ℕ) (c d : Option End) (r s : Option LabelUse) → d ≡ c → s ≡ r
+    → Covered life vpn_of u c r vpn t → Covered life vpn_of u d s vpn t
 covered_along life vpn_of u vpn t c d r s p e h =
     let h1 = subst (λ x. Covered life vpn_of u x r vpn t) (sym p) h in
     subst (λ x. Covered life vpn_of u d x vpn t) (sym e) h1
 
 -- where what stands still does, and the end is the same
-pub covered_if : (life : ℕ) (vpn_of : Fec → ℕ) (u : NodeId) (vpn t : ℕ) (c d : Option End) (r s : Option LabelUse) → d ≡ c → (LabelCovers life vpn_of u r vpn t → LabelCovers life vpn_of u s vpn t) → Covered life vpn_of u c r vpn t → Covered life vpn_of u d s vpn t
+pub covered_if : (life : ℕ) (vpn_of : Fec → ℕ) (u : NodeId) (vpn t : ℕ) (c d : Option End) (r s : Option LabelUse) → d ≡ c
+    → (LabelCovers life vpn_of u r vpn t → LabelCovers life vpn_of u s vpn t) → Covered life vpn_of u c r vpn t → Covered life vpn_of u d s vpn t
 covered_if life vpn_of u vpn t c d r s p h x =
-    covered_along life vpn_of u vpn t c d s s p refl (elim x [ inl off ↦ inl off | inr y ↦ elim y [ inl young ↦ inr (inl young) | inr st ↦ inr (inr (h st)) ] ])
+    covered_along life vpn_of u vpn t c d s s p refl
+    (elim x [ inl off ↦ inl off | inr y ↦ elim y [ inl young ↦ inr (inl young) | inr st ↦ inr (inr (h st)) ] ])
 
 -- what stands for each copy still does
 pub copies_along : (clock life : ℕ) (vpn_of : Fec → ℕ) (origin : ℕ → ℕ) (u : NodeId) (d e : LabelData) (cs : List PacketCopy)
-    → ((l vpn t : ℕ) → t ≤ clock → clock ≤ t + life → Covered life vpn_of u (end_of d u) (use_of d l) vpn t → Covered life vpn_of u (end_of e u) (use_of e l) vpn t)
+    → ((l vpn t : ℕ) → t ≤ clock → clock ≤ t + life → Covered life vpn_of u (end_of d u) (use_of d l) vpn t
+    → Covered life vpn_of u (end_of e u) (use_of e l) vpn t)
     → AllByRecursion (CopyOk clock life vpn_of origin u d) cs → AllByRecursion (CopyOk clock life vpn_of origin u e) cs
 copies_along clock life vpn_of origin u d e cs h all =
     each_kept (CopyOk clock life vpn_of origin u d) (CopyOk clock life vpn_of origin u e)

@@ -24,7 +24,8 @@ pub record Grown (depth : NodeId → Fec → ℕ) (bound : ℕ) (n : NodeId) (ol
   pub grown : new ≡ old ++ more
   pub low : Below depth bound n more
 
-grown_by : (depth : NodeId → Fec → ℕ) (bound : ℕ) (n : NodeId) (t : Bool) (old ms : List LabelMessage) → Below depth bound n ms → Grown depth bound n old (cond t (old ++ ms) old)
+grown_by : (depth : NodeId → Fec → ℕ) (bound : ℕ) (n : NodeId) (t : Bool) (old ms : List LabelMessage) → Below depth bound n ms
+    → Grown depth bound n old (cond t (old ++ ms) old)
 grown_by depth bound n true old ms h = record { more = ms; grown = refl; low = h }
 grown_by depth bound n false old ms h = record { more = []; grown = sym (append-nil old); low = tt }
 
@@ -35,13 +36,15 @@ pub record Going (depth : NodeId → Fec → ℕ) (order : List (NodeId × NodeI
   pub lists : Lists order w
 
 -- the network behind the delivery of a message
-pub record Moved (depth : NodeId → Fec → ℕ) (order : List (NodeId × NodeId)) (w x : LabelNetwork) (a b : NodeId) (m : LabelMessage) (rest : List LabelMessage) : Type 0 where
+pub record Moved (depth : NodeId → Fec → ℕ) (order : List (NodeId × NodeId)) (w x : LabelNetwork) (a b : NodeId) (m : LabelMessage)
+    (rest : List LabelMessage) : Type 0 where
   pub going : Going depth order x
   pub here : Grown depth (rank depth b m) b rest (x.direction a b).transit
   pub there : (u n : NodeId) → (u ≡ a → n ≡ b → ⊥) → Grown depth (rank depth b m) n (w.direction u n).transit (x.direction u n).transit
 
 -- a session with a message in transit is joined, and its ends are up
-taker_up : (w : LabelNetwork) (a b : NodeId) (m : LabelMessage) (rest : List LabelMessage) → a ≢ b → Rule w → (w.direction a b).transit ≡ m ∷ rest → is_up (w.node b) a ≡ true
+taker_up : (w : LabelNetwork) (a b : NodeId) (m : LabelMessage) (rest : List LabelMessage) → a ≢ b → Rule w → (w.direction a b).transit ≡ m ∷ rest
+    → is_up (w.node b) a ≡ true
 taker_up w a b m rest ne rule e =
     let s = rule.session a b ne in
     elim (cases_Bool (w.direction a b).joined) [
@@ -49,12 +52,15 @@ taker_up w a b m rest ne rule e =
       | inr off ↦ (let x = sym (s.quiet off) ∙ e in absurd cc)
     ]
 
-module _ (depth : NodeId → Fec → ℕ) (order : List (NodeId × NodeId)) (w : LabelNetwork) (a b : NodeId) (m : LabelMessage) (rest : List LabelMessage) (ne : a ≢ b) (going : Going depth order w) (e : (w.direction a b).transit ≡ m ∷ rest) where
+module _ (depth : NodeId → Fec → ℕ) (order : List (NodeId × NodeId)) (w : LabelNetwork) (a b : NodeId) (m : LabelMessage) (rest : List LabelMessage)
+    (ne : a ≢ b) (going : Going depth order w) (e : (w.direction a b).transit ≡ m ∷ rest) where
   abbrev left : LabelNetwork
   left = left_in_transit w a b rest
 
   left_here : (left.direction a b).transit ≡ rest
-  left_here = cond-true ((a.0 == a.0) && (b.0 == b.0)) rest (w.direction a b).transit (and_from (a.0 == a.0) (b.0 == b.0) (node_itself a a refl) (node_itself b b refl))
+  left_here =
+      cond-true ((a.0 == a.0) && (b.0 == b.0)) rest (w.direction a b).transit
+      (and_from (a.0 == a.0) (b.0 == b.0) (node_itself a a refl) (node_itself b b refl))
 
   left_there : (u n : NodeId) → (u ≡ a → n ≡ b → ⊥) → (left.direction u n).transit ≡ (w.direction u n).transit
   left_there u n other =
@@ -63,10 +69,12 @@ module _ (depth : NodeId → Fec → ℕ) (order : List (NodeId × NodeId)) (w :
         | inr apart ↦ and_left (u.0 == a.0) (n.0 == b.0) (node_apart u a apart)
       ])
 
-  behind_grown : (new : Stepped) → label_step (place_of w b) w.clock (w.node b) (steps.Taken a m) ≡ Some new → (u n : NodeId) → Grown depth (rank depth b m) n (left.direction u n).transit ((behind left b new).direction u n).transit
+  behind_grown : (new : Stepped) → label_step (place_of w b) w.clock (w.node b) (steps.Taken a m) ≡ Some new → (u n : NodeId)
+      → Grown depth (rank depth b m) n (left.direction u n).transit ((behind left b new).direction u n).transit
   behind_grown new is u n =
       grown_by depth (rank depth b m) n ((u.0 == b.0) && (left.direction u n).joined) (left.direction u n).transit (messages_to n new.puts)
-      (below_to depth (rank depth b m) n new.puts (answers_below (place_of w b) w.clock (w.node b) depth a b (going.kept.settled b) (λ v fec up. going.nearer b v fec up) m new is))
+      (below_to depth (rank depth b m) n new.puts (answers_below (place_of w b) w.clock (w.node b) depth a b (going.kept.settled b)
+      (λ v fec up. going.nearer b v fec up) m new is))
 
   is_stepped : act w (Deliver a b) ≡ stepped left b (steps.Taken a m)
   is_stepped = λ i. delivered w a b (node_apart a b ne i) (taker_up w a b m rest ne going.kept.rule e i) (e i)
@@ -83,5 +91,6 @@ module _ (depth : NodeId → Fec → ℕ) (order : List (NodeId × NodeId)) (w :
       subst P y.2 (λ k. record {
         going = record { kept = k; nearer = going.nearer; lists = going.lists };
         here = subst (λ old. Grown depth (rank depth b m) b old ((behind left b y.0).direction a b).transit) left_here (behind_grown y.0 y.1 a b);
-        there = λ u n other. subst (λ old. Grown depth (rank depth b m) n old ((behind left b y.0).direction u n).transit) (left_there u n other) (behind_grown y.0 y.1 u n);
+        there = λ u n other. subst (λ old. Grown depth (rank depth b m) n old ((behind left b y.0).direction u n).transit) (left_there u n other)
+            (behind_grown y.0 y.1 u n);
       }) kept

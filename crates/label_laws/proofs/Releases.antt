@@ -35,7 +35,8 @@ release_rest part from fec l until = by (use_of part l)
     by None = record { branches = refl; leaves = refl; ends = refl }
     by (Some usage) = record { branches = refl; leaves = refl; ends = refl }
 
-module _ (w : LabelNetwork) (a b : NodeId) (f : Fec) (l : ℕ) (rest : List LabelMessage) (ne : a ≢ b) (front : (w.direction a b).transit ≡ messages.Release f l ∷ rest) (rule : Rule w) where
+module _ (w : LabelNetwork) (a b : NodeId) (f : Fec) (l : ℕ) (rest : List LabelMessage) (ne : a ≢ b)
+    (front : (w.direction a b).transit ≡ messages.Release f l ∷ rest) (rule : Rule w) where
   back : b ≢ a
   back e = ne (sym e)
 
@@ -66,10 +67,13 @@ module _ (w : LabelNetwork) (a b : NodeId) (f : Fec) (l : ℕ) (rest : List Labe
   ends : (u : NodeId) → end_of data_after u ≡ end_of (w.node b) u
   ends = same_ends data_after (w.node b) same_rest.ends
 
-  comes : Released a l f (use_of (w.node b) l) (filter (is_of_owner l) (w.direction b a).transit) (filter (is_release_of l) rest) (branch_trees (w.node a) b l)
+  comes : Released a l f (use_of (w.node b) l) (filter (is_of_owner l) (w.direction b a).transit) (filter (is_release_of l) rest)
+      (branch_trees (w.node a) b l)
   comes =
-      let P : List LabelMessage → Type 0 = λ ms. Phase a l (use_of (w.node b) l) (filter (is_of_owner l) (w.direction b a).transit) ms (branch_trees (w.node a) b l) in
-      release_comes a l f (use_of (w.node b) l) (filter (is_of_owner l) (w.direction b a).transit) (filter (is_release_of l) rest) (branch_trees (w.node a) b l) (subst P front_is ((rule.view a b l ne).phase live))
+      let P : List LabelMessage → Type 0 =
+      λ ms. Phase a l (use_of (w.node b) l) (filter (is_of_owner l) (w.direction b a).transit) ms (branch_trees (w.node a) b l) in
+      release_comes a l f (use_of (w.node b) l) (filter (is_of_owner l) (w.direction b a).transit) (filter (is_release_of l) rest)
+      (branch_trees (w.node a) b l) (subst P front_is ((rule.view a b l ne).phase live))
 
   skips : (p : LabelMessage → Bool) → p (messages.Release f l) ≡ false → (u n : NodeId) → filter p (transit u n) ≡ filter p (w.direction u n).transit
   skips p h u n = pop_skips w a b (messages.Release f l) rest front p h u n
@@ -78,14 +82,16 @@ module _ (w : LabelNetwork) (a b : NodeId) (f : Fec) (l : ℕ) (rest : List Labe
   rests =
       use_is l ∙ ap (option_map (change l)) comes.used ∙ ap (λ (x : LabelUse). Some x)
       (cond-true (l == l) (released a f until (uses.Leaving f a)) (uses.Leaving f a) (eq-eqb l l refl)
-      ∙ cond-true (same_fec f f && a.0 == a.0) (uses.Resting until) (uses.Leaving f a) (and_from (same_fec f f) (a.0 == a.0) (same_fec_itself f) (node_itself a a refl)))
+      ∙ cond-true (same_fec f f && a.0 == a.0) (uses.Resting until) (uses.Leaving f a)
+      (and_from (same_fec f f) (a.0 == a.0) (same_fec_itself f) (node_itself a a refl)))
 
   here : OwnerView w b data_after transit a l
   here =
       along_view refl refl refl rests
       (ap (filter (is_of_owner l)) (pop_from w a b rest b a back) ∙ comes.put)
       (ap (filter (is_release_of l)) (pop_here w a b rest) ∙ comes.back)
-      comes.branch (idle_view a l (w.direction a b).joined (end_of data_after a) (end_of (w.node a) b) (Some (uses.Resting until)) (resting_other a until))
+      comes.branch (idle_view a l (w.direction a b).joined (end_of data_after a) (end_of (w.node a) b) (Some (uses.Resting until))
+      (resting_other a until))
 
   not_here : (k : ℕ) → (k ≡ l → ⊥) → use_of data_after k ≡ use_of (w.node b) k
   not_here k e = use_is k ∙ by (use_of (w.node b) k)
@@ -97,22 +103,26 @@ module _ (w : LabelNetwork) (a b : NodeId) (f : Fec) (l : ℕ) (rest : List Labe
   owner_l : (u : NodeId) → u ≢ b → ViewAt w u b l → OwnerView w b data_after transit u l
   owner_l u j v = elim (node_cases u a) [
     | inl e ↦ let Q : NodeId → Type 0 = λ z. OwnerView w b data_after transit z l in subst Q (sym e) here
-    | inr e ↦ along_view refl (ends u) refl (use_is l) (skips (is_of_owner l) refl b u) (ap (filter (is_release_of l)) (pop_from w a b rest u b e)) refl
-        (same_view u l (w.direction u b).joined (end_of (w.node b) u) (end_of (w.node u) b) (use_of (w.node b) l) (option_map (change l) (use_of (w.node b) l)) _ _ (branch_trees (w.node u) b l)
+    | inr e ↦ along_view refl (ends u) refl (use_is l) (skips (is_of_owner l) refl b u) (ap (filter (is_release_of l)) (pop_from w a b rest u b e))
+        refl
+        (same_view u l (w.direction u b).joined (end_of (w.node b) u) (end_of (w.node u) b) (use_of (w.node b) l)
+        (option_map (change l) (use_of (w.node b) l)) _ _ (branch_trees (w.node u) b l)
         (map_same_or_other u a (change l) e (release_ends (l == l) a f until) (use_of (w.node b) l)) v)
   ]
 
   owner : (u : NodeId) (k : ℕ) → u ≢ b → ViewAt w u b k → OwnerView w b data_after transit u k
   owner u k j v = elim (cases_eq k l) [
     | inl e ↦ let Q : ℕ → Type 0 = λ z. ViewAt w u b z → OwnerView w b data_after transit u z in subst Q (sym e) (owner_l u j) v
-    | inr e ↦ along_view refl (ends u) refl (not_here k e) (skips (is_of_owner k) refl b u) (skips (is_release_of k) (ne_eqb l k (λ x. e (sym x))) u b) refl v
+    | inr e ↦ along_view refl (ends u) refl (not_here k e) (skips (is_of_owner k) refl b u)
+        (skips (is_release_of k) (ne_eqb l k (λ x. e (sym x))) u b) refl v
   ]
 
   pub release_rule : Rule (moved w b data_after transit)
   release_rule =
       node_rule w b data_after transit (record {
         owner = owner;
-        branch = λ n k j v. along_view refl refl (ends n) refl (skips (is_of_owner k) refl n b) (ap (filter (is_release_of k)) (pop_from w a b rest b n back)) (same_branches data_after (w.node b) same_rest.branches n k) v;
+        branch = λ n k j v. along_view refl refl (ends n) refl (skips (is_of_owner k) refl n b)
+            (ap (filter (is_release_of k)) (pop_from w a b rest b n back)) (same_branches data_after (w.node b) same_rest.branches n k) v;
         others = λ u n p q. pop_to w a b rest u n q;
         quiet = λ u n j off e. pop_quiet w a b rest live u n off e;
         ends = λ n j up. ap is_some (ends n) ∙ (rule.session b n j).ends up;
@@ -122,5 +132,6 @@ module _ (w : LabelNetwork) (a b : NodeId) (f : Fec) (l : ℕ) (rest : List Labe
             (release_stands w.life w.vpn_of u vpn t (k == l) a f until (use_of (w.node b) k) (omega (arith, past)) st)) h;
         trees = fewer_trees w.is_tree (w.node b) data_after (λ g h. ap (λ (z : FinSet fec_cmp). sets.contains z g) (sym same_rest.leaves) ∙ h)
             (λ x h. ap (λ (z : FinSet branch_cmp). sets.contains z x) (sym same_rest.branches) ∙ h)
-            (λ k g u h. map_held u a g (change k) (release_ends (k == l) a f until) (use_of (w.node b) k) (holds_along g u (use_of data_after k) (option_map (change k) (use_of (w.node b) k)) (use_is k) h)) (rule.trees b);
+            (λ k g u h. map_held u a g (change k) (release_ends (k == l) a f until) (use_of (w.node b) k)
+            (holds_along g u (use_of data_after k) (option_map (change k) (use_of (w.node b) k)) (use_is k) h)) (rule.trees b);
       }) rule

@@ -22,7 +22,8 @@ use Rattle.label_laws.proofs.Runs.{run_kept}
 use Rattle.label_laws.proofs.Moves.{Going, moves}
 
 lower : (depth : NodeId → Fec → ℕ) (r s : ℕ) (n : NodeId) (ms : List LabelMessage) → r ≤ s → Below depth r n ms → Below depth s n ms
-lower depth r s n ms le h = each_kept (λ (m : LabelMessage). rank depth n m < r) (λ (m : LabelMessage). rank depth n m < s) (λ m lt. omega (arith, le, lt)) ms h
+lower depth r s n ms le h =
+    each_kept (λ (m : LabelMessage). rank depth n m < r) (λ (m : LabelMessage). rank depth n m < s) (λ m lt. omega (arith, le, lt)) ms h
 
 none_below : (depth : NodeId → Fec → ℕ) (n : NodeId) (ms : List LabelMessage) → Below depth 0 n ms → ms ≡ []
 none_below depth n [] h = refl
@@ -58,7 +59,8 @@ module _ (depth : NodeId → Fec → ℕ) (order : List (NodeId × NodeId)) wher
     here : a ≢ b → Low r x a b
     there : (s : ℕ) → r ≤ s → (u n : NodeId) → (u ≡ a → n ≡ b → ⊥) → Low s w u n → Low s x u n
 
-  moved_turns : (k r : ℕ) (w x : LabelNetwork) (a b : NodeId) (front back : List LabelMessage) → a ≢ b → In w → (w.direction a b).transit ≡ front ++ back → length front ≡ k
+  moved_turns : (k r : ℕ) (w x : LabelNetwork) (a b : NodeId) (front back : List LabelMessage) → a ≢ b → In w
+      → (w.direction a b).transit ≡ front ++ back → length front ≡ k
       → Below depth (suc r) b front → Below depth r b back → moved w a b k ≡ Some x → Turned r w x a b
   moved_turns zero r w x a b [] back ne g e l f h is =
       let P : LabelNetwork → Type 0 = λ v. Turned r w v a b in
@@ -70,7 +72,8 @@ module _ (depth : NodeId → Fec → ℕ) (order : List (NodeId × NodeId)) wher
       let d = moves depth order w a b m (front ++ back) ne g e y.0 y.1 in
       let top = f.0 in
       let le : rank depth b m ≤ r = omega (arith, top) in
-      let rec = moved_turns k r y.0 x a b front (back ++ d.here.more) ne d.going (d.here.grown ∙ append_assoc front back d.here.more) (omega (arith, l)) f.1
+      let rec =
+      moved_turns k r y.0 x a b front (back ++ d.here.more) ne d.going (d.here.grown ∙ append_assoc front back d.here.more) (omega (arith, l)) f.1
       (all_behind (λ (m : LabelMessage). rank depth b m < r) back d.here.more h (lower depth (rank depth b m) r b d.here.more le d.here.low)) y.2 in
       record {
         going = rec.going;
@@ -78,12 +81,14 @@ module _ (depth : NodeId → Fec → ℕ) (order : List (NodeId × NodeId)) wher
         there = λ s at u n other low.
             let t = d.there u n other in
             rec.there s at u n other (subst (Below depth s n) (sym t.grown)
-            (all_behind (λ (m : LabelMessage). rank depth n m < s) (w.direction u n).transit t.more low (lower depth (rank depth b m) s n t.more (omega (arith, le, at)) t.low)));
+            (all_behind (λ (m : LabelMessage). rank depth n m < s) (w.direction u n).transit t.more low
+            (lower depth (rank depth b m) s n t.more (omega (arith, le, at)) t.low)));
       }
 
   turn_turns : (r : ℕ) (w x : LabelNetwork) (a b : NodeId) → In w → AllLow (suc r) w → turn w a b ≡ Some x → Turned r w x a b
   turn_turns r w x a b g low is = elim (node_cases a b) [
-    | inr ne ↦ moved_turns (length (w.direction a b).transit) r w x a b (w.direction a b).transit [] ne g (sym (append-nil (w.direction a b).transit)) refl (low a b ne) tt is
+    | inr ne ↦ moved_turns (length (w.direction a b).transit) r w x a b (w.direction a b).transit [] ne g (sym (append-nil (w.direction a b).transit))
+        refl (low a b ne) tt is
     | inl same ↦
         let k = length (w.direction a b).transit in
         let stays = self_moved w x a k (ap (λ z. moved w a z k) same ∙ is) in
@@ -141,7 +146,8 @@ module _ (depth : NodeId → Fec → ℕ) (order : List (NodeId × NodeId)) wher
         | inr off ↦ inr (subst (Below depth k n) (sym ((g.kept.rule.session u n ne).quiet off)) tt)
       ])) y.2
 
-rank_bound : (depth : NodeId → Fec → ℕ) (nodes count : ℕ) → ((n : NodeId) (fec : Fec) → depth n fec < nodes) → nodes + 1 ≤ count → (n : NodeId) (m : LabelMessage) → rank depth n m < count
+rank_bound : (depth : NodeId → Fec → ℕ) (nodes count : ℕ) → ((n : NodeId) (fec : Fec) → depth n fec < nodes) → nodes + 1 ≤ count
+    → (n : NodeId) (m : LabelMessage) → rank depth n m < count
 rank_bound depth nodes count bound le n (messages.Mapping fec label) = let x = bound n fec in omega (arith, le, x)
 rank_bound depth nodes count bound le n (messages.Withdraw fec label) = let x = bound n fec in omega (arith, le, x)
 rank_bound depth nodes count bound le n (messages.Release fec label) = omega (arith, le)
@@ -151,7 +157,8 @@ all_of : {X : Type 0} (P : X → Type 0) → ((x : X) → P x) → (xs : List X)
 all_of P h [] = tt
 all_of P h (x ∷ xs) = (h x, all_of P h xs)
 
-pub sessions_emptied : (network new : LabelNetwork) (depth : NodeId → Fec → ℕ) (nodes count : ℕ) (order : List (NodeId × NodeId)) → Kept network → IsNearer network depth → ((n : NodeId) (fec : Fec) → depth n fec < nodes)
+pub sessions_emptied : (network new : LabelNetwork) (depth : NodeId → Fec → ℕ) (nodes count : ℕ) (order : List (NodeId × NodeId)) → Kept network
+    → IsNearer network depth → ((n : NodeId) (fec : Fec) → depth n fec < nodes)
     → Lists order network → nodes + 1 ≤ count → rounds order count network ≡ Some new → IsQuiet new
 sessions_emptied network new depth nodes count order kept nearer bound lists le is =
     rounds_empty depth order count network new (record { kept = kept; nearer = nearer; lists = lists })

@@ -35,14 +35,17 @@ apart a b t e = (let x = node_itself a b e in absurd cc)
 
 -- ---- messages, leaves, timers, losses that are noticed
 
-delivered_kept : (w : LabelNetwork) (a b : NodeId) (same up : Bool) (ms : List LabelMessage) → (a.0 == b.0) ≡ same → (w.direction a b).transit ≡ ms → Kept w → OnNetwork Kept (delivered w a b same up ms)
-delivered_kept w a b false true (m ∷ rest) t e k = call_kept (left_in_transit w a b rest) b (steps.Taken a m) tt (taken_rule w a b m rest (apart a b t) e k.rule) k.settled
+delivered_kept : (w : LabelNetwork) (a b : NodeId) (same up : Bool) (ms : List LabelMessage) → (a.0 == b.0) ≡ same → (w.direction a b).transit ≡ ms
+    → Kept w → OnNetwork Kept (delivered w a b same up ms)
+delivered_kept w a b false true (m ∷ rest) t e k =
+    call_kept (left_in_transit w a b rest) b (steps.Taken a m) tt (taken_rule w a b m rest (apart a b t) e k.rule) k.settled
 delivered_kept w a b false true [] t e k = k
 delivered_kept w a b false false ms t e k = k
 delivered_kept w a b true up ms t e k = k
 
 -- leaves alone change
-leaf_rule : (w : LabelNetwork) (n : NodeId) (leaves : FinSet fec_cmp) → ((f : Fec) → sets.contains leaves f ≡ true → w.is_tree f ≡ true) → Rule w → Rule (with_node w n (record (w.node n) { leaves = leaves }))
+leaf_rule : (w : LabelNetwork) (n : NodeId) (leaves : FinSet fec_cmp) → ((f : Fec) → sets.contains leaves f ≡ true → w.is_tree f ≡ true) → Rule w
+    → Rule (with_node w n (record (w.node n) { leaves = leaves }))
 leaf_rule w n leaves h rule =
     let t = rule.trees n in
     node_rule w n (record (w.node n) { leaves = leaves }) (λ u v. (w.direction u v).transit) (record {
@@ -60,7 +63,9 @@ want_kept w n fec false e k = k
 want_kept w n fec true e k =
     let part = w.node n in
     let new = sets.insert part.leaves fec in
-    let ok : (f : Fec) → sets.contains new f ≡ true → w.is_tree f ≡ true = λ f h. elim (or_cases (eq_by_cmp fec_cmp f fec) (sets.contains part.leaves f) (sym (sets.contains-insert fec_cmp_total part.leaves fec f) ∙ h)) [
+    let ok : (f : Fec) → sets.contains new f ≡ true → w.is_tree f ≡ true =
+    λ f h. elim (or_cases (eq_by_cmp fec_cmp f fec) (sets.contains part.leaves f)
+    (sym (sets.contains-insert fec_cmp_total part.leaves fec f) ∙ h)) [
       | inl x ↦ ap w.is_tree (fec_cmp_exact f fec ((Equal-is (fec_cmp f fec)).0 x)) ∙ e
       | inr x ↦ (k.rule.trees n).leaves f x
     ] in
@@ -70,7 +75,9 @@ unwant_kept : (w : LabelNetwork) (n : NodeId) (fec : Fec) → Kept w → OnNetwo
 unwant_kept w n fec k =
     let part = w.node n in
     let new = sets.remove part.leaves fec in
-    let ok : (f : Fec) → sets.contains new f ≡ true → w.is_tree f ≡ true = λ f h. (k.rule.trees n).leaves f (and_parts (not (eq_by_cmp fec_cmp f fec)) (sets.contains part.leaves f) (sym (sets.contains-remove fec_cmp_total part.leaves fec f) ∙ h)).1 in
+    let ok : (f : Fec) → sets.contains new f ≡ true → w.is_tree f ≡ true =
+    λ f h. (k.rule.trees n).leaves f (and_parts (not (eq_by_cmp fec_cmp f fec)) (sets.contains part.leaves f)
+    (sym (sets.contains-remove fec_cmp_total part.leaves fec f) ∙ h)).1 in
     call_kept w n (steps.Unwant fec) tt (subst Rule (behind_silent w n (record part { leaves = new })) (leaf_rule w n new ok k.rule)) k.settled
 
 timers_kept : (w : LabelNetwork) (n : NodeId) → Kept w → OnNetwork Kept (stepped w n steps.Timers)
@@ -97,7 +104,8 @@ silent w u n ne off rule =
       | inr down ↦ (rule.session u n ne).quiet down
     ]
 
-module _ (w : LabelNetwork) (a b : NodeId) (ne : a ≢ b) (off_a : is_some (end_of (w.node a) b) ≡ false) (off_b : is_some (end_of (w.node b) a) ≡ false) (k : Kept w) where
+module _ (w : LabelNetwork) (a b : NodeId) (ne : a ≢ b) (off_a : is_some (end_of (w.node a) b) ≡ false)
+    (off_b : is_some (end_of (w.node b) a) ≡ false) (k : Kept w) where
   back : b ≢ a
   back e = ne (sym e)
 
@@ -168,8 +176,10 @@ module _ (w : LabelNetwork) (a b : NodeId) (ne : a ≢ b) (off_a : is_some (end_
   begins u n h =
       let P : NodeId → NodeId → Type 0 = λ x y. Begins both x y in
       elim (or_cases ((u.0 == a.0) && (n.0 == b.0)) ((u.0 == b.0) && (n.0 == a.0)) h) [
-        | inl x ↦ let y = and_parts (u.0 == a.0) (n.0 == b.0) x in subst (λ z. P z n) (sym (node_equal u a y.0)) (subst (λ z. P a z) (sym (node_equal n b y.1)) begins_ab)
-        | inr x ↦ let y = and_parts (u.0 == b.0) (n.0 == a.0) x in subst (λ z. P z n) (sym (node_equal u b y.0)) (subst (λ z. P b z) (sym (node_equal n a y.1)) begins_ba)
+        | inl x ↦ let y = and_parts (u.0 == a.0) (n.0 == b.0) x in
+            subst (λ z. P z n) (sym (node_equal u a y.0)) (subst (λ z. P a z) (sym (node_equal n b y.1)) begins_ab)
+        | inr x ↦ let y = and_parts (u.0 == b.0) (n.0 == a.0) x in
+            subst (λ z. P z n) (sym (node_equal u b y.0)) (subst (λ z. P b z) (sym (node_equal n a y.1)) begins_ba)
       ]
 
   joined_both : Rule (with_joined a b both)
@@ -192,12 +202,14 @@ module _ (w : LabelNetwork) (a b : NodeId) (ne : a ≢ b) (off_a : is_some (end_
 
   settled_both : (m : NodeId) → AllSettled (place_of w m) (stepped_both.node m)
   settled_both =
-      settled_behind stepped_a b (steps.Raised a) (record { part = risen (stepped_a.node b) a w.clock; puts = [] }) (ap (λ (d : LabelData). is_some (end_of d a)) there ∙ off_b) settled_a refl
+      settled_behind stepped_a b (steps.Raised a) (record { part = risen (stepped_a.node b) a w.clock; puts = [] })
+      (ap (λ (d : LabelData). is_some (end_of d a)) there ∙ off_b) settled_a refl
 
   pub raised_both : Kept (with_joined a b stepped_both)
   raised_both = record { rule = subst (λ (x : LabelNetwork). Rule (with_joined a b x)) same joined_both; settled = settled_both }
 
-raised_kept : (w : LabelNetwork) (a b : NodeId) (same up other : Bool) → (a.0 == b.0) ≡ same → is_up (w.node a) b ≡ up → is_up (w.node b) a ≡ other → Kept w → OnNetwork Kept (raised w a b same up other)
+raised_kept : (w : LabelNetwork) (a b : NodeId) (same up other : Bool) → (a.0 == b.0) ≡ same → is_up (w.node a) b ≡ up → is_up (w.node b) a ≡ other
+    → Kept w → OnNetwork Kept (raised w a b same up other)
 raised_kept w a b false false false t p q k = raised_both w a b (apart a b t) p q k
 raised_kept w a b false false true t p q k = k
 raised_kept w a b false true other t p q k = k
@@ -212,7 +224,8 @@ restarted_kept w n count k =
           (λ u ne. and_right (w.direction u n).joined (not (is_either n u n)) (ap not (or_right (u.0 == n.0) (n.0 == n.0) (node_itself n n refl))))
           (unjoined_rule w (is_either n) (either_swap n) k.rule);
       settled = λ m fec. elim (node_cases m n) [
-        | inr ne ↦ let P : LabelData → Type 0 = λ d. Settled (place_of w m) d fec in subst P (sym (node_there n (fresh count) w.node m ne)) (k.settled m fec)
+        | inr ne ↦ let P : LabelData → Type 0 = λ d. Settled (place_of w m) d fec in
+            subst P (sym (node_there n (fresh count) w.node m ne)) (k.settled m fec)
         | inl same ↦
             let Q : NodeId → Type 0 = λ x. Settled (place_of w x) (at_node n (fresh count) w.node x) fec in
             let P : LabelData → Type 0 = λ d. Settled (place_of w n) d fec in
@@ -237,7 +250,8 @@ act_kept w (Tick ticks) k = record { rule = tick_rule w ticks k.rule; settled = 
 act_kept w (Timers n) k = timers_kept w n k
 act_kept w (Reroute n upstream) k = rerouted_kept w n upstream k
 
-bind_kept : (o : Option LabelNetwork) (next : LabelNetwork → Option LabelNetwork) → OnNetwork Kept o → ((v : LabelNetwork) → Kept v → OnNetwork Kept (next v)) → OnNetwork Kept (o >>? next)
+bind_kept : (o : Option LabelNetwork) (next : LabelNetwork → Option LabelNetwork) → OnNetwork Kept o
+    → ((v : LabelNetwork) → Kept v → OnNetwork Kept (next v)) → OnNetwork Kept (o >>? next)
 bind_kept None next k h = tt
 bind_kept (Some v) next k h = h v k
 

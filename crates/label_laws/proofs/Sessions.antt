@@ -42,10 +42,14 @@ module _ (w : LabelNetwork) (hit : NodeId → NodeId → Bool) (swap : (u n : No
       record {
         view = λ u n l j. elim (cases_Bool (hit u n)) [
           | inl h ↦
-              along_view (off u n h) refl refl refl (ap (filter (is_of_owner l)) (empty n u (sym (swap u n) ∙ h))) (ap (filter (is_release_of l)) (empty u n h)) refl
-              (cut_view u l (w.direction u n).joined (end_of (w.node n) u) (end_of (w.node u) n) (use_of (w.node n) l) (filter (is_of_owner l) (w.direction n u).transit) (filter (is_release_of l) (w.direction u n).transit) (branch_trees (w.node u) n l) (rule.view u n l j))
+              along_view (off u n h) refl refl refl (ap (filter (is_of_owner l)) (empty n u (sym (swap u n) ∙ h)))
+              (ap (filter (is_release_of l)) (empty u n h)) refl
+              (cut_view u l (w.direction u n).joined (end_of (w.node n) u) (end_of (w.node u) n) (use_of (w.node n) l)
+              (filter (is_of_owner l) (w.direction n u).transit) (filter (is_release_of l) (w.direction u n).transit)
+              (branch_trees (w.node u) n l) (rule.view u n l j))
           | inr h ↦
-              along_view (same_joined u n h) refl refl refl (ap (filter (is_of_owner l)) (same_transit n u (sym (swap u n) ∙ h))) (ap (filter (is_release_of l)) (same_transit u n h)) refl (rule.view u n l j)
+              along_view (same_joined u n h) refl refl refl (ap (filter (is_of_owner l)) (same_transit n u (sym (swap u n) ∙ h)))
+              (ap (filter (is_release_of l)) (same_transit u n h)) refl (rule.view u n l j)
         ];
         session = λ u n j.
             let s = rule.session u n j in
@@ -92,7 +96,9 @@ module _ (w : LabelNetwork) (a b : NodeId) (begins : (u n : NodeId) → is_betwe
               let x = begins u n h in
               let y = begins n u (sym (between_swap a b u n) ∙ h) in
               along_view (on u n h) refl refl refl (ap (filter (is_of_owner l)) y.empty) (ap (filter (is_release_of l)) x.empty) (x.bare l)
-              (begun_view u l (w.direction u n).joined (end_of (w.node n) u) (end_of (w.node u) n) (use_of (w.node n) l) (filter (is_of_owner l) (w.direction n u).transit) (filter (is_release_of l) (w.direction u n).transit) (branch_trees (w.node u) n l) x.unheld (rule.view u n l j))
+              (begun_view u l (w.direction u n).joined (end_of (w.node n) u) (end_of (w.node u) n) (use_of (w.node n) l)
+              (filter (is_of_owner l) (w.direction n u).transit) (filter (is_release_of l) (w.direction u n).transit)
+              (branch_trees (w.node u) n l) x.unheld (rule.view u n l j))
           | inr h ↦ along_view (same u n h) refl refl refl refl refl refl (rule.view u n l j)
         ];
         session = λ u n j.

@@ -29,7 +29,8 @@ use Rattle.label_laws.proofs.Withdraws.{withdraw_rule}
 use Rattle.label_laws.proofs.Releases.{release_rule}
 
 -- a turn behind others
-turn_behind : (w : LabelNetwork) (n : NodeId) (old : LabelData) (puts : List Put) (fec : Fec) (next : LabelData) (more : List Put) → Turn (place_of w n) old fec next more
+turn_behind : (w : LabelNetwork) (n : NodeId) (old : LabelData) (puts : List Put) (fec : Fec) (next : LabelData) (more : List Put)
+    → Turn (place_of w n) old fec next more
     → Rule (behind w n (record { part = old; puts = puts })) → Rule (behind w n (record { part = next; puts = puts ++ more }))
 turn_behind w n old puts fec next more t rule =
     let v = behind w n (record { part = old; puts = puts }) in
@@ -37,7 +38,8 @@ turn_behind w n old puts fec next more t rule =
     subst Rule (behind_again w n old next puts more) (turn_rule v n fec next more (subst P (sym (node_here n old w.node)) t) rule)
 
 -- the ids of messages do not matter
-counted_behind : (w : LabelNetwork) (n : NodeId) (old : Stepped) → Rule (behind w n old) → Rule (behind w n (record { part = (counted old).part; puts = old.puts }))
+counted_behind : (w : LabelNetwork) (n : NodeId) (old : Stepped) → Rule (behind w n old)
+    → Rule (behind w n (record { part = (counted old).part; puts = old.puts }))
 counted_behind w n old rule =
     let v = behind w n old in
     let next = (counted old).part in
@@ -45,18 +47,22 @@ counted_behind w n old rule =
     let ends : (u : NodeId) → AlikeEnd (end_of (v.node n) u) (end_of next u) = λ u.
     subst (λ (d : LabelData). AlikeEnd (end_of d u) (end_of next u)) (sym here)
     (subst (AlikeEnd (end_of old.part u)) (sym (get_after old.part.ends old.puts u)) (passed_end u old.puts (end_of old.part u))) in
-    let same = alike_rule v n next (ap (λ (d : LabelData). d.labels) (sym here)) (ap (λ (d : LabelData). d.branches) (sym here)) (ap (λ (d : LabelData). d.leaves) (sym here)) ends rule in
+    let same =
+    alike_rule v n next (ap (λ (d : LabelData). d.labels) (sym here)) (ap (λ (d : LabelData). d.branches) (sym here))
+    (ap (λ (d : LabelData). d.leaves) (sym here)) ends rule in
     let P : List Put → Type 0 = λ ps. Rule (behind w n (record { part = next; puts = ps })) in
     subst P (append-nil old.puts) (subst Rule (behind_again w n old.part next old.puts []) same)
 
 -- the rule behind the effect holds behind the step
-pub step_rule : (w : LabelNetwork) (n : NodeId) (call : Call) (new : Stepped) → Rule (behind w n (effect (place_of w n) w.clock (w.node n) call).0) → label_step (place_of w n) w.clock (w.node n) call ≡ Some new → Rule (behind w n new)
+pub step_rule : (w : LabelNetwork) (n : NodeId) (call : Call) (new : Stepped) → Rule (behind w n (effect (place_of w n) w.clock (w.node n) call).0)
+    → label_step (place_of w n) w.clock (w.node n) call ≡ Some new → Rule (behind w n new)
 step_rule w n call new start e =
     step_keeps (place_of w n) w.clock (w.node n) call new (λ part puts. Rule (behind w n (record { part = part; puts = puts })))
     (λ old puts fec next more t rule. turn_behind w n old puts fec next more t rule) (λ old rule. counted_behind w n old rule) start e
 
 -- all other nodes are settled, and this one is behind the step
-part_settled : (w : LabelNetwork) (n : NodeId) (new : LabelData) → ((m : NodeId) → m ≢ n → AllSettled (place_of w m) (w.node m)) → AllSettled (place_of w n) new → (m : NodeId) → AllSettled (place_of w m) (at_node n new w.node m)
+part_settled : (w : LabelNetwork) (n : NodeId) (new : LabelData) → ((m : NodeId) → m ≢ n → AllSettled (place_of w m) (w.node m))
+    → AllSettled (place_of w n) new → (m : NodeId) → AllSettled (place_of w m) (at_node n new w.node m)
 part_settled w n new others own m fec =
     elim (node_cases m n) [
       | inr ne ↦ let P : LabelData → Type 0 = λ d. Settled (place_of w m) d fec in subst P (sym (node_there n new w.node m ne)) (others m ne fec)
@@ -66,11 +72,15 @@ part_settled w n new others own m fec =
           subst Q (sym same) (subst P (sym (node_here n new w.node)) (own fec))
     ]
 
-pub settled_behind : (w : LabelNetwork) (n : NodeId) (call : Call) (new : Stepped) → MayBe (w.node n) call → ((m : NodeId) → AllSettled (place_of w m) (w.node m)) → label_step (place_of w n) w.clock (w.node n) call ≡ Some new
+pub settled_behind : (w : LabelNetwork) (n : NodeId) (call : Call) (new : Stepped) → MayBe (w.node n) call
+    → ((m : NodeId) → AllSettled (place_of w m) (w.node m)) → label_step (place_of w n) w.clock (w.node n) call ≡ Some new
     → (m : NodeId) → AllSettled (place_of w m) (at_node n new.part w.node m)
-settled_behind w n call new may all e = part_settled w n new.part (λ m ne. all m) (step_settled (place_of w n) w.clock (w.node n) call new may (all n) e)
+settled_behind w n call new may all e =
+    part_settled w n new.part (λ m ne. all m) (step_settled (place_of w n) w.clock (w.node n) call new may (all n) e)
 
-pub call_kept : (w : LabelNetwork) (n : NodeId) (call : Call) → MayBe (w.node n) call → Rule (behind w n (effect (place_of w n) w.clock (w.node n) call).0) → ((m : NodeId) → AllSettled (place_of w m) (w.node m)) → OnNetwork Kept (stepped w n call)
+pub call_kept : (w : LabelNetwork) (n : NodeId) (call : Call) → MayBe (w.node n) call
+    → Rule (behind w n (effect (place_of w n) w.clock (w.node n) call).0) → ((m : NodeId) → AllSettled (place_of w m) (w.node m))
+    → OnNetwork Kept (stepped w n call)
 call_kept w n call may start all = by (label_step (place_of w n) w.clock (w.node n) call) refl
   where
     by : (o : Option Stepped) → label_step (place_of w n) w.clock (w.node n) call ≡ o → OnNetwork Kept (option_map (behind w n) o)
@@ -81,11 +91,21 @@ call_kept w n call may start all = by (label_step (place_of w n) w.clock (w.node
 
 -- the rule does not speak of next hops
 upstream_rule : (w : LabelNetwork) (n : NodeId) (upstream : Fec → Option NodeId) → Rule w → Rule (with_upstream w n upstream)
-upstream_rule w n upstream rule = record { view = rule.view; session = λ u v ne. (let s = rule.session u v ne in record { alike = s.alike; quiet = s.quiet; ends = s.ends }); copies = rule.copies; trees = rule.trees }
+upstream_rule w n upstream rule =
+    record {
+      view = rule.view;
+      session =
+          λ u v ne. (let s = rule.session u v ne in record { alike = s.alike; quiet = s.quiet; ends = s.ends });
+      copies = rule.copies;
+      trees = rule.trees;
+    }
 
 -- the place of another node stays
-other_place : (w : LabelNetwork) (n : NodeId) (upstream : Fec → Option NodeId) (m : NodeId) → m ≢ n → place_of (with_upstream w n upstream) m ≡ place_of w m
-other_place w n upstream m ne = ap (λ (next : Fec → Option NodeId). record { life = w.life; is_tree = w.is_tree; upstream = next }) (cond-false (m.0 == n.0) upstream (w.upstream m) (node_apart m n ne))
+other_place : (w : LabelNetwork) (n : NodeId) (upstream : Fec → Option NodeId) (m : NodeId) → m ≢ n
+    → place_of (with_upstream w n upstream) m ≡ place_of w m
+other_place w n upstream m ne =
+    ap (λ (next : Fec → Option NodeId). record { life = w.life; is_tree = w.is_tree; upstream = next })
+    (cond-false (m.0 == n.0) upstream (w.upstream m) (node_apart m n ne))
 
 module _ (w : LabelNetwork) (n : NodeId) (upstream : Fec → Option NodeId) (k : Kept w) where
   abbrev aimed : LabelNetwork
@@ -97,21 +117,25 @@ module _ (w : LabelNetwork) (n : NodeId) (upstream : Fec → Option NodeId) (k :
       by : (o : Option Stepped) → label_step (place_of aimed n) w.clock (w.node n) steps.Rerouted ≡ o → OnNetwork Kept (option_map (behind aimed n) o)
       by None e = tt
       by (Some new) e = record {
-        rule = step_rule aimed n steps.Rerouted new (same_rule aimed n (w.node n) refl (record { branches = refl; leaves = refl; ends = refl }) (upstream_rule w n upstream k.rule)) e;
-        settled = part_settled aimed n new.part (λ m ne. subst (λ (p : Place). AllSettled p (w.node m)) (sym (other_place w n upstream m ne)) (k.settled m))
+        rule = step_rule aimed n steps.Rerouted new
+            (same_rule aimed n (w.node n) refl (record { branches = refl; leaves = refl; ends = refl }) (upstream_rule w n upstream k.rule)) e;
+        settled =
+            part_settled aimed n new.part (λ m ne. subst (λ (p : Place). AllSettled p (w.node m)) (sym (other_place w n upstream m ne)) (k.settled m))
             (rerouted_settled (place_of w n) (place_of aimed n) w.clock (w.node n) new (k.settled n) e);
       }
 
 -- ---- a message is taken
 
-pub taken_rule : (w : LabelNetwork) (a b : NodeId) (m : LabelMessage) (rest : List LabelMessage) → a ≢ b → (w.direction a b).transit ≡ m ∷ rest → Rule w
+pub taken_rule : (w : LabelNetwork) (a b : NodeId) (m : LabelMessage) (rest : List LabelMessage) → a ≢ b → (w.direction a b).transit ≡ m ∷ rest
+    → Rule w
     → Rule (behind (left_in_transit w a b rest) b (effect (place_of w b) w.clock (w.node b) (steps.Taken a m)).0)
 taken_rule w a b (messages.Mapping f l) rest ne e rule =
     let v = left_in_transit w a b rest in
     let part = w.node b in
     let more : LabelData = record part { branches = sets.insert part.branches (branch_to a f l) } in
     let P : LabelData → Type 0 = λ d. Rule (behind v b (record { part = d; puts = [] })) in
-    subst P (sym (cond-true (w.is_tree f) more part (mapped_tree w a b f l rest ne e rule))) (subst Rule (behind_silent v b more) (mapping_rule w a b f l rest ne e rule))
+    subst P (sym (cond-true (w.is_tree f) more part (mapped_tree w a b f l rest ne e rule)))
+    (subst Rule (behind_silent v b more) (mapping_rule w a b f l rest ne e rule))
 taken_rule w a b (messages.Withdraw f l) rest ne e rule = withdraw_rule w a b f l rest ne e rule
 taken_rule w a b (messages.Release f l) rest ne e rule =
     let v = left_in_transit w a b rest in

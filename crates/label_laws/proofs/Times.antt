@@ -22,11 +22,13 @@ use Rattle.label_laws.proofs.Trees.{fewer_trees}
 use Rattle.label_laws.proofs.Ends.{with_node}
 
 -- what is kept has Q
-filter_on : {X : Type 0} (t : Bool) (Q : X → Type 0) (x : X) (ys : List X) → (t ≡ true → Q x) → AllByRecursion Q ys → AllByRecursion Q (cond t (x ∷ ys) ys)
+filter_on : {X : Type 0} (t : Bool) (Q : X → Type 0) (x : X) (ys : List X) → (t ≡ true → Q x) → AllByRecursion Q ys
+    → AllByRecursion Q (cond t (x ∷ ys) ys)
 filter_on true Q x ys h all = (h refl, all)
 filter_on false Q x ys h all = all
 
-pub each_filtered : {X : Type 0} (p : X → Bool) (P Q : X → Type 0) → ((x : X) → p x ≡ true → P x → Q x) → (xs : List X) → AllByRecursion P xs → AllByRecursion Q (filter p xs)
+pub each_filtered : {X : Type 0} (p : X → Bool) (P Q : X → Type 0) → ((x : X) → p x ≡ true → P x → Q x) → (xs : List X) → AllByRecursion P xs
+    → AllByRecursion Q (filter p xs)
 each_filtered p P Q h [] all = tt
 each_filtered p P Q h (x ∷ xs) all = filter_on (p x) Q x (filter p xs) (λ e. h x e all.0) (each_filtered p P Q h xs all.1)
 
@@ -42,8 +44,10 @@ tick_rule w ticks rule =
     record {
       view = rule.view;
       session = λ u n j. let s = rule.session u n j in record { alike = s.alike; quiet = s.quiet; ends = s.ends };
-      copies = λ u n j. each_filtered (λ (c : PacketCopy). nat_le (w.clock + ticks) (c.put_at + w.life)) (CopyOk w.clock w.life w.vpn_of w.origin u (w.node n)) (CopyOk (w.clock + ticks) w.life w.vpn_of w.origin u (w.node n))
-          (λ c e o. let past = o.past in record { past = omega (arith, past); young = leb-true (w.clock + ticks) (c.put_at + w.life) e; covered = o.covered })
+      copies = λ u n j. each_filtered (λ (c : PacketCopy). nat_le (w.clock + ticks) (c.put_at + w.life))
+          (CopyOk w.clock w.life w.vpn_of w.origin u (w.node n)) (CopyOk (w.clock + ticks) w.life w.vpn_of w.origin u (w.node n))
+          (λ c e o. let past = o.past in
+          record { past = omega (arith, past); young = leb-true (w.clock + ticks) (c.put_at + w.life) e; covered = o.covered })
           (w.direction u n).copies (rule.copies u n j);
       trees = rule.trees;
     }
@@ -58,7 +62,8 @@ still_up : (life now : ℕ) (o : Option End) → is_some o ≡ true → is_some 
 still_up life now None e = absurd cc
 still_up life now (Some end) e = refl
 
-near_hold : (u : NodeId) (l life now : ℕ) (live : Bool) (near far : Option End) (s : Option LabelUse) (ms bs : List LabelMessage) (o : Fec → Bool) → View u l live near far s ms bs o → View u l live (option_map (hold_run life now) near) far s ms bs o
+near_hold : (u : NodeId) (l life now : ℕ) (live : Bool) (near far : Option End) (s : Option LabelUse) (ms bs : List LabelMessage) (o : Fec → Bool)
+    → View u l live near far s ms bs o → View u l live (option_map (hold_run life now) near) far s ms bs o
 near_hold u l life now live near far s ms bs o v =
     record {
       phase = v.phase;
@@ -67,17 +72,20 @@ near_hold u l life now live near far s ms bs o v =
       branch = v.branch;
     }
 
-far_hold : (u : NodeId) (l life now : ℕ) (live : Bool) (near far : Option End) (s : Option LabelUse) (ms bs : List LabelMessage) (o : Fec → Bool) → View u l live near far s ms bs o → View u l live near (option_map (hold_run life now) far) s ms bs o
+far_hold : (u : NodeId) (l life now : ℕ) (live : Bool) (near far : Option End) (s : Option LabelUse) (ms bs : List LabelMessage) (o : Fec → Bool)
+    → View u l live near far s ms bs o → View u l live near (option_map (hold_run life now) far) s ms bs o
 far_hold u l life now live near far s ms bs o v =
     record { phase = v.phase; alone = v.alone; owner = v.owner; branch = λ f e. still_up life now far (v.branch f e) }
 
 -- while a hold was not run each copy is of before the raise; when it is due, these are gone
-still_unheld : (held due : Bool) (now life raised t : ℕ) → nat_le (raised + life + 1) now ≡ due → held ≡ false → t ≤ raised → now ≤ t + life → (held || (not held && due)) ≡ false
+still_unheld : (held due : Bool) (now life raised t : ℕ) → nat_le (raised + life + 1) now ≡ due → held ≡ false → t ≤ raised → now ≤ t + life
+    → (held || (not held && due)) ≡ false
 still_unheld true due now life raised t e h before young = absurd cc
 still_unheld false true now life raised t e h before young = let le = leb-true (raised + life + 1) now e in absurd (omega (arith, le, before, young))
 still_unheld false false now life raised t e h before young = refl
 
-hold_covered : (now life : ℕ) (vpn_of : Fec → ℕ) (u : NodeId) (vpn t : ℕ) (near : Option End) (s : Option LabelUse) → now ≤ t + life → Covered life vpn_of u near s vpn t → Covered life vpn_of u (option_map (hold_run life now) near) (option_map (woken now) s) vpn t
+hold_covered : (now life : ℕ) (vpn_of : Fec → ℕ) (u : NodeId) (vpn t : ℕ) (near : Option End) (s : Option LabelUse) → now ≤ t + life
+    → Covered life vpn_of u near s vpn t → Covered life vpn_of u (option_map (hold_run life now) near) (option_map (woken now) s) vpn t
 hold_covered now life vpn_of u vpn t near s young h =
     elim h [
       | inl off ↦ inl (ap (option_map (hold_run life now)) off)
@@ -102,15 +110,22 @@ timed_rule w b rule =
     let use_is : (l : ℕ) → use_of d l ≡ option_map (woken w.clock) (use_of part l) = λ l. used-map (woken w.clock) part.labels l in
     node_rule w b d transit (record {
       owner = λ u l ne v. along_view refl (ends u) refl (use_is l) refl refl refl
-          (near_hold u l w.life w.clock (w.direction u b).joined (end_of part u) (end_of (w.node u) b) (option_map (woken w.clock) (use_of part l)) (filter (is_of_owner l) (transit b u)) (filter (is_release_of l) (transit u b)) (branch_trees (w.node u) b l)
-          (same_view u l (w.direction u b).joined (end_of part u) (end_of (w.node u) b) (use_of part l) (option_map (woken w.clock) (use_of part l)) (filter (is_of_owner l) (transit b u)) (filter (is_release_of l) (transit u b)) (branch_trees (w.node u) b l) (woken_same u w.clock (use_of part l)) v));
+          (near_hold u l w.life w.clock (w.direction u b).joined (end_of part u) (end_of (w.node u) b) (option_map (woken w.clock) (use_of part l))
+          (filter (is_of_owner l) (transit b u)) (filter (is_release_of l) (transit u b)) (branch_trees (w.node u) b l)
+          (same_view u l (w.direction u b).joined (end_of part u) (end_of (w.node u) b) (use_of part l) (option_map (woken w.clock) (use_of part l))
+          (filter (is_of_owner l) (transit b u)) (filter (is_release_of l) (transit u b)) (branch_trees (w.node u) b l)
+          (woken_same u w.clock (use_of part l)) v));
       branch = λ n l ne v. along_view refl refl (ends n) refl refl refl refl
-          (far_hold b l w.life w.clock (w.direction b n).joined (end_of (w.node n) b) (end_of part n) (use_of (w.node n) l) (filter (is_of_owner l) (transit n b)) (filter (is_release_of l) (transit b n)) (branch_trees part n l) v);
+          (far_hold b l w.life w.clock (w.direction b n).joined (end_of (w.node n) b) (end_of part n) (use_of (w.node n) l)
+          (filter (is_of_owner l) (transit n b)) (filter (is_release_of l) (transit b n)) (branch_trees part n l) v);
       others = λ u n p q. refl;
       quiet = λ u n j off e. e;
       ends = λ n ne up. ap is_some (ends n) ∙ still_up w.life w.clock (end_of part n) ((rule.session b n ne).ends up);
-      covered = λ u l vpn t ne past young h. covered_along w.life w.vpn_of u vpn t (option_map (hold_run w.life w.clock) (end_of part u)) (end_of d u) (option_map (woken w.clock) (use_of part l)) (use_of d l) (ends u) (use_is l)
+      covered =
+          λ u l vpn t ne past young h. covered_along w.life w.vpn_of u vpn t (option_map (hold_run w.life w.clock) (end_of part u)) (end_of d u)
+          (option_map (woken w.clock) (use_of part l)) (use_of d l) (ends u) (use_is l)
           (hold_covered w.clock w.life w.vpn_of u vpn t (end_of part u) (use_of part l) young h);
       trees = fewer_trees w.is_tree part d (λ f h. h) (λ x h. h)
-          (λ l f u h. same_held u f (use_of part l) (option_map (woken w.clock) (use_of part l)) (woken_same u w.clock (use_of part l)) (holds_along f u (use_of d l) (option_map (woken w.clock) (use_of part l)) (use_is l) h)) (rule.trees b);
+          (λ l f u h. same_held u f (use_of part l) (option_map (woken w.clock) (use_of part l)) (woken_same u w.clock (use_of part l))
+          (holds_along f u (use_of d l) (option_map (woken w.clock) (use_of part l)) (use_is l) h)) (rule.trees b);
     }) rule

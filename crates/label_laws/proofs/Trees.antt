@@ -20,11 +20,19 @@ tree_of is_tree d f t h = elim (or_cases (has_branch d f) (sets.contains d.leave
 ]
 
 -- an item of a set with one more
-pub one_more : {K : Type 0} (P : K → Type 0) (s t : K → Bool) (k : K) → P k → ((q : K) → s q ≡ true → P q) → ((q : K) → t q ≡ true → (q ≡ k) ⊎ (s q ≡ true)) → (q : K) → t q ≡ true → P q
+pub one_more : {K : Type 0} (P : K → Type 0) (s t : K → Bool) (k : K) → P k → ((q : K) → s q ≡ true → P q)
+    → ((q : K) → t q ≡ true → (q ≡ k) ⊎ (s q ≡ true)) → (q : K) → t q ≡ true → P q
 one_more P s t k p all new q h = elim (new q h) [ inl e ↦ subst P (sym e) p | inr e ↦ all q e ]
 
 -- what the node has is fewer or the same
-pub fewer_trees : (is_tree : Fec → Bool) (old new : LabelData) → ((f : Fec) → sets.contains new.leaves f ≡ true → sets.contains old.leaves f ≡ true) → ((b : Branch) → sets.contains new.branches b ≡ true → sets.contains old.branches b ≡ true)
-    → ((l : ℕ) (f : Fec) (u : NodeId) → IsUsedTowards f u (use_of new l) → IsUsedTowards f u (use_of old l)) → OfTrees is_tree old → OfTrees is_tree new
+pub fewer_trees : (is_tree : Fec → Bool) (old new : LabelData) → ((f : Fec) → sets.contains new.leaves f ≡ true → sets.contains old.leaves f ≡ true)
+    → ((b : Branch) → sets.contains new.branches b ≡ true → sets.contains old.branches b ≡ true)
+    → ((l : ℕ) (f : Fec) (u : NodeId) → IsUsedTowards f u (use_of new l) → IsUsedTowards f u (use_of old l)) → OfTrees is_tree old
+    → OfTrees is_tree new
 fewer_trees is_tree old new leaves branches labels t =
-    record { leaves = λ f h. t.leaves f (leaves f h); branches = λ b h. t.branches b (branches b h); labels = λ l f u h. t.labels l f u (labels l f u h) }
+    record {
+      leaves = λ f h. t.leaves f (leaves f h);
+      branches = λ b h. t.branches b (branches b h);
+      labels =
+          λ l f u h. t.labels l f u (labels l f u h);
+    }

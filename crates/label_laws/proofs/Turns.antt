@@ -43,7 +43,8 @@ pub record AlikeEnd (old new : Option End) : Type 0 where
   pub up : is_some new ≡ is_some old
   pub unheld : (put_at : ℕ) → Unheld old put_at → Unheld new put_at
 
-near_alike : (u : NodeId) (l : ℕ) (live : Bool) (near also far : Option End) (s : Option LabelUse) (ms bs : List LabelMessage) (o : Fec → Bool) → AlikeEnd near also → View u l live near far s ms bs o → View u l live also far s ms bs o
+near_alike : (u : NodeId) (l : ℕ) (live : Bool) (near also far : Option End) (s : Option LabelUse) (ms bs : List LabelMessage) (o : Fec → Bool)
+    → AlikeEnd near also → View u l live near far s ms bs o → View u l live also far s ms bs o
 near_alike u l live near also far s ms bs o a v =
     record {
       phase = v.phase;
@@ -52,37 +53,51 @@ near_alike u l live near also far s ms bs o a v =
       branch = v.branch;
     }
 
-far_alike : (u : NodeId) (l : ℕ) (live : Bool) (near far also : Option End) (s : Option LabelUse) (ms bs : List LabelMessage) (o : Fec → Bool) → AlikeEnd far also → View u l live near far s ms bs o → View u l live near also s ms bs o
+far_alike : (u : NodeId) (l : ℕ) (live : Bool) (near far also : Option End) (s : Option LabelUse) (ms bs : List LabelMessage) (o : Fec → Bool)
+    → AlikeEnd far also → View u l live near far s ms bs o → View u l live near also s ms bs o
 far_alike u l live near far also s ms bs o a v = record { phase = v.phase; alone = v.alone; owner = v.owner; branch = λ f h. a.up ∙ v.branch f h }
 
-covered_alike : (life : ℕ) (vpn_of : Fec → ℕ) (u : NodeId) (vpn t : ℕ) (c d : Option End) (s : Option LabelUse) → AlikeEnd c d → Covered life vpn_of u c s vpn t → Covered life vpn_of u d s vpn t
+covered_alike : (life : ℕ) (vpn_of : Fec → ℕ) (u : NodeId) (vpn t : ℕ) (c d : Option End) (s : Option LabelUse) → AlikeEnd c d
+    → Covered life vpn_of u c s vpn t → Covered life vpn_of u d s vpn t
 covered_alike life vpn_of u vpn t c d s a h = elim h [
   | inl none ↦ inl (a.down none)
   | inr x ↦ elim x [ inl young ↦ inr (inl (a.unheld t young)) | inr stands ↦ inr (inr stands) ]
 ]
 
 -- what the rule reads of the data stays
-pub alike_rule : (w : LabelNetwork) (b : NodeId) (d : LabelData) → d.labels ≡ (w.node b).labels → d.branches ≡ (w.node b).branches → d.leaves ≡ (w.node b).leaves
+pub alike_rule : (w : LabelNetwork) (b : NodeId) (d : LabelData) → d.labels ≡ (w.node b).labels → d.branches ≡ (w.node b).branches
+    → d.leaves ≡ (w.node b).leaves
     → ((u : NodeId) → AlikeEnd (end_of (w.node b) u) (end_of d u)) → Rule w → Rule (behind w b (record { part = d; puts = [] }))
 alike_rule w b d labels own_branches own_leaves ends rule =
     let branches = same_branches d (w.node b) own_branches in
     let same : (l : ℕ) → use_of d l ≡ use_of (w.node b) l = λ l. ap (λ (ls : List LabelUse). used ls l) labels in
     subst Rule (behind_silent w b d) (node_rule w b d (λ u n. (w.direction u n).transit) (record {
-      owner = λ u l j v. near_alike u l (w.direction u b).joined (end_of (w.node b) u) (end_of d u) (end_of (w.node u) b) (use_of d l) (filter (is_of_owner l) (w.direction b u).transit) (filter (is_release_of l) (w.direction u b).transit) (branch_trees (w.node u) b l) (ends u)
+      owner = λ u l j v. near_alike u l (w.direction u b).joined (end_of (w.node b) u) (end_of d u) (end_of (w.node u) b) (use_of d l)
+          (filter (is_of_owner l) (w.direction b u).transit) (filter (is_release_of l) (w.direction u b).transit) (branch_trees (w.node u) b l)
+          (ends u)
           (along_view refl refl refl (same l) refl refl refl v);
-      branch = λ n l j v. far_alike b l (w.direction b n).joined (end_of (w.node n) b) (end_of (w.node b) n) (end_of d n) (use_of (w.node n) l) (filter (is_of_owner l) (w.direction n b).transit) (filter (is_release_of l) (w.direction b n).transit) (branch_trees d n l) (ends n)
+      branch = λ n l j v. far_alike b l (w.direction b n).joined (end_of (w.node n) b) (end_of (w.node b) n) (end_of d n) (use_of (w.node n) l)
+          (filter (is_of_owner l) (w.direction n b).transit) (filter (is_release_of l) (w.direction b n).transit) (branch_trees d n l) (ends n)
           (along_view refl refl refl refl refl refl (branches n l) v);
       others = λ u n p q. refl;
       quiet = λ u n j off e. e;
       ends = λ n j up. (ends n).up ∙ (rule.session b n j).ends up;
       covered = λ u l vpn t j past young h. covered_alike w.life w.vpn_of u vpn t (end_of (w.node b) u) (end_of d u) (use_of d l) (ends u)
           (covered_along w.life w.vpn_of u vpn t (end_of (w.node b) u) (end_of (w.node b) u) (use_of (w.node b) l) (use_of d l) refl (same l) h);
-      trees = fewer_trees w.is_tree (w.node b) d (λ f h. ap (λ (s : FinSet fec_cmp). sets.contains s f) (sym own_leaves) ∙ h) (λ x h. ap (λ (s : FinSet branch_cmp). sets.contains s x) (sym own_branches) ∙ h)
+      trees = fewer_trees w.is_tree (w.node b) d (λ f h. ap (λ (s : FinSet fec_cmp). sets.contains s f) (sym own_leaves) ∙ h)
+          (λ x h. ap (λ (s : FinSet branch_cmp). sets.contains s x) (sym own_branches) ∙ h)
           (λ l f u h. holds_along f u (use_of d l) (use_of (w.node b) l) (same l) h) (rule.trees b);
     }) rule)
 
 pub same_end : (old new : Option End) → new ≡ old → AlikeEnd old new
-same_end old new e = record { down = λ none. e ∙ none; held = ap is_held e; up = ap is_some e; unheld = λ t x. record { end = x.end; up = e ∙ x.up; since = x.since; unheld = x.unheld } }
+same_end old new e =
+    record {
+      down = λ none. e ∙ none;
+      held = ap is_held e;
+      up = ap is_some e;
+      unheld =
+          λ t x. record { end = x.end; up = e ∙ x.up; since = x.since; unheld = x.unheld };
+    }
 
 -- an end behind messages
 pub passed_end : (n : NodeId) (puts : List Put) (old : Option End) → AlikeEnd old (option_map (passed n puts) old)
@@ -101,15 +116,18 @@ passed_end n puts (Some end) = record {
       };
 }
 
-pub same_rule : (w : LabelNetwork) (b : NodeId) (d : LabelData) → d.labels ≡ (w.node b).labels → SameRest (w.node b) d → Rule w → Rule (behind w b (record { part = d; puts = [] }))
-same_rule w b d labels rest rule = alike_rule w b d labels rest.branches rest.leaves (λ u. same_end (end_of (w.node b) u) (end_of d u) (same_ends d (w.node b) rest.ends u)) rule
+pub same_rule : (w : LabelNetwork) (b : NodeId) (d : LabelData) → d.labels ≡ (w.node b).labels → SameRest (w.node b) d → Rule w
+    → Rule (behind w b (record { part = d; puts = [] }))
+same_rule w b d labels rest rule =
+    alike_rule w b d labels rest.branches rest.leaves (λ u. same_end (end_of (w.node b) u) (end_of d u) (same_ends d (w.node b) rest.ends u)) rule
 
 -- one label of b goes from one use to another, and a message of that label is put to x
 module _ (w : LabelNetwork) (b x : NodeId) (d : LabelData) (l : ℕ) (s : Option LabelUse) (m : LabelMessage) (rule : Rule w)
     (here_use : use_of d l ≡ s) (there_use : (k : ℕ) → (k ≡ l → ⊥) → use_of d k ≡ use_of (w.node b) k) (rest : SameRest (w.node b) d)
     (down : (k : ℕ) → is_of_owner k m ≡ (l == k)) (back : (k : ℕ) → is_release_of k m ≡ false)
     (stands : (u : NodeId) (vpn t : ℕ) → LabelCovers w.life w.vpn_of u (use_of (w.node b) l) vpn t → LabelCovers w.life w.vpn_of u s vpn t)
-    (here : (live : Bool) (far : Option End) (ms ns bs : List LabelMessage) (o : Fec → Bool) → (live ≡ true → ns ≡ ms ++ m ∷ []) → View x l live (end_of (w.node b) x) far (use_of (w.node b) l) ms bs o → View x l live (end_of (w.node b) x) far s ns bs o)
+    (here : (live : Bool) (far : Option End) (ms ns bs : List LabelMessage) (o : Fec → Bool) → (live ≡ true → ns ≡ ms ++ m ∷ [])
+    → View x l live (end_of (w.node b) x) far (use_of (w.node b) l) ms bs o → View x l live (end_of (w.node b) x) far s ns bs o)
     (other : (u : NodeId) → u ≢ x → SameOrOther u (use_of (w.node b) l) s)
     (trees : (f : Fec) (u : NodeId) → IsUsedTowards f u s → w.is_tree f ≡ true) where
   abbrev puts : List Put
@@ -124,7 +142,8 @@ module _ (w : LabelNetwork) (b x : NodeId) (d : LabelData) (l : ℕ) (s : Option
   owner_x : x ≢ b → ViewAt w x b l → OwnerView w b d transit x l
   owner_x ne v =
       along_view refl (ends x) refl here_use refl (ap (filter (is_release_of l)) (sent_other b puts w.direction x b ne)) refl
-      (here (w.direction x b).joined (end_of (w.node x) b) (filter (is_of_owner l) (w.direction b x).transit) (filter (is_of_owner l) (transit b x)) (filter (is_release_of l) (w.direction x b).transit) (branch_trees (w.node x) b l)
+      (here (w.direction x b).joined (end_of (w.node x) b) (filter (is_of_owner l) (w.direction b x).transit) (filter (is_of_owner l) (transit b x))
+      (filter (is_release_of l) (w.direction x b).transit) (branch_trees (w.node x) b l)
       (λ j. sent_passes (is_of_owner l) b x m w.direction (sym (rule.session x b ne).alike ∙ j) (down l ∙ eq-eqb l l refl)) v)
 
   owner_l : (u : NodeId) → u ≢ b → ViewAt w u b l → OwnerView w b d transit u l
@@ -133,7 +152,8 @@ module _ (w : LabelNetwork) (b x : NodeId) (d : LabelData) (l : ℕ) (s : Option
     | inr e ↦ along_view refl (ends u) refl here_use
         (sent_skips (is_of_owner l) b puts w.direction b u (ap (filter (is_of_owner l)) (none_to x u m (λ z. e (sym z)))))
         (ap (filter (is_release_of l)) (sent_other b puts w.direction u b ne)) refl
-        (same_view u l (w.direction u b).joined (end_of (w.node b) u) (end_of (w.node u) b) (use_of (w.node b) l) s _ _ (branch_trees (w.node u) b l) (other u e) v)
+        (same_view u l (w.direction u b).joined (end_of (w.node b) u) (end_of (w.node u) b) (use_of (w.node b) l) s _ _ (branch_trees (w.node u) b l)
+        (other u e) v)
   ]
 
   owner : (u : NodeId) (k : ℕ) → u ≢ b → ViewAt w u b k → OwnerView w b d transit u k
@@ -144,10 +164,12 @@ module _ (w : LabelNetwork) (b x : NodeId) (d : LabelData) (l : ℕ) (s : Option
         (ap (filter (is_release_of k)) (sent_other b puts w.direction u b ne)) refl v
   ]
 
-  covered : (u : NodeId) (k vpn t : ℕ) → Covered w.life w.vpn_of u (end_of (w.node b) u) (use_of (w.node b) k) vpn t → Covered w.life w.vpn_of u (end_of d u) (use_of d k) vpn t
+  covered : (u : NodeId) (k vpn t : ℕ) → Covered w.life w.vpn_of u (end_of (w.node b) u) (use_of (w.node b) k) vpn t
+      → Covered w.life w.vpn_of u (end_of d u) (use_of d k) vpn t
   covered u k vpn t h =
       covered_if w.life w.vpn_of u vpn t (end_of (w.node b) u) (end_of d u) (use_of (w.node b) k) (use_of d k) (ends u) (λ st. elim (cases_eq k l) [
-        | inl e ↦ stand_along w.life w.vpn_of u vpn t s (use_of d k) (ap (use_of d) e ∙ here_use) (stands u vpn t (stand_along w.life w.vpn_of u vpn t (use_of (w.node b) k) (use_of (w.node b) l) (ap (use_of (w.node b)) (sym e)) st))
+        | inl e ↦ stand_along w.life w.vpn_of u vpn t s (use_of d k) (ap (use_of d) e ∙ here_use)
+            (stands u vpn t (stand_along w.life w.vpn_of u vpn t (use_of (w.node b) k) (use_of (w.node b) l) (ap (use_of (w.node b)) (sym e)) st))
         | inr e ↦ stand_along w.life w.vpn_of u vpn t (use_of (w.node b) k) (use_of d k) (there_use k e) st
       ]) h
 
@@ -180,7 +202,8 @@ left_fec : (f g : Fec) (u v : NodeId) → IsUsedTowards f u (Some (uses.Leaving 
 left_fec f g u v h = elim h [ inl x ↦ absurd cc | inr x ↦ cc ]
 
 -- a turn keeps the rule
-pub turn_rule : (w : LabelNetwork) (b : NodeId) (fec : Fec) (next : LabelData) (more : List Put) → Turn (place_of w b) (w.node b) fec next more → Rule w → Rule (behind w b (record { part = next; puts = more }))
+pub turn_rule : (w : LabelNetwork) (b : NodeId) (fec : Fec) (next : LabelData) (more : List Put) → Turn (place_of w b) (w.node b) fec next more
+    → Rule w → Rule (behind w b (record { part = next; puts = more }))
 turn_rule w b fec next more t rule =
     let part = w.node b in
     let P : List Put → Type 0 = λ ps. Rule (behind w b (record { part = next; puts = ps })) in
@@ -191,7 +214,8 @@ turn_rule w b fec next more t rule =
           (λ k e. ap (λ (ls : List LabelUse). used ls k) m.labels ∙ set_there part m.label uses.Free (uses.Mapped fec m.to) k m.least.free e)
           t.rest (λ k. refl) (λ k. refl)
           (λ u vpn at h. absurd (free_stands w.life w.vpn_of u vpn at (use_of part m.label) m.least.free h))
-          (λ live far ms ns bs o put v. free_view m.to m.label fec live (end_of part m.to) far (use_of part m.label) ms ns bs o m.least.free put m.ready v)
+          (λ live far ms ns bs o put v. free_view m.to m.label fec live (end_of part m.to) far (use_of part m.label) ms ns bs o m.least.free put
+          m.ready v)
           (λ u ne. inr (free_other u (use_of part m.label) m.least.free, mapped_other u fec m.to ne))
           (λ f u h. ap w.is_tree (one_fec f fec u m.to h) ∙ tree_of w.is_tree part fec (rule.trees b) m.tree))
       | inr (inr g) ↦ subst P (sym g.put) (use_rule w b g.to next g.label (Some (uses.Leaving fec g.to)) (messages.Withdraw fec g.label) rule
@@ -200,6 +224,9 @@ turn_rule w b fec next more t rule =
           t.rest (λ k. refl) (λ k. refl)
           (λ u vpn at h. left_stands w.life w.vpn_of u vpn at fec g.to (use_of part g.label) g.was h)
           (λ live far ms ns bs o put v. left_view g.to g.label fec live (end_of part g.to) far (use_of part g.label) ms ns bs o g.was put v)
-          (λ u ne. inr (other_along u (Some (uses.Mapped fec g.to)) (use_of part g.label) (sym g.was) (mapped_other u fec g.to ne), leaving_other u fec g.to ne))
+          (λ u ne. inr (
+            other_along u (Some (uses.Mapped fec g.to)) (use_of part g.label) (sym g.was) (mapped_other u fec g.to ne),
+            leaving_other u fec g.to ne,
+          ))
           (λ f u h. ap w.is_tree (left_fec f fec u g.to h) ∙ (rule.trees b).labels g.label fec g.to (inl g.was)))
     ]

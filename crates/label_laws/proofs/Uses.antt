@@ -34,12 +34,14 @@ pub none_other : (u : NodeId) → IsOther u None
 none_other u g h = elim h [ inl x ↦ absurd cc | inr x ↦ absurd cc ]
 
 -- what stands towards u for some copy
-pub free_stands : (life : ℕ) (vpn_of : Fec → ℕ) (u : NodeId) (vpn t : ℕ) (s : Option LabelUse) → s ≡ Some uses.Free → LabelCovers life vpn_of u s vpn t → ⊥
+pub free_stands : (life : ℕ) (vpn_of : Fec → ℕ) (u : NodeId) (vpn t : ℕ) (s : Option LabelUse) → s ≡ Some uses.Free
+    → LabelCovers life vpn_of u s vpn t → ⊥
 free_stands life vpn_of u vpn t s e (mapped f h p) = absurd cc
 free_stands life vpn_of u vpn t s e (leaving f h) = absurd cc
 free_stands life vpn_of u vpn t s e (resting until h p) = absurd cc
 
-pub left_stands : (life : ℕ) (vpn_of : Fec → ℕ) (u : NodeId) (vpn t : ℕ) (f : Fec) (v : NodeId) (s : Option LabelUse) → s ≡ Some (uses.Mapped f v) → LabelCovers life vpn_of u s vpn t → LabelCovers life vpn_of u (Some (uses.Leaving f v)) vpn t
+pub left_stands : (life : ℕ) (vpn_of : Fec → ℕ) (u : NodeId) (vpn t : ℕ) (f : Fec) (v : NodeId) (s : Option LabelUse) → s ≡ Some (uses.Mapped f v)
+    → LabelCovers life vpn_of u s vpn t → LabelCovers life vpn_of u (Some (uses.Leaving f v)) vpn t
 left_stands life vpn_of u vpn t f v s e (mapped g h p) = leaving g cc
 left_stands life vpn_of u vpn t f v s e (leaving g h) = absurd cc
 left_stands life vpn_of u vpn t f v s e (resting until h p) = absurd cc
@@ -67,12 +69,14 @@ ends_same u v old new ne h = elim h [
 ]
 
 -- each use of an option
-pub map_same_or_other : (u v : NodeId) (change : LabelUse → LabelUse) → u ≢ v → ((s : LabelUse) → (change s ≡ s) ⊎ Ends v s (change s)) → (o : Option LabelUse) → SameOrOther u o (option_map change o)
+pub map_same_or_other : (u v : NodeId) (change : LabelUse → LabelUse) → u ≢ v → ((s : LabelUse) → (change s ≡ s) ⊎ Ends v s (change s))
+    → (o : Option LabelUse) → SameOrOther u o (option_map change o)
 map_same_or_other u v change ne h None = inl refl
 map_same_or_other u v change ne h (Some s) = ends_same u v s (change s) ne (h s)
 
 -- who held it before
-pub map_held : (u v : NodeId) (f : Fec) (change : LabelUse → LabelUse) → ((s : LabelUse) → (change s ≡ s) ⊎ Ends v s (change s)) → (o : Option LabelUse) → IsUsedTowards f u (option_map change o) → IsUsedTowards f u o
+pub map_held : (u v : NodeId) (f : Fec) (change : LabelUse → LabelUse) → ((s : LabelUse) → (change s ≡ s) ⊎ Ends v s (change s))
+    → (o : Option LabelUse) → IsUsedTowards f u (option_map change o) → IsUsedTowards f u o
 map_held u v f change h None x = x
 map_held u v f change h (Some s) x = elim (h s) [
   | inl e ↦ holds_along f u (Some (change s)) (Some s) (ap (λ (y : LabelUse). Some y) e) x
@@ -81,7 +85,9 @@ map_held u v f change h (Some s) x = elim (h s) [
 
 -- ---- a release
 
-pub release_is : (t : Bool) (from : NodeId) (f : Fec) (until : ℕ) (s : LabelUse) → (cond t (released from f until s) s ≡ s) ⊎ (Ends from s (cond t (released from f until s) s) × (cond t (released from f until s) s ≡ uses.Resting until))
+pub release_is : (t : Bool) (from : NodeId) (f : Fec) (until : ℕ) (s : LabelUse)
+    → (cond t (released from f until s) s ≡ s) ⊎
+    (Ends from s (cond t (released from f until s) s) × (cond t (released from f until s) s ≡ uses.Resting until))
 release_is t from f until uses.Free = inl (same_cond t uses.Free)
 release_is t from f until (uses.Mapped g v) = inl (same_cond t (uses.Mapped g v))
 release_is t from f until (uses.Resting moment) = inl (same_cond t (uses.Resting moment))
@@ -100,10 +106,12 @@ release_is true from f until (uses.Leaving g v) = elim (cases_Bool (same_fec g f
       )
 ]
 
-pub release_ends : (t : Bool) (from : NodeId) (f : Fec) (until : ℕ) (s : LabelUse) → (cond t (released from f until s) s ≡ s) ⊎ Ends from s (cond t (released from f until s) s)
+pub release_ends : (t : Bool) (from : NodeId) (f : Fec) (until : ℕ) (s : LabelUse)
+    → (cond t (released from f until s) s ≡ s) ⊎ Ends from s (cond t (released from f until s) s)
 release_ends t from f until s = elim (release_is t from f until s) [ inl e ↦ inl e | inr x ↦ inr x.0 ]
 
-pub release_stands : (life : ℕ) (vpn_of : Fec → ℕ) (u : NodeId) (vpn at : ℕ) (t : Bool) (from : NodeId) (f : Fec) (until : ℕ) (o : Option LabelUse) → at + life + 1 ≤ until
+pub release_stands : (life : ℕ) (vpn_of : Fec → ℕ) (u : NodeId) (vpn at : ℕ) (t : Bool) (from : NodeId) (f : Fec) (until : ℕ) (o : Option LabelUse)
+    → at + life + 1 ≤ until
     → LabelCovers life vpn_of u o vpn at → LabelCovers life vpn_of u (option_map (λ s. cond t (released from f until s) s) o) vpn at
 release_stands life vpn_of u vpn at t from f until None past h = h
 release_stands life vpn_of u vpn at t from f until (Some s) past h = elim (release_is t from f until s) [
@@ -113,11 +121,13 @@ release_stands life vpn_of u vpn at t from f until (Some s) past h = elim (relea
 
 -- ---- a loss
 
-freed_by : (t : Bool) (v : NodeId) (g : Fec) (s : LabelUse) → (s ≡ uses.Mapped g v) ⊎ (s ≡ uses.Leaving g v) → (cond t uses.Free s ≡ s) ⊎ Ends v s (cond t uses.Free s)
+freed_by : (t : Bool) (v : NodeId) (g : Fec) (s : LabelUse) → (s ≡ uses.Mapped g v) ⊎ (s ≡ uses.Leaving g v)
+    → (cond t uses.Free s ≡ s) ⊎ Ends v s (cond t uses.Free s)
 freed_by true v g s h = inr (record { fec = g; was = h; other = free_is_other })
 freed_by false v g s h = inl refl
 
-freed_from : (v node : NodeId) (g : Fec) (s : LabelUse) → (v ≡ node → (s ≡ uses.Mapped g node) ⊎ (s ≡ uses.Leaving g node)) → (cond (v.0 == node.0) uses.Free s ≡ s) ⊎ Ends node s (cond (v.0 == node.0) uses.Free s)
+freed_from : (v node : NodeId) (g : Fec) (s : LabelUse) → (v ≡ node → (s ≡ uses.Mapped g node) ⊎ (s ≡ uses.Leaving g node))
+    → (cond (v.0 == node.0) uses.Free s ≡ s) ⊎ Ends node s (cond (v.0 == node.0) uses.Free s)
 freed_from v node g s h = elim (node_cases v node) [
   | inl e ↦ freed_by (v.0 == node.0) node g s (h e)
   | inr ne ↦ inl (cond-false (v.0 == node.0) uses.Free s (node_apart v node ne))
@@ -132,7 +142,8 @@ freed_ends node (uses.Leaving g v) = freed_from v node g (uses.Leaving g v) (λ 
 -- none is used towards the neighbour that was lost
 freed_at : (node v : NodeId) (g : Fec) (s : LabelUse) → (v ≢ node → IsOther node (Some s)) → IsOther node (Some (cond (v.0 == node.0) uses.Free s))
 freed_at node v g s h = elim (node_cases v node) [
-  | inl e ↦ other_along node (Some uses.Free) _ (ap (λ (x : LabelUse). Some x) (sym (cond-true (v.0 == node.0) uses.Free s (node_itself v node e)))) (free_is_other node)
+  | inl e ↦ other_along node (Some uses.Free) _ (ap (λ (x : LabelUse). Some x) (sym (cond-true (v.0 == node.0) uses.Free s (node_itself v node e))))
+      (free_is_other node)
   | inr ne ↦ other_along node (Some s) _ (ap (λ (x : LabelUse). Some x) (sym (cond-false (v.0 == node.0) uses.Free s (node_apart v node ne)))) (h ne)
 ]
 
@@ -144,7 +155,8 @@ freed_other node (Some (uses.Mapped g v)) = freed_at node v g (uses.Mapped g v) 
 freed_other node (Some (uses.Leaving g v)) = freed_at node v g (uses.Leaving g v) (λ ne. leaving_other node g v (λ e. ne (sym e)))
 
 -- where the use does not change, or was towards another neighbour, what stands towards u still does
-pub ends_stands : (life : ℕ) (vpn_of : Fec → ℕ) (u v : NodeId) (vpn t : ℕ) (change : LabelUse → LabelUse) → u ≢ v → ((s : LabelUse) → (change s ≡ s) ⊎ Ends v s (change s)) → (o : Option LabelUse)
+pub ends_stands : (life : ℕ) (vpn_of : Fec → ℕ) (u v : NodeId) (vpn t : ℕ) (change : LabelUse → LabelUse) → u ≢ v
+    → ((s : LabelUse) → (change s ≡ s) ⊎ Ends v s (change s)) → (o : Option LabelUse)
     → LabelCovers life vpn_of u o vpn t → LabelCovers life vpn_of u (option_map change o) vpn t
 ends_stands life vpn_of u v vpn t change ne h None st = st
 ends_stands life vpn_of u v vpn t change ne h (Some s) st = elim (h s) [
@@ -152,7 +164,8 @@ ends_stands life vpn_of u v vpn t change ne h (Some s) st = elim (h s) [
   | inr x ↦ absurd (stands_apart life vpn_of u v vpn t x.fec s ne x.was st)
 ]
   where
-    stands_apart : (life : ℕ) (vpn_of : Fec → ℕ) (u v : NodeId) (vpn t : ℕ) (f : Fec) (s : LabelUse) → u ≢ v → (s ≡ uses.Mapped f v) ⊎ (s ≡ uses.Leaving f v) → LabelCovers life vpn_of u (Some s) vpn t → ⊥
+    stands_apart : (life : ℕ) (vpn_of : Fec → ℕ) (u v : NodeId) (vpn t : ℕ) (f : Fec) (s : LabelUse) → u ≢ v
+        → (s ≡ uses.Mapped f v) ⊎ (s ≡ uses.Leaving f v) → LabelCovers life vpn_of u (Some s) vpn t → ⊥
     stands_apart life vpn_of u v vpn t f s ne was (mapped g e p) = was_other u v f s ne was g (inl e)
     stands_apart life vpn_of u v vpn t f s ne was (leaving g e) = was_other u v f s ne was g (inr e)
     stands_apart life vpn_of u v vpn t f s ne was (resting until e p) = elim was [ inl x ↦ absurd cc | inr x ↦ absurd cc ]
@@ -173,11 +186,13 @@ woken_same u now (Some (uses.Resting until)) = woken_by u (nat_le until now) unt
 pub same_held : (u : NodeId) (f : Fec) (r s : Option LabelUse) → SameOrOther u r s → IsUsedTowards f u s → IsUsedTowards f u r
 same_held u f r s x h = elim x [ inl e ↦ holds_along f u s r e h | inr y ↦ absurd (y.1 f h) ]
 
-woken_stands_by : (life : ℕ) (vpn_of : Fec → ℕ) (u : NodeId) (vpn at now until : ℕ) (t : Bool) → nat_le until now ≡ t → now ≤ at + life → at + life + 1 ≤ until → LabelCovers life vpn_of u (Some (cond t uses.Free (uses.Resting until))) vpn at
+woken_stands_by : (life : ℕ) (vpn_of : Fec → ℕ) (u : NodeId) (vpn at now until : ℕ) (t : Bool) → nat_le until now ≡ t → now ≤ at + life
+    → at + life + 1 ≤ until → LabelCovers life vpn_of u (Some (cond t uses.Free (uses.Resting until))) vpn at
 woken_stands_by life vpn_of u vpn at now until true e young h = let le = leb-true until now e in absurd (omega (arith, le, young, h))
 woken_stands_by life vpn_of u vpn at now until false e young h = resting until refl h
 
-pub woken_stands : (life : ℕ) (vpn_of : Fec → ℕ) (u : NodeId) (vpn at now : ℕ) (o : Option LabelUse) → now ≤ at + life → LabelCovers life vpn_of u o vpn at → LabelCovers life vpn_of u (option_map (woken now) o) vpn at
+pub woken_stands : (life : ℕ) (vpn_of : Fec → ℕ) (u : NodeId) (vpn at now : ℕ) (o : Option LabelUse) → now ≤ at + life
+    → LabelCovers life vpn_of u o vpn at → LabelCovers life vpn_of u (option_map (woken now) o) vpn at
 woken_stands life vpn_of u vpn at now None young h = h
 woken_stands life vpn_of u vpn at now (Some uses.Free) young h = h
 woken_stands life vpn_of u vpn at now (Some (uses.Mapped g v)) young h = h

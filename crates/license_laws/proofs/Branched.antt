@@ -47,15 +47,28 @@ module _ (kind : Kind) (P : NodeId → List SessionMessage → NodeState → Typ
   abbrev pub AllHeard : List Traced → World → Type 0
   AllHeard trace world = (from to : NodeId) → Heard kind from to (P from) (f from to) trace world
 
-  pub all_heard_kept : (scenario : Scenario) → ((world : World) → InStep scenario world → (from to : NodeId) → from ≢ to → is_end world kind to from ≡ false → P from [] (world.network.state.node to)) → KeepsAlso scenario Taking AllHeard
+  pub all_heard_kept : (scenario : Scenario) → ((world : World) → InStep scenario world → (from to : NodeId) → from ≢ to
+      → is_end world kind to from ≡ false → P from [] (world.network.state.node to)) → KeepsAlso scenario Taking AllHeard
   all_heard_kept scenario down = record {
-    single = λ before number world one acted s sound fit e t k l from to. single_heard kind from to (P from) (f from to) scenario before number world k s (l from to) one acted sound fit e;
+    single = λ before number world one acted s sound fit e t k l from to. single_heard kind from to (P from) (f from to) scenario before number world
+        k s (l from to) one acted sound fit e;
     pair = λ before number world session first second declared s off back e g t k l from to.
-        pair_heard kind from to (P from) (f from to) scenario before number world session first second k (first_taking scenario before number world session first declared s.2.base.sound.same e k) (l from to) e g declared.pair.apart (λ ne end. down world s from to ne end) off back;
-    accepted = λ before world datagram s k l from to. (let h = l from to in record { up = h.up; heard = λ u. (let x = h.heard u in record { units = x.units; each = x.each; parts = x.parts; waits = x.waits; holds = x.holds }); silent = h.silent });
+        pair_heard kind from to (P from) (f from to) scenario before number world session first second k
+        (first_taking scenario before number world session first declared s.2.base.sound.same e k) (l from to) e g declared.pair.apart
+        (λ ne end. down world s from to ne end) off back;
+    accepted =
+        λ before world datagram s k l from to. (let h = l from to in
+        record {
+          up = h.up;
+          heard =
+              λ u. (let x = h.heard u in record { units = x.units; each = x.each; parts = x.parts; waits = x.waits; holds = x.holds });
+          silent =
+              h.silent;
+        });
     refused = λ before number world line reason k l from to.
         let x = still_effect kind from to (P from) (f from to) world world (lines.Refused line reason ∷ []) refl refl in
-        heard_more kind from to (P from) (f from to) before world world (refused_step number line reason) refl refl (λ off. refl) (λ j. j) x.hears (λ d p. p) (l from to);
+        heard_more kind from to (P from) (f from to) before world world (refused_step number line reason) refl refl (λ off. refl) (λ j. j) x.hears
+        (λ d p. p) (l from to);
   }
 
   pub all_heard_start : (scenario : Scenario) (cores : Cores) → AllHeard [] (start scenario cores)
@@ -66,7 +79,8 @@ module _ (kind : Kind) (P : NodeId → List SessionMessage → NodeState → Typ
 abbrev pub Branched : List Traced → World → Type 0
 Branched = AllHeard kinds.Ldp Mapped mapped_follower
 
-no_branch : (scenario : Scenario) (world : World) → InStep scenario world → (from to : NodeId) → from ≢ to → is_end world kinds.Ldp to from ≡ false → Mapped from [] (world.network.state.node to)
+no_branch : (scenario : Scenario) (world : World) → InStep scenario world → (from to : NodeId) → from ≢ to → is_end world kinds.Ldp to from ≡ false
+    → Mapped from [] (world.network.state.node to)
 no_branch scenario world s from to ne off fec label h =
     let up : is_end world kinds.Ldp to from ≡ true = ((s.2.kept []).rule.view to from label (λ e. ne (sym e))).branch fec h in
     let x : true ≡ false = sym up ∙ off in absurd cc
@@ -93,7 +107,8 @@ pdus_of (unit ∷ units) are =
     }
 
 -- Whole units that carry what maps a label, and then less than a unit: the octets leave it mapped.
-pub has_label : (octets : List ℕ) (units : List (Spelled SessionMessage)) (rest : List ℕ) (fec : Fec) (label : ℕ) → AreUnits (Spells kinds.Ldp) units → octets ≡ octets_of units ++ rest → Waits kinds.Ldp rest → IsMapped (labels_in (messages_of units)) fec label → HasLabel octets fec label
+pub has_label : (octets : List ℕ) (units : List (Spelled SessionMessage)) (rest : List ℕ) (fec : Fec) (label : ℕ) → AreUnits (Spells kinds.Ldp) units
+    → octets ≡ octets_of units ++ rest → Waits kinds.Ldp rest → IsMapped (labels_in (messages_of units)) fec label → HasLabel octets fec label
 has_label octets units rest fec label each parts waits is =
     let p = pdus_of units each in (
       messages_of p.plain,
@@ -106,7 +121,8 @@ has_label octets units rest fec label each parts waits is =
       subst (λ (ms : List LabelMessage). IsMapped ms fec label) p.says is,
     )
   where
-    by : (front : Front LabelMessage LdpFault) → pdu_front rest ≡ front → as_front (λ message. Label message) (λ fault. LabelFault fault) front ≡ more → pdu_front rest ≡ more
+    by : (front : Front LabelMessage LdpFault) → pdu_front rest ≡ front → as_front (λ message. Label message) (λ fault. LabelFault fault) front ≡ more
+        → pdu_front rest ≡ more
     by more is e = is
     by (whole count ms) is e = absurd cc
     by (bad ms offset fault) is e = absurd cc
@@ -119,11 +135,17 @@ none_mapped fec label is = by is.before is.parts
     by (x ∷ xs) e = cc
 
 -- A copy may go on a branch that stands.
-pub may_hop : (trace : List Traced) (world : World) → Branched trace world → (u : NodeId) (branch : Branch) → sets.contains (part_at world u).branches branch ≡ true → MayHop trace u branch.node branch.label branch.fec
+pub may_hop : (trace : List Traced) (world : World) → Branched trace world → (u : NodeId) (branch : Branch)
+    → sets.contains (part_at world u).branches branch ≡ true → MayHop trace u branch.node branch.label branch.fec
 may_hop trace world all u branch h = by (is_up_in kinds.Ldp u branch.node trace) refl
   where
     by : (t : Bool) → is_up_in kinds.Ldp u branch.node trace ≡ t → MayHop trace u branch.node branch.label branch.fec
     by true e =
         let x = (all branch.node u).heard e in
-        record { up = e; mapped = has_label (taken_since kinds.Ldp branch.node u trace) x.units (world.network.stream (direction kinds.Ldp branch.node u)).held branch.fec branch.label x.each x.parts x.waits (x.holds branch.fec branch.label h) }
+        record {
+          up = e;
+          mapped =
+              has_label (taken_since kinds.Ldp branch.node u trace) x.units (world.network.stream (direction kinds.Ldp branch.node u)).held branch.fec
+              branch.label x.each x.parts x.waits (x.holds branch.fec branch.label h);
+        }
     by false e = absurd (none_mapped branch.fec branch.label ((all branch.node u).silent e branch.fec branch.label h))

@@ -42,7 +42,8 @@ up_some None = refl
 up_some (Some end) = refl
 
 -- an end is up where the trace says so
-pub ends_as : (trace : List Traced) (world : World) → Ending trace world → (n peer : NodeId) → is_up_in kinds.Ldp n peer trace ≡ is_some (maps.get (part_of (world.network.state.node n)).ends peer)
+pub ends_as : (trace : List Traced) (world : World) → Ending trace world → (n peer : NodeId)
+    → is_up_in kinds.Ldp n peer trace ≡ is_some (maps.get (part_of (world.network.state.node n)).ends peer)
 ends_as trace world e n peer = e n peer ∙ up_some (maps.get (part_of (world.network.state.node n)).ends peer)
 
 -- ---- one act
@@ -72,7 +73,9 @@ resets_end : (s : Bool) (o : Option UpEnd) → cond s false (is_some o) ≡ is_s
 resets_end true o = refl
 resets_end false o = refl
 
-raise_end : (kind : Kind) (a b n peer : NodeId) (scenario : Scenario) (old : SessionsStand) → (is_some (old.end kinds.Ldp n peer) || (same_kind kinds.Ldp kind && (a.0 == n.0) && (b.0 == peer.0))) ≡ is_some ((call_stand scenario a (steps.Raised kind b) old).end kinds.Ldp n peer)
+raise_end : (kind : Kind) (a b n peer : NodeId) (scenario : Scenario) (old : SessionsStand)
+    → (is_some (old.end kinds.Ldp n peer) || (same_kind kinds.Ldp kind && (a.0 == n.0) && (b.0 == peer.0)))
+    ≡ is_some ((call_stand scenario a (steps.Raised kind b) old).end kinds.Ldp n peer)
 raise_end kinds.Bgp a b n peer scenario old = by (n.0 == a.0) (old.end kinds.Ldp n peer)
   where
     by : (s : Bool) (o : Option UpEnd) → (is_some o || false) ≡ is_some (cond s o o)
@@ -81,35 +84,53 @@ raise_end kinds.Bgp a b n peer scenario old = by (n.0 == a.0) (old.end kinds.Ldp
     by false None = refl
     by false (Some end) = refl
 raise_end kinds.Ldp a b n peer scenario old =
-    (λ i. is_some (old.end kinds.Ldp n peer) || (eq_turned a.0 n.0 i && eq_turned b.0 peer.0 i)) ∙ raises_end (n.0 == a.0) (peer.0 == b.0) (old.end kinds.Ldp n peer) (record { raised = old.clock; held = false })
+    (λ i. is_some (old.end kinds.Ldp n peer) || (eq_turned a.0 n.0 i && eq_turned b.0 peer.0 i))
+    ∙ raises_end (n.0 == a.0) (peer.0 == b.0) (old.end kinds.Ldp n peer) (record { raised = old.clock; held = false })
 
-notice_end : (kind : Kind) (a b n peer : NodeId) (scenario : Scenario) (old : SessionsStand) → cond (same_kind kinds.Ldp kind && (a.0 == n.0) && (b.0 == peer.0)) false (is_some (old.end kinds.Ldp n peer)) ≡ is_some ((call_stand scenario a (steps.Noticed kind b) old).end kinds.Ldp n peer)
+notice_end : (kind : Kind) (a b n peer : NodeId) (scenario : Scenario) (old : SessionsStand)
+    → cond (same_kind kinds.Ldp kind && (a.0 == n.0) && (b.0 == peer.0)) false (is_some (old.end kinds.Ldp n peer))
+    ≡ is_some ((call_stand scenario a (steps.Noticed kind b) old).end kinds.Ldp n peer)
 notice_end kinds.Bgp a b n peer scenario old = same_both (n.0 == a.0) (old.end kinds.Ldp n peer) (old.end kinds.Ldp n peer) refl
-notice_end kinds.Ldp a b n peer scenario old = (λ i. cond (eq_turned a.0 n.0 i && eq_turned b.0 peer.0 i) false (is_some (old.end kinds.Ldp n peer))) ∙ downs_end (n.0 == a.0) (peer.0 == b.0) (old.end kinds.Ldp n peer)
+notice_end kinds.Ldp a b n peer scenario old =
+    (λ i. cond (eq_turned a.0 n.0 i && eq_turned b.0 peer.0 i) false (is_some (old.end kinds.Ldp n peer)))
+    ∙ downs_end (n.0 == a.0) (peer.0 == b.0) (old.end kinds.Ldp n peer)
 
 -- calls that are made by customers and timers
-call_end : (scenario : Scenario) (m : NodeId) (call : steps.Call) (old : SessionsStand) (n peer : NodeId) (world : World) → SoundAct scenario (At m call) → IsFit world (At m call) → is_some (old.end kinds.Ldp n peer) ≡ is_some ((call_stand scenario m call old).end kinds.Ldp n peer)
+call_end : (scenario : Scenario) (m : NodeId) (call : steps.Call) (old : SessionsStand) (n peer : NodeId) (world : World)
+    → SoundAct scenario (At m call) → IsFit world (At m call)
+    → is_some (old.end kinds.Ldp n peer) ≡ is_some ((call_stand scenario m call old).end kinds.Ldp n peer)
 call_end scenario m (steps.Update p message) old n peer world sound fit = absurd sound.1
 call_end scenario m (steps.Label p message) old n peer world sound fit = absurd sound.1
-call_end scenario m (steps.Pim iface message) old n peer world sound fit = same_both (n.0 == m.0) (old.end kinds.Ldp n peer) (old.end kinds.Ldp n peer) refl
-call_end scenario m (steps.Active iface source group) old n peer world sound fit = same_both (n.0 == m.0) (old.end kinds.Ldp n peer) (old.end kinds.Ldp n peer) refl
-call_end scenario m (steps.Idle iface source group) old n peer world sound fit = same_both (n.0 == m.0) (old.end kinds.Ldp n peer) (old.end kinds.Ldp n peer) refl
-call_end scenario m (steps.Select vrf pattern) old n peer world sound fit = same_both (n.0 == m.0) (old.end kinds.Ldp n peer) (old.end kinds.Ldp n peer) refl
-call_end scenario m (steps.Unselect vrf pattern) old n peer world sound fit = same_both (n.0 == m.0) (old.end kinds.Ldp n peer) (old.end kinds.Ldp n peer) refl
+call_end scenario m (steps.Pim iface message) old n peer world sound fit =
+    same_both (n.0 == m.0) (old.end kinds.Ldp n peer) (old.end kinds.Ldp n peer) refl
+call_end scenario m (steps.Active iface source group) old n peer world sound fit =
+    same_both (n.0 == m.0) (old.end kinds.Ldp n peer) (old.end kinds.Ldp n peer) refl
+call_end scenario m (steps.Idle iface source group) old n peer world sound fit =
+    same_both (n.0 == m.0) (old.end kinds.Ldp n peer) (old.end kinds.Ldp n peer) refl
+call_end scenario m (steps.Select vrf pattern) old n peer world sound fit =
+    same_both (n.0 == m.0) (old.end kinds.Ldp n peer) (old.end kinds.Ldp n peer) refl
+call_end scenario m (steps.Unselect vrf pattern) old n peer world sound fit =
+    same_both (n.0 == m.0) (old.end kinds.Ldp n peer) (old.end kinds.Ldp n peer) refl
 call_end scenario m (steps.Raised kind p) old n peer world sound fit = absurd fit
 call_end scenario m (steps.Noticed kind p) old n peer world sound fit = absurd fit
-call_end scenario m steps.Timers old n peer world sound fit = same_both (n.0 == m.0) (old.end kinds.Ldp n peer) (end_run scenario.life old.clock (old.end kinds.Ldp n peer)) (run_some scenario.life old.clock (old.end kinds.Ldp n peer))
+call_end scenario m steps.Timers old n peer world sound fit =
+    same_both (n.0 == m.0) (old.end kinds.Ldp n peer) (end_run scenario.life old.clock (old.end kinds.Ldp n peer))
+    (run_some scenario.life old.clock (old.end kinds.Ldp n peer))
 call_end scenario m steps.Rerouted old n peer world sound fit = same_both (n.0 == m.0) (old.end kinds.Ldp n peer) (old.end kinds.Ldp n peer) refl
 
-act_end : (scenario : Scenario) (world : World) (one : Act) → SoundAct scenario one → IsFit world one → (old : SessionsStand) (n peer : NodeId) → is_up_after kinds.Ldp n peer (is_some (old.end kinds.Ldp n peer)) (Some one) ≡ is_some ((act_stand scenario one old).end kinds.Ldp n peer)
+act_end : (scenario : Scenario) (world : World) (one : Act) → SoundAct scenario one → IsFit world one → (old : SessionsStand) (n peer : NodeId)
+    → is_up_after kinds.Ldp n peer (is_some (old.end kinds.Ldp n peer)) (Some one) ≡ is_some ((act_stand scenario one old).end kinds.Ldp n peer)
 act_end scenario world (Tick ticks) sound fit old n peer = refl
-act_end scenario world (Timers m) sound fit old n peer = same_both (n.0 == m.0) (old.end kinds.Ldp n peer) (end_run scenario.life old.clock (old.end kinds.Ldp n peer)) (run_some scenario.life old.clock (old.end kinds.Ldp n peer))
+act_end scenario world (Timers m) sound fit old n peer =
+    same_both (n.0 == m.0) (old.end kinds.Ldp n peer) (end_run scenario.life old.clock (old.end kinds.Ldp n peer))
+    (run_some scenario.life old.clock (old.end kinds.Ldp n peer))
 act_end scenario world (Move own a b count) sound fit old n peer = refl
 act_end scenario world (Lose own a b) sound fit old n peer = refl
 act_end scenario world (Notice own a b) sound fit old n peer = notice_end own a b n peer scenario old
 act_end scenario world (RaiseFirst own a b) sound fit old n peer = absurd fit
 act_end scenario world (RaiseSecond own a b) sound fit old n peer = absurd fit
-act_end scenario world (Restart m) sound fit old n peer = (λ i. cond (eq_turned m.0 n.0 i) false (is_some (old.end kinds.Ldp n peer))) ∙ resets_end (n.0 == m.0) (old.end kinds.Ldp n peer)
+act_end scenario world (Restart m) sound fit old n peer =
+    (λ i. cond (eq_turned m.0 n.0 i) false (is_some (old.end kinds.Ldp n peer))) ∙ resets_end (n.0 == m.0) (old.end kinds.Ldp n peer)
 act_end scenario world (At m call) sound fit old n peer = call_end scenario m call old n peer world sound fit
 act_end scenario world (Enter vrf) sound fit old n peer = refl
 act_end scenario world (Land a b place) sound fit old n peer = refl
@@ -122,10 +143,12 @@ act_end scenario world (Reroute m) sound fit old n peer = refl
 
 -- where the sessions of a world stand
 abbrev stands_at : World → SessionsStand
-stands_at world = record { clock = clock_of world; joined = λ kind a b. world.network.joined (direction kind a b); end = λ kind n peer. end_at world n peer }
+stands_at world =
+    record { clock = clock_of world; joined = λ kind a b. world.network.joined (direction kind a b); end = λ kind n peer. end_at world n peer }
 
 stands : (scenario : Scenario) (world : World) → InStep scenario world → WorldStands scenario (stands_at world) world
-stands scenario world (pending, are, good) = record { nodes = record { place = good.base.sound.same; clock = refl; ends = λ n peer. refl }; joined = λ kind a b. refl }
+stands scenario world (pending, are, good) =
+    record { nodes = record { place = good.base.sound.same; clock = refl; ends = λ n peer. refl }; joined = λ kind a b. refl }
 
 given : (P : World → Type 0) (o : Result Acted NodeId) (acted : Acted) → stand.Gives P o → o ≡ Ok acted → P acted.world
 given P (Err node) acted g e = absurd cc
@@ -134,8 +157,10 @@ given P (Ok new) acted g e = let same : new ≡ acted = cc in subst (λ (a : Act
 pub ending_kept : (scenario : Scenario) → Keeps scenario Ending
 ending_kept scenario = record {
   single = λ before number world one acted s sound fit e t k n peer.
-      let w = given (WorldStands scenario (act_stand scenario one (stands_at world))) (act world one) acted (act_gives scenario (stands_at world) world one (stands scenario world s)) e in
-      up_next kinds.Ldp n peer before (stepped number one acted) ∙ ap (λ (b : Bool). is_up_after kinds.Ldp n peer b (Some one)) (k n peer) ∙ act_end scenario world one sound fit (stands_at world) n peer ∙ ap is_some (sym (w.nodes.ends n peer));
+      let w = given (WorldStands scenario (act_stand scenario one (stands_at world))) (act world one) acted
+      (act_gives scenario (stands_at world) world one (stands scenario world s)) e in
+      up_next kinds.Ldp n peer before (stepped number one acted) ∙ ap (λ (b : Bool). is_up_after kinds.Ldp n peer b (Some one)) (k n peer)
+      ∙ act_end scenario world one sound fit (stands_at world) n peer ∙ ap is_some (sym (w.nodes.ends n peer));
   pair = λ before number world session first second declared s off back e g t k n peer.
       let a : Act = RaiseFirst session.kind session.a session.b in
       let b : Act = RaiseSecond session.kind session.a session.b in
@@ -144,8 +169,11 @@ ending_kept scenario = record {
       let mid : SessionsStand = act_stand scenario a (stands_at world) in
       let w = given (WorldStands scenario mid) (act world a) first (act_gives scenario (stands_at world) world a (stands scenario world s)) e in
       let v = given (WorldStands scenario (act_stand scenario b mid)) (act first.world b) second (act_gives scenario mid first.world b w) g in
-      ap (λ (tr : List Traced). is_up_in kinds.Ldp n peer tr) (sym (append_assoc before (one ∷ []) (two ∷ []))) ∙ up_next kinds.Ldp n peer (before ++ one ∷ []) two
-      ∙ ap (λ (x : Bool). is_up_after kinds.Ldp n peer x (Some b)) (up_next kinds.Ldp n peer before one ∙ ap (λ (x : Bool). is_up_after kinds.Ldp n peer x (Some a)) (k n peer) ∙ raise_end session.kind session.a session.b n peer scenario (stands_at world))
+      ap (λ (tr : List Traced). is_up_in kinds.Ldp n peer tr) (sym (append_assoc before (one ∷ []) (two ∷ [])))
+      ∙ up_next kinds.Ldp n peer (before ++ one ∷ []) two
+      ∙ ap (λ (x : Bool). is_up_after kinds.Ldp n peer x (Some b))
+      (up_next kinds.Ldp n peer before one ∙ ap (λ (x : Bool). is_up_after kinds.Ldp n peer x (Some a)) (k n peer)
+      ∙ raise_end session.kind session.a session.b n peer scenario (stands_at world))
       ∙ raise_end session.kind session.b session.a n peer scenario mid ∙ ap is_some (sym (v.nodes.ends n peer));
   accepted = λ before world datagram s k n peer. k n peer;
   refused = λ before number world line reason k n peer. up_next kinds.Ldp n peer before (refused_step number line reason) ∙ k n peer;

@@ -73,13 +73,16 @@ record IsJoin (place : EdgePlace) (vrf : Vrf) (source group : Addr) (key : Key) 
   same : key ≡ Mcast afi (routes.SourceJoin vrf.rd place.scenario.system source group)
   named : has_comm (import_target (own_import place vrf)) route.value.comms ≡ true
 
-join_is : (place : EdgePlace) (vrf : Vrf) (source group : Addr) (key : Key) (route : TakenRoute) (flow : FlowRoute) → imported_join place vrf (key, route) ≡ Some flow → same_flow source group flow ≡ true → IsJoin place vrf source group key route
+join_is : (place : EdgePlace) (vrf : Vrf) (source group : Addr) (key : Key) (route : TakenRoute) (flow : FlowRoute)
+    → imported_join place vrf (key, route) ≡ Some flow → same_flow source group flow ≡ true → IsJoin place vrf source group key route
 join_is place vrf source group (Unicast rd prefix) route flow e s = absurd (none-some flow e)
 join_is place vrf source group (Mcast afi (routes.SourceJoin rd source_as s_own g_own)) route flow e s =
-    let test : Bool = pointwise nat_eq rd.0 vrf.rd.0 && (source_as == place.scenario.system) && has_comm (import_target (own_import place vrf)) route.value.comms in
+    let test : Bool =
+    pointwise nat_eq rd.0 vrf.rd.0 && (source_as == place.scenario.system) && has_comm (import_target (own_import place vrf)) route.value.comms in
     let own : FlowRoute = record { source = s_own; group = g_own } in
     let x = if_some test own flow e in
-    let y = and_parts (pointwise nat_eq rd.0 vrf.rd.0 && (source_as == place.scenario.system)) (has_comm (import_target (own_import place vrf)) route.value.comms) x.0 in
+    let y = and_parts (pointwise nat_eq rd.0 vrf.rd.0 && (source_as == place.scenario.system))
+    (has_comm (import_target (own_import place vrf)) route.value.comms) x.0 in
     let z = and_parts (pointwise nat_eq rd.0 vrf.rd.0) (source_as == place.scenario.system) y.0 in
     let w = and_parts (same_addr flow.source source) (same_addr flow.group group) s in
     let rd_is : rd ≡ vrf.rd = ap (λ (octets : List ℕ). record { 0 = octets }) (same_text rd.0 vrf.rd.0 (sym z.0)) in
@@ -103,7 +106,8 @@ record Joined (place : EdgePlace) (control : Control) (vrf : Vrf) (source group 
   at : maps.get (taken_from control peer) key ≡ Some route
   is : IsJoin place vrf source group key route
 
-joined_by : (place : EdgePlace) (control : Control) (own : OwnVrf) (source group : Addr) → is_joined_in place control own source group ≡ true → Joined place control own.vrf source group
+joined_by : (place : EdgePlace) (control : Control) (own : OwnVrf) (source group : Addr) → is_joined_in place control own source group ≡ true
+    → Joined place control own.vrf source group
 joined_by place control own source group j =
     let x = any_among (is_joined_by place own source group) (maps.entries control.peers) j in
     let y = any_among (same_flow source group) (found_in (imported_join place own.vrf) (maps.entries x.0.1)) x.2 in
@@ -119,17 +123,23 @@ joined_by place control own source group j =
 
 -- ---- a datagram that enters
 
-module _ (scenario : Scenario) (trace : List Traced) (world : World) (s : InStep scenario world) (branched : Branched trace world) (tabling : Tabling trace world) where
-  enter_by : (id : VrfId) (vrf : Vrf) (edge : EdgeData) (datagram : Datagram) → slice_get (scenario_of world).vrfs id.0 ≡ Some vrf → world.network.state.node vrf.edge ≡ Edge edge → is_joined_in (place_of world.network.state vrf.edge) edge.control (record { id = id; vrf = vrf }) datagram.source datagram.group ≡ true
-      → (branch : Branch) → IsBranchOf edge.part (transmit_tunnel (place_of world.network.state vrf.edge) edge.control (record { id = id; vrf = vrf }) datagram.source datagram.group) branch → MayEnter (scenario_of world) trace id datagram vrf.edge branch.node branch.label
+module _ (scenario : Scenario) (trace : List Traced) (world : World) (s : InStep scenario world) (branched : Branched trace world)
+    (tabling : Tabling trace world) where
+  enter_by : (id : VrfId) (vrf : Vrf) (edge : EdgeData) (datagram : Datagram) → slice_get (scenario_of world).vrfs id.0 ≡ Some vrf
+      → world.network.state.node vrf.edge ≡ Edge edge
+      → is_joined_in (place_of world.network.state vrf.edge) edge.control (record { id = id; vrf = vrf }) datagram.source datagram.group ≡ true
+      → (branch : Branch) → IsBranchOf edge.part (transmit_tunnel (place_of world.network.state vrf.edge) edge.control (record { id = id; vrf = vrf })
+      datagram.source datagram.group) branch → MayEnter (scenario_of world) trace id datagram vrf.edge branch.node branch.label
   enter_by id vrf edge datagram known at j branch is =
       let own : OwnVrf = record { id = id; vrf = vrf } in
       let place : EdgePlace = place_of world.network.state vrf.edge in
       let number : ℕ = number_by (transmitted (selections_of edge.control id) datagram.source datagram.group) in
       let numbers : NumbersOk edge.control = subst (λ (state : NodeState). NumbersOk (control_of state)) at (s.2.base.numbers vrf.edge) in
-      let tree : branch.fec ≡ lsp (addr_of (scenario_of world) vrf.edge) (tunnel_number vrf number) = same_fec_equal branch.fec (transmit_tunnel place edge.control own datagram.source datagram.group) is.1 in
+      let tree : branch.fec ≡ lsp (addr_of (scenario_of world) vrf.edge) (tunnel_number vrf number) =
+      same_fec_equal branch.fec (transmit_tunnel place edge.control own datagram.source datagram.group) is.1 in
       let join = joined_by place edge.control own datagram.source datagram.group j in
-      let found : maps.get (taken_from (control_of (world.network.state.node vrf.edge)) join.peer) join.key ≡ Some join.route = ap (λ (state : NodeState). maps.get (taken_from (control_of state) join.peer) join.key) at ∙ join.at in
+      let found : maps.get (taken_from (control_of (world.network.state.node vrf.edge)) join.peer) join.key ≡ Some join.route =
+      ap (λ (state : NodeState). maps.get (taken_from (control_of state) join.peer) join.key) at ∙ join.at in
       let route = taken_route trace world tabling join.peer vrf.edge join.key join.route found in
       record {
         vrf = vrf;
@@ -137,7 +147,8 @@ module _ (scenario : Scenario) (trace : List Traced) (world : World) (s : InStep
         at_edge = refl;
         number = number;
         own = number_small edge.control id datagram.source datagram.group numbers;
-        hop = subst (λ (f : Fec). MayHop trace vrf.edge branch.node branch.label f) tree (may_hop trace world branched vrf.edge branch (ap (λ (state : NodeState). sets.contains (part_of state).branches branch) at ∙ is.0));
+        hop = subst (λ (f : Fec). MayHop trace vrf.edge branch.node branch.label f) tree
+            (may_hop trace world branched vrf.edge branch (ap (λ (state : NodeState). sets.contains (part_of state).branches branch) at ∙ is.0));
         peer = join.peer;
         afi = join.is.afi;
         advert = route.advert;
@@ -151,8 +162,10 @@ module _ (scenario : Scenario) (trace : List Traced) (world : World) (s : InStep
       Q : ReportLine → Type 0
       Q = EntersBy (scenario_of world) trace world.datagrams id
 
-      at : (vrf : Vrf) → slice_get (scenario_of world).vrfs id.0 ≡ Some vrf → (state : NodeState) → world.network.state.node vrf.edge ≡ state → (datagram : Datagram) → datagram_at world (length world.datagrams) ≡ Some datagram
-          → AllByRecursion (EntersBy (scenario_of world) trace world.datagrams id) (enters_at world (record { id = id; vrf = vrf }) state datagram).lines
+      at : (vrf : Vrf) → slice_get (scenario_of world).vrfs id.0 ≡ Some vrf → (state : NodeState) → world.network.state.node vrf.edge ≡ state
+          → (datagram : Datagram) → datagram_at world (length world.datagrams) ≡ Some datagram
+          → AllByRecursion (EntersBy (scenario_of world) trace world.datagrams id)
+          (enters_at world (record { id = id; vrf = vrf }) state datagram).lines
       at vrf known (CoreNode part) is datagram sent = tt
       at vrf known (Edge edge) is datagram sent =
           let own : OwnVrf = record { id = id; vrf = vrf } in
@@ -160,23 +173,40 @@ module _ (scenario : Scenario) (trace : List Traced) (world : World) (s : InStep
           let Fits : Branch → Type 0 = λ branch. MayEnter (scenario_of world) trace id datagram vrf.edge branch.node branch.label in
           let number : ℕ = length world.datagrams in
           let fate : Fate = entering_fate place (clock_of world) edge own datagram.site datagram.source datagram.group in
-          let fits : AllByRecursion Fits fate.branches = entered (is_from_site datagram.site (upstream_for place edge.control own datagram.source datagram.group)) (is_joined_in place edge.control own datagram.source datagram.group) refl in
-          each_append (EntersBy (scenario_of world) trace world.datagrams id) (map (λ iface. lines.Out number iface datagram.octets) fate.outs) (map (hop_line vrf.edge 255 number) fate.branches)
-          (each_map (EntersBy (scenario_of world) trace world.datagrams id) (λ iface. lines.Out number iface datagram.octets) fate.outs (each_of (λ (iface : IfaceId). Unit {0}) (λ iface. tt) fate.outs))
-          (each_map (EntersBy (scenario_of world) trace world.datagrams id) (hop_line vrf.edge 255 number) fate.branches (each_weaker Fits (λ branch. EntersBy (scenario_of world) trace world.datagrams id (hop_line vrf.edge 255 number branch)) (λ branch h. (datagram, sent, h)) fate.branches fits))
+          let fits : AllByRecursion Fits fate.branches =
+          entered (is_from_site datagram.site (upstream_for place edge.control own datagram.source datagram.group))
+          (is_joined_in place edge.control own datagram.source datagram.group) refl in
+          each_append (EntersBy (scenario_of world) trace world.datagrams id) (map (λ iface. lines.Out number iface datagram.octets) fate.outs)
+          (map (hop_line vrf.edge 255 number) fate.branches)
+          (each_map (EntersBy (scenario_of world) trace world.datagrams id) (λ iface. lines.Out number iface datagram.octets) fate.outs
+          (each_of (λ (iface : IfaceId). Unit {0}) (λ iface. tt) fate.outs))
+          (each_map (EntersBy (scenario_of world) trace world.datagrams id) (hop_line vrf.edge 255 number) fate.branches
+          (each_weaker Fits (λ branch. EntersBy (scenario_of world) trace world.datagrams id (hop_line vrf.edge 255 number branch))
+          (λ branch h. (datagram, sent, h)) fate.branches fits))
         where
-          entered : (t j : Bool) → is_joined_in (place_of world.network.state vrf.edge) edge.control (record { id = id; vrf = vrf }) datagram.source datagram.group ≡ j
-              → AllByRecursion (λ (branch : Branch). MayEnter (scenario_of world) trace id datagram vrf.edge branch.node branch.label) (cond {A = Fate} t (record {
-                outs = filter (is_outside (scenario_of world) datagram.site) (asking_ifaces (place_of world.network.state vrf.edge) (clock_of world) edge.control (record { id = id; vrf = vrf }) datagram.source datagram.group);
-                branches = cond j (branches_of edge.part (transmit_tunnel (place_of world.network.state vrf.edge) edge.control (record { id = id; vrf = vrf }) datagram.source datagram.group)) [];
+          entered : (t j : Bool) → is_joined_in (place_of world.network.state vrf.edge) edge.control (record { id = id; vrf = vrf }) datagram.source
+              datagram.group ≡ j
+              → AllByRecursion (λ (branch : Branch). MayEnter (scenario_of world) trace id datagram vrf.edge branch.node branch.label)
+              (cond {A = Fate} t (record {
+                outs = filter (is_outside (scenario_of world) datagram.site)
+                    (asking_ifaces (place_of world.network.state vrf.edge) (clock_of world) edge.control (record { id = id; vrf = vrf })
+                    datagram.source datagram.group);
+                branches =
+                    cond j (branches_of edge.part (transmit_tunnel (place_of world.network.state vrf.edge) edge.control
+                    (record { id = id; vrf = vrf }) datagram.source datagram.group)) [];
               }) discarded).branches
           entered true true j =
-              let tunnel : Fec = transmit_tunnel (place_of world.network.state vrf.edge) edge.control (record { id = id; vrf = vrf }) datagram.source datagram.group in
-              each_weaker (IsBranchOf edge.part tunnel) (λ (branch : Branch). MayEnter (scenario_of world) trace id datagram vrf.edge branch.node branch.label) (λ branch b. enter_by id vrf edge datagram known is j branch b) (branches_of edge.part tunnel) (tree_branches edge.part tunnel)
+              let tunnel : Fec =
+              transmit_tunnel (place_of world.network.state vrf.edge) edge.control (record { id = id; vrf = vrf }) datagram.source datagram.group
+              in
+              each_weaker (IsBranchOf edge.part tunnel)
+              (λ (branch : Branch). MayEnter (scenario_of world) trace id datagram vrf.edge branch.node branch.label)
+              (λ branch b. enter_by id vrf edge datagram known is j branch b) (branches_of edge.part tunnel) (tree_branches edge.part tunnel)
           entered true false j = tt
           entered false t j = tt
 
-      by : (o : Option Vrf) → slice_get (scenario_of world).vrfs id.0 ≡ o → (d : Option Datagram) → datagram_at world (length world.datagrams) ≡ d → AllByRecursion (EntersBy (scenario_of world) trace world.datagrams id) (entering world id o d).lines
+      by : (o : Option Vrf) → slice_get (scenario_of world).vrfs id.0 ≡ o → (d : Option Datagram) → datagram_at world (length world.datagrams) ≡ d
+          → AllByRecursion (EntersBy (scenario_of world) trace world.datagrams id) (entering world id o d).lines
       by (Some vrf) e (Some datagram) sent = at vrf e (world.network.state.node vrf.edge) refl datagram sent
       by (Some vrf) e None sent = tt
       by None e d sent = tt
@@ -190,8 +220,10 @@ abbrev pub Entering : Scenario → List Traced → World → Type 0
 Entering scenario trace world = EntersMay scenario world.datagrams trace
 
 -- what is licensed stays so when datagrams are added
-line_more : (scenario : Scenario) (old more : List Datagram) (before : List Traced) (id : VrfId) (line : ReportLine) → EntersBy scenario before old id line → EntersBy scenario before (old ++ more) id line
-line_more scenario old more before id (lines.Hop u n label ttl number) (datagram, sent, may) = (datagram, numbered_more old more number datagram sent, may)
+line_more : (scenario : Scenario) (old more : List Datagram) (before : List Traced) (id : VrfId) (line : ReportLine)
+    → EntersBy scenario before old id line → EntersBy scenario before (old ++ more) id line
+line_more scenario old more before id (lines.Hop u n label ttl number) (datagram, sent, may) =
+    (datagram, numbered_more old more number datagram sent, may)
 line_more scenario old more before id (lines.Out number iface bytes) is = tt
 line_more scenario old more before id (lines.Put kind from to bytes) is = tt
 line_more scenario old more before id (lines.Take kind from to bytes) is = tt
@@ -200,8 +232,10 @@ line_more scenario old more before id (lines.Refused line reason) is = tt
 line_more scenario old more before id (lines.Halt line node) is = tt
 line_more scenario old more before id (lines.State a b c d e) is = tt
 
-step_more : (scenario : Scenario) (old more : List Datagram) (before : List Traced) (one : Option Act) (all : List ReportLine) → EnterMay scenario old before one all → EnterMay scenario (old ++ more) before one all
-step_more scenario old more before (Some (Enter id)) all h = each_weaker (EntersBy scenario before old id) (EntersBy scenario before (old ++ more) id) (line_more scenario old more before id) all h
+step_more : (scenario : Scenario) (old more : List Datagram) (before : List Traced) (one : Option Act) (all : List ReportLine)
+    → EnterMay scenario old before one all → EnterMay scenario (old ++ more) before one all
+step_more scenario old more before (Some (Enter id)) all h =
+    each_weaker (EntersBy scenario before old id) (EntersBy scenario before (old ++ more) id) (line_more scenario old more before id) all h
 step_more scenario old more before None all h = tt
 step_more scenario old more before (Some (Tick ticks)) all h = tt
 step_more scenario old more before (Some (Timers n)) all h = tt
@@ -218,9 +252,12 @@ step_more scenario old more before (Some Tell) all h = tt
 step_more scenario old more before (Some (SetCost a b cost)) all h = tt
 step_more scenario old more before (Some (Reroute n)) all h = tt
 
-act_enters : (scenario : Scenario) (trace : List Traced) (world : World) → InStep scenario world → Branched trace world → Tabling trace world → (one : Act) (acted : Acted) → act world one ≡ Ok acted → EnterMay scenario world.datagrams trace (Some one) acted.lines
+act_enters : (scenario : Scenario) (trace : List Traced) (world : World) → InStep scenario world → Branched trace world → Tabling trace world
+    → (one : Act) (acted : Acted) → act world one ≡ Ok acted → EnterMay scenario world.datagrams trace (Some one) acted.lines
 act_enters scenario trace world s branched tabling (Enter id) acted e =
-    subst (λ (own : Scenario). AllByRecursion (EntersBy own trace world.datagrams id) acted.lines) s.2.base.sound.same (said_of (EntersBy (scenario_of world) trace world.datagrams id) (act world (Enter id)) acted (enter_says scenario trace world s branched tabling id) e)
+    subst (λ (own : Scenario). AllByRecursion (EntersBy own trace world.datagrams id) acted.lines) s.2.base.sound.same
+    (said_of (EntersBy (scenario_of world) trace world.datagrams id) (act world (Enter id)) acted
+    (enter_says scenario trace world s branched tabling id) e)
 act_enters scenario trace world s branched tabling (Tick ticks) acted e = tt
 act_enters scenario trace world s branched tabling (Timers n) acted e = tt
 act_enters scenario trace world s branched tabling (Move own u n count) acted e = tt
@@ -236,19 +273,29 @@ act_enters scenario trace world s branched tabling Tell acted e = tt
 act_enters scenario trace world s branched tabling (SetCost a b cost) acted e = tt
 act_enters scenario trace world s branched tabling (Reroute n) acted e = tt
 
-pub entering_kept : (scenario : Scenario) → KeepsAlso scenario (λ trace world. (Taking trace world × Branched trace world) × Tabling trace world) (Entering scenario)
+pub entering_kept : (scenario : Scenario) → KeepsAlso scenario (λ trace world. (Taking trace world × Branched trace world) × Tabling trace world)
+    (Entering scenario)
 entering_kept scenario = record {
   single = λ before number world one acted s sound fit e t k l.
-      let same : acted.world.datagrams ≡ world.datagrams = given_by (HasThose world.datagrams) (act world one) acted (act_those world.datagrams one world refl) e in
+      let same : acted.world.datagrams ≡ world.datagrams =
+      given_by (HasThose world.datagrams) (act world one) acted (act_those world.datagrams one world refl) e in
       subst (λ (ds : List Datagram). EntersMay scenario ds (before ++ stepped number one acted ∷ [])) (sym same)
       (each_next (EnterStep scenario world.datagrams) before (stepped number one acted) l (act_enters scenario before world s k.0.1 k.1 one acted e));
   pair = λ before number world session first second declared s off back e g t k l.
       let one : Traced = stepped number (RaiseFirst session.kind session.a session.b) first in
       let two : Traced = stepped number (RaiseSecond session.kind session.a session.b) second in
-      let same : first.world.datagrams ≡ world.datagrams = given_by (HasThose world.datagrams) (act world (RaiseFirst session.kind session.a session.b)) first (act_those world.datagrams (RaiseFirst session.kind session.a session.b) world refl) e in
-      let last : second.world.datagrams ≡ world.datagrams = given_by (HasThose world.datagrams) (act first.world (RaiseSecond session.kind session.a session.b)) second (act_those world.datagrams (RaiseSecond session.kind session.a session.b) first.world same) g in
+      let same : first.world.datagrams ≡ world.datagrams =
+      given_by (HasThose world.datagrams) (act world (RaiseFirst session.kind session.a session.b)) first
+      (act_those world.datagrams (RaiseFirst session.kind session.a session.b) world refl) e in
+      let last : second.world.datagrams ≡ world.datagrams =
+      given_by (HasThose world.datagrams) (act first.world (RaiseSecond session.kind session.a session.b)) second
+      (act_those world.datagrams (RaiseSecond session.kind session.a session.b) first.world same) g in
       subst (λ (ds : List Datagram). EntersMay scenario ds (before ++ one ∷ two ∷ [])) (sym last)
-      (subst (EntersMay scenario world.datagrams) (append_assoc before (one ∷ []) (two ∷ [])) (each_next (EnterStep scenario world.datagrams) (before ++ one ∷ []) two (each_next (EnterStep scenario world.datagrams) before one l tt) tt));
-  accepted = λ before world datagram s k l b after step e. step_more scenario world.datagrams (datagram ∷ []) b step.happened.act step.happened.lines (l b after step e);
+      (subst (EntersMay scenario world.datagrams) (append_assoc before (one ∷ []) (two ∷ []))
+      (each_next (EnterStep scenario world.datagrams) (before ++ one ∷ []) two (each_next (EnterStep scenario world.datagrams) before one l tt)
+      tt));
+  accepted =
+      λ before world datagram s k l b after step e. step_more scenario world.datagrams (datagram ∷ []) b step.happened.act step.happened.lines
+      (l b after step e);
   refused = λ before number world line reason k l. each_next (EnterStep scenario world.datagrams) before (refused_step number line reason) l tt;
 }

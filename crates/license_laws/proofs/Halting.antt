@@ -28,12 +28,14 @@ use Rattle.license_laws.proofs.Whole.{run_is_local}
 takes_left : (scenario : Scenario) → Leaves scenario Taking TakesWhatWasPut
 takes_left scenario = record {
   whole = λ trace world k. k.takes;
-  half = λ before number world session first declared s e k. (first_taking scenario before number world session first declared s.2.base.sound.same e k).takes;
+  half = λ before number world session first declared s e k.
+      (first_taking scenario before number world session first declared s.2.base.sound.same e k).takes;
 }
 
 -- ---- acts that let nothing go on
 
-quiet_licensed : (scenario : Scenario) (datagrams : List Datagram) (before : List Traced) (one : Option Act) (all : List ReportLine) → IsOfPlain one → list_any goes_on all ≡ false → IsLicensed scenario datagrams before one all
+quiet_licensed : (scenario : Scenario) (datagrams : List Datagram) (before : List Traced) (one : Option Act) (all : List ReportLine) → IsOfPlain one
+    → list_any goes_on all ≡ false → IsLicensed scenario datagrams before one all
 quiet_licensed scenario datagrams before None all p s = absurd p
 quiet_licensed scenario datagrams before (Some (Enter id)) all p s = absurd p
 quiet_licensed scenario datagrams before (Some (Land a b place)) all p s = absurd p
@@ -52,7 +54,8 @@ quiet_licensed scenario datagrams before (Some (SetCost a b cost)) all p s = s
 quiet_licensed scenario datagrams before (Some (Reroute n)) all p s = s
 
 -- a step of two traces is one of the first, or is as each of the second
-of_either : (Q : Traced → Type 0) (first more front after : List Traced) (step : Traced) → first ++ more ≡ front ++ step ∷ after → AllByRecursion Q more → ((rest : List Traced) × (first ≡ front ++ step ∷ rest)) ⊎ Q step
+of_either : (Q : Traced → Type 0) (first more front after : List Traced) (step : Traced) → first ++ more ≡ front ++ step ∷ after
+    → AllByRecursion Q more → ((rest : List Traced) × (first ≡ front ++ step ∷ rest)) ⊎ Q step
 of_either Q [] more front after step e all = inr (each_behind Q front (step ∷ after) (subst (AllByRecursion Q) e all)).0
 of_either Q (own ∷ first) more [] after step e all = (let same : own ≡ step = cc in inl (first, λ i. same i ∷ first))
 of_either Q (own ∷ first) more (other ∷ front) after step e all =
@@ -65,15 +68,20 @@ of_either Q (own ∷ first) more (other ∷ front) after step e all =
 
 -- ---- runs that halt
 
-pub halt_is_local : (cores : Cores) (script : Script) (report : List Entry) (node : NodeId) (s : SoundHalt cores script report node) → Local s.halt.world (s.halt.trace ++ traced (length s.halt.before) s.halt.acts)
+pub halt_is_local : (cores : Cores) (script : Script) (report : List Entry) (node : NodeId) (s : SoundHalt cores script report node)
+    → Local s.halt.world (s.halt.trace ++ traced (length s.halt.before) s.halt.acts)
 halt_is_local cores script report node s = record {
   takes =
-      halt_leaves script.scenario Taking TakesWhatWasPut (taking_kept script.scenario) (takes_left script.scenario) (length s.halt.before) s.halt.trace s.halt.world
-      (run_in_step script.scenario cores s.halt.before s.halt.trace s.halt.world s.scenario run.sound_events s.halt.run) s.halt.timed (event_sound cores script report node s)
-      (run_takes script.scenario cores s.halt.before s.halt.trace s.halt.world s.scenario run.sound_events s.halt.run (start_in_step script.scenario cores s.scenario)) s.halt.acts node s.halt.lacks;
+      halt_leaves script.scenario Taking TakesWhatWasPut (taking_kept script.scenario) (takes_left script.scenario) (length s.halt.before)
+      s.halt.trace s.halt.world
+      (run_in_step script.scenario cores s.halt.before s.halt.trace s.halt.world s.scenario run.sound_events s.halt.run) s.halt.timed
+      (event_sound cores script report node s)
+      (run_takes script.scenario cores s.halt.before s.halt.trace s.halt.world s.scenario run.sound_events s.halt.run
+      (start_in_step script.scenario cores s.scenario)) s.halt.acts node s.halt.lacks;
   licensed = λ front after step e. elim (of_either IsStill s.halt.trace (traced number s.halt.acts) front after step e still) [
     | inl (rest, same) ↦ before.licensed front rest step same
-    | inr quiet ↦ quiet_licensed (scenario_of s.halt.world) s.halt.world.datagrams front step.happened.act step.happened.lines quiet.plain (none_goes step.happened.lines (plain_lines step.happened.lines quiet.lines))
+    | inr quiet ↦ quiet_licensed (scenario_of s.halt.world) s.halt.world.datagrams front step.happened.act step.happened.lines quiet.plain
+        (none_goes step.happened.lines (plain_lines step.happened.lines quiet.lines))
   ];
 }
   where

@@ -51,7 +51,9 @@ none_goes (line ∷ more) h = (λ i. h.0 i || none_goes more h.1 i)
 
 -- the lines of an act by which no copy lands and no datagram enters
 pub plain_lines : (all : List ReportLine) → AllByRecursion IsPlainLine all → AllByRecursion Stays all
-plain_lines all = each_weaker IsPlainLine Stays (of_plain Stays (λ kind from to bytes. refl) (λ kind from to bytes. refl) (λ bytes copies buffers due unready. refl)) all
+plain_lines all =
+    each_weaker IsPlainLine Stays (of_plain Stays (λ kind from to bytes. refl) (λ kind from to bytes. refl)
+    (λ bytes copies buffers due unready. refl)) all
 
 pub plain_stays : (one : Act) → IsPlain one → (world : World) → Says Stays (act world one)
 plain_stays one plain world = by (act world one) (act_plain one plain world)
@@ -68,7 +70,8 @@ IsBranchOf part fec branch = (sets.contains part.branches branch ≡ true) × (s
 
 pub tree_branches : (part : LabelData) (fec : Fec) → AllByRecursion (IsBranchOf part fec) (branches_of part fec)
 tree_branches part fec =
-    each_filtered (λ (b : Branch). sets.contains part.branches b ≡ true) (λ branch. same_fec branch.fec fec) (in_order part.branches) (each_in_order branch_cmp_total (λ (b : Branch). sets.contains part.branches b ≡ true) part.branches (λ b h. h))
+    each_filtered (λ (b : Branch). sets.contains part.branches b ≡ true) (λ branch. same_fec branch.fec fec) (in_order part.branches)
+    (each_in_order branch_cmp_total (λ (b : Branch). sets.contains part.branches b ≡ true) part.branches (λ b h. h))
 
 abbrev pub IsBranch : LabelData → Branch → Type 0
 IsBranch part branch = sets.contains part.branches branch ≡ true
@@ -79,33 +82,44 @@ any_tree part fec = each_weaker (IsBranchOf part fec) (IsBranch part) (λ b h. h
 -- ---- lines of copies
 
 module _ (trace : List Traced) (world : World) (all : Branched trace world) where
-  fated_hops : (now : World) (node : NodeId) (ttl number : ℕ) (bytes : List ℕ) (before : List ReportLine) (fate : Fate) → AllByRecursion (HopMay trace) before → AllByRecursion (IsBranch (part_at world node)) fate.branches → AllByRecursion (HopMay trace) (fated now node ttl number bytes before fate).lines
+  fated_hops : (now : World) (node : NodeId) (ttl number : ℕ) (bytes : List ℕ) (before : List ReportLine) (fate : Fate)
+      → AllByRecursion (HopMay trace) before → AllByRecursion (IsBranch (part_at world node)) fate.branches
+      → AllByRecursion (HopMay trace) (fated now node ttl number bytes before fate).lines
   fated_hops now node ttl number bytes before fate first are =
       each_append (HopMay trace) before (map (λ iface. lines.Out number iface bytes) fate.outs ++ map (hop_line node ttl number) fate.branches) first
       (each_append (HopMay trace) (map (λ iface. lines.Out number iface bytes) fate.outs) (map (hop_line node ttl number) fate.branches)
       (each_map (HopMay trace) (λ iface. lines.Out number iface bytes) fate.outs (each_of (λ (iface : IfaceId). Unit {0}) (λ iface. tt) fate.outs))
-      (each_map (HopMay trace) (hop_line node ttl number) fate.branches (each_weaker (IsBranch (part_at world node)) (λ branch. HopMay trace (hop_line node ttl number branch)) (λ branch h. (branch.fec, may_hop trace world all node branch h)) fate.branches are)))
+      (each_map (HopMay trace) (hop_line node ttl number) fate.branches
+      (each_weaker (IsBranch (part_at world node)) (λ branch. HopMay trace (hop_line node ttl number branch))
+      (λ branch h. (branch.fec, may_hop trace world all node branch h)) fate.branches are)))
 
   land_hops : (a b : NodeId) (place : ℕ) → Says (HopMay trace) (act world (Land a b place))
   land_hops a b place = by (slice_get (world.copies a b) (place - 1))
     where
-      tree_in : (part : LabelData) (o : Option Fec) (outs : Fec → List IfaceId) → AllByRecursion (IsBranch part) (elim o as (λ _. Fate) [ None ↦ discarded | Some fec ↦ record { outs = outs fec; branches = branches_of part fec } ]).branches
+      tree_in : (part : LabelData) (o : Option Fec) (outs : Fec → List IfaceId)
+          → AllByRecursion (IsBranch part) (elim o as (λ _. Fate)
+          [ None ↦ discarded | Some fec ↦ record { outs = outs fec; branches = branches_of part fec } ]).branches
       tree_in part None outs = tt
       tree_in part (Some fec) outs = any_tree part fec
 
-      late : (part : LabelData) (t : Bool) (fate : Fate) → AllByRecursion (IsBranch part) fate.branches → AllByRecursion (IsBranch part) (cond t (record fate { branches = [] }) fate).branches
+      late : (part : LabelData) (t : Bool) (fate : Fate) → AllByRecursion (IsBranch part) fate.branches
+          → AllByRecursion (IsBranch part) (cond t (record fate { branches = [] }) fate).branches
       late part true fate h = tt
       late part false fate h = h
 
-      at : (state : NodeState) (copy : LinkCopy) (datagram : Datagram) → AllByRecursion (IsBranch (part_of state)) (fate_at (without_copy world a b place) b state a copy.label datagram).branches
-      at (Edge edge) copy datagram = tree_in edge.part (tree_of a (use_of edge.part copy.label)) (λ fec. outs_of (place_of world.network.state b) (clock_of world) edge fec datagram.source datagram.group)
+      at : (state : NodeState) (copy : LinkCopy) (datagram : Datagram)
+          → AllByRecursion (IsBranch (part_of state)) (fate_at (without_copy world a b place) b state a copy.label datagram).branches
+      at (Edge edge) copy datagram =
+          tree_in edge.part (tree_of a (use_of edge.part copy.label))
+          (λ fec. outs_of (place_of world.network.state b) (clock_of world) edge fec datagram.source datagram.group)
       at (CoreNode part) copy datagram = tree_in part (tree_of a (use_of part copy.label)) (λ fec. [])
 
       found : (copy : LinkCopy) (d : Option Datagram) → AllByRecursion (HopMay trace) (landed (without_copy world a b place) a b copy d).lines
       found copy None = tt
       found copy (Some datagram) =
           let fate : Fate = fate_at (without_copy world a b place) b (world.network.state.node b) a copy.label datagram in
-          fated_hops (without_copy world a b place) b (copy.ttl - 1) copy.number datagram.octets (lines.Land a b copy.label copy.number ∷ []) (with_ttl copy.ttl fate) (tt, tt)
+          fated_hops (without_copy world a b place) b (copy.ttl - 1) copy.number datagram.octets (lines.Land a b copy.label copy.number ∷ [])
+          (with_ttl copy.ttl fate) (tt, tt)
           (late (part_at world b) (nat_le copy.ttl 1) fate (at (world.network.state.node b) copy datagram))
 
       by : (o : Option LinkCopy) → AllByRecursion (HopMay trace) (landing world a b place o).lines
@@ -115,20 +129,30 @@ module _ (trace : List Traced) (world : World) (all : Branched trace world) wher
   enter_hops : (id : VrfId) → Says (HopMay trace) (act world (Enter id))
   enter_hops id = by (slice_get (scenario_of world).vrfs id.0) (datagram_at world (length world.datagrams))
     where
-      at : (vrf : Vrf) (state : NodeState) → world.network.state.node vrf.edge ≡ state → (datagram : Datagram) → AllByRecursion (HopMay trace) (enters_at world (record { id = id; vrf = vrf }) state datagram).lines
+      at : (vrf : Vrf) (state : NodeState) → world.network.state.node vrf.edge ≡ state → (datagram : Datagram)
+          → AllByRecursion (HopMay trace) (enters_at world (record { id = id; vrf = vrf }) state datagram).lines
       at vrf (CoreNode part) is datagram = tt
       at vrf (Edge edge) is datagram =
           let own : OwnVrf = record { id = id; vrf = vrf } in
           let place : EdgePlace = place_of world.network.state vrf.edge in
-          fated_hops world vrf.edge 255 (length world.datagrams) datagram.octets [] (entering_fate place (clock_of world) edge own datagram.site datagram.source datagram.group) tt
-          (subst (λ (s : NodeState). AllByRecursion (IsBranch (part_of s)) (entering_fate place (clock_of world) edge own datagram.site datagram.source datagram.group).branches) (sym is)
-          (entered (is_from_site datagram.site (upstream_for place edge.control own datagram.source datagram.group)) (is_joined_in place edge.control own datagram.source datagram.group)))
+          fated_hops world vrf.edge 255 (length world.datagrams) datagram.octets []
+          (entering_fate place (clock_of world) edge own datagram.site datagram.source datagram.group) tt
+          (subst (λ (s : NodeState). AllByRecursion (IsBranch (part_of s))
+          (entering_fate place (clock_of world) edge own datagram.site datagram.source datagram.group).branches) (sym is)
+          (entered (is_from_site datagram.site (upstream_for place edge.control own datagram.source datagram.group))
+          (is_joined_in place edge.control own datagram.source datagram.group)))
         where
           entered : (t j : Bool) → AllByRecursion (IsBranch edge.part) (cond {A = Fate} t (record {
-            outs = filter (is_outside (scenario_of world) datagram.site) (asking_ifaces (place_of world.network.state vrf.edge) (clock_of world) edge.control (record { id = id; vrf = vrf }) datagram.source datagram.group);
-            branches = cond j (branches_of edge.part (transmit_tunnel (place_of world.network.state vrf.edge) edge.control (record { id = id; vrf = vrf }) datagram.source datagram.group)) [];
+            outs = filter (is_outside (scenario_of world) datagram.site)
+                (asking_ifaces (place_of world.network.state vrf.edge) (clock_of world) edge.control (record { id = id; vrf = vrf }) datagram.source
+                datagram.group);
+            branches =
+                cond j (branches_of edge.part (transmit_tunnel (place_of world.network.state vrf.edge) edge.control (record { id = id; vrf = vrf })
+                datagram.source datagram.group)) [];
           }) discarded).branches
-          entered true true = any_tree edge.part (transmit_tunnel (place_of world.network.state vrf.edge) edge.control (record { id = id; vrf = vrf }) datagram.source datagram.group)
+          entered true true =
+              any_tree edge.part (transmit_tunnel (place_of world.network.state vrf.edge) edge.control (record { id = id; vrf = vrf }) datagram.source
+              datagram.group)
           entered true false = tt
           entered false j = tt
 
@@ -149,7 +173,8 @@ stays_may before (lines.Refused line reason) s = tt
 stays_may before (lines.Halt line node) s = tt
 stays_may before (lines.State a b c d e) s = tt
 
-act_hops : (trace : List Traced) (world : World) → Branched trace world → (one : Act) (acted : Acted) → act world one ≡ Ok acted → AllByRecursion (HopMay trace) acted.lines
+act_hops : (trace : List Traced) (world : World) → Branched trace world → (one : Act) (acted : Acted) → act world one ≡ Ok acted
+    → AllByRecursion (HopMay trace) acted.lines
 act_hops trace world all one acted e = by one e
   where
     plain : (one : Act) → IsPlain one → act world one ≡ Ok acted → AllByRecursion (HopMay trace) acted.lines
@@ -180,13 +205,19 @@ HopStep before step = AllByRecursion (HopMay before) step.happened.lines
 
 pub hopping_kept : (scenario : Scenario) → KeepsAlso scenario (λ trace world. Taking trace world × Branched trace world) Hopping
 hopping_kept scenario = record {
-  single = λ before number world one acted s sound fit e t k l. each_next HopStep before (stepped number one acted) l (act_hops before world k.1 one acted e);
+  single = λ before number world one acted s sound fit e t k l. each_next HopStep before (stepped number one acted) l
+      (act_hops before world k.1 one acted e);
   pair = λ before number world session first second declared s off back e g t k l.
       let one : Traced = stepped number (RaiseFirst session.kind session.a session.b) first in
       let two : Traced = stepped number (RaiseSecond session.kind session.a session.b) second in
       subst HopsMay (append_assoc before (one ∷ []) (two ∷ []))
-      (each_next HopStep (before ++ one ∷ []) two (each_next HopStep before one l (each_weaker Stays (HopMay before) (stays_may before) first.lines (said_of Stays (act world (RaiseFirst session.kind session.a session.b)) first (plain_stays (RaiseFirst session.kind session.a session.b) tt world) e)))
-      (each_weaker Stays (HopMay (before ++ one ∷ [])) (stays_may (before ++ one ∷ [])) second.lines (said_of Stays (act first.world (RaiseSecond session.kind session.a session.b)) second (plain_stays (RaiseSecond session.kind session.a session.b) tt first.world) g)));
+      (each_next HopStep (before ++ one ∷ []) two (each_next HopStep before one l
+      (each_weaker Stays (HopMay before) (stays_may before) first.lines
+      (said_of Stays (act world (RaiseFirst session.kind session.a session.b)) first
+      (plain_stays (RaiseFirst session.kind session.a session.b) tt world) e)))
+      (each_weaker Stays (HopMay (before ++ one ∷ [])) (stays_may (before ++ one ∷ [])) second.lines
+      (said_of Stays (act first.world (RaiseSecond session.kind session.a session.b)) second
+      (plain_stays (RaiseSecond session.kind session.a session.b) tt first.world) g)));
   accepted = λ before world datagram s k l. l;
   refused = λ before number world line reason k l. each_next HopStep before (refused_step number line reason) l (tt, tt);
 }

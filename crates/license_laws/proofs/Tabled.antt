@@ -34,10 +34,13 @@ use Rattle.license_laws.proofs.Taking.{Taking}
 abbrev pub Tabling : List Traced → World → Type 0
 Tabling = AllHeard kinds.Bgp Tabled tabled_follower
 
-no_table : (scenario : Scenario) (world : World) → InStep scenario world → (from to : NodeId) → from ≢ to → is_end world kinds.Bgp to from ≡ false → Tabled from [] (world.network.state.node to)
-no_table scenario world s from to ne off = by (maps.get (control_of (world.network.state.node to)).peers from) (bgp_up_is (world.network.state.node to) from ∙ off)
+no_table : (scenario : Scenario) (world : World) → InStep scenario world → (from to : NodeId) → from ≢ to → is_end world kinds.Bgp to from ≡ false
+    → Tabled from [] (world.network.state.node to)
+no_table scenario world s from to ne off =
+    by (maps.get (control_of (world.network.state.node to)).peers from) (bgp_up_is (world.network.state.node to) from ∙ off)
   where
-    by : (o : Option Taken) → is_some o ≡ false → (key : Key) (route : TakenRoute) → maps.get (table_in o) key ≡ Some route → HoldsValue [] key route.value
+    by : (o : Option Taken) → is_some o ≡ false → (key : Key) (route : TakenRoute) → maps.get (table_in o) key ≡ Some route
+        → HoldsValue [] key route.value
     by None e key route f = absurd (none-some route (sym (maps.get-empty key_cmp key) ∙ f))
     by (Some taken) e key route f = absurd cc
 
@@ -63,7 +66,8 @@ plain_of (unit ∷ units) are =
       plain = record { messages = are.0.0; octets = unit.octets } ∷ rest.plain;
       each = (are.0.2, rest.each);
       octets = ap (λ (xs : List ℕ). unit.octets ++ xs) rest.octets;
-      says = changes_both unit.messages (messages_of units) ∙ (λ i. (ap changes_in are.0.1 ∙ changes_plain are.0.0) i ++ rest.says i) ∙ sym (flat_map-append changes_of are.0.0 (messages_of rest.plain));
+      says = changes_both unit.messages (messages_of units) ∙ (λ i. (ap changes_in are.0.1 ∙ changes_plain are.0.0) i ++ rest.says i)
+          ∙ sym (flat_map-append changes_of are.0.0 (messages_of rest.plain));
     }
 
 -- A route of a table is one that was taken.
@@ -80,7 +84,9 @@ none_held key advert h = by h.before h.parts
     by [] e = cc
     by (x ∷ xs) e = cc
 
-pub taken_route : (trace : List Traced) (world : World) → Tabling trace world → (peer n : NodeId) (key : Key) (route : TakenRoute) → maps.get (table_in (maps.get (control_of (world.network.state.node n)).peers peer)) key ≡ Some route → IsTakenRoute (taken_since kinds.Bgp peer n trace) key route.value
+pub taken_route : (trace : List Traced) (world : World) → Tabling trace world → (peer n : NodeId) (key : Key) (route : TakenRoute)
+    → maps.get (table_in (maps.get (control_of (world.network.state.node n)).peers peer)) key ≡ Some route
+    → IsTakenRoute (taken_since kinds.Bgp peer n trace) key route.value
 taken_route trace world all peer n key route e = by (is_up_in kinds.Bgp n peer trace) refl
   where
     by : (t : Bool) → is_up_in kinds.Bgp n peer trace ≡ t → IsTakenRoute (taken_since kinds.Bgp peer n trace) key route.value

@@ -17,7 +17,8 @@ use Rattle.license_laws.specs.Enters.{EnterMay}
 use Rattle.license_laws.specs.Lands.{LandMay}
 use Rattle.license_laws.proofs.Licensed.{run_kept}
 
-licensed : (scenario : Scenario) (datagrams : List Datagram) (before : List Traced) (one : Option Act) (all : List ReportLine) → LandMay scenario before one all → EnterMay scenario datagrams before one all → IsLicensed scenario datagrams before one all
+licensed : (scenario : Scenario) (datagrams : List Datagram) (before : List Traced) (one : Option Act) (all : List ReportLine)
+    → LandMay scenario before one all → EnterMay scenario datagrams before one all → IsLicensed scenario datagrams before one all
 licensed scenario datagrams before None all l e = l
 licensed scenario datagrams before (Some (Enter id)) all l e = e
 licensed scenario datagrams before (Some (Land a b place)) ((lines.Land own_from own_n label number) ∷ all) l e = l
@@ -43,11 +44,14 @@ licensed scenario datagrams before (Some Tell) all l e = l
 licensed scenario datagrams before (Some (SetCost a b cost)) all l e = l
 licensed scenario datagrams before (Some (Reroute n)) all l e = l
 
-pub run_is_local : (scenario : Scenario) (cores : Cores) (all : List Timed) (trace : List Traced) (new : World) → SoundScenario scenario → AllByRecursion (λ timed. IsSoundEvent scenario timed.event) all → Runs (start scenario cores) 0 all trace new → Local new trace
+pub run_is_local : (scenario : Scenario) (cores : Cores) (all : List Timed) (trace : List Traced) (new : World) → SoundScenario scenario
+    → AllByRecursion (λ timed. IsSoundEvent scenario timed.event) all → Runs (start scenario cores) 0 all trace new → Local new trace
 run_is_local scenario cores all trace new lines sound run =
     let k = run_kept scenario cores all trace new lines sound run in
     let same : scenario_of new ≡ scenario = (run_in_step scenario cores all trace new lines sound run).2.base.sound.same in
     record {
       takes = k.0.0.0.0.0.0.takes;
-      licensed = λ before after step e. subst (λ (own : Scenario). IsLicensed own new.datagrams before step.happened.act step.happened.lines) (sym same) (licensed scenario new.datagrams before step.happened.act step.happened.lines (k.1 before after step e) (k.0.1 before after step e));
+      licensed =
+          λ before after step e. subst (λ (own : Scenario). IsLicensed own new.datagrams before step.happened.act step.happened.lines) (sym same)
+          (licensed scenario new.datagrams before step.happened.act step.happened.lines (k.1 before after step e) (k.0.1 before after step e));
     }

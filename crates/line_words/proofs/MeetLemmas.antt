@@ -24,15 +24,18 @@ ok_meets P x p = record { holds = λ y e. let q : x ≡ y = cc in subst P q p }
 pub err_meets : {A : Type 0} (P : A → Type 0) (e : TextFault) → Meets P (Err e)
 err_meets P e = record { holds = λ y h. absurd cc }
 
-pub bind_meets : {A B : Type 0} (P : B → Type 0) (r : Result A TextFault) (f : A → Result B TextFault) → ((x : A) → r ≡ Ok x → Meets P (f x)) → Meets P (r >>= f)
+pub bind_meets : {A B : Type 0} (P : B → Type 0) (r : Result A TextFault) (f : A → Result B TextFault) → ((x : A) → r ≡ Ok x → Meets P (f x))
+    → Meets P (r >>= f)
 bind_meets P (Ok x) f h = h x refl
 bind_meets P (Err e) f h = err_meets P e
 
-pub if_meets : {A : Type 0} (P : A → Type 0) (b : Bool) (e : TextFault) (r : Result A TextFault) → (b ≡ false → Meets P r) → Meets P (cond b (Err e) r)
+pub if_meets : {A : Type 0} (P : A → Type 0) (b : Bool) (e : TextFault) (r : Result A TextFault) → (b ≡ false → Meets P r)
+    → Meets P (cond b (Err e) r)
 if_meets P true e r h = err_meets P e
 if_meets P false e r h = h refl
 
-pub then_meets : {A : Type 0} (P : A → Type 0) (b : Bool) (e : TextFault) (r : Result A TextFault) → (b ≡ true → Meets P r) → Meets P (cond b r (Err e))
+pub then_meets : {A : Type 0} (P : A → Type 0) (b : Bool) (e : TextFault) (r : Result A TextFault) → (b ≡ true → Meets P r)
+    → Meets P (cond b r (Err e))
 then_meets P true e r h = h refl
 then_meets P false e r h = err_meets P e
 
@@ -62,7 +65,8 @@ pub map_finds : {A B : Type 0} (P : B → Type 0) (f : A → B) (o : Option A) �
 map_finds P f (Some x) h = some_finds P (f x) (h.holds x refl)
 map_finds P f None h = none_finds P
 
-pub or_fault_meets : {A : Type 0} (P : A → Type 0) (o : Option A) (row : Row) (word : Placed) (reason : Reason) → Finds P o → Meets P (or_fault o row word reason)
+pub or_fault_meets : {A : Type 0} (P : A → Type 0) (o : Option A) (row : Row) (word : Placed) (reason : Reason) → Finds P o
+    → Meets P (or_fault o row word reason)
 or_fault_meets P (Some x) row word reason h = ok_meets P x (h.holds x refl)
 or_fault_meets P None row word reason h = err_meets P _
 
@@ -77,7 +81,9 @@ octet_finds text = bind_finds _ (number_of text) _ (λ number _. only_finds _ (n
 
 front_finds : (text : List ℕ) → Finds (λ front. front.0 < 256) (octet_front_of text)
 unfolding octet_front_of
-front_finds text = bind_finds _ (cut_of 46 text) _ (λ cut _. bind_finds _ (octet_of cut.0) _ (λ octet e. some_finds _ (octet, cut.1) ((octet_finds cut.0).holds octet e)))
+front_finds text =
+    bind_finds _ (cut_of 46 text) _ (λ cut _. bind_finds _ (octet_of cut.0) _
+    (λ octet e. some_finds _ (octet, cut.1) ((octet_finds cut.0).holds octet e)))
 
 four_octets : (a b c d : ℕ) → a < 256 → b < 256 → c < 256 → d < 256 → IsOctets (a ∷ b ∷ c ∷ d ∷ [])
 four_octets a b c d p q r s zero = p
@@ -90,14 +96,19 @@ four_octets a b c d p q r s (suc (suc (suc (suc i)))) = omega arith
 pub dotted_octets : (text : List ℕ) → Finds (λ octets. (length octets ≡ 4) × IsOctets octets) (dotted_of text)
 unfolding dotted_of
 dotted_octets text =
-    bind_finds _ (octet_front_of text) _ (λ a p. bind_finds _ (octet_front_of a.1) _ (λ b q. bind_finds _ (octet_front_of b.1) _ (λ c r. bind_finds _ (octet_of c.1) _ (λ d s.
-    some_finds _ (a.0 ∷ b.0 ∷ c.0 ∷ d ∷ [])
-    (refl, four_octets a.0 b.0 c.0 d ((front_finds text).holds a p) ((front_finds a.1).holds b q) ((front_finds b.1).holds c r) ((octet_finds c.1).holds d s))))))
+    bind_finds _ (octet_front_of text) _ (λ a p. bind_finds _ (octet_front_of a.1) _
+    (λ b q. bind_finds _ (octet_front_of b.1) _ (λ c r. bind_finds _ (octet_of c.1) _ (λ d s.
+    some_finds _ (a.0 ∷ b.0 ∷ c.0 ∷ d ∷ []) (
+      refl,
+      four_octets a.0 b.0 c.0 d ((front_finds text).holds a p) ((front_finds a.1).holds b q) ((front_finds b.1).holds c r)
+          ((octet_finds c.1).holds d s),
+    )))))
 
 no_octets : IsOctets []
 no_octets i = omega arith
 
-decoded : (text : List ℕ) (e : TextFault) (r : Result (List ℕ) FromHexError) → decode_of text ≡ r → Meets IsOctets (elim r [ Ok octets ↦ Ok octets | Err error ↦ Err e ])
+decoded : (text : List ℕ) (e : TextFault) (r : Result (List ℕ) FromHexError) → decode_of text ≡ r
+    → Meets IsOctets (elim r [ Ok octets ↦ Ok octets | Err error ↦ Err e ])
 decoded text e (Ok octets) h = ok_meets _ octets (decode_of-ok text octets h).3
 decoded text e (Err error) h = err_meets _ e
 

@@ -26,11 +26,14 @@ total-slice_split p [] = refl
 total-slice_split p (x ∷ xs) = total-cons (p x) x (slice_split p xs) (length xs) (total-slice_split p xs) ∙ omega arith
 
 -- The parts from a place on: the one there, and those behind it.
-pub total-drop : (parts : List (Bor (List ℕ))) (i : ℕ) (d : Bor (List ℕ)) → i < length parts → total (map (λ p. p.now) (drop i parts)) ≡ length (get_or parts i d).now + 1 + total (map (λ p. p.now) (drop (suc i) parts))
+pub total-drop : (parts : List (Bor (List ℕ))) (i : ℕ) (d : Bor (List ℕ)) → i < length parts
+    → total (map (λ p. p.now) (drop i parts)) ≡ length (get_or parts i d).now + 1 + total (map (λ p. p.now) (drop (suc i) parts))
 total-drop parts i d h = ap (λ (l : List (Bor (List ℕ))). total (map (λ p. p.now) l)) (drop-cons parts i d h)
 
 -- What is to come fits behind what was.
-pub column_fits : (parts : List (Bor (List ℕ))) (i : ℕ) (d : Bor (List ℕ)) (column n : ℕ) → i < length parts → column + total (map (λ p. p.now) (drop i parts)) ≡ 1 + total (map (λ p. p.now) parts) → total (map (λ p. p.now) parts) ≡ n + 1 → column + (length (get_or parts i d).now + 1) ≤ n + 2
+pub column_fits : (parts : List (Bor (List ℕ))) (i : ℕ) (d : Bor (List ℕ)) (column n : ℕ) → i < length parts
+    → column + total (map (λ p. p.now) (drop i parts)) ≡ 1 + total (map (λ p. p.now) parts) → total (map (λ p. p.now) parts) ≡ n + 1
+    → column + (length (get_or parts i d).now + 1) ≤ n + 2
 column_fits parts i d column n h e t = omega (arith, total-drop parts i d h, e, t)
 
 -- Parts behind a line feed: the part before it is a line.
@@ -77,5 +80,7 @@ lines-whole [] l h = absurd (omega arith)
 lines-whole (x ∷ more) l h = whole_line x more (slice_split (λ b. b == 10) (x ∷ more)) (split_whole (λ b. b == 10) (x ∷ more) h)
 
 -- A part is shorter than what is to come.
-pub part_fits : (parts : List (Bor (List ℕ))) (i : ℕ) (d : Bor (List ℕ)) (column n : ℕ) → i < length parts → 1 ≤ column → column + total (map (λ p. p.now) (drop i parts)) ≡ 1 + total (map (λ p. p.now) parts) → total (map (λ p. p.now) parts) ≡ n + 1 → length (get_or parts i d).now ≤ n
+pub part_fits : (parts : List (Bor (List ℕ))) (i : ℕ) (d : Bor (List ℕ)) (column n : ℕ) → i < length parts → 1 ≤ column
+    → column + total (map (λ p. p.now) (drop i parts)) ≡ 1 + total (map (λ p. p.now) parts) → total (map (λ p. p.now) parts) ≡ n + 1
+    → length (get_or parts i d).now ≤ n
 part_fits parts i d column n h one e t = omega (arith, total-drop parts i d h, e, t)

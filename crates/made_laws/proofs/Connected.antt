@@ -15,7 +15,8 @@ still : (links : List Link) (node some more : ℕ) → some ≤ more → reached
 still links node some zero le h = subst (λ (k : ℕ). reached_within links k node ≡ true) (let e : some ≡ 0 = omega arith in e) h
 still links node some (suc more) le h = by_order (still links node some more) (cases_lt more some)
   where
-    by_order : (some ≤ more → reached_within links some node ≡ true → reached_within links more node ≡ true) → (more < some) ⊎ (some ≤ more) → reached_within links (suc more) node ≡ true
+    by_order : (some ≤ more → reached_within links some node ≡ true → reached_within links more node ≡ true) → (more < some) ⊎ (some ≤ more)
+        → reached_within links (suc more) node ≡ true
     by_order earlier (inl l) = subst (λ (k : ℕ). reached_within links k node ≡ true) (let e : some ≡ suc more = omega arith in e) h
     by_order earlier (inr l) = or_left _ _ (earlier l h)
 
@@ -27,20 +28,24 @@ joined_here : (passes : ℕ → Bool) (node : ℕ) (link : Link) → link.a.0 �
 joined_here passes node link e h = or_left _ _ (and_from _ _ (eq-eqb link.a.0 node e) h)
 
 module _ (edges cores : ℕ) (all_edges : edges ≡ 32) (all_cores : cores ≡ 16) where
-  over_ring : (count k node : ℕ) → k < 16 → suc k % 16 + 1 + 31 ≡ node → reached_within (made_links cores edges) count (suc k + 31) ≡ true → reached_within (made_links cores edges) (suc count) node ≡ true
+  over_ring : (count k node : ℕ) → k < 16 → suc k % 16 + 1 + 31 ≡ node → reached_within (made_links cores edges) count (suc k + 31) ≡ true
+      → reached_within (made_links cores edges) (suc count) node ≡ true
   over_ring count k node w e h =
       or_right (reached_within (made_links cores edges) count node) _
       (any_kept (joins_to (reached_within (made_links cores edges) count) node) (behind [] ring_link cores) spur_link edges
       (any_some (joins_to (reached_within (made_links cores edges) count) node) [] ring_link cores k (omega arith)
       (joined_there (reached_within (made_links cores edges) count) node (ring_link (suc k)) e h)))
 
-  up_spur : (count k : ℕ) → k < 32 → reached_within (made_links cores edges) count (suc k - 1) ≡ true → reached_within (made_links cores edges) (suc count) ((suc k - 1) % 16 + 1 + 31) ≡ true
+  up_spur : (count k : ℕ) → k < 32 → reached_within (made_links cores edges) count (suc k - 1) ≡ true
+      → reached_within (made_links cores edges) (suc count) ((suc k - 1) % 16 + 1 + 31) ≡ true
   up_spur count k w h =
       or_right (reached_within (made_links cores edges) count ((suc k - 1) % 16 + 1 + 31)) _
-      (any_some (joins_to (reached_within (made_links cores edges) count) ((suc k - 1) % 16 + 1 + 31)) (behind [] ring_link cores) spur_link edges k (omega arith)
+      (any_some (joins_to (reached_within (made_links cores edges) count) ((suc k - 1) % 16 + 1 + 31)) (behind [] ring_link cores) spur_link edges k
+      (omega arith)
       (joined_there (reached_within (made_links cores edges) count) ((suc k - 1) % 16 + 1 + 31) (spur_link (suc k)) refl h))
 
-  down_spur : (count k : ℕ) → k < 32 → reached_within (made_links cores edges) count ((suc k - 1) % 16 + 1 + 31) ≡ true → reached_within (made_links cores edges) (suc count) (suc k - 1) ≡ true
+  down_spur : (count k : ℕ) → k < 32 → reached_within (made_links cores edges) count ((suc k - 1) % 16 + 1 + 31) ≡ true
+      → reached_within (made_links cores edges) (suc count) (suc k - 1) ≡ true
   down_spur count k w h =
       or_right (reached_within (made_links cores edges) count (suc k - 1)) _
       (any_some (joins_to (reached_within (made_links cores edges) count) (suc k - 1)) (behind [] ring_link cores) spur_link edges k (omega arith)
@@ -54,7 +59,8 @@ module _ (edges cores : ℕ) (all_edges : edges ≡ 32) (all_cores : cores ≡ 1
   edge_reached k w =
       down_spur 16 k w
       (still (made_links cores edges) ((suc k - 1) % 16 + 1 + 31) (suc ((suc k - 1) % 16)) 16 (omega arith)
-      (subst (λ (n : ℕ). reached_within (made_links cores edges) (suc ((suc k - 1) % 16)) n ≡ true) (let e : suc ((suc k - 1) % 16) + 31 ≡ (suc k - 1) % 16 + 1 + 31 = omega arith in e)
+      (subst (λ (n : ℕ). reached_within (made_links cores edges) (suc ((suc k - 1) % 16)) n ≡ true)
+      (let e : suc ((suc k - 1) % 16) + 31 ≡ (suc k - 1) % 16 + 1 + 31 = omega arith in e)
       (core_reached ((suc k - 1) % 16) (omega arith))))
 
   each_reached : (count node : ℕ) → count ≡ 48 → node < count → reached_within (made_links cores edges) count node ≡ true
@@ -63,10 +69,12 @@ module _ (edges cores : ℕ) (all_edges : edges ≡ 32) (all_cores : cores ≡ 1
       by_kind : (node < 32) ⊎ (32 ≤ node) → reached_within (made_links cores edges) count node ≡ true
       by_kind (inl l) =
           let same : suc node - 1 ≡ node = omega arith in
-          subst (λ (n : ℕ). reached_within (made_links cores edges) count n ≡ true) same (still (made_links cores edges) (suc node - 1) 17 count (omega arith) (edge_reached node l))
+          subst (λ (n : ℕ). reached_within (made_links cores edges) count n ≡ true) same
+          (still (made_links cores edges) (suc node - 1) 17 count (omega arith) (edge_reached node l))
       by_kind (inr l) =
           let same : suc (node - 32) + 31 ≡ node = omega arith in
-          subst (λ (n : ℕ). reached_within (made_links cores edges) count n ≡ true) same (still (made_links cores edges) (suc (node - 32) + 31) (suc (node - 32)) count (omega arith) (core_reached (node - 32) (omega arith)))
+          subst (λ (n : ℕ). reached_within (made_links cores edges) count n ≡ true) same
+          (still (made_links cores edges) (suc (node - 32) + 31) (suc (node - 32)) count (omega arith) (core_reached (node - 32) (omega arith)))
 
   pub connected : (count : ℕ) → count ≡ 48 → is_connected count (made_links cores edges) ≡ true
   connected count e = all_from (reached_within (made_links cores edges) count) count (λ node w. each_reached count node e w)

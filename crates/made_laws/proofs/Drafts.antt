@@ -40,7 +40,8 @@ node_names edges cores = behind (behind [] edge_entry edges) core_entry cores
 -- the names with those of so many VPNs at the edge
 abbrev pub named_at : List (List ℕ × Thing) → ℕ → ℕ → List (List ℕ × Thing)
 named_at old edge zero = old
-named_at old edge (suc vpn) = named_at old edge vpn ++ vrf_entry edge (suc vpn) ∷ [] ++ site_entry edge (suc vpn) ∷ [] ++ iface_entry edge (suc vpn) ∷ []
+named_at old edge (suc vpn) =
+    named_at old edge vpn ++ vrf_entry edge (suc vpn) ∷ [] ++ site_entry edge (suc vpn) ∷ [] ++ iface_entry edge (suc vpn) ∷ []
 
 -- the names with those of all VPNs at so many edges
 abbrev pub named_edges : ℕ → List (List ℕ × Thing) → ℕ → List (List ℕ × Thing)
@@ -79,7 +80,8 @@ behind_spurs edges cores spurs = with_lists (made_nodes edges cores) (made_links
 -- behind what all VPNs have at so many edges, and so many VPNs at the next one
 abbrev pub behind_vpns : ℕ → ℕ → ℕ → ℕ → ℕ → Drafted
 behind_vpns edges cores vpns edge vpn =
-    with_lists (made_nodes edges cores) (made_links cores edges) (behind (rows vpns vrf edge) (vrf (suc edge)) vpn) (behind (rows vpns site edge) (site (suc edge)) vpn)
+    with_lists (made_nodes edges cores) (made_links cores edges) (behind (rows vpns vrf edge) (vrf (suc edge)) vpn)
+    (behind (rows vpns site edge) (site (suc edge)) vpn)
     (behind (rows vpns iface edge) (iface (suc edge)) vpn) (named_at (named_edges vpns (node_names edges cores) edge) (suc edge) vpn)
 
 -- ---- look-ups of names
@@ -91,7 +93,9 @@ abbrev pub IsNone : List (List ℕ × Thing) → List ℕ → Type 0
 IsNone names name = lookup (pointwise nat_eq name) names ≡ None
 
 pub edge_free : (k : ℕ) → k < 32 → IsNone (behind [] edge_entry k) (codes "E" ++ decimal (suc k))
-edge_free k h = lookup_behind (pointwise nat_eq (codes "E" ++ decimal (suc k))) [] edge_entry k refl (λ j w. other_number 69 (suc k) (suc j) (omega arith) (omega arith) (λ e. omega (arith, e)))
+edge_free k h =
+    lookup_behind (pointwise nat_eq (codes "E" ++ decimal (suc k))) [] edge_entry k refl
+    (λ j w. other_number 69 (suc k) (suc j) (omega arith) (omega arith) (λ e. omega (arith, e)))
 
 pub core_free : (edges k : ℕ) → k < 16 → IsNone (node_names edges k) (codes "C" ++ decimal (suc k))
 core_free edges k h =
@@ -102,34 +106,49 @@ core_free edges k h =
 pub edge_stands : (edges cores k : ℕ) → k < edges → edges ≡ 32 → Stands (node_names edges cores) (edge_entry (suc k))
 edge_stands edges cores k h all =
     lookup_kept (pointwise nat_eq (codes "E" ++ decimal (suc k))) (behind [] edge_entry edges) core_entry cores (things.Node (edge_id (suc k)))
-    (lookup_found (pointwise nat_eq (codes "E" ++ decimal (suc k))) [] edge_entry edges k h (edge_free k (omega arith)) (same_name (codes "E" ++ decimal (suc k))))
+    (lookup_found (pointwise nat_eq (codes "E" ++ decimal (suc k))) [] edge_entry edges k h (edge_free k (omega arith))
+    (same_name (codes "E" ++ decimal (suc k))))
 
 pub core_stands : (edges cores k : ℕ) → k < cores → cores ≡ 16 → Stands (node_names edges cores) (core_entry (suc k))
 core_stands edges cores k h all =
-    lookup_found (pointwise nat_eq (codes "C" ++ decimal (suc k))) (behind [] edge_entry edges) core_entry cores k h (core_free edges k (omega arith)) (same_name (codes "C" ++ decimal (suc k)))
+    lookup_found (pointwise nat_eq (codes "C" ++ decimal (suc k))) (behind [] edge_entry edges) core_entry cores k h (core_free edges k (omega arith))
+    (same_name (codes "C" ++ decimal (suc k)))
 
 -- ---- names of VPNs at edges
 
-at_none : (test : List ℕ → Bool) (old : List (List ℕ × Thing)) (edge count : ℕ) → lookup test old ≡ None → ((letter k : ℕ) → k < count → test (name_at (letter ∷ []) edge (suc k)) ≡ false) → lookup test (named_at old edge count) ≡ None
+at_none : (test : List ℕ → Bool) (old : List (List ℕ × Thing)) (edge count : ℕ) → lookup test old ≡ None
+    → ((letter k : ℕ) → k < count → test (name_at (letter ∷ []) edge (suc k)) ≡ false) → lookup test (named_at old edge count) ≡ None
 at_none test old edge zero h none = h
 at_none test old edge (suc count) h none =
     let before : lookup test (named_at old edge count) ≡ None = at_none test old edge count h (λ letter k w. none letter k (omega arith)) in
-    let one : lookup test (named_at old edge count ++ vrf_entry edge (suc count) ∷ []) ≡ None = lookup_none test (named_at old edge count) (vrf_entry edge (suc count) ∷ []) before (lookup_one test (vrf_entry edge (suc count)).0 (vrf_entry edge (suc count)).1 (none 86 count (omega arith))) in
-    let two : lookup test (named_at old edge count ++ vrf_entry edge (suc count) ∷ [] ++ site_entry edge (suc count) ∷ []) ≡ None = lookup_none test (named_at old edge count ++ vrf_entry edge (suc count) ∷ []) (site_entry edge (suc count) ∷ []) one (lookup_one test (site_entry edge (suc count)).0 (site_entry edge (suc count)).1 (none 83 count (omega arith))) in
-    lookup_none test (named_at old edge count ++ vrf_entry edge (suc count) ∷ [] ++ site_entry edge (suc count) ∷ []) (iface_entry edge (suc count) ∷ []) two (lookup_one test (iface_entry edge (suc count)).0 (iface_entry edge (suc count)).1 (none 73 count (omega arith)))
+    let one : lookup test (named_at old edge count ++ vrf_entry edge (suc count) ∷ []) ≡ None =
+    lookup_none test (named_at old edge count) (vrf_entry edge (suc count) ∷ []) before
+    (lookup_one test (vrf_entry edge (suc count)).0 (vrf_entry edge (suc count)).1 (none 86 count (omega arith))) in
+    let two : lookup test (named_at old edge count ++ vrf_entry edge (suc count) ∷ [] ++ site_entry edge (suc count) ∷ []) ≡ None =
+    lookup_none test (named_at old edge count ++ vrf_entry edge (suc count) ∷ []) (site_entry edge (suc count) ∷ []) one
+    (lookup_one test (site_entry edge (suc count)).0 (site_entry edge (suc count)).1 (none 83 count (omega arith))) in
+    lookup_none test (named_at old edge count ++ vrf_entry edge (suc count) ∷ [] ++ site_entry edge (suc count) ∷ [])
+    (iface_entry edge (suc count) ∷ []) two (lookup_one test (iface_entry edge (suc count)).0 (iface_entry edge (suc count)).1
+    (none 73 count (omega arith)))
 
-edges_none : (test : List ℕ → Bool) (vpns : ℕ) (old : List (List ℕ × Thing)) (edge : ℕ) → lookup test old ≡ None → ((letter r k : ℕ) → r < edge → k < vpns → test (name_at (letter ∷ []) (suc r) (suc k)) ≡ false) → lookup test (named_edges vpns old edge) ≡ None
+edges_none : (test : List ℕ → Bool) (vpns : ℕ) (old : List (List ℕ × Thing)) (edge : ℕ) → lookup test old ≡ None
+    → ((letter r k : ℕ) → r < edge → k < vpns → test (name_at (letter ∷ []) (suc r) (suc k)) ≡ false) → lookup test (named_edges vpns old edge) ≡ None
 edges_none test vpns old zero h none = h
 edges_none test vpns old (suc edge) h none =
-    at_none test (named_edges vpns old edge) (suc edge) vpns (edges_none test vpns old edge h (λ letter r k a b. none letter r k (omega arith) b)) (λ letter k b. none letter edge k (omega arith) b)
+    at_none test (named_edges vpns old edge) (suc edge) vpns (edges_none test vpns old edge h (λ letter r k a b. none letter r k (omega arith) b))
+    (λ letter k b. none letter edge k (omega arith) b)
 
 -- A name of a VPN at an edge is new behind those before it.
-pair_free : (letter vpns : ℕ) (old : List (List ℕ × Thing)) (edge vpn : ℕ) → vpns ≡ 8 → edge < 32 → vpn < 8 → IsNone old (name_at (letter ∷ []) (suc edge) (suc vpn)) → IsNone (named_at (named_edges vpns old edge) (suc edge) vpn) (name_at (letter ∷ []) (suc edge) (suc vpn))
+pair_free : (letter vpns : ℕ) (old : List (List ℕ × Thing)) (edge vpn : ℕ) → vpns ≡ 8 → edge < 32 → vpn < 8
+    → IsNone old (name_at (letter ∷ []) (suc edge) (suc vpn))
+    → IsNone (named_at (named_edges vpns old edge) (suc edge) vpn) (name_at (letter ∷ []) (suc edge) (suc vpn))
 pair_free letter vpns old edge vpn all h k none =
     at_none (pointwise nat_eq (name_at (letter ∷ []) (suc edge) (suc vpn))) (named_edges vpns old edge) (suc edge) vpn
     (edges_none (pointwise nat_eq (name_at (letter ∷ []) (suc edge) (suc vpn))) vpns old edge none
-    (λ other r j a b. other_pair letter other (suc edge) (suc vpn) (suc r) (suc j) (omega arith) (omega arith) (omega arith) (omega arith) (inl (λ e. omega (arith, e)))))
-    (λ other j b. other_pair letter other (suc edge) (suc vpn) (suc edge) (suc j) (omega arith) (omega arith) (omega arith) (omega arith) (inr (λ e. omega (arith, e))))
+    (λ other r j a b. other_pair letter other (suc edge) (suc vpn) (suc r) (suc j) (omega arith) (omega arith) (omega arith) (omega arith)
+    (inl (λ e. omega (arith, e)))))
+    (λ other j b. other_pair letter other (suc edge) (suc vpn) (suc edge) (suc j) (omega arith) (omega arith) (omega arith) (omega arith)
+    (inr (λ e. omega (arith, e))))
 
 module _ (edges cores vpns edge vpn : ℕ) (all : vpns ≡ 8) (h : edge < 32) (k : vpn < 8) where
   abbrev earlier : List (List ℕ × Thing)
@@ -148,9 +167,11 @@ module _ (edges cores vpns edge vpn : ℕ) (all : vpns ≡ 8) (h : edge < 32) (k
       (lookup_behind (pointwise nat_eq (name_at (codes "S") (suc edge) (suc vpn))) [] edge_entry edges refl (λ j w. refl)) (λ j w. refl)))
       refl
 
-  pub iface_free : IsNone (earlier ++ vrf_entry (suc edge) (suc vpn) ∷ [] ++ site_entry (suc edge) (suc vpn) ∷ []) (name_at (codes "I") (suc edge) (suc vpn))
+  pub iface_free : IsNone (earlier ++ vrf_entry (suc edge) (suc vpn) ∷ [] ++ site_entry (suc edge) (suc vpn) ∷ [])
+      (name_at (codes "I") (suc edge) (suc vpn))
   iface_free =
-      lookup_none (pointwise nat_eq (name_at (codes "I") (suc edge) (suc vpn))) (earlier ++ vrf_entry (suc edge) (suc vpn) ∷ []) (site_entry (suc edge) (suc vpn) ∷ [])
+      lookup_none (pointwise nat_eq (name_at (codes "I") (suc edge) (suc vpn))) (earlier ++ vrf_entry (suc edge) (suc vpn) ∷ [])
+      (site_entry (suc edge) (suc vpn) ∷ [])
       (lookup_none (pointwise nat_eq (name_at (codes "I") (suc edge) (suc vpn))) earlier (vrf_entry (suc edge) (suc vpn) ∷ [])
       (pair_free 73 vpns (node_names edges cores) edge vpn all h k
       (lookup_behind (pointwise nat_eq (name_at (codes "I") (suc edge) (suc vpn))) (behind [] edge_entry edges) core_entry cores
@@ -161,54 +182,75 @@ module _ (edges cores vpns edge vpn : ℕ) (all : vpns ≡ 8) (h : edge < 32) (k
   -- They stand behind their own lines.
   pub vrf_stands : Stands (earlier ++ vrf_entry (suc edge) (suc vpn) ∷ [] ++ site_entry (suc edge) (suc vpn) ∷ []) (vrf_entry (suc edge) (suc vpn))
   vrf_stands =
-      lookup_more (pointwise nat_eq (name_at (codes "V") (suc edge) (suc vpn))) (earlier ++ vrf_entry (suc edge) (suc vpn) ∷ []) (site_entry (suc edge) (suc vpn) ∷ []) (things.Vrf (vrf_id (suc edge) (suc vpn)))
-      (lookup_last (pointwise nat_eq (name_at (codes "V") (suc edge) (suc vpn))) earlier (name_at (codes "V") (suc edge) (suc vpn)) (things.Vrf (vrf_id (suc edge) (suc vpn))) vrf_free (same_name (name_at (codes "V") (suc edge) (suc vpn))))
+      lookup_more (pointwise nat_eq (name_at (codes "V") (suc edge) (suc vpn))) (earlier ++ vrf_entry (suc edge) (suc vpn) ∷ [])
+      (site_entry (suc edge) (suc vpn) ∷ []) (things.Vrf (vrf_id (suc edge) (suc vpn)))
+      (lookup_last (pointwise nat_eq (name_at (codes "V") (suc edge) (suc vpn))) earlier (name_at (codes "V") (suc edge) (suc vpn))
+      (things.Vrf (vrf_id (suc edge) (suc vpn))) vrf_free (same_name (name_at (codes "V") (suc edge) (suc vpn))))
 
   pub site_stands : Stands (earlier ++ vrf_entry (suc edge) (suc vpn) ∷ [] ++ site_entry (suc edge) (suc vpn) ∷ []) (site_entry (suc edge) (suc vpn))
-  site_stands = lookup_last (pointwise nat_eq (name_at (codes "S") (suc edge) (suc vpn))) (earlier ++ vrf_entry (suc edge) (suc vpn) ∷ []) (name_at (codes "S") (suc edge) (suc vpn)) (things.Site (site_id (suc edge) (suc vpn))) site_free (same_name (name_at (codes "S") (suc edge) (suc vpn)))
+  site_stands =
+      lookup_last (pointwise nat_eq (name_at (codes "S") (suc edge) (suc vpn))) (earlier ++ vrf_entry (suc edge) (suc vpn) ∷ [])
+      (name_at (codes "S") (suc edge) (suc vpn)) (things.Site (site_id (suc edge) (suc vpn))) site_free
+      (same_name (name_at (codes "S") (suc edge) (suc vpn)))
 
   pub three_stand : Stands (named_at (named_edges vpns (node_names edges cores) edge) (suc edge) (suc vpn)) (vrf_entry (suc edge) (suc vpn))
       × Stands (named_at (named_edges vpns (node_names edges cores) edge) (suc edge) (suc vpn)) (site_entry (suc edge) (suc vpn))
       × Stands (named_at (named_edges vpns (node_names edges cores) edge) (suc edge) (suc vpn)) (iface_entry (suc edge) (suc vpn))
   three_stand = (
-    lookup_more (pointwise nat_eq (name_at (codes "V") (suc edge) (suc vpn))) (earlier ++ vrf_entry (suc edge) (suc vpn) ∷ [] ++ site_entry (suc edge) (suc vpn) ∷ []) (iface_entry (suc edge) (suc vpn) ∷ []) (things.Vrf (vrf_id (suc edge) (suc vpn))) vrf_stands,
-    lookup_more (pointwise nat_eq (name_at (codes "S") (suc edge) (suc vpn))) (earlier ++ vrf_entry (suc edge) (suc vpn) ∷ [] ++ site_entry (suc edge) (suc vpn) ∷ []) (iface_entry (suc edge) (suc vpn) ∷ []) (things.Site (site_id (suc edge) (suc vpn))) site_stands,
-    lookup_last (pointwise nat_eq (name_at (codes "I") (suc edge) (suc vpn))) (earlier ++ vrf_entry (suc edge) (suc vpn) ∷ [] ++ site_entry (suc edge) (suc vpn) ∷ []) (name_at (codes "I") (suc edge) (suc vpn)) (things.Iface (iface_id (suc edge) (suc vpn))) iface_free (same_name (name_at (codes "I") (suc edge) (suc vpn))),
+    lookup_more (pointwise nat_eq (name_at (codes "V") (suc edge) (suc vpn)))
+        (earlier ++ vrf_entry (suc edge) (suc vpn) ∷ [] ++ site_entry (suc edge) (suc vpn) ∷ []) (iface_entry (suc edge) (suc vpn) ∷ [])
+        (things.Vrf (vrf_id (suc edge) (suc vpn))) vrf_stands,
+    lookup_more (pointwise nat_eq (name_at (codes "S") (suc edge) (suc vpn)))
+        (earlier ++ vrf_entry (suc edge) (suc vpn) ∷ [] ++ site_entry (suc edge) (suc vpn) ∷ []) (iface_entry (suc edge) (suc vpn) ∷ [])
+        (things.Site (site_id (suc edge) (suc vpn))) site_stands,
+    lookup_last (pointwise nat_eq (name_at (codes "I") (suc edge) (suc vpn)))
+        (earlier ++ vrf_entry (suc edge) (suc vpn) ∷ [] ++ site_entry (suc edge) (suc vpn) ∷ []) (name_at (codes "I") (suc edge) (suc vpn))
+        (things.Iface (iface_id (suc edge) (suc vpn))) iface_free (same_name (name_at (codes "I") (suc edge) (suc vpn))),
   )
 
 -- ---- what stands goes on standing
 
-pub at_kept : (test : List ℕ → Bool) (old : List (List ℕ × Thing)) (edge count : ℕ) (v : Thing) → lookup test old ≡ Some v → lookup test (named_at old edge count) ≡ Some v
+pub at_kept : (test : List ℕ → Bool) (old : List (List ℕ × Thing)) (edge count : ℕ) (v : Thing) → lookup test old ≡ Some v
+    → lookup test (named_at old edge count) ≡ Some v
 at_kept test old edge zero v h = h
 at_kept test old edge (suc count) v h =
-    lookup_more test (named_at old edge count ++ vrf_entry edge (suc count) ∷ [] ++ site_entry edge (suc count) ∷ []) (iface_entry edge (suc count) ∷ []) v
+    lookup_more test (named_at old edge count ++ vrf_entry edge (suc count) ∷ [] ++ site_entry edge (suc count) ∷ [])
+    (iface_entry edge (suc count) ∷ []) v
     (lookup_more test (named_at old edge count ++ vrf_entry edge (suc count) ∷ []) (site_entry edge (suc count) ∷ []) v
     (lookup_more test (named_at old edge count) (vrf_entry edge (suc count) ∷ []) v (at_kept test old edge count v h)))
 
-pub edges_kept : (test : List ℕ → Bool) (vpns : ℕ) (old : List (List ℕ × Thing)) (edge : ℕ) (v : Thing) → lookup test old ≡ Some v → lookup test (named_edges vpns old edge) ≡ Some v
+pub edges_kept : (test : List ℕ → Bool) (vpns : ℕ) (old : List (List ℕ × Thing)) (edge : ℕ) (v : Thing) → lookup test old ≡ Some v
+    → lookup test (named_edges vpns old edge) ≡ Some v
 edges_kept test vpns old zero v h = h
 edges_kept test vpns old (suc edge) v h = at_kept test (named_edges vpns old edge) (suc edge) vpns v (edges_kept test vpns old edge v h)
 
 -- What stands behind one VPN stands behind all of them at the edge, and behind all edges.
-at_later : (test : List ℕ → Bool) (old : List (List ℕ × Thing)) (edge count vpn : ℕ) (v : Thing) → vpn < count → lookup test (named_at old edge (suc vpn)) ≡ Some v → lookup test (named_at old edge count) ≡ Some v
+at_later : (test : List ℕ → Bool) (old : List (List ℕ × Thing)) (edge count vpn : ℕ) (v : Thing) → vpn < count
+    → lookup test (named_at old edge (suc vpn)) ≡ Some v → lookup test (named_at old edge count) ≡ Some v
 at_later test old edge zero vpn v within h = absurd (omega arith)
 at_later test old edge (suc count) vpn v within h = by_place (at_later test old edge count vpn v) (cases_lt vpn count)
   where
-    by_place : (vpn < count → lookup test (named_at old edge (suc vpn)) ≡ Some v → lookup test (named_at old edge count) ≡ Some v) → (vpn < count) ⊎ (count ≤ vpn) → lookup test (named_at old edge (suc count)) ≡ Some v
+    by_place : (vpn < count → lookup test (named_at old edge (suc vpn)) ≡ Some v → lookup test (named_at old edge count) ≡ Some v)
+        → (vpn < count) ⊎ (count ≤ vpn) → lookup test (named_at old edge (suc count)) ≡ Some v
     by_place earlier (inl l) =
-        lookup_more test (named_at old edge count ++ vrf_entry edge (suc count) ∷ [] ++ site_entry edge (suc count) ∷ []) (iface_entry edge (suc count) ∷ []) v
+        lookup_more test (named_at old edge count ++ vrf_entry edge (suc count) ∷ [] ++ site_entry edge (suc count) ∷ [])
+        (iface_entry edge (suc count) ∷ []) v
         (lookup_more test (named_at old edge count ++ vrf_entry edge (suc count) ∷ []) (site_entry edge (suc count) ∷ []) v
         (lookup_more test (named_at old edge count) (vrf_entry edge (suc count) ∷ []) v (earlier l h)))
     by_place earlier (inr l) =
         let same : vpn ≡ count = omega arith in
         subst (λ (n : ℕ). lookup test (named_at old edge (suc n)) ≡ Some v) same h
 
-pub edges_later : (test : List ℕ → Bool) (vpns : ℕ) (old : List (List ℕ × Thing)) (edges edge vpn : ℕ) (v : Thing) → edge < edges → vpn < vpns → lookup test (named_at (named_edges vpns old edge) (suc edge) (suc vpn)) ≡ Some v → lookup test (named_edges vpns old edges) ≡ Some v
+pub edges_later : (test : List ℕ → Bool) (vpns : ℕ) (old : List (List ℕ × Thing)) (edges edge vpn : ℕ) (v : Thing) → edge < edges → vpn < vpns
+    → lookup test (named_at (named_edges vpns old edge) (suc edge) (suc vpn)) ≡ Some v → lookup test (named_edges vpns old edges) ≡ Some v
 edges_later test vpns old zero edge vpn v within small h = absurd (omega arith)
 edges_later test vpns old (suc edges) edge vpn v within small h = by_place (edges_later test vpns old edges edge vpn v) (cases_lt edge edges)
   where
-    by_place : (edge < edges → vpn < vpns → lookup test (named_at (named_edges vpns old edge) (suc edge) (suc vpn)) ≡ Some v → lookup test (named_edges vpns old edges) ≡ Some v) → (edge < edges) ⊎ (edges ≤ edge) → lookup test (named_edges vpns old (suc edges)) ≡ Some v
+    by_place : (edge < edges → vpn < vpns → lookup test (named_at (named_edges vpns old edge) (suc edge) (suc vpn)) ≡ Some v
+        → lookup test (named_edges vpns old edges) ≡ Some v) → (edge < edges) ⊎ (edges ≤ edge)
+        → lookup test (named_edges vpns old (suc edges)) ≡ Some v
     by_place earlier (inl l) = at_kept test (named_edges vpns old edges) (suc edges) vpns v (earlier l small h)
     by_place earlier (inr l) =
         let same : edge ≡ edges = omega arith in
-        subst (λ (n : ℕ). lookup test (named_edges vpns old (suc n)) ≡ Some v) same (at_later test (named_edges vpns old edge) (suc edge) vpns vpn v small h)
+        subst (λ (n : ℕ). lookup test (named_edges vpns old (suc n)) ≡ Some v) same
+        (at_later test (named_edges vpns old edge) (suc edge) vpns vpn v small h)

@@ -19,12 +19,14 @@ record Adds (time most : ℕ) (row : List Event) : Type 0 where
 -- ---- rows of events
 
 -- an event, or none
-one_adds : (b : Bool) (event : Event) (most : ℕ) → OnlyAdds event → ticks_of event ≡ 0 → cond (is_selection event) 1 0 ≤ most → Adds 0 most (cond b (event ∷ []) [])
+one_adds : (b : Bool) (event : Event) (most : ℕ) → OnlyAdds event → ticks_of event ≡ 0 → cond (is_selection event) 1 0 ≤ most
+    → Adds 0 most (cond b (event ∷ []) [])
 one_adds true event most h time few = record { adds = (h, tt); ticks = omega (arith, time); selections = omega (arith, few) }
 one_adds false event most h time few = record { adds = tt; ticks = refl; selections = omega arith }
 
 -- some events before others
-then_adds : (time most later more : ℕ) (row rest : List Event) → Adds time most row → Adds later more rest → Adds (time + later) (most + more) (row ++ rest)
+then_adds : (time most later more : ℕ) (row rest : List Event) → Adds time most row → Adds later more rest
+    → Adds (time + later) (most + more) (row ++ rest)
 then_adds time most later more row rest a b = record {
   adds = each_append OnlyAdds row rest a.adds b.adds;
   ticks = omega (arith, a.ticks, b.ticks, sum_by-append ticks_of row rest);
@@ -95,7 +97,8 @@ events_add number = then_adds 3 0 3 4 (first_events number) (last_events number)
 
 -- ---- with the numbers of their lines
 
-pub lines_have : (P : Event → Type 0) (line : ℕ) (row : List Event) → AllByRecursion P row → AllByRecursion (λ (timed : Timed). P timed.event) (from_line line row)
+pub lines_have : (P : Event → Type 0) (line : ℕ) (row : List Event) → AllByRecursion P row
+    → AllByRecursion (λ (timed : Timed). P timed.event) (from_line line row)
 lines_have P line [] h = tt
 lines_have P line (event ∷ row) h = (h.0, lines_have P (line + 1) row h.1)
 
@@ -132,6 +135,7 @@ few_selections number count =
     omega (arith, parts, all, adds.selections)
 
 -- so a node holds few labels, where it holds no more than there are VRFs and selections
-pub few_labels : (number count held : ℕ) → held ≤ length (made_script number).scenario.vrfs + count_by (λ (timed : Timed). is_selection timed.event) (take count (made_script number).events) → held ≤ 260
+pub few_labels : (number count held : ℕ) → held ≤ length (made_script number).scenario.vrfs + count_by (λ (timed : Timed). is_selection timed.event)
+    (take count (made_script number).events) → held ≤ 260
 unfolding made_script
 few_labels number count held fits = omega (arith, fits, few_selections number count, vrfs_long)

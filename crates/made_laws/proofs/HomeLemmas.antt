@@ -44,18 +44,21 @@ among_all of count x a = by (among_each (λ number. of number ∷ []) count x a)
 -- ---- the routes of sites
 
 -- a route of the front, or of the sites behind it
-routes_either : (passes : SiteId → Bool) (number : ℕ) (front back : List Site) (route : Route) → Among route (routes_from passes number (front ++ back))
+routes_either : (passes : SiteId → Bool) (number : ℕ) (front back : List Site) (route : Route)
+    → Among route (routes_from passes number (front ++ back))
     → Among route (routes_from passes number front) ⊎ Among route (routes_from passes (number + length front) back)
 routes_either passes number [] back route a =
     let same : number ≡ number + 0 = omega arith in
     inr (subst (λ (n : ℕ). Among route (routes_from passes n back)) same a)
-routes_either passes number (site ∷ front) back route a = by (among_either route own (routes_from passes (number + 1) (front ++ back)) a) (routes_either passes (number + 1) front back route)
+routes_either passes number (site ∷ front) back route a =
+    by (among_either route own (routes_from passes (number + 1) (front ++ back)) a) (routes_either passes (number + 1) front back route)
   where
     own : List Route
     own = cond (passes (record { 0 = number })) (routes_of_site (record { 0 = number }) site.prefixes) []
 
     by : Among route own ⊎ Among route (routes_from passes (number + 1) (front ++ back))
-        → (Among route (routes_from passes (number + 1) (front ++ back)) → Among route (routes_from passes (number + 1) front) ⊎ Among route (routes_from passes (number + 1 + length front) back))
+        → (Among route (routes_from passes (number + 1) (front ++ back))
+        → Among route (routes_from passes (number + 1) front) ⊎ Among route (routes_from passes (number + 1 + length front) back))
         → Among route (own ++ routes_from passes (number + 1) front) ⊎ Among route (routes_from passes (number + length (site ∷ front)) back)
     by (inl b) rest = inl (among_front route own (routes_from passes (number + 1) front) b)
     by (inr b) rest = elim (rest b) [
@@ -66,7 +69,8 @@ routes_either passes number (site ∷ front) back route a = by (among_either rou
     ]
 
 -- it is of the sites of one number, and behind those of the numbers before it
-routes_each : (passes : SiteId → Bool) (number : ℕ) (of : ℕ → List Site) (count : ℕ) (route : Route) → Among route (routes_from passes number (each of count))
+routes_each : (passes : SiteId → Bool) (number : ℕ) (of : ℕ → List Site) (count : ℕ) (route : Route)
+    → Among route (routes_from passes number (each of count))
     → (before : ℕ) × (before < count) × Among route (routes_from passes (number + length (each of before)) (of (suc before)))
 routes_each passes number of zero route a = absurd a
 routes_each passes number of (suc count) route a = elim (routes_either passes number (each of count) (of (suc count)) route a) [
@@ -90,9 +94,11 @@ record IsAt (id : VrfId) (route : Route) : Type 0 where
   is : route ≡ route_at edges vpns
 
 -- the route of a site with one prefix
-one_route : (passes : SiteId → Bool) (number edges vpns : ℕ) (route : Route) → number ≡ 8 * edges + vpns → Among route (routes_from passes number (site (suc edges) (suc vpns) ∷ []))
+one_route : (passes : SiteId → Bool) (number edges vpns : ℕ) (route : Route) → number ≡ 8 * edges + vpns
+    → Among route (routes_from passes number (site (suc edges) (suc vpns) ∷ []))
     → (passes (record { 0 = 8 * edges + vpns }) ≡ true) × (route ≡ route_at edges vpns)
-one_route passes number edges vpns route e a = by (passes id) refl (subst (λ (n : ℕ). Among route (routes_from passes n (site (suc edges) (suc vpns) ∷ []))) e a)
+one_route passes number edges vpns route e a =
+    by (passes id) refl (subst (λ (n : ℕ). Among route (routes_from passes n (site (suc edges) (suc vpns) ∷ []))) e a)
   where
     id : SiteId
     id = record { 0 = 8 * edges + vpns }
@@ -151,11 +157,13 @@ front_of : (a b : ℕ) → from_be_bytes w32 (10 ∷ a ∷ b ∷ 0 ∷ []) / 2 ^
 front_of a b = omega arith
 
 -- two prefixes that cover one address are of one edge and one VPN
-one_place : (a b c d : ℕ) (source : Addr) → b < 8 → d < 8 → covers (route_at a b).prefix source ≡ true → covers (route_at c d).prefix source ≡ true → (a ≡ c) × (b ≡ d)
+one_place : (a b c d : ℕ) (source : Addr) → b < 8 → d < 8 → covers (route_at a b).prefix source ≡ true → covers (route_at c d).prefix source ≡ true
+    → (a ≡ c) × (b ≡ d)
 one_place a b c d (V4 octets) few less h k =
     let first = eqb-true (from_be_bytes w32 (10 ∷ suc a ∷ suc b ∷ 0 ∷ []) / 2 ^ (32 - 24)) (from_be_bytes w32 octets / 2 ^ (32 - 24)) h in
     let second = eqb-true (from_be_bytes w32 (10 ∷ suc c ∷ suc d ∷ 0 ∷ []) / 2 ^ (32 - 24)) (from_be_bytes w32 octets / 2 ^ (32 - 24)) k in
-    let same : 655360 + 256 * suc a + suc b ≡ 655360 + 256 * suc c + suc d = sym (front_of (suc a) (suc b)) ∙ first ∙ sym second ∙ front_of (suc c) (suc d) in
+    let same : 655360 + 256 * suc a + suc b ≡ 655360 + 256 * suc c + suc d =
+    sym (front_of (suc a) (suc b)) ∙ first ∙ sym second ∙ front_of (suc c) (suc d) in
     (omega (arith, same, few, less), omega (arith, same, few, less))
 one_place a b c d (V6 octets) few less h k = absurd (let bad : false ≡ true = h in cc)
 
@@ -164,7 +172,8 @@ numbered number = record { 0 = number }
 
 -- ---- homes
 
-one_home : (a b : VrfId) (route other : Route) (source : Addr) → IsAt a route → IsAt b other → covers route.prefix source ≡ true → covers other.prefix source ≡ true → (a ≡ b) × (route ≡ other)
+one_home : (a b : VrfId) (route other : Route) (source : Addr) → IsAt a route → IsAt b other → covers route.prefix source ≡ true
+    → covers other.prefix source ≡ true → (a ≡ b) × (route ≡ other)
 one_home a b route other source x y h k =
     let same = one_place x.edges x.vpns y.edges y.vpns source x.few_vpns y.few_vpns
     (ap (λ (r : Route). covers r.prefix source) (sym x.is) ∙ h) (ap (λ (r : Route). covers r.prefix source) (sym y.is) ∙ k) in

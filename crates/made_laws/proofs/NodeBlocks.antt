@@ -21,17 +21,22 @@ use Rattle.made_laws.proofs.Drafts.{core_entry, node_names, made_nodes, made_lin
 
 -- ---- a block
 
-pub reads_each : (draft : ℕ → Drafted) (line : ℕ → ℕ) (text : ℕ → List ℕ) (count : ℕ) → ((k : ℕ) → k < count → Reads (draft k) (line k) (text (suc k)) (draft (suc k)) (line (suc k))) → Reads (draft zero) (line zero) (made.each text count) (draft count) (line count)
+pub reads_each : (draft : ℕ → Drafted) (line : ℕ → ℕ) (text : ℕ → List ℕ) (count : ℕ)
+    → ((k : ℕ) → k < count → Reads (draft k) (line k) (text (suc k)) (draft (suc k)) (line (suc k)))
+    → Reads (draft zero) (line zero) (made.each text count) (draft count) (line count)
 reads_each draft line text zero h = reads_none (draft zero) (line zero)
 reads_each draft line text (suc count) h =
     reads_then (draft zero) (draft count) (draft (suc count)) (line zero) (line count) (line (suc count)) (made.each text count) (text (suc count))
     (reads_each draft line text count (λ k w. h k (omega arith))) (h count (omega arith))
 
-pub as_text : (old new : Drafted) (number after : ℕ) (text other : List ℕ) → other ≡ text → Reads old number text new after → Reads old number other new after
+pub as_text : (old new : Drafted) (number after : ℕ) (text other : List ℕ) → other ≡ text → Reads old number text new after
+    → Reads old number other new after
 as_text old new number after text other e h = subst (λ (l : List ℕ). Reads old number l new after) (sym e) h
 
-pub at_lines : (old new : Drafted) (text : List ℕ) (number after other later : ℕ) → number ≡ other → after ≡ later → Reads old number text new after → Reads old other text new later
-at_lines old new text number after other later a b h = subst (λ (n : ℕ). Reads old other text new n) b (subst (λ (n : ℕ). Reads old n text new after) a h)
+pub at_lines : (old new : Drafted) (text : List ℕ) (number after other later : ℕ) → number ≡ other → after ≡ later → Reads old number text new after
+    → Reads old other text new later
+at_lines old new text number after other later a b h =
+    subst (λ (n : ℕ). Reads old other text new n) b (subst (λ (n : ℕ). Reads old n text new after) a h)
 
 pub known_word : (word : List ℕ) → 0 < length word → length word ≤ 100 → list_all is_word_octet word ≡ true → IsWord word
 known_word word a b c = record { some = a; few = b; plain = c }
@@ -49,7 +54,9 @@ new_edge k h =
     let long : length (behind [] edge_node k) ≡ k = omega (arith, length_behind [] edge_node k) in
     record {
       number = omega (arith, long);
-      few = or_from _ _ (lt-leb 64 (length (behind [] edge_node k)) (omega (arith, long))) (lt-leb 32 (count_by (λ (n : Node). n.edge) (behind [] edge_node k)) (omega (arith, long, count_by-le-length (λ (n : Node). n.edge) (behind [] edge_node k))));
+      few = or_from _ _ (lt-leb 64 (length (behind [] edge_node k)) (omega (arith, long)))
+          (lt-leb 32 (count_by (λ (n : Node). n.edge) (behind [] edge_node k))
+          (omega (arith, long, count_by-le-length (λ (n : Node). n.edge) (behind [] edge_node k))));
       name = numbered_name 69 (suc k) refl (omega arith);
       free = edge_free k h;
       unicast = refl;
@@ -62,14 +69,24 @@ dotted_addr text octets o h = rw h refl
 edge_row : (k number : ℕ) → k < 32 → Reads (behind_edges k) number (made.edge_line (suc k)) (behind_edges (suc k)) (number + 1)
 edge_row k number h =
     as_text (behind_edges k) (behind_edges (suc k)) number (number + 1) _ (made.edge_line (suc k)) (edge_text (suc k))
-    (reads_row (behind_edges k) number (codes "edge") ((codes "E" ++ decimal (suc k)) ∷ (codes "192.0.2." ++ decimal (suc k)) ∷ []) (says.Node (edge_id (suc k)) (edge_node (suc k)))
-    (known_word (codes "edge") (omega arith) (omega arith) refl, (numbered_word (codes "E") (suc k) (omega arith) (omega arith) (omega arith) refl, (numbered_word (codes "192.0.2.") (suc k) (omega arith) (omega arith) (omega arith) refl, tt)))
+    (reads_row (behind_edges k) number (codes "edge") ((codes "E" ++ decimal (suc k)) ∷ (codes "192.0.2." ++ decimal (suc k)) ∷ [])
+    (says.Node (edge_id (suc k)) (edge_node (suc k))) (
+      known_word (codes "edge") (omega arith) (omega arith) refl,
+      (
+        numbered_word (codes "E") (suc k) (omega arith) (omega arith) (omega arith) refl,
+        (numbered_word (codes "192.0.2.") (suc k) (omega arith) (omega arith) (omega arith) refl, tt),
+      ),
+    )
     (omega arith) refl
-    (edge_said (behind_edges k) _ (edge_id (suc k)) (edge_node (suc k)) _ _ _ (codes "192.0.2." ++ decimal (suc k)) refl refl (new_edge k h) (dotted_addr (codes "192.0.2." ++ decimal (suc k)) _ _ (edge_dotted (suc k) (omega arith)))))
+    (edge_said (behind_edges k) _ (edge_id (suc k)) (edge_node (suc k)) _ _ _ (codes "192.0.2." ++ decimal (suc k)) refl refl (new_edge k h)
+    (dotted_addr (codes "192.0.2." ++ decimal (suc k)) _ _ (edge_dotted (suc k) (omega arith)))))
 
-pub edges_read : (edges number : ℕ) → edges ≡ 32 → Reads (behind_edges zero) (number + 0) (made.each made.edge_line edges) (behind_edges edges) (number + edges)
+pub edges_read : (edges number : ℕ) → edges ≡ 32
+    → Reads (behind_edges zero) (number + 0) (made.each made.edge_line edges) (behind_edges edges) (number + edges)
 edges_read edges number all =
-    reads_each behind_edges (λ k. number + k) made.edge_line edges (λ k w. at_lines (behind_edges k) (behind_edges (suc k)) (made.edge_line (suc k)) (number + k) (number + k + 1) (number + k) (number + suc k) refl (omega arith) (edge_row k (number + k) (omega arith)))
+    reads_each behind_edges (λ k. number + k) made.edge_line edges
+    (λ k w. at_lines (behind_edges k) (behind_edges (suc k)) (made.edge_line (suc k)) (number + k) (number + k + 1) (number + k) (number + suc k)
+    refl (omega arith) (edge_row k (number + k) (omega arith)))
 
 -- ---- core nodes
 
@@ -78,7 +95,8 @@ core_text core = simp append_assoc
 
 new_core : (edges k : ℕ) → edges ≡ 32 → k < 16 → IsNewNode (behind_cores edges k) (core_id (suc k)) (core_node (suc k))
 new_core edges k all h =
-    let long : length (made_nodes edges k) ≡ 32 + k = omega (arith, all, length_behind [] edge_node edges, length_behind (behind [] edge_node edges) core_node k) in
+    let long : length (made_nodes edges k) ≡ 32 + k =
+    omega (arith, all, length_behind [] edge_node edges, length_behind (behind [] edge_node edges) core_node k) in
     record {
       number = omega (arith, long);
       few = or_from _ _ (lt-leb 64 (length (made_nodes edges k)) (omega (arith, long))) refl;
@@ -86,33 +104,53 @@ new_core edges k all h =
       free = core_free edges k h;
       unicast = refl;
       alone = any_none (is_at (ipv4 192 0 3 (suc k))) (behind [] edge_node edges) core_node k
-          (any_none (is_at (ipv4 192 0 3 (suc k))) [] edge_node edges refl (λ j w. refl)) (λ j w. other_octets 192 0 3 (suc j) (suc k) (λ e. omega (arith, e)));
+          (any_none (is_at (ipv4 192 0 3 (suc k))) [] edge_node edges refl (λ j w. refl))
+          (λ j w. other_octets 192 0 3 (suc j) (suc k) (λ e. omega (arith, e)));
     }
 
-core_row : (edges k number : ℕ) → edges ≡ 32 → k < 16 → Reads (behind_cores edges k) number (made.core_line (suc k)) (behind_cores edges (suc k)) (number + 1)
+core_row : (edges k number : ℕ) → edges ≡ 32 → k < 16
+    → Reads (behind_cores edges k) number (made.core_line (suc k)) (behind_cores edges (suc k)) (number + 1)
 core_row edges k number all h =
     as_text (behind_cores edges k) (behind_cores edges (suc k)) number (number + 1) _ (made.core_line (suc k)) (core_text (suc k))
-    (reads_row (behind_cores edges k) number (codes "core") ((codes "C" ++ decimal (suc k)) ∷ (codes "192.0.3." ++ decimal (suc k)) ∷ []) (says.Node (core_id (suc k)) (core_node (suc k)))
-    (known_word (codes "core") (omega arith) (omega arith) refl, (numbered_word (codes "C") (suc k) (omega arith) (omega arith) (omega arith) refl, (numbered_word (codes "192.0.3.") (suc k) (omega arith) (omega arith) (omega arith) refl, tt)))
+    (reads_row (behind_cores edges k) number (codes "core") ((codes "C" ++ decimal (suc k)) ∷ (codes "192.0.3." ++ decimal (suc k)) ∷ [])
+    (says.Node (core_id (suc k)) (core_node (suc k))) (
+      known_word (codes "core") (omega arith) (omega arith) refl,
+      (
+        numbered_word (codes "C") (suc k) (omega arith) (omega arith) (omega arith) refl,
+        (numbered_word (codes "192.0.3.") (suc k) (omega arith) (omega arith) (omega arith) refl, tt),
+      ),
+    )
     (omega arith) refl
-    (core_said (behind_cores edges k) _ (core_id (suc k)) (core_node (suc k)) _ _ _ (codes "192.0.3." ++ decimal (suc k)) refl refl (new_core edges k all h) (dotted_addr (codes "192.0.3." ++ decimal (suc k)) _ _ (core_dotted (suc k) (omega arith)))))
+    (core_said (behind_cores edges k) _ (core_id (suc k)) (core_node (suc k)) _ _ _ (codes "192.0.3." ++ decimal (suc k)) refl refl
+    (new_core edges k all h) (dotted_addr (codes "192.0.3." ++ decimal (suc k)) _ _ (core_dotted (suc k) (omega arith)))))
 
-pub cores_read : (edges cores number : ℕ) → edges ≡ 32 → cores ≡ 16 → Reads (behind_cores edges zero) (number + 0) (made.each made.core_line cores) (behind_cores edges cores) (number + cores)
+pub cores_read : (edges cores number : ℕ) → edges ≡ 32 → cores ≡ 16
+    → Reads (behind_cores edges zero) (number + 0) (made.each made.core_line cores) (behind_cores edges cores) (number + cores)
 cores_read edges cores number all few =
-    reads_each (behind_cores edges) (λ k. number + k) made.core_line cores (λ k w. at_lines (behind_cores edges k) (behind_cores edges (suc k)) (made.core_line (suc k)) (number + k) (number + k + 1) (number + k) (number + suc k) refl (omega arith) (core_row edges k (number + k) all (omega arith)))
+    reads_each (behind_cores edges) (λ k. number + k) made.core_line cores
+    (λ k w. at_lines (behind_cores edges k) (behind_cores edges (suc k)) (made.core_line (suc k)) (number + k) (number + k + 1) (number + k)
+    (number + suc k) refl (omega arith) (core_row edges k (number + k) all (omega arith)))
 
 -- ---- nodes that are named
 
 core_there : (edges cores k : ℕ) → edges ≡ 32 → k < cores → slice_get (made_nodes edges cores) (suc k + 31) ≡ Some (core_node (suc k))
-core_there edges cores k all h = get_behind (behind [] edge_node edges) core_node cores k (suc k + 31) h (omega (arith, all, length_behind [] edge_node edges))
+core_there edges cores k all h =
+    get_behind (behind [] edge_node edges) core_node cores k (suc k + 31) h (omega (arith, all, length_behind [] edge_node edges))
 
 pub edge_there : (edges cores k : ℕ) → k < edges → slice_get (made_nodes edges cores) (suc k - 1) ≡ Some (edge_node (suc k))
-edge_there edges cores k h = get_kept (behind [] edge_node edges) core_node cores (suc k - 1) (edge_node (suc k)) (get_behind [] edge_node edges k (suc k - 1) h (omega arith))
+edge_there edges cores k h =
+    get_kept (behind [] edge_node edges) core_node cores (suc k - 1) (edge_node (suc k)) (get_behind [] edge_node edges k (suc k - 1) h (omega arith))
 
-core_named : (draft : Drafted) (core : ℕ) → 0 < core → core < 17 → Stands draft.names (core_entry core) → slice_get draft.scenario.nodes (core + 31) ≡ Some (core_node core) → (row : Row) (column : ℕ) → node_at draft row (at column (codes "C" ++ decimal core)) ≡ Ok (core_id core)
-core_named draft core some few stands there row column = node_word draft row (at column (codes "C" ++ decimal core)) (core_id core) (core_node core) (numbered_name 67 core refl (omega arith)) stands there
+core_named : (draft : Drafted) (core : ℕ) → 0 < core → core < 17 → Stands draft.names (core_entry core)
+    → slice_get draft.scenario.nodes (core + 31) ≡ Some (core_node core) → (row : Row) (column : ℕ)
+    → node_at draft row (at column (codes "C" ++ decimal core)) ≡ Ok (core_id core)
+core_named draft core some few stands there row column =
+    node_word draft row (at column (codes "C" ++ decimal core)) (core_id core) (core_node core) (numbered_name 67 core refl (omega arith)) stands
+    there
 
-core_at : (edges cores core : ℕ) (draft : Drafted) → edges ≡ 32 → cores ≡ 16 → 0 < core → core < 17 → draft.names ≡ node_names edges cores → draft.scenario.nodes ≡ made_nodes edges cores → (row : Row) (column : ℕ) → node_at draft row (at column (codes "C" ++ decimal core)) ≡ Ok (core_id core)
+core_at : (edges cores core : ℕ) (draft : Drafted) → edges ≡ 32 → cores ≡ 16 → 0 < core → core < 17 → draft.names ≡ node_names edges cores
+    → draft.scenario.nodes ≡ made_nodes edges cores → (row : Row) (column : ℕ)
+    → node_at draft row (at column (codes "C" ++ decimal core)) ≡ Ok (core_id core)
 core_at edges cores zero draft all few some small names nodes = absurd (omega arith)
 core_at edges cores (suc k) draft all few some small names nodes =
     core_named draft (suc k) some small (subst (λ l. Stands l (core_entry (suc k))) (sym names) (core_stands edges cores k (omega arith) few))
@@ -125,10 +163,12 @@ no_join a b c d h k =
     or_from _ _ (false_from_ne_true (a == c && b == d) (λ e. let p = and_parts (a == c) (b == d) e in h (eqb-true a c p.0) (eqb-true b d p.1)))
     (false_from_ne_true (a == d && b == c) (λ e. let p = and_parts (a == d) (b == c) e in k (eqb-true a d p.0) (eqb-true b c p.1)))
 
-ring_text : (core : ℕ) → made.ring_line core ≡ row_text (codes "link" ∷ (codes "C" ++ decimal core) ∷ (codes "C" ++ decimal (core % 16 + 1)) ∷ codes "1" ∷ [])
+ring_text : (core : ℕ) → made.ring_line core ≡ row_text
+    (codes "link" ∷ (codes "C" ++ decimal core) ∷ (codes "C" ++ decimal (core % 16 + 1)) ∷ codes "1" ∷ [])
 ring_text core = simp append_assoc
 
-new_ring : (edges cores k : ℕ) → edges ≡ 32 → cores ≡ 16 → k < 16 → IsNewLink (behind_ring edges cores k) (ring_link (suc k)) (codes "C" ++ decimal (suc k)) (codes "C" ++ decimal (suc k % 16 + 1))
+new_ring : (edges cores k : ℕ) → edges ≡ 32 → cores ≡ 16 → k < 16
+    → IsNewLink (behind_ring edges cores k) (ring_link (suc k)) (codes "C" ++ decimal (suc k)) (codes "C" ++ decimal (suc k % 16 + 1))
 new_ring edges cores k all few h = record {
   few = lt-leb 256 (length (behind [] ring_link k)) (omega (arith, length_behind [] ring_link k));
   from = core_at edges cores (suc k) (behind_ring edges cores k) all few (omega arith) (omega arith) refl refl;
@@ -138,41 +178,74 @@ new_ring edges cores k all few h = record {
       (λ j w. no_join (suc j + 31) (suc j % 16 + 1 + 31) (suc k + 31) (suc k % 16 + 1 + 31) (λ a b. omega (arith, a)) (λ a b. omega (arith, a, b)));
 }
 
-ring_row : (edges cores k number : ℕ) → edges ≡ 32 → cores ≡ 16 → k < 16 → Reads (behind_ring edges cores k) number (made.ring_line (suc k)) (behind_ring edges cores (suc k)) (number + 1)
+ring_row : (edges cores k number : ℕ) → edges ≡ 32 → cores ≡ 16 → k < 16
+    → Reads (behind_ring edges cores k) number (made.ring_line (suc k)) (behind_ring edges cores (suc k)) (number + 1)
 ring_row edges cores k number all few h =
     as_text (behind_ring edges cores k) (behind_ring edges cores (suc k)) number (number + 1) _ (made.ring_line (suc k)) (ring_text (suc k))
-    (reads_row (behind_ring edges cores k) number (codes "link") ((codes "C" ++ decimal (suc k)) ∷ (codes "C" ++ decimal (suc k % 16 + 1)) ∷ codes "1" ∷ []) (says.Link (ring_link (suc k)))
-    (known_word (codes "link") (omega arith) (omega arith) refl, (numbered_word (codes "C") (suc k) (omega arith) (omega arith) (omega arith) refl, (numbered_word (codes "C") (suc k % 16 + 1) (omega arith) (omega arith) (omega arith) refl, (known_word (codes "1") (omega arith) (omega arith) refl, tt))))
+    (reads_row (behind_ring edges cores k) number (codes "link")
+    ((codes "C" ++ decimal (suc k)) ∷ (codes "C" ++ decimal (suc k % 16 + 1)) ∷ codes "1" ∷ []) (says.Link (ring_link (suc k))) (
+      known_word (codes "link") (omega arith) (omega arith) refl,
+      (
+        numbered_word (codes "C") (suc k) (omega arith) (omega arith) (omega arith) refl,
+        (
+          numbered_word (codes "C") (suc k % 16 + 1) (omega arith) (omega arith) (omega arith) refl,
+          (known_word (codes "1") (omega arith) (omega arith) refl, tt),
+        ),
+      ),
+    )
     (omega arith) refl
-    (link_said (behind_ring edges cores k) _ (ring_link (suc k)) (codes "C" ++ decimal (suc k)) (codes "C" ++ decimal (suc k % 16 + 1)) _ _ _ _ refl refl (new_ring edges cores k all few h)))
+    (link_said (behind_ring edges cores k) _ (ring_link (suc k)) (codes "C" ++ decimal (suc k)) (codes "C" ++ decimal (suc k % 16 + 1)) _ _ _ _ refl
+    refl (new_ring edges cores k all few h)))
 
-pub ring_read : (edges cores number : ℕ) → edges ≡ 32 → cores ≡ 16 → Reads (behind_ring edges cores zero) (number + 0) (made.each made.ring_line cores) (behind_ring edges cores cores) (number + cores)
+pub ring_read : (edges cores number : ℕ) → edges ≡ 32 → cores ≡ 16
+    → Reads (behind_ring edges cores zero) (number + 0) (made.each made.ring_line cores) (behind_ring edges cores cores) (number + cores)
 ring_read edges cores number all few =
-    reads_each (behind_ring edges cores) (λ k. number + k) made.ring_line cores (λ k w. at_lines (behind_ring edges cores k) (behind_ring edges cores (suc k)) (made.ring_line (suc k)) (number + k) (number + k + 1) (number + k) (number + suc k) refl (omega arith) (ring_row edges cores k (number + k) all few (omega arith)))
+    reads_each (behind_ring edges cores) (λ k. number + k) made.ring_line cores
+    (λ k w. at_lines (behind_ring edges cores k) (behind_ring edges cores (suc k)) (made.ring_line (suc k)) (number + k) (number + k + 1)
+    (number + k) (number + suc k) refl (omega arith) (ring_row edges cores k (number + k) all few (omega arith)))
 
-spur_text : (edge : ℕ) → made.spur_line edge ≡ row_text (codes "link" ∷ (codes "E" ++ decimal edge) ∷ (codes "C" ++ decimal ((edge - 1) % 16 + 1)) ∷ codes "1" ∷ [])
+spur_text : (edge : ℕ) → made.spur_line edge ≡ row_text
+    (codes "link" ∷ (codes "E" ++ decimal edge) ∷ (codes "C" ++ decimal ((edge - 1) % 16 + 1)) ∷ codes "1" ∷ [])
 spur_text edge = simp append_assoc
 
-new_spur : (edges cores k : ℕ) → edges ≡ 32 → cores ≡ 16 → k < 32 → IsNewLink (behind_spurs edges cores k) (spur_link (suc k)) (codes "E" ++ decimal (suc k)) (codes "C" ++ decimal ((suc k - 1) % 16 + 1))
+new_spur : (edges cores k : ℕ) → edges ≡ 32 → cores ≡ 16 → k < 32
+    → IsNewLink (behind_spurs edges cores k) (spur_link (suc k)) (codes "E" ++ decimal (suc k)) (codes "C" ++ decimal ((suc k - 1) % 16 + 1))
 new_spur edges cores k all few h = record {
-  few = lt-leb 256 (length (made_links cores k)) (omega (arith, few, length_behind [] ring_link cores, length_behind (behind [] ring_link cores) spur_link k));
-  from = λ row column. node_word (behind_spurs edges cores k) row (at column (codes "E" ++ decimal (suc k))) (edge_id (suc k)) (edge_node (suc k)) (numbered_name 69 (suc k) refl (omega arith)) (edge_stands edges cores k (omega arith) all) (edge_there edges cores k (omega arith));
+  few = lt-leb 256 (length (made_links cores k))
+      (omega (arith, few, length_behind [] ring_link cores, length_behind (behind [] ring_link cores) spur_link k));
+  from = λ row column. node_word (behind_spurs edges cores k) row (at column (codes "E" ++ decimal (suc k))) (edge_id (suc k)) (edge_node (suc k))
+      (numbered_name 69 (suc k) refl (omega arith)) (edge_stands edges cores k (omega arith) all) (edge_there edges cores k (omega arith));
   to = core_at edges cores ((suc k - 1) % 16 + 1) (behind_spurs edges cores k) all few (omega arith) (omega arith) refl refl;
   two = ne_eqb (suc k - 1) ((suc k - 1) % 16 + 1 + 31) (λ e. omega (arith, e));
   alone = any_none (joins (edge_id (suc k)) (core_id ((suc k - 1) % 16 + 1))) (behind [] ring_link cores) spur_link k
       (any_none (joins (edge_id (suc k)) (core_id ((suc k - 1) % 16 + 1))) [] ring_link cores refl
       (λ j w. no_join (suc j + 31) (suc j % 16 + 1 + 31) (suc k - 1) ((suc k - 1) % 16 + 1 + 31) (λ a b. omega (arith, a)) (λ a b. omega (arith, b))))
-      (λ j w. no_join (suc j - 1) ((suc j - 1) % 16 + 1 + 31) (suc k - 1) ((suc k - 1) % 16 + 1 + 31) (λ a b. omega (arith, a)) (λ a b. omega (arith, a)));
+      (λ j w. no_join (suc j - 1) ((suc j - 1) % 16 + 1 + 31) (suc k - 1) ((suc k - 1) % 16 + 1 + 31) (λ a b. omega (arith, a))
+      (λ a b. omega (arith, a)));
 }
 
-spur_row : (edges cores k number : ℕ) → edges ≡ 32 → cores ≡ 16 → k < 32 → Reads (behind_spurs edges cores k) number (made.spur_line (suc k)) (behind_spurs edges cores (suc k)) (number + 1)
+spur_row : (edges cores k number : ℕ) → edges ≡ 32 → cores ≡ 16 → k < 32
+    → Reads (behind_spurs edges cores k) number (made.spur_line (suc k)) (behind_spurs edges cores (suc k)) (number + 1)
 spur_row edges cores k number all few h =
     as_text (behind_spurs edges cores k) (behind_spurs edges cores (suc k)) number (number + 1) _ (made.spur_line (suc k)) (spur_text (suc k))
-    (reads_row (behind_spurs edges cores k) number (codes "link") ((codes "E" ++ decimal (suc k)) ∷ (codes "C" ++ decimal ((suc k - 1) % 16 + 1)) ∷ codes "1" ∷ []) (says.Link (spur_link (suc k)))
-    (known_word (codes "link") (omega arith) (omega arith) refl, (numbered_word (codes "E") (suc k) (omega arith) (omega arith) (omega arith) refl, (numbered_word (codes "C") ((suc k - 1) % 16 + 1) (omega arith) (omega arith) (omega arith) refl, (known_word (codes "1") (omega arith) (omega arith) refl, tt))))
+    (reads_row (behind_spurs edges cores k) number (codes "link")
+    ((codes "E" ++ decimal (suc k)) ∷ (codes "C" ++ decimal ((suc k - 1) % 16 + 1)) ∷ codes "1" ∷ []) (says.Link (spur_link (suc k))) (
+      known_word (codes "link") (omega arith) (omega arith) refl,
+      (
+        numbered_word (codes "E") (suc k) (omega arith) (omega arith) (omega arith) refl,
+        (
+          numbered_word (codes "C") ((suc k - 1) % 16 + 1) (omega arith) (omega arith) (omega arith) refl,
+          (known_word (codes "1") (omega arith) (omega arith) refl, tt),
+        ),
+      ),
+    )
     (omega arith) refl
-    (link_said (behind_spurs edges cores k) _ (spur_link (suc k)) (codes "E" ++ decimal (suc k)) (codes "C" ++ decimal ((suc k - 1) % 16 + 1)) _ _ _ _ refl refl (new_spur edges cores k all few h)))
+    (link_said (behind_spurs edges cores k) _ (spur_link (suc k)) (codes "E" ++ decimal (suc k)) (codes "C" ++ decimal ((suc k - 1) % 16 + 1)) _ _ _ _
+    refl refl (new_spur edges cores k all few h)))
 
-pub spurs_read : (edges cores number : ℕ) → edges ≡ 32 → cores ≡ 16 → Reads (behind_spurs edges cores zero) (number + 0) (made.each made.spur_line edges) (behind_spurs edges cores edges) (number + edges)
+pub spurs_read : (edges cores number : ℕ) → edges ≡ 32 → cores ≡ 16
+    → Reads (behind_spurs edges cores zero) (number + 0) (made.each made.spur_line edges) (behind_spurs edges cores edges) (number + edges)
 spurs_read edges cores number all few =
-    reads_each (behind_spurs edges cores) (λ k. number + k) made.spur_line edges (λ k w. at_lines (behind_spurs edges cores k) (behind_spurs edges cores (suc k)) (made.spur_line (suc k)) (number + k) (number + k + 1) (number + k) (number + suc k) refl (omega arith) (spur_row edges cores k (number + k) all few (omega arith)))
+    reads_each (behind_spurs edges cores) (λ k. number + k) made.spur_line edges
+    (λ k w. at_lines (behind_spurs edges cores k) (behind_spurs edges cores (suc k)) (made.spur_line (suc k)) (number + k) (number + k + 1)
+    (number + k) (number + suc k) refl (omega arith) (spur_row edges cores k (number + k) all few (omega arith)))

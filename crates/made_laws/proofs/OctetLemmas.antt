@@ -37,14 +37,17 @@ four_octets a b c d i j k l =
 
 all_of_each : {A : Type 0} (P : A → Type 0) (of : ℕ → List A) (count : ℕ) → ((k : ℕ) → k < count → All P (of (suc k))) → All P (each of count)
 all_of_each P of zero h = All-nil P
-all_of_each P of (suc count) h = All-append P (each of count) (of (suc count)) (all_of_each P of count (λ k less. h k (omega (arith, less)))) (h count (omega arith))
+all_of_each P of (suc count) h =
+    All-append P (each of count) (of (suc count)) (all_of_each P of count (λ k less. h k (omega (arith, less)))) (h count (omega arith))
 
 all_of_all : {A : Type 0} (P : A → Type 0) (of : ℕ → A) (count : ℕ) → ((k : ℕ) → k < count → P (of (suc k))) → All P (all of count)
 all_of_all P of count h = all_of_each P (λ number. of number ∷ []) count (λ k less. All-cons P (of (suc k)) [] (h k less) (All-nil P))
 
 -- what there is of each VPN at each edge
-all_of_places : {A : Type 0} (P : A → Type 0) (of : ℕ → ℕ → A) (vpns edges : ℕ) → ((e v : ℕ) → e < edges → v < vpns → P (of (suc e) (suc v))) → All P (each (λ edge. all (of edge) vpns) edges)
-all_of_places P of vpns edges h = all_of_each P (λ edge. all (of edge) vpns) edges (λ e less. all_of_all P (of (suc e)) vpns (λ v few. h e v less few))
+all_of_places : {A : Type 0} (P : A → Type 0) (of : ℕ → ℕ → A) (vpns edges : ℕ) → ((e v : ℕ) → e < edges → v < vpns → P (of (suc e) (suc v)))
+    → All P (each (λ edge. all (of edge) vpns) edges)
+all_of_places P of vpns edges h =
+    all_of_each P (λ edge. all (of edge) vpns) edges (λ e less. all_of_all P (of (suc e)) vpns (λ v few. h e v less few))
 
 -- ---- the scenario
 
@@ -52,17 +55,20 @@ abbrev IsNodeOfOctets : Node → Type 0
 IsNodeOfOctets node = IsOctets (addr_octets node.addr)
 
 edges_have : All IsNodeOfOctets (all edge_node 32)
-edges_have = all_of_all IsNodeOfOctets edge_node 32 (λ k less. four_octets 192 0 2 (suc k) (omega arith) (omega arith) (omega arith) (omega (arith, less)))
+edges_have =
+    all_of_all IsNodeOfOctets edge_node 32 (λ k less. four_octets 192 0 2 (suc k) (omega arith) (omega arith) (omega arith) (omega (arith, less)))
 
 cores_have : All IsNodeOfOctets (all core_node 16)
-cores_have = all_of_all IsNodeOfOctets core_node 16 (λ k less. four_octets 192 0 3 (suc k) (omega arith) (omega arith) (omega arith) (omega (arith, less)))
+cores_have =
+    all_of_all IsNodeOfOctets core_node 16 (λ k less. four_octets 192 0 3 (suc k) (omega arith) (omega arith) (omega arith) (omega (arith, less)))
 
 eight_octets : (kind v : ℕ) → kind < 256 → v < 8 → IsOctets (0 ∷ kind ∷ 253 ∷ 232 ∷ 0 ∷ 0 ∷ 0 ∷ suc v ∷ [])
 eight_octets kind v fits less =
     one_octet 0 (kind ∷ 253 ∷ 232 ∷ 0 ∷ 0 ∷ 0 ∷ suc v ∷ []) (omega arith)
     (one_octet kind (253 ∷ 232 ∷ 0 ∷ 0 ∷ 0 ∷ suc v ∷ []) fits
     (one_octet 253 (232 ∷ 0 ∷ 0 ∷ 0 ∷ suc v ∷ []) (omega arith)
-    (one_octet 232 (0 ∷ 0 ∷ 0 ∷ suc v ∷ []) (omega arith) (four_octets 0 0 0 (suc v) (omega arith) (omega arith) (omega arith) (omega (arith, less))))))
+    (one_octet 232 (0 ∷ 0 ∷ 0 ∷ suc v ∷ []) (omega arith)
+    (four_octets 0 0 0 (suc v) (omega arith) (omega arith) (omega arith) (omega (arith, less))))))
 
 -- the only target of a VRF, and the only prefix of a site
 abbrev target : ℕ → Target
@@ -87,7 +93,8 @@ scenario_has = record {
       (λ e v less few. All-cons IsTargetOfOctets (target (suc v)) [] (eight_octets 2 v (omega arith) few) (All-nil IsTargetOfOctets));
   prefixes =
       all_of_places (λ (own : Site). All IsPrefixOfOctets own.prefixes) site 8 32
-      (λ e v less few. All-cons IsPrefixOfOctets (prefix (suc e) (suc v)) [] (four_octets 10 (suc e) (suc v) 0 (omega arith) (omega (arith, less)) (omega (arith, few)) (omega arith)) (All-nil IsPrefixOfOctets));
+      (λ e v less few. All-cons IsPrefixOfOctets (prefix (suc e) (suc v)) []
+      (four_octets 10 (suc e) (suc v) 0 (omega arith) (omega (arith, less)) (omega (arith, few)) (omega arith)) (All-nil IsPrefixOfOctets));
   ifaces =
       all_of_places (λ (own : Iface). IsOctets (addr_octets own.addr)) iface 8 32
       (λ e v less few. four_octets 10 (suc e) (suc v) 1 (omega arith) (omega (arith, less)) (omega (arith, few)) (omega arith));
@@ -103,7 +110,8 @@ then_have row more a b = each_append EventHasOctets row more a b
 
 each_have : (of : ℕ → List Event) (count : ℕ) → ((k : ℕ) → k < count → Have (of (suc k))) → Have (each of count)
 each_have of zero h = tt
-each_have of (suc count) h = then_have (each of count) (of (suc count)) (each_have of count (λ k less. h k (omega (arith, less)))) (h count (omega arith))
+each_have of (suc count) h =
+    then_have (each of count) (of (suc count)) (each_have of count (λ k less. h k (omega (arith, less)))) (h count (omega arith))
 
 one_has : (b : Bool) (event : Event) → EventHasOctets event → Have (cond b (event ∷ []) [])
 one_has true event h = (h, tt)
@@ -132,7 +140,8 @@ selections_have : (number : ℕ) → Have (each (selection number) 8)
 selections_have number =
     each_have (selection number) 8
     (λ v few. one_has (suc v % 2 == 1)
-    (events.Select (vrf_id (source_edge number (suc v)) (suc v)) (record { source = Some (source number (suc v)); group = Some (group (suc v)) })) (flow_has number v few))
+    (events.Select (vrf_id (source_edge number (suc v)) (suc v)) (record { source = Some (source number (suc v)); group = Some (group (suc v)) }))
+    (flow_has number v few))
 
 first_have : (number : ℕ) → Have (first_events number)
 first_have number =
@@ -142,7 +151,8 @@ first_have number =
     let sends : List Event = all (send number 1) 8 in
     then_have (raise ++ joins ++ state ++ sends) (events.Drain ∷ [])
     (then_have (raise ++ joins ++ state) sends
-    (then_have (raise ++ joins) state (then_have raise joins (tt, (tt, (tt, (tt, tt)))) (joins_have number)) (tt, (tt, tt))) (sends_have number 1 (omega arith))) (tt, tt)
+    (then_have (raise ++ joins) state (then_have raise joins (tt, (tt, (tt, (tt, tt)))) (joins_have number)) (tt, (tt, tt)))
+    (sends_have number 1 (omega arith))) (tt, tt)
 
 last_have : (number : ℕ) → Have (last_events number)
 last_have number =
@@ -154,7 +164,8 @@ last_have number =
     then_have (picks ++ state ++ sends ++ wait ++ more) (events.Drain ∷ events.State ∷ [])
     (then_have (picks ++ state ++ sends ++ wait) more
     (then_have (picks ++ state ++ sends) wait
-    (then_have (picks ++ state) sends (then_have picks state (selections_have number) (tt, (tt, tt))) (sends_have number 2 (omega arith))) (tt, (tt, (tt, (tt, tt)))))
+    (then_have (picks ++ state) sends (then_have picks state (selections_have number) (tt, (tt, tt))) (sends_have number 2 (omega arith)))
+    (tt, (tt, (tt, (tt, tt)))))
     (sends_have number 3 (omega arith))) (tt, (tt, tt))
 
 events_have : (number : ℕ) → Have (made_events number)

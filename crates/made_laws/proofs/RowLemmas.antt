@@ -98,7 +98,8 @@ joined_plain : (words : List (List ℕ)) → AreWords words → list_all is_line
 joined_plain [] h = refl
 joined_plain (word ∷ []) h = all_weaker is_word_octet is_line_octet line_octet word h.0.plain
 joined_plain (word ∷ next ∷ more) h =
-    all_append is_line_octet word (32 ∷ joined (next ∷ more)) (all_weaker is_word_octet is_line_octet line_octet word h.0.plain) (joined_plain (next ∷ more) h.1)
+    all_append is_line_octet word (32 ∷ joined (next ∷ more)) (all_weaker is_word_octet is_line_octet line_octet word h.0.plain)
+    (joined_plain (next ∷ more) h.1)
 
 joined_short : (words : List (List ℕ)) → AreWords words → length (joined words) ≤ 101 * length words
 joined_short [] h = omega arith
@@ -136,12 +137,14 @@ last_octet p xs i z h = by_place (cases_lt i (length xs))
 
 no_return : (line : List ℕ) → list_all is_line_octet line ≡ true → strip_carriage_return line ≡ line
 no_return line h =
-    rw (last_octet (λ b. b == 13) line (length line - 1) refl (none_of is_line_octet (λ b. b == 13) (λ b. not_octet 13 b (inl (omega arith))) line h)) refl
+    rw (last_octet (λ b. b == 13) line (length line - 1) refl (none_of is_line_octet (λ b. b == 13) (λ b. not_octet 13 b (inl (omega arith))) line h))
+    refl
 
 -- Octets of a line with a line feed behind are the first line.
 first_line : (line rest : List ℕ) → list_all is_line_octet line ≡ true → lines (line ++ 10 ∷ rest) ≡ line ∷ lines rest
 first_line line rest h =
-    ap lines_of_parts (slice_split_at (λ b. b == 10) line 10 rest (none_of is_line_octet (λ b. b == 10) (λ b. not_octet 10 b (inl (omega arith))) line h) refl)
+    ap lines_of_parts (slice_split_at (λ b. b == 10) line 10 rest
+    (none_of is_line_octet (λ b. b == 10) (λ b. not_octet 10 b (inl (omega arith))) line h) refl)
     ∙ more_parts line (slice_split (λ b. b == 10) rest) (some_parts rest)
     ∙ ap (λ (l : List ℕ). l ∷ lines rest) (no_return line h)
 
@@ -153,19 +156,22 @@ not_space b h = grind (arith, nat_tests)
 word_parts : (word : List ℕ) → IsWord word → All (λ b. (b == 32) ≡ false) word
 word_parts word h = none_of is_word_octet (λ b. b == 32) not_space word h.plain
 
-placed_first : (column : ℕ) (word : List ℕ) (parts : List (List ℕ)) → 0 < length word → placed column (word ∷ parts) ≡ (record { column = column; text = word }) ∷ placed (column + (length word + 1)) parts
+placed_first : (column : ℕ) (word : List ℕ) (parts : List (List ℕ)) → 0 < length word
+    → placed column (word ∷ parts) ≡ (record { column = column; text = word }) ∷ placed (column + (length word + 1)) parts
 placed_first column word parts h =
     let e : (length word == 0) ≡ false = ne_eqb (length word) 0 (λ z. omega (arith, z)) in
     rw e refl
 
-placed_joined : (column : ℕ) (words : List (List ℕ)) → 0 < length words → AreWords words → placed column (slice_split (λ b. b == 32) (joined words)) ≡ with_columns column words
+placed_joined : (column : ℕ) (words : List (List ℕ)) → 0 < length words → AreWords words
+    → placed column (slice_split (λ b. b == 32) (joined words)) ≡ with_columns column words
 placed_joined column [] some h = absurd (omega arith)
 placed_joined column (word ∷ []) some h =
     ap (placed column) (slice_split_none (λ b. b == 32) word (word_parts word h.0)) ∙ placed_first column word [] h.0.some
 placed_joined column (word ∷ next ∷ more) some h =
     ap (placed column) (slice_split_at (λ b. b == 32) word 32 (joined (next ∷ more)) (word_parts word h.0) refl)
     ∙ placed_first column word (slice_split (λ b. b == 32) (joined (next ∷ more))) h.0.some
-    ∙ ap (λ (l : List Placed). (record { column = column; text = word }) ∷ l) (placed_joined (column + (length word + 1)) (next ∷ more) (omega arith) h.1)
+    ∙ ap (λ (l : List Placed). (record { column = column; text = word }) ∷ l)
+    (placed_joined (column + (length word + 1)) (next ∷ more) (omega arith) h.1)
 
 words_joined : (words : List (List ℕ)) → 0 < length words → AreWords words → words_of (joined words) ≡ with_columns 1 words
 unfolding words_of
@@ -204,7 +210,8 @@ none_outside : (text : List ℕ) → list_all is_line_octet text ≡ true → po
 none_outside text h = position_none is_outside text (none_of is_line_octet is_outside is_inside text h)
 
 -- A line of that many octets of a line, whose words are these, says what its words say.
-line_said : (draft : Drafted) (number : ℕ) (text : List ℕ) (words : List Placed) (said : Line) → is_blank text ≡ false → length text ≤ 4096 → position is_outside text ≡ None → words_of text ≡ words
+line_said : (draft : Drafted) (number : ℕ) (text : List ℕ) (words : List Placed) (said : Line) → is_blank text ≡ false → length text ≤ 4096
+    → position is_outside text ≡ None → words_of text ≡ words
     → words_line draft (row_of number text) words ≡ Ok said → line_of draft number text ≡ Ok said
 unfolding line_of words_in
 line_said draft number text words said blank short inside cut h =
@@ -224,7 +231,8 @@ pub record Reads (old : Drafted) (number : ℕ) (text : List ℕ) (new : Drafted
 pub reads_none : (old : Drafted) (number : ℕ) → Reads old number [] old number
 reads_none old number = record { rows = []; split = λ rest. refl; says = refl; count = omega arith; short = omega arith }
 
-says_then : (old middle new : Drafted) (number : ℕ) (front back : List (List ℕ)) → Says old number front middle → Says middle (number + length front) back new → Says old number (front ++ back) new
+says_then : (old middle new : Drafted) (number : ℕ) (front back : List (List ℕ)) → Says old number front middle
+    → Says middle (number + length front) back new → Says old number (front ++ back) new
 says_then old middle new number [] back a b =
     let n : number + 0 ≡ number = omega arith in
     subst (λ (d : Drafted). Says d number back new) a (subst (λ (k : ℕ). Says middle k back new) n b)
@@ -233,26 +241,37 @@ says_then old middle new number (row ∷ front) back a b =
     (a.0, a.1, says_then (added old number a.0) middle new (number + 1) front back a.2 (subst (λ (k : ℕ). Says middle k back new) n b))
 
 -- One text behind another.
-pub reads_then : (old middle new : Drafted) (number between after : ℕ) (first second : List ℕ) → Reads old number first middle between → Reads middle between second new after → Reads old number (first ++ second) new after
+pub reads_then : (old middle new : Drafted) (number between after : ℕ) (first second : List ℕ) → Reads old number first middle between
+    → Reads middle between second new after → Reads old number (first ++ second) new after
 reads_then old middle new number between after first second a b = record {
   rows = a.rows ++ b.rows;
-  split = λ rest. ap lines (append_assoc first second rest) ∙ a.split (second ++ rest) ∙ ap (λ (l : List (List ℕ)). a.rows ++ l) (b.split rest) ∙ sym (append_assoc a.rows b.rows (lines rest));
+  split = λ rest. ap lines (append_assoc first second rest) ∙ a.split (second ++ rest) ∙ ap (λ (l : List (List ℕ)). a.rows ++ l) (b.split rest)
+      ∙ sym (append_assoc a.rows b.rows (lines rest));
   says = says_then old middle new number a.rows b.rows a.says (subst (λ (k : ℕ). Says middle k b.rows new) (sym a.count) b.says);
   count = omega (arith, a.count, b.count, length-append a.rows b.rows);
   short = omega (arith, a.short, b.short, length-append a.rows b.rows, length-append first second);
 }
 
 -- Words that say something are a line of it.
-pub reads_row : (draft : Drafted) (number : ℕ) (first : List ℕ) (rest : List (List ℕ)) (said : Line) → AreWords (first ∷ rest) → length rest ≤ 20 → begins first ≡ true
-    → words_line draft (row_of number (joined (first ∷ rest))) (with_columns 1 (first ∷ rest)) ≡ Ok said → Reads draft number (row_text (first ∷ rest)) (added draft number said) (number + 1)
+pub reads_row : (draft : Drafted) (number : ℕ) (first : List ℕ) (rest : List (List ℕ)) (said : Line) → AreWords (first ∷ rest) → length rest ≤ 20
+    → begins first ≡ true
+    → words_line draft (row_of number (joined (first ∷ rest))) (with_columns 1 (first ∷ rest)) ≡ Ok said
+    → Reads draft number (row_text (first ∷ rest)) (added draft number said) (number + 1)
 reads_row draft number first rest said words few b h =
     let line : List ℕ = joined (first ∷ rest) in
     let plain : list_all is_line_octet (joined (first ∷ rest)) ≡ true = joined_plain (first ∷ rest) words in
-    let feed : row_text (first ∷ rest) ≡ joined (first ∷ rest) ++ 10 ∷ [] = sym (append-nil (row_text (first ∷ rest))) ∙ row_text_is (first ∷ rest) [] in
+    let feed : row_text (first ∷ rest) ≡ joined (first ∷ rest) ++ 10 ∷ [] =
+    sym (append-nil (row_text (first ∷ rest))) ∙ row_text_is (first ∷ rest) [] in
     record {
       rows = joined (first ∷ rest) ∷ [];
       split = λ more. ap lines (row_text_is (first ∷ rest) more) ∙ first_line (joined (first ∷ rest)) more plain;
-      says = (said, line_said draft number (joined (first ∷ rest)) (with_columns 1 (first ∷ rest)) said (not_blank (joined (first ∷ rest)) (joined_begins first rest b)) (omega (arith, joined_short (first ∷ rest) words)) (none_outside (joined (first ∷ rest)) plain) (words_joined (first ∷ rest) (omega arith) words) h, refl);
+      says = (
+        said,
+        line_said draft number (joined (first ∷ rest)) (with_columns 1 (first ∷ rest)) said
+            (not_blank (joined (first ∷ rest)) (joined_begins first rest b)) (omega (arith, joined_short (first ∷ rest) words))
+            (none_outside (joined (first ∷ rest)) plain) (words_joined (first ∷ rest) (omega arith) words) h,
+        refl,
+      );
       count = refl;
       short = omega (arith, joined_short (first ∷ rest) words, ap length feed, length-append (joined (first ∷ rest)) (10 ∷ []));
     }

@@ -23,18 +23,23 @@ one_said : (x y : Script) → said x ≡ said y → x ≡ y
 one_said x y e = cc
 
 -- at the end of a text
-end_rules : (draft : Drafted) (number : ℕ) (script : Script) → Holds draft number → (begun : Bool) → draft.begun ≡ begun → cond begun (said (script_at draft number)) (fault number 1 reasons.Events) ≡ said script → ScriptRules script
-end_rules draft number script holds true begun e = subst ScriptRules (one_said (script_at draft number) script e) (script_rules draft number holds begun)
+end_rules : (draft : Drafted) (number : ℕ) (script : Script) → Holds draft number → (begun : Bool) → draft.begun ≡ begun
+    → cond begun (said (script_at draft number)) (fault number 1 reasons.Events) ≡ said script → ScriptRules script
+end_rules draft number script holds true begun e =
+    subst ScriptRules (one_said (script_at draft number) script e) (script_rules draft number holds begun)
 end_rules draft number script holds false begun e = absurd cc
 
 -- what lines say, behind what is declared
-lines_rules : (draft : Drafted) (number : ℕ) (rows : List (List ℕ)) (script : Script) → Holds draft number → script_from draft number rows ≡ said script → ScriptRules script
+lines_rules : (draft : Drafted) (number : ℕ) (rows : List (List ℕ)) (script : Script) → Holds draft number
+    → script_from draft number rows ≡ said script → ScriptRules script
 lines_rules draft number [] script holds e = end_rules draft number script holds draft.begun refl e
 lines_rules draft number (octets ∷ more) script holds e =
-    by (line_of draft number octets) refl (λ line is rest. lines_rules (added draft number line) (number + 1) more script (line_holds draft number octets line holds is) rest) e
+    by (line_of draft number octets) refl (λ line is rest. lines_rules (added draft number line) (number + 1) more script
+    (line_holds draft number octets line holds is) rest) e
   where
     by : (r : Result Line TextFault) → line_of draft number octets ≡ r
-        → ((line : Line) → line_of draft number octets ≡ Ok line → script_from (added draft number line) (number + 1) more ≡ said script → ScriptRules script)
+        → ((line : Line) → line_of draft number octets ≡ Ok line → script_from (added draft number line) (number + 1) more ≡ said script
+        → ScriptRules script)
         → (r >>= λ line. script_from (added draft number line) (number + 1) more) ≡ said script → ScriptRules script
     by (Ok line) is next rest = next line is rest
     by (Err first) is next rest = absurd cc

@@ -27,7 +27,8 @@ use Rattle.made_laws.proofs.Connected.{connected}
 use Rattle.made_laws.proofs.EventBlocks.{telling, Tells, HasThings, tells_then, tells_each, heal_told, settle_told, drain_told, state_told, tick_told, join_line_told, send_told, select_line_told}
 
 -- What holds of numbers from 1 on.
-from_one : (P : ℕ → ℕ → Type 0) → ((e v : ℕ) → e < 32 → v < 8 → P (suc e) (suc v)) → (edge vpn : ℕ) → 0 < edge → edge < 33 → 0 < vpn → vpn < 9 → P edge vpn
+from_one : (P : ℕ → ℕ → Type 0) → ((e v : ℕ) → e < 32 → v < 8 → P (suc e) (suc v)) → (edge vpn : ℕ) → 0 < edge → edge < 33 → 0 < vpn → vpn < 9
+    → P edge vpn
 from_one P h zero vpn a b c d = absurd (omega arith)
 from_one P h (suc e) zero a b c d = absurd (omega arith)
 from_one P h (suc e) (suc v) a b c d = h e v (omega arith) (omega arith)
@@ -93,7 +94,8 @@ scenario_said edges cores vpns = record {
 
 -- ---- a text that is read to its end
 
-reads_script : (text : List ℕ) (new : Drafted) (after : ℕ) → Reads empty_draft 1 text new after → new.begun ≡ true → after ≤ 4000 → script_of text ≡ Ok (script_at new after)
+reads_script : (text : List ℕ) (new : Drafted) (after : ℕ) → Reads empty_draft 1 text new after → new.begun ≡ true → after ≤ 4000
+    → script_of text ≡ Ok (script_at new after)
 reads_script text new after reads begun few =
     let cut : lines text ≡ reads.rows = ap lines (sym (append-nil text)) ∙ reads.split [] ∙ append-nil reads.rows in
     let end : after ≡ 1 + length (lines text) = omega (arith, reads.count, ap length cut) in
@@ -113,15 +115,25 @@ module _ (edges cores vpns : ℕ) (all_edges : edges ≡ 32) (all_cores : cores 
 
   scenario_read : Reads empty_draft 1 (scenario_lines edges cores vpns) base 865
   scenario_read =
-      reads_then empty_draft (behind_spurs edges cores edges) base 1 97 865 (made.each made.edge_line edges ++ made.each made.core_line cores ++ made.each made.ring_line cores ++ made.each made.spur_line edges) (made.each (λ edge. made.each (made.attachment edge) vpns) edges)
-      (reads_then empty_draft (behind_ring edges cores cores) (behind_spurs edges cores edges) 1 65 97 (made.each made.edge_line edges ++ made.each made.core_line cores ++ made.each made.ring_line cores) (made.each made.spur_line edges)
-      (reads_then empty_draft (behind_cores edges cores) (behind_ring edges cores cores) 1 49 65 (made.each made.edge_line edges ++ made.each made.core_line cores) (made.each made.ring_line cores)
-      (reads_then empty_draft (behind_edges edges) (behind_cores edges cores) 1 33 49 (made.each made.edge_line edges) (made.each made.core_line cores)
-      (at_lines empty_draft (behind_edges edges) (made.each made.edge_line edges) (1 + 0) (1 + edges) 1 33 refl (omega (arith, all_edges)) (edges_read edges 1 all_edges))
-      (at_lines (behind_edges edges) (behind_cores edges cores) (made.each made.core_line cores) (33 + 0) (33 + cores) 33 49 refl (omega (arith, all_cores)) (cores_read edges cores 33 all_edges all_cores)))
-      (at_lines (behind_cores edges cores) (behind_ring edges cores cores) (made.each made.ring_line cores) (49 + 0) (49 + cores) 49 65 refl (omega (arith, all_cores)) (ring_read edges cores 49 all_edges all_cores)))
-      (at_lines (behind_ring edges cores cores) (behind_spurs edges cores edges) (made.each made.spur_line edges) (65 + 0) (65 + edges) 65 97 refl (omega (arith, all_edges)) (spurs_read edges cores 65 all_edges all_cores)))
-      (at_lines (behind_spurs edges cores edges) base (made.each (λ edge. made.each (made.attachment edge) vpns) edges) (97 + 0) (97 + 24 * edges) 97 865 refl (omega (arith, all_edges)) (vpns_read edges cores vpns 97 all_edges all_vpns))
+      reads_then empty_draft (behind_spurs edges cores edges) base 1 97 865
+      (made.each made.edge_line edges ++ made.each made.core_line cores ++ made.each made.ring_line cores ++ made.each made.spur_line edges)
+      (made.each (λ edge. made.each (made.attachment edge) vpns) edges)
+      (reads_then empty_draft (behind_ring edges cores cores) (behind_spurs edges cores edges) 1 65 97
+      (made.each made.edge_line edges ++ made.each made.core_line cores ++ made.each made.ring_line cores) (made.each made.spur_line edges)
+      (reads_then empty_draft (behind_cores edges cores) (behind_ring edges cores cores) 1 49 65
+      (made.each made.edge_line edges ++ made.each made.core_line cores) (made.each made.ring_line cores)
+      (reads_then empty_draft (behind_edges edges) (behind_cores edges cores) 1 33 49 (made.each made.edge_line edges)
+      (made.each made.core_line cores)
+      (at_lines empty_draft (behind_edges edges) (made.each made.edge_line edges) (1 + 0) (1 + edges) 1 33 refl (omega (arith, all_edges))
+      (edges_read edges 1 all_edges))
+      (at_lines (behind_edges edges) (behind_cores edges cores) (made.each made.core_line cores) (33 + 0) (33 + cores) 33 49 refl
+      (omega (arith, all_cores)) (cores_read edges cores 33 all_edges all_cores)))
+      (at_lines (behind_cores edges cores) (behind_ring edges cores cores) (made.each made.ring_line cores) (49 + 0) (49 + cores) 49 65 refl
+      (omega (arith, all_cores)) (ring_read edges cores 49 all_edges all_cores)))
+      (at_lines (behind_ring edges cores cores) (behind_spurs edges cores edges) (made.each made.spur_line edges) (65 + 0) (65 + edges) 65 97 refl
+      (omega (arith, all_edges)) (spurs_read edges cores 65 all_edges all_cores)))
+      (at_lines (behind_spurs edges cores edges) base (made.each (λ edge. made.each (made.attachment edge) vpns) edges) (97 + 0) (97 + 24 * edges) 97
+      865 refl (omega (arith, all_edges)) (vpns_read edges cores vpns 97 all_edges all_vpns))
 
   forty_eight : length (made_nodes edges cores) ≡ 48
   forty_eight = omega (arith, all_edges, all_cores, length_behind [] edge_node edges, length_behind (behind [] edge_node edges) core_node cores)
@@ -129,13 +141,23 @@ module _ (edges cores vpns : ℕ) (all_edges : edges ≡ 32) (all_cores : cores 
   begun_read : Reads base 865 (codes "events\n") (telling base []) 866
   begun_read =
       reads_row base 865 (codes "events") [] says.Events (known_word (codes "events") (omega arith) (omega arith) refl, tt) (omega arith) refl
-      (events_said base (row_of 865 (codes "events")) 1 refl (connected edges cores all_edges all_cores (length (made_nodes edges cores)) forty_eight))
+      (events_said base (row_of 865 (codes "events")) 1 refl
+      (connected edges cores all_edges all_cores (length (made_nodes edges cores)) forty_eight))
 
   has_things : HasThings base
   has_things = record {
-    vrf_named = from_one (λ edge vpn. Stands base.names (vrf_entry edge vpn)) (λ e v h k. edges_later (pointwise nat_eq (name_at (codes "V") (suc e) (suc v))) vpns (node_names edges cores) edges e v (things.Vrf (vrf_id (suc e) (suc v))) (omega arith) (omega arith) (three_stand edges cores vpns e v all_vpns h k).0);
-    site_named = from_one (λ edge vpn. Stands base.names (site_entry edge vpn)) (λ e v h k. edges_later (pointwise nat_eq (name_at (codes "S") (suc e) (suc v))) vpns (node_names edges cores) edges e v (things.Site (site_id (suc e) (suc v))) (omega arith) (omega arith) (three_stand edges cores vpns e v all_vpns h k).1);
-    iface_named = from_one (λ edge vpn. Stands base.names (iface_entry edge vpn)) (λ e v h k. edges_later (pointwise nat_eq (name_at (codes "I") (suc e) (suc v))) vpns (node_names edges cores) edges e v (things.Iface (iface_id (suc e) (suc v))) (omega arith) (omega arith) (three_stand edges cores vpns e v all_vpns h k).2);
+    vrf_named =
+        from_one (λ edge vpn. Stands base.names (vrf_entry edge vpn))
+        (λ e v h k. edges_later (pointwise nat_eq (name_at (codes "V") (suc e) (suc v))) vpns (node_names edges cores) edges e v
+        (things.Vrf (vrf_id (suc e) (suc v))) (omega arith) (omega arith) (three_stand edges cores vpns e v all_vpns h k).0);
+    site_named =
+        from_one (λ edge vpn. Stands base.names (site_entry edge vpn))
+        (λ e v h k. edges_later (pointwise nat_eq (name_at (codes "S") (suc e) (suc v))) vpns (node_names edges cores) edges e v
+        (things.Site (site_id (suc e) (suc v))) (omega arith) (omega arith) (three_stand edges cores vpns e v all_vpns h k).1);
+    iface_named =
+        from_one (λ edge vpn. Stands base.names (iface_entry edge vpn))
+        (λ e v h k. edges_later (pointwise nat_eq (name_at (codes "I") (suc e) (suc v))) vpns (node_names edges cores) edges e v
+        (things.Iface (iface_id (suc e) (suc v))) (omega arith) (omega arith) (three_stand edges cores vpns e v all_vpns h k).2);
     vrf_there = from_one _ (λ e v h k. get_rows vpns vrf edges e v _ all_vpns (omega arith) (omega arith) (omega arith));
     site_there = from_one _ (λ e v h k. get_rows vpns site edges e v _ all_vpns (omega arith) (omega arith) (omega arith));
     iface_there = from_one _ (λ e v h k. get_rows vpns iface edges e v _ all_vpns (omega arith) (omega arith) (omega arith));
@@ -143,25 +165,37 @@ module _ (edges cores vpns : ℕ) (all_edges : edges ≡ 32) (all_cores : cores 
 
   -- ---- the events
 
-  joins_told : (number : ℕ) → Tells base (made.each (λ vpn. made.each (made.join_line number vpn) edges) vpns) (each (λ vpn. each (join number vpn) edges) vpns)
+  joins_told : (number : ℕ) → Tells base (made.each (λ vpn. made.each (made.join_line number vpn) edges) vpns)
+      (each (λ vpn. each (join number vpn) edges) vpns)
   joins_told number =
       tells_each base (λ vpn. made.each (made.join_line number vpn) edges) (λ vpn. each (join number vpn) edges) vpns
-      (λ k w. tells_each base (made.join_line number (suc k)) (join number (suc k)) edges (λ j u. join_line_told base has_things (suc j) (suc k) (omega arith) (omega arith) (omega arith) (omega arith) number))
+      (λ k w. tells_each base (made.join_line number (suc k)) (join number (suc k)) edges
+      (λ j u. join_line_told base has_things (suc j) (suc k) (omega arith) (omega arith) (omega arith) (omega arith) number))
 
-  sends_told : (number : ℕ) (payload : List ℕ) (octet : ℕ) → ((k : ℕ) → k < vpns → Tells base (made.send_line number payload (suc k)) (send number octet (suc k) ∷ [])) → Tells base (made.each (made.send_line number payload) vpns) (all (send number octet) vpns)
+  sends_told : (number : ℕ) (payload : List ℕ) (octet : ℕ)
+      → ((k : ℕ) → k < vpns → Tells base (made.send_line number payload (suc k)) (send number octet (suc k) ∷ []))
+      → Tells base (made.each (made.send_line number payload) vpns) (all (send number octet) vpns)
   sends_told number payload octet h = tells_each base (made.send_line number payload) (λ vpn. send number octet vpn ∷ []) vpns h
 
   first_sends : (number : ℕ) → Tells base (made.each (made.send_line number (codes "01")) vpns) (all (send number 1) vpns)
-  first_sends number = sends_told number (codes "01") 1 (λ k w. send_told base has_things number (suc k) (omega arith) (omega arith) (codes "01") 1 (known_word (codes "01") (omega arith) (omega arith) refl) first_payload)
+  first_sends number =
+      sends_told number (codes "01") 1 (λ k w. send_told base has_things number (suc k) (omega arith) (omega arith) (codes "01") 1
+      (known_word (codes "01") (omega arith) (omega arith) refl) first_payload)
 
   second_sends : (number : ℕ) → Tells base (made.each (made.send_line number (codes "02")) vpns) (all (send number 2) vpns)
-  second_sends number = sends_told number (codes "02") 2 (λ k w. send_told base has_things number (suc k) (omega arith) (omega arith) (codes "02") 2 (known_word (codes "02") (omega arith) (omega arith) refl) second_payload)
+  second_sends number =
+      sends_told number (codes "02") 2 (λ k w. send_told base has_things number (suc k) (omega arith) (omega arith) (codes "02") 2
+      (known_word (codes "02") (omega arith) (omega arith) refl) second_payload)
 
   third_sends : (number : ℕ) → Tells base (made.each (made.send_line number (codes "03")) vpns) (all (send number 3) vpns)
-  third_sends number = sends_told number (codes "03") 3 (λ k w. send_told base has_things number (suc k) (omega arith) (omega arith) (codes "03") 3 (known_word (codes "03") (omega arith) (omega arith) refl) third_payload)
+  third_sends number =
+      sends_told number (codes "03") 3 (λ k w. send_told base has_things number (suc k) (omega arith) (omega arith) (codes "03") 3
+      (known_word (codes "03") (omega arith) (omega arith) refl) third_payload)
 
   selects_told : (number : ℕ) → Tells base (made.each (made.select_line number) vpns) (each (selection number) vpns)
-  selects_told number = tells_each base (made.select_line number) (selection number) vpns (λ k w. select_line_told base has_things number (suc k) (omega arith) (omega arith))
+  selects_told number =
+      tells_each base (made.select_line number) (selection number) vpns
+      (λ k w. select_line_told base has_things number (suc k) (omega arith) (omega arith))
 
   two_told : Tells base (codes "settle\nstate\n") (events.Settle ∷ events.State ∷ [])
   two_told = tells_then base (codes "settle\n") (codes "state\n") (events.Settle ∷ []) (events.State ∷ []) (settle_told base) (state_told base)
@@ -186,13 +220,20 @@ module _ (edges cores vpns : ℕ) (all_edges : edges ≡ 32) (all_cores : cores 
       (tells_then base _ (made.each (made.send_line number (codes "03")) vpns) _ (all (send number 3) vpns)
       (tells_then base _ (codes "drain\ntick 3\nsettle\nstate\n") _ (events.Drain ∷ events.Tick 3 ∷ events.Settle ∷ events.State ∷ [])
       (tells_then base _ (made.each (made.send_line number (codes "02")) vpns) _ (all (send number 2) vpns)
-      (tells_then base (made.each (made.select_line number) vpns) (codes "settle\nstate\n") (each (selection number) vpns) (events.Settle ∷ events.State ∷ []) (selects_told number) two_told)
+      (tells_then base (made.each (made.select_line number) vpns) (codes "settle\nstate\n") (each (selection number) vpns)
+      (events.Settle ∷ events.State ∷ []) (selects_told number) two_told)
       (second_sends number)) wait_told) (third_sends number)) end_told
 
   -- ---- lengths
 
   few_joins : (number : ℕ) → length (each (λ vpn. each (join number vpn) edges) vpns) ≤ 256
-  few_joins number = omega (arith, all_vpns, few_rows (λ vpn. each (join number vpn) edges) vpns (λ k. omega (arith, all_edges, few_one (join number k) edges (λ j. at_most_one _ _))))
+  few_joins number =
+      omega (
+        arith,
+        all_vpns,
+        few_rows (λ vpn. each (join number vpn) edges) vpns
+            (λ k. omega (arith, all_edges, few_one (join number k) edges (λ j. at_most_one _ _))),
+      )
 
   few_selections : (number : ℕ) → length (each (selection number) vpns) ≤ 8
   few_selections number = omega (arith, all_vpns, few_one (selection number) vpns (λ k. at_most_one _ _))
@@ -209,7 +250,8 @@ module _ (edges cores vpns : ℕ) (all_edges : edges ≡ 32) (all_cores : cores 
         length-append four (each (λ vpn. each (join number vpn) edges) vpns),
         length-append (four ++ each (λ vpn. each (join number vpn) edges) vpns) (events.Settle ∷ events.State ∷ []),
         length-append (four ++ each (λ vpn. each (join number vpn) edges) vpns ++ (events.Settle ∷ events.State ∷ [])) (all (send number 1) vpns),
-        length-append (four ++ each (λ vpn. each (join number vpn) edges) vpns ++ (events.Settle ∷ events.State ∷ []) ++ all (send number 1) vpns) (events.Drain ∷ []),
+        length-append (four ++ each (λ vpn. each (join number vpn) edges) vpns ++ (events.Settle ∷ events.State ∷ []) ++ all (send number 1) vpns)
+            (events.Drain ∷ []),
       )
 
   few_last : (number : ℕ) → length (last_told vpns number) ≤ 100
@@ -221,33 +263,45 @@ module _ (edges cores vpns : ℕ) (all_edges : edges ≡ 32) (all_cores : cores 
         few_sends number 3,
         length-append (each (selection number) vpns) (events.Settle ∷ events.State ∷ []),
         length-append (each (selection number) vpns ++ (events.Settle ∷ events.State ∷ [])) (all (send number 2) vpns),
-        length-append (each (selection number) vpns ++ (events.Settle ∷ events.State ∷ []) ++ all (send number 2) vpns) (events.Drain ∷ events.Tick 3 ∷ events.Settle ∷ events.State ∷ []),
-        length-append (each (selection number) vpns ++ (events.Settle ∷ events.State ∷ []) ++ all (send number 2) vpns ++ (events.Drain ∷ events.Tick 3 ∷ events.Settle ∷ events.State ∷ [])) (all (send number 3) vpns),
-        length-append (each (selection number) vpns ++ (events.Settle ∷ events.State ∷ []) ++ all (send number 2) vpns ++ (events.Drain ∷ events.Tick 3 ∷ events.Settle ∷ events.State ∷ []) ++ all (send number 3) vpns) (events.Drain ∷ events.State ∷ []),
+        length-append (each (selection number) vpns ++ (events.Settle ∷ events.State ∷ []) ++ all (send number 2) vpns)
+            (events.Drain ∷ events.Tick 3 ∷ events.Settle ∷ events.State ∷ []),
+        length-append (each (selection number) vpns ++ (events.Settle ∷ events.State ∷ []) ++ all (send number 2) vpns
+            ++ (events.Drain ∷ events.Tick 3 ∷ events.Settle ∷ events.State ∷ [])) (all (send number 3) vpns),
+        length-append (each (selection number) vpns ++ (events.Settle ∷ events.State ∷ []) ++ all (send number 2) vpns
+            ++ (events.Drain ∷ events.Tick 3 ∷ events.Settle ∷ events.State ∷ []) ++ all (send number 3) vpns) (events.Drain ∷ events.State ∷ []),
       )
 
   -- ---- the whole
 
-  first_tells : (number : ℕ) → Tells base (codes "heal\nsettle\ntick 3\nsettle\n" ++ made.each (λ vpn. made.each (made.join_line number vpn) edges) vpns ++ codes "settle\nstate\n" ++ made.each (made.send_line number (codes "01")) vpns ++ codes "drain\n") (first_told edges vpns number)
+  first_tells : (number : ℕ) → Tells base (codes "heal\nsettle\ntick 3\nsettle\n"
+      ++ made.each (λ vpn. made.each (made.join_line number vpn) edges) vpns ++ codes "settle\nstate\n"
+      ++ made.each (made.send_line number (codes "01")) vpns ++ codes "drain\n") (first_told edges vpns number)
   first_tells number =
       tells_then base _ (codes "drain\n") _ (events.Drain ∷ [])
       (tells_then base _ (made.each (made.send_line number (codes "01")) vpns) _ (all (send number 1) vpns)
       (tells_then base _ (codes "settle\nstate\n") _ (events.Settle ∷ events.State ∷ [])
-      (tells_then base (codes "heal\nsettle\ntick 3\nsettle\n") (made.each (λ vpn. made.each (made.join_line number vpn) edges) vpns) four (each (λ vpn. each (join number vpn) edges) vpns) four_told (joins_told number))
+      (tells_then base (codes "heal\nsettle\ntick 3\nsettle\n") (made.each (λ vpn. made.each (made.join_line number vpn) edges) vpns) four
+      (each (λ vpn. each (join number vpn) edges) vpns) four_told (joins_told number))
       two_told) (first_sends number)) (drain_told base)
 
-  first_read : (number : ℕ) → Reads base 865 (first_lines edges vpns number) (telling base (first_told edges vpns number)) (866 + length (first_told edges vpns number))
+  first_read : (number : ℕ) → Reads base 865 (first_lines edges vpns number) (telling base (first_told edges vpns number))
+      (866 + length (first_told edges vpns number))
   first_read number =
-      reads_then base (telling base []) (telling base (first_told edges vpns number)) 865 866 (866 + length (first_told edges vpns number)) (codes "events\n")
-      (codes "heal\nsettle\ntick 3\nsettle\n" ++ made.each (λ vpn. made.each (made.join_line number vpn) edges) vpns ++ codes "settle\nstate\n" ++ made.each (made.send_line number (codes "01")) vpns ++ codes "drain\n")
+      reads_then base (telling base []) (telling base (first_told edges vpns number)) 865 866 (866 + length (first_told edges vpns number))
+      (codes "events\n")
+      (codes "heal\nsettle\ntick 3\nsettle\n" ++ made.each (λ vpn. made.each (made.join_line number vpn) edges) vpns ++ codes "settle\nstate\n"
+      ++ made.each (made.send_line number (codes "01")) vpns ++ codes "drain\n")
       begun_read (first_tells number [] (omega (arith, few_first number)))
 
   all_read : (number : ℕ) → Reads empty_draft 1 (scenario_lines edges cores vpns ++ first_lines edges vpns number ++ last_lines vpns number)
       (telling base (first_told edges vpns number ++ last_told vpns number)) (866 + length (first_told edges vpns number ++ last_told vpns number))
   all_read number =
-      reads_then empty_draft (telling base (first_told edges vpns number)) (telling base (first_told edges vpns number ++ last_told vpns number)) 1 (866 + length (first_told edges vpns number))
-      (866 + length (first_told edges vpns number ++ last_told vpns number)) (scenario_lines edges cores vpns ++ first_lines edges vpns number) (last_lines vpns number)
-      (reads_then empty_draft base (telling base (first_told edges vpns number)) 1 865 (866 + length (first_told edges vpns number)) (scenario_lines edges cores vpns) (first_lines edges vpns number) scenario_read (first_read number))
+      reads_then empty_draft (telling base (first_told edges vpns number)) (telling base (first_told edges vpns number ++ last_told vpns number)) 1
+      (866 + length (first_told edges vpns number))
+      (866 + length (first_told edges vpns number ++ last_told vpns number)) (scenario_lines edges cores vpns ++ first_lines edges vpns number)
+      (last_lines vpns number)
+      (reads_then empty_draft base (telling base (first_told edges vpns number)) 1 865 (866 + length (first_told edges vpns number))
+      (scenario_lines edges cores vpns) (first_lines edges vpns number) scenario_read (first_read number))
       (last_tells number (first_told edges vpns number) (omega (arith, few_first number, few_last number)))
 
   nodes_said : made_nodes edges cores ≡ all edge_node edges ++ all core_node cores
@@ -270,11 +324,23 @@ module _ (edges cores vpns : ℕ) (all_edges : edges ≡ 32) (all_cores : cores 
   }
 
   read_whole : (number : ℕ) → script_of (scenario_lines edges cores vpns ++ first_lines edges vpns number ++ last_lines vpns number)
-      ≡ Ok (record { scenario = scenario_said edges cores vpns; events = from_line 866 (first_told edges vpns number ++ last_told vpns number); end = 866 + length (first_told edges vpns number ++ last_told vpns number) })
+      ≡ Ok (record {
+        scenario = scenario_said edges cores vpns;
+        events = from_line 866 (first_told edges vpns number ++ last_told vpns number);
+        end =
+            866 + length (first_told edges vpns number ++ last_told vpns number);
+      })
   read_whole number =
-      reads_script (scenario_lines edges cores vpns ++ first_lines edges vpns number ++ last_lines vpns number) (telling base (first_told edges vpns number ++ last_told vpns number)) (866 + length (first_told edges vpns number ++ last_told vpns number))
+      reads_script (scenario_lines edges cores vpns ++ first_lines edges vpns number ++ last_lines vpns number)
+      (telling base (first_told edges vpns number ++ last_told vpns number))
+      (866 + length (first_told edges vpns number ++ last_told vpns number))
       (all_read number) refl (omega (arith, few_first number, few_last number, length-append (first_told edges vpns number) (last_told vpns number)))
-      ∙ ap (λ (s : Scenario). Ok (record { scenario = s; events = from_line 866 (first_told edges vpns number ++ last_told vpns number); end = 866 + length (first_told edges vpns number ++ last_told vpns number) })) scenario_is
+      ∙ ap (λ (s : Scenario). Ok (record {
+        scenario = s;
+        events = from_line 866 (first_told edges vpns number ++ last_told vpns number);
+        end =
+            866 + length (first_told edges vpns number ++ last_told vpns number);
+      })) scenario_is
 
 -- The text of each number, as it is defined.
 pub made_read : (number : ℕ) → script_of (made.made number) ≡ Ok (made_script number)

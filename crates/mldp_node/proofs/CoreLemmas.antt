@@ -9,11 +9,13 @@ use Rattle.mv_base.specs.core_walks.Walks.{IsToward}
 one_toward : (links : List Link) (from to a b : ℕ) → IsToward links from to a → IsToward links from to b → a ≡ b
 one_toward links from to a b h k = (let below = h.lowest b k.first in let above = k.lowest a h.first in omega (arith, below, above))
 
-answer : (links : List Link) (from to : NodeId) (o : Option NodeId) (next : NodeId) → IfSome o (λ n. IsToward links from.0 to.0 n.0) → (o ≡ None → from.0 ≡ to.0) → (from.0 ≡ to.0 → ⊥) → IsToward links from.0 to.0 next.0 → o ≡ Some next
+answer : (links : List Link) (from to : NodeId) (o : Option NodeId) (next : NodeId) → IfSome o (λ n. IsToward links from.0 to.0 n.0)
+    → (o ≡ None → from.0 ≡ to.0) → (from.0 ≡ to.0 → ⊥) → IsToward links from.0 to.0 next.0 → o ≡ Some next
 answer links from to None next h none ne is = absurd (ne (none refl))
 answer links from to (Some own) next h none ne is = (let same = one_toward links from.0 to.0 own.0 next.0 h is in λ i. Some (record { 0 = same i }))
 
-pub toward_is : (count : ℕ) (links : List Link) (own : Core) (from to : NodeId) (o : Option NodeId) → IsCoreOf count links own → from.0 < count → to.0 < count
+pub toward_is : (count : ℕ) (links : List Link) (own : Core) (from to : NodeId) (o : Option NodeId) → IsCoreOf count links own → from.0 < count
+    → to.0 < count
     → IfSome o (λ n. IsToward links from.0 to.0 n.0) → (o ≡ None) ↔ (from.0 ≡ to.0) → o ≡ own.toward from to
 toward_is count links own from to o is near far h none = elim (cases_eq from.0 to.0) [
   | inl e ↦ none.1 e ∙ sym (ap (λ (n : NodeId). own.toward from n) (λ i. record { 0 = sym e i }) ∙ is.itself from)

@@ -29,8 +29,10 @@ use Rattle.mldp_node.proofs.PartLemmas.{awaited_is}
 fault_is : (a b : NodeFault) → ◌≡◌ {A = Result (Unit {0}) NodeFault} (Err a) (Err b) → a ≡ b
 fault_is a b e = cc
 
-pub answers_ok : (core : Topology) (now : ℕ) (call : Call) (place : NodePlace) (trees : Trees) (ends : Ends) (new_trees : Trees) (new_ends : Ends) (old : NodeData) (spent : Option NodeFault)
-    → spent ≡ None → seen place trees ends spent ≡ old → WaitOnTrees trees → Made core place now call trees ends new_trees new_ends → Answers core now call old (seen place new_trees new_ends spent) (Ok tt)
+pub answers_ok : (core : Topology) (now : ℕ) (call : Call) (place : NodePlace) (trees : Trees) (ends : Ends) (new_trees : Trees) (new_ends : Ends)
+    (old : NodeData) (spent : Option NodeFault)
+    → spent ≡ None → seen place trees ends spent ≡ old → WaitOnTrees trees → Made core place now call trees ends new_trees new_ends
+    → Answers core now call old (seen place new_trees new_ends spent) (Ok tt)
 answers_ok core now call place trees ends new_trees new_ends old spent none is on h =
     subst (λ (n : NodeData). Answers core now call n (seen place new_trees new_ends spent) (Ok tt)) is
     (subst (λ (s : Option NodeFault). Answers core now call (seen place trees ends s) (seen place new_trees new_ends s) (Ok tt)) (sym none) (record {
@@ -44,26 +46,31 @@ answers_ok core now call place trees ends new_trees new_ends old spent none is o
       faults = λ fault e. absurd cc;
     }))
 
-pub answers_err : (core : Topology) (now : ℕ) (call : Call) (place : NodePlace) (trees : Trees) (ends : Ends) (new_trees : Trees) (new_ends : Ends) (old : NodeData) (spent : Option NodeFault) (fault : NodeFault)
-    → spent ≡ None → seen place trees ends spent ≡ old → (◌≡◌ {A = Result (Unit {0}) NodeFault} (Err fault) (Err faults.NoLabel) → LacksLabels core place now call trees ends)
+pub answers_err : (core : Topology) (now : ℕ) (call : Call) (place : NodePlace) (trees : Trees) (ends : Ends) (new_trees : Trees) (new_ends : Ends)
+    (old : NodeData) (spent : Option NodeFault) (fault : NodeFault)
+    → spent ≡ None → seen place trees ends spent ≡ old
+    → (◌≡◌ {A = Result (Unit {0}) NodeFault} (Err fault) (Err faults.NoLabel) → LacksLabels core place now call trees ends)
     → Answers core now call old (seen place new_trees new_ends (Some fault)) (Err fault)
 answers_err core now call place trees ends new_trees new_ends old spent fault none is lacks =
     subst (λ (n : NodeData). Answers core now call n (seen place new_trees new_ends (Some fault)) (Err fault)) is
-    (subst (λ (s : Option NodeFault). Answers core now call (seen place trees ends s) (seen place new_trees new_ends (Some fault)) (Err fault)) (sym none) (record {
+    (subst (λ (s : Option NodeFault). Answers core now call (seen place trees ends s) (seen place new_trees new_ends (Some fault)) (Err fault))
+    (sym none) (record {
       place = refl;
       before = λ other e. absurd (none-some (cause other) e);
       unspent = tt;
       made = tt;
       goes_on = tt;
       toward = tt;
-      lacks = λ e n own core_is. ap (λ (o : Option Stepped). (behind (addr_in place) (place_in place own) now (prepared call (node_of trees ends)) call o).spent) (lacks e own core_is);
+      lacks = λ e n own core_is. ap (λ (o : Option Stepped).
+          (behind (addr_in place) (place_in place own) now (prepared call (node_of trees ends)) call o).spent) (lacks e own core_is);
       faults = λ other e. ap (λ (f : NodeFault). Some (cause f)) (fault_is fault other e);
     }))
 
 -- ---- where trees wait
 
 -- trees that wait towards their roots do so before each call
-pub waited_one : (call : Call) (place : NodePlace) (own : Core) (waiting : FinMap fec_cmp NodeId) → WaitTowardRoots place own waiting → WaitedTowardRoots call place own waiting
+pub waited_one : (call : Call) (place : NodePlace) (own : Core) (waiting : FinMap fec_cmp NodeId) → WaitTowardRoots place own waiting
+    → WaitedTowardRoots call place own waiting
 waited_one (Taken from message) place own waiting h = h
 waited_one (Want fec) place own waiting h = h
 waited_one (Unwant fec) place own waiting h = h
@@ -73,21 +80,27 @@ waited_one Timers place own waiting h = h
 waited_one Rerouted place own waiting h = tt
 
 -- a node that stands where another does, and of which the same trees wait
-pub waits_as : (old new : NodeData) → new.place ≡ old.place → new.awaited ≡ old.awaited → (own : Core) → IsWaitingTowardRoots own old → IsWaitingTowardRoots own new
+pub waits_as : (old new : NodeData) → new.place ≡ old.place → new.awaited ≡ old.awaited → (own : Core) → IsWaitingTowardRoots own old
+    → IsWaitingTowardRoots own new
 waits_as old new place waiting own h =
-    subst (λ (p : NodePlace). WaitTowardRoots p own new.awaited) (sym place) (subst (λ (m : FinMap fec_cmp NodeId). WaitTowardRoots old.place own m) (sym waiting) h)
+    subst (λ (p : NodePlace). WaitTowardRoots p own new.awaited) (sym place)
+    (subst (λ (m : FinMap fec_cmp NodeId). WaitTowardRoots old.place own m) (sym waiting) h)
 
 -- where none waits, each does so towards its root
 pub none_astray : (node : NodeData) → node.awaited ≡ maps.empty → (own : Core) → IsWaitingTowardRoots own node
-none_astray node none own fec upstream at = absurd (none-some upstream (sym (ap (λ (m : FinMap fec_cmp NodeId). maps.get m fec) none ∙ maps.get-empty fec_cmp fec) ∙ at))
+none_astray node none own fec upstream at =
+    absurd (none-some upstream (sym (ap (λ (m : FinMap fec_cmp NodeId). maps.get m fec) none ∙ maps.get-empty fec_cmp fec) ∙ at))
 
 -- ---- a fresh node
 
 no_waiting : awaited (maps.empty {R = fec_cmp}) ≡ sets.empty
-no_waiting = sets.same_set fec_cmp_total fec_cmp_exact _ _ (λ q. awaited_is maps.empty q ∙ ap is_some (maps.get-empty fec_cmp q) ∙ sym (sets.contains-empty fec_cmp q))
+no_waiting =
+    sets.same_set fec_cmp_total fec_cmp_exact _ _
+    (λ q. awaited_is maps.empty q ∙ ap is_some (maps.get-empty fec_cmp q) ∙ sym (sets.contains-empty fec_cmp q))
 
 pub fresh_part : (life count : ℕ) → part_of (untouched life count) maps.empty ≡ fresh count
-fresh_part life count = λ i. record { labels = replicate count uses.Free; branches = sets.empty; leaves = sets.empty; waiting = no_waiting i; ends = maps.empty }
+fresh_part life count =
+    λ i. record { labels = replicate count uses.Free; branches = sets.empty; leaves = sets.empty; waiting = no_waiting i; ends = maps.empty }
 
 not_in : {K : Type 0} (R : K → K → _) (q : K) → sets.contains (sets.empty {R = R}) q ≡ true → ⊥
 not_in R q e = (let none = sets.contains-empty R q in let both : false ≡ true = sym none ∙ e in absurd cc)
@@ -97,7 +110,9 @@ not_mapped fec upstream e = absurd cc
 
 pub fresh_tied : (life count : ℕ) → count ≤ 65536 → AreTied (untouched life count) all_down
 fresh_tied life count few = record {
-  sessions = λ peer. maps.get-empty node_cmp peer ∙ sym (ap (λ o. cond (is_some o) (Some (record { 0 = raises_of maps.empty peer })) None) (maps.get-empty node_cmp peer));
+  sessions =
+      λ peer. maps.get-empty node_cmp peer ∙ sym (ap (λ o. cond (is_some o) (Some (record { 0 = raises_of maps.empty peer })) None)
+      (maps.get-empty node_cmp peer));
   spelled = record {
     leaves = λ f e. absurd (not_in fec_cmp f e);
     branches = λ b e. absurd (not_in branch_cmp b e);

@@ -48,10 +48,19 @@ awaited_less m fec = sets.same_set fec_cmp_total fec_cmp_exact _ _ (λ q.
 
 -- ---- one change
 
-pub waited : (old new : Trees) (puts : List Put) (fec : Fec) (x : NodeId) → new ≡ record old { uses = record old.uses { waiting = maps.insert old.uses.waiting fec x } } → Turned (Some x) fec changes.Wait old puts new puts
+pub waited : (old new : Trees) (puts : List Put) (fec : Fec) (x : NodeId)
+    → new ≡ record old { uses = record old.uses { waiting = maps.insert old.uses.waiting fec x } }
+    → Turned (Some x) fec changes.Wait old puts new puts
 waited old new puts fec x e = subst (λ (t : Trees). Turned (Some x) fec changes.Wait old puts t puts) (sym e) (record {
   made = λ up i. Some (record {
-    part = record { labels = old.uses.labels; branches = old.branches; leaves = old.leaves; waiting = sym (awaited_more old.uses.waiting fec x) i; ends = up };
+    part = record {
+      labels = old.uses.labels;
+      branches = old.branches;
+      leaves = old.leaves;
+      waiting =
+          sym (awaited_more old.uses.waiting fec x) i;
+      ends = up;
+    };
     puts = append-nil puts i;
   });
   waiting = refl;
@@ -59,14 +68,25 @@ waited old new puts fec x e = subst (λ (t : Trees). Turned (Some x) fec changes
   life = refl;
 })
 
-pub waited_if : {E : Type 0} (r : Result (Unit {0}) E) (old new : Trees) (puts : List Put) (fec : Fec) (x : NodeId) → OnOk r (new ≡ record old { uses = record old.uses { waiting = maps.insert old.uses.waiting fec x } }) → OnOk r (Turned (Some x) fec changes.Wait old puts new puts)
+pub waited_if : {E : Type 0} (r : Result (Unit {0}) E) (old new : Trees) (puts : List Put) (fec : Fec) (x : NodeId)
+    → OnOk r (new ≡ record old { uses = record old.uses { waiting = maps.insert old.uses.waiting fec x } })
+    → OnOk r (Turned (Some x) fec changes.Wait old puts new puts)
 waited_if (Ok y) old new puts fec x e = waited old new puts fec x e
 waited_if (Err y) old new puts fec x e = tt
 
-pub cancelled : (upstream : Option NodeId) (old new : Trees) (puts : List Put) (fec : Fec) → new ≡ record old { uses = record old.uses { waiting = maps.remove old.uses.waiting fec } } → Turned upstream fec changes.Cancel old puts new puts
+pub cancelled : (upstream : Option NodeId) (old new : Trees) (puts : List Put) (fec : Fec)
+    → new ≡ record old { uses = record old.uses { waiting = maps.remove old.uses.waiting fec } }
+    → Turned upstream fec changes.Cancel old puts new puts
 cancelled upstream old new puts fec e = subst (λ (t : Trees). Turned upstream fec changes.Cancel old puts t puts) (sym e) (record {
   made = λ up i. Some (record {
-    part = record { labels = old.uses.labels; branches = old.branches; leaves = old.leaves; waiting = sym (awaited_less old.uses.waiting fec) i; ends = up };
+    part = record {
+      labels = old.uses.labels;
+      branches = old.branches;
+      leaves = old.leaves;
+      waiting =
+          sym (awaited_less old.uses.waiting fec) i;
+      ends = up;
+    };
     puts = append-nil puts i;
   });
   waiting = refl;
@@ -74,22 +94,35 @@ cancelled upstream old new puts fec e = subst (λ (t : Trees). Turned upstream f
   life = refl;
 })
 
-got : (old new : Trees) (puts told : List Put) (fec : Fec) (upstream : NodeId) (label : ℕ) → new ≡ record old { uses = with_mapped old.uses (Some label) fec upstream }
-    → told ≡ puts ++ record { to = upstream; message = messages.Mapping fec label } ∷ [] → Turned (Some upstream) fec (changes.Map upstream label) old puts new told
-got old new puts told fec upstream label e p = subst (λ (t : Trees). Turned (Some upstream) fec (changes.Map upstream label) old puts t told) (sym e) (record {
-  made = λ up i. Some (record {
-    part = record { labels = set_use old.uses.labels label (uses.Mapped fec upstream); branches = old.branches; leaves = old.leaves; waiting = sym (awaited_less old.uses.waiting fec) i; ends = up };
-    puts = sym p i;
-  });
-  waiting = refl;
-  sessions = refl;
-  life = refl;
-})
+got : (old new : Trees) (puts told : List Put) (fec : Fec) (upstream : NodeId) (label : ℕ)
+    → new ≡ record old { uses = with_mapped old.uses (Some label) fec upstream }
+    → told ≡ puts ++ record { to = upstream; message = messages.Mapping fec label } ∷ []
+    → Turned (Some upstream) fec (changes.Map upstream label) old puts new told
+got old new puts told fec upstream label e p =
+    subst (λ (t : Trees). Turned (Some upstream) fec (changes.Map upstream label) old puts t told) (sym e) (record {
+      made = λ up i. Some (record {
+        part = record {
+          labels = set_use old.uses.labels label (uses.Mapped fec upstream);
+          branches = old.branches;
+          leaves = old.leaves;
+          waiting =
+              sym (awaited_less old.uses.waiting fec) i;
+          ends = up;
+        };
+        puts = sym p i;
+      });
+      waiting = refl;
+      sessions = refl;
+      life = refl;
+    })
 
-pub mapped_to : (old new : Trees) (puts told : List Put) (fec : Fec) (upstream : NodeId) (found : Option ℕ) (label : ℕ) → found ≡ free_in old.uses.labels → found ≡ Some label
-    → new ≡ record old { uses = with_mapped old.uses found fec upstream } → told ≡ puts ++ record { to = upstream; message = messages.Mapping fec label } ∷ []
+pub mapped_to : (old new : Trees) (puts told : List Put) (fec : Fec) (upstream : NodeId) (found : Option ℕ) (label : ℕ)
+    → found ≡ free_in old.uses.labels → found ≡ Some label
+    → new ≡ record old { uses = with_mapped old.uses found fec upstream }
+    → told ≡ puts ++ record { to = upstream; message = messages.Mapping fec label } ∷ []
     → Turned (Some upstream) fec (change_by true None None (Some upstream) true (free_in old.uses.labels)) old puts new told
-mapped_to old new puts told fec upstream found label free is e p = subst (λ (o : Option ℕ). Turned (Some upstream) fec (change_by true None None (Some upstream) true o) old puts new told) (sym is ∙ free)
+mapped_to old new puts told fec upstream found label free is e p =
+    subst (λ (o : Option ℕ). Turned (Some upstream) fec (change_by true None None (Some upstream) true o) old puts new told) (sym is ∙ free)
     (got old new puts told fec upstream label (e ∙ ap (λ (o : Option ℕ). record old { uses = with_mapped old.uses o fec upstream }) is) p)
 
 -- ---- a tree without a label
@@ -103,7 +136,8 @@ no_upstream true holder ready free = refl
 no_upstream false holder ready free = refl
 
 so_toward : (upstream : Option NodeId) (fec : Fec) (up : FinMap node_cmp End) (old new : Trees) (puts told : List Put) (change : Change)
-    → change_toward upstream (part_of old up) fec ≡ change → Turned upstream fec change old puts new told → SettledSo upstream fec up old puts new told
+    → change_toward upstream (part_of old up) fec ≡ change → Turned upstream fec change old puts new told
+    → SettledSo upstream fec up old puts new told
 so_toward upstream fec up old new puts told change e h = record {
   made = ap (λ (c : Change). behind_change (record { part = part_of old up; puts = puts }) fec c) e ∙ h.made up;
   waiting = h.waiting ∙ sym (ap (λ (c : Change). waiting_by upstream fec c old.uses.waiting) e);
@@ -111,33 +145,43 @@ so_toward upstream fec up old new puts told change e h = record {
   life = h.life;
 }
 
-pub rootless : (fec : Fec) (up : FinMap node_cmp End) (old new : Trees) (puts told : List Put) (upstream : Option NodeId) → upstream ≡ None → mapped_in old.uses.labels fec ≡ None
+pub rootless : (fec : Fec) (up : FinMap node_cmp End) (old new : Trees) (puts told : List Put) (upstream : Option NodeId) → upstream ≡ None
+    → mapped_in old.uses.labels fec ≡ None
     → Turned upstream fec changes.Cancel old puts new told → SettledSo upstream fec up old puts new told
 rootless fec up old new puts told upstream nowhere none h =
     let part : LabelData = part_of old up in
-    let e : change_toward upstream part fec ≡ changes.Cancel = (λ i. change_by (has_tree part fec) (none i) (holder_of part fec) (nowhere i) (is_ready_to part (nowhere i)) (free_label part)) ∙ no_upstream (has_tree part fec) (holder_of part fec) false (free_label part) in
+    let e : change_toward upstream part fec ≡ changes.Cancel =
+    (λ i. change_by (has_tree part fec) (none i) (holder_of part fec) (nowhere i) (is_ready_to part (nowhere i)) (free_label part))
+    ∙ no_upstream (has_tree part fec) (holder_of part fec) false (free_label part) in
     so_toward upstream fec up old new puts told changes.Cancel e h
 
-pub treeless : (fec : Fec) (up : FinMap node_cmp End) (old new : Trees) (puts told : List Put) (upstream : Option NodeId) → has_tree (part_of old up) fec ≡ false → mapped_in old.uses.labels fec ≡ None
+pub treeless : (fec : Fec) (up : FinMap node_cmp End) (old new : Trees) (puts told : List Put) (upstream : Option NodeId)
+    → has_tree (part_of old up) fec ≡ false → mapped_in old.uses.labels fec ≡ None
     → Turned upstream fec changes.Cancel old puts new told → SettledSo upstream fec up old puts new told
 treeless fec up old new puts told upstream off none h =
     let part : LabelData = part_of old up in
-    let e : change_toward upstream part fec ≡ changes.Cancel = (λ i. change_by (off i) (none i) (holder_of part fec) upstream (is_ready_to part upstream) (free_label part)) in
+    let e : change_toward upstream part fec ≡ changes.Cancel =
+    (λ i. change_by (off i) (none i) (holder_of part fec) upstream (is_ready_to part upstream) (free_label part)) in
     so_toward upstream fec up old new puts told changes.Cancel e h
 
 -- ---- a tree with a label
 
 -- the node is not on the tree, or the label is mapped towards another neighbour than its root
-off_change : (t : Bool) (label : ℕ) (holder upstream : Option NodeId) (ready : Bool) (free : Option ℕ) → (t ≡ false) ⊎ (same_neighbour holder upstream ≡ false) → change_by t (Some label) holder upstream ready free ≡ withdrawn label holder
+off_change : (t : Bool) (label : ℕ) (holder upstream : Option NodeId) (ready : Bool) (free : Option ℕ)
+    → (t ≡ false) ⊎ (same_neighbour holder upstream ≡ false) → change_by t (Some label) holder upstream ready free ≡ withdrawn label holder
 off_change false label holder upstream ready free off = refl
 off_change true label holder upstream ready free (inl e) = absurd cc
 off_change true label holder upstream ready free (inr e) = ap (λ (b : Bool). cond b changes.Keep (withdrawn label holder)) e
 
-pub moved_off : (fec : Fec) (label : ℕ) (up : FinMap node_cmp End) (old new : Trees) (puts told : List Put) (upstream : Option NodeId) → mapped_in old.uses.labels fec ≡ Some label
+pub moved_off : (fec : Fec) (label : ℕ) (up : FinMap node_cmp End) (old new : Trees) (puts told : List Put) (upstream : Option NodeId)
+    → mapped_in old.uses.labels fec ≡ Some label
     → (has_tree (part_of old up) fec ≡ false) ⊎ (same_neighbour (upstream_of (use_in old.uses.labels label)) upstream ≡ false)
-    → Turned upstream fec (withdrawn label (upstream_of (use_in old.uses.labels label))) old puts new told → SettledSo upstream fec up old puts new told
+    → Turned upstream fec (withdrawn label (upstream_of (use_in old.uses.labels label))) old puts new told
+    → SettledSo upstream fec up old puts new told
 moved_off fec label up old new puts told upstream is off h =
     let part : LabelData = part_of old up in
-    let e : change_toward upstream part fec ≡ withdrawn label (upstream_of (use_in old.uses.labels label)) = (λ i. change_by (has_tree part fec) (is i) (is i >>? λ own. upstream_of (use_of part own)) upstream (is_ready_to part upstream) (free_label part))
+    let e : change_toward upstream part fec ≡ withdrawn label (upstream_of (use_in old.uses.labels label)) =
+    (λ i. change_by (has_tree part fec) (is i) (is i >>? λ own. upstream_of (use_of part own)) upstream (is_ready_to part upstream)
+    (free_label part))
     ∙ off_change (has_tree part fec) label (upstream_of (use_in old.uses.labels label)) upstream (is_ready_to part upstream) (free_label part) off in
     so_toward upstream fec up old new puts told (withdrawn label (upstream_of (use_in old.uses.labels label))) e h

@@ -25,7 +25,8 @@ pub on_ok : {X E : Type 0} {P Q : Type 0} (r : Result X E) → (P → Q) → OnO
 on_ok (Ok x) f p = f p
 on_ok (Err e) f p = tt
 
-pub sessions_up : (sessions : FinMap node_cmp Incarnation) (up : FinMap node_cmp End) (raises : FinMap node_cmp ℕ) → AreSessions sessions up raises → (peer : NodeId) → is_some (maps.get sessions peer) ≡ is_some (maps.get up peer)
+pub sessions_up : (sessions : FinMap node_cmp Incarnation) (up : FinMap node_cmp End) (raises : FinMap node_cmp ℕ) → AreSessions sessions up raises
+    → (peer : NodeId) → is_some (maps.get sessions peer) ≡ is_some (maps.get up peer)
 sessions_up sessions up raises h peer = ap is_some (h peer) ∙ by (is_some (maps.get up peer)) (record { 0 = raises_of raises peer })
   where
     by : (t : Bool) (x : Incarnation) → is_some (cond t (Some x) None) ≡ t
@@ -34,13 +35,15 @@ sessions_up sessions up raises h peer = ap is_some (h peer) ∙ by (is_some (map
 
 -- ---- one tree
 
-pub one_settled : (core : Topology) (place : NodePlace) (upstream : Option NodeId) (fec : Fec) (ends : Ends) (old : Trees) (puts : List Put) (new : Trees) (told : List Put)
+pub one_settled : (core : Topology) (place : NodePlace) (upstream : Option NodeId) (fec : Fec) (ends : Ends) (old : Trees) (puts : List Put)
+    (new : Trees) (told : List Put)
     → ((own : Core) → IsCoreOf core.nodes core.links own → upstream ≡ (place_in place own).upstream fec)
     → AreTied old ends → All IsPut puts → SettledSo upstream fec ends.up old puts new told → AllSettledSo core place (fec ∷ []) ends old puts new told
 one_settled core place upstream fec ends old puts new told toward tied written h =
     let good = settled_spelled upstream fec (stepped_of old ends.up puts) (stepped_of new ends.up told) h.made tied.spelled written in
     record {
-      made = λ own is. subst (λ (o : Option NodeId). settled_toward o fec (stepped_of old ends.up puts) ≡ Some (stepped_of new ends.up told)) (toward own is) h.made;
+      made = λ own is. subst (λ (o : Option NodeId). settled_toward o fec (stepped_of old ends.up puts) ≡ Some (stepped_of new ends.up told))
+          (toward own is) h.made;
       tied = record {
         sessions = subst (λ (s : FinMap node_cmp Incarnation). AreSessions s ends.up ends.raises) (sym h.sessions) tied.sessions;
         spelled = good.0;
@@ -56,7 +59,8 @@ one_settled core place upstream fec ends old puts new told toward tied written h
 pub one_lacks : (core : Topology) (place : NodePlace) (upstream : Option NodeId) (fec : Fec) (ends : Ends) (old : Trees) (puts : List Put)
     → ((own : Core) → IsCoreOf core.nodes core.links own → upstream ≡ (place_in place own).upstream fec)
     → LacksOne upstream fec ends.up old puts → LacksAny core place (fec ∷ []) ends old puts
-one_lacks core place upstream fec ends old puts toward h own is = subst (λ (o : Option NodeId). settled_toward o fec (stepped_of old ends.up puts) ≡ None) (toward own is) h
+one_lacks core place upstream fec ends old puts toward h own is =
+    subst (λ (o : Option NodeId). settled_toward o fec (stepped_of old ends.up puts) ≡ None) (toward own is) h
 
 -- ---- one tree more
 
@@ -64,8 +68,11 @@ bound : {A B : Type 0} (o : Option A) (f : A → B) (next : B → Option B) → 
 bound None f next = refl
 bound (Some x) f next = refl
 
-first_of : (place : Place) (fec : Fec) (more : List Fec) (old : Stepped) → settle_all place (fec ∷ more) old ≡ (settle_all place (fec ∷ []) old >>? settle_all place more)
-first_of place fec more old = bound (changed old.part fec (change_of place old.part fec)) (λ (new : LabelData). record { part = new; puts = old.puts ++ put_by fec (change_of place old.part fec) }) (settle_all place more)
+first_of : (place : Place) (fec : Fec) (more : List Fec) (old : Stepped)
+    → settle_all place (fec ∷ more) old ≡ (settle_all place (fec ∷ []) old >>? settle_all place more)
+first_of place fec more old =
+    bound (changed old.part fec (change_of place old.part fec))
+    (λ (new : LabelData). record { part = new; puts = old.puts ++ put_by fec (change_of place old.part fec) }) (settle_all place more)
 
 assoc : {A : Type 0} (o : Option A) (f g : A → Option A) → ((o >>? f) >>? g) ≡ (o >>? λ x. f x >>? g)
 assoc None f g = refl
@@ -75,39 +82,52 @@ itself : {A : Type 0} (o : Option A) → (o >>? λ x. Some x) ≡ o
 itself None = refl
 itself (Some x) = refl
 
-pub settle_append : (place : Place) (xs ys : List Fec) (old : Stepped) → settle_all place (xs ++ ys) old ≡ (settle_all place xs old >>? settle_all place ys)
+pub settle_append : (place : Place) (xs ys : List Fec) (old : Stepped)
+    → settle_all place (xs ++ ys) old ≡ (settle_all place xs old >>? settle_all place ys)
 settle_append place [] ys old = refl
 settle_append place (x ∷ xs) ys old =
-    first_of place x (xs ++ ys) old ∙ along (settle_append place xs ys) (settle_all place (x ∷ []) old) ∙ sym (ap (λ (o : Option Stepped). o >>? settle_all place ys) (first_of place x xs old))
+    first_of place x (xs ++ ys) old ∙ along (settle_append place xs ys) (settle_all place (x ∷ []) old)
+    ∙ sym (ap (λ (o : Option Stepped). o >>? settle_all place ys) (first_of place x xs old))
   where
-    along : ((s : Stepped) → settle_all place (xs ++ ys) s ≡ (settle_all place xs s >>? settle_all place ys)) → (o : Option Stepped) → (o >>? settle_all place (xs ++ ys)) ≡ ((o >>? settle_all place xs) >>? settle_all place ys)
+    along : ((s : Stepped) → settle_all place (xs ++ ys) s ≡ (settle_all place xs s >>? settle_all place ys)) → (o : Option Stepped)
+        → (o >>? settle_all place (xs ++ ys)) ≡ ((o >>? settle_all place xs) >>? settle_all place ys)
     along rest None = refl
     along rest (Some s) = rest s
 
 bind_at : {A : Type 0} (o : Option A) (f : A → Option A) (x : A) (y : Option A) → o ≡ Some x → f x ≡ y → (o >>? f) ≡ y
 bind_at o f x y e k = ap (λ p. p >>? f) e ∙ k
 
-pub then_settled : (core : Topology) (place : NodePlace) (fecs : List Fec) (fec : Fec) (ends : Ends) (first : Trees) (puts : List Put) (mid : Trees) (said : List Put) (new : Trees) (told : List Put)
-    → AllSettledSo core place fecs ends first puts mid said → AllSettledSo core place (fec ∷ []) ends mid said new told → AllSettledSo core place (fecs ++ fec ∷ []) ends first puts new told
+pub then_settled : (core : Topology) (place : NodePlace) (fecs : List Fec) (fec : Fec) (ends : Ends) (first : Trees) (puts : List Put) (mid : Trees)
+    (said : List Put) (new : Trees) (told : List Put)
+    → AllSettledSo core place fecs ends first puts mid said → AllSettledSo core place (fec ∷ []) ends mid said new told
+    → AllSettledSo core place (fecs ++ fec ∷ []) ends first puts new told
 then_settled core place fecs fec ends first puts mid said new told h k = record {
   made = λ own is. settle_append (place_in place own) fecs (fec ∷ []) (stepped_of first ends.up puts)
-      ∙ bind_at (settle_all (place_in place own) fecs (stepped_of first ends.up puts)) (settle_all (place_in place own) (fec ∷ [])) (stepped_of mid ends.up said) (Some (stepped_of new ends.up told)) (h.made own is) (k.made own is);
+      ∙ bind_at (settle_all (place_in place own) fecs (stepped_of first ends.up puts)) (settle_all (place_in place own) (fec ∷ []))
+      (stepped_of mid ends.up said) (Some (stepped_of new ends.up told)) (h.made own is) (k.made own is);
   tied = k.tied;
   life = k.life ∙ h.life;
   written = k.written;
   same = λ f. k.same f ∙ h.same f;
-  on = λ f x g. behind_both (is_on_tree new f ≡ true) fecs (fec ∷ []) first mid f x (k.on f x g) (λ was. elim (h.on f x was) [ inl a ↦ inl (k.same f ∙ a) | inr b ↦ inr b ]);
-  toward = λ own is f x g. behind_both ((place_in place own).upstream f ≡ Some x) fecs (fec ∷ []) first mid f x (k.toward own is f x g) (h.toward own is f x);
+  on = λ f x g. behind_both (is_on_tree new f ≡ true) fecs (fec ∷ []) first mid f x (k.on f x g)
+      (λ was. elim (h.on f x was) [ inl a ↦ inl (k.same f ∙ a) | inr b ↦ inr b ]);
+  toward = λ own is f x g. behind_both ((place_in place own).upstream f ≡ Some x) fecs (fec ∷ []) first mid f x (k.toward own is f x g)
+      (h.toward own is f x);
 }
 
-pub then_lacks : (core : Topology) (place : NodePlace) (fecs : List Fec) (fec : Fec) (more : List Fec) (ends : Ends) (first : Trees) (puts : List Put) (mid : Trees) (said : List Put)
-    → AllSettledSo core place fecs ends first puts mid said → LacksAny core place (fec ∷ []) ends mid said → LacksAny core place (fecs ++ fec ∷ more) ends first puts
+pub then_lacks : (core : Topology) (place : NodePlace) (fecs : List Fec) (fec : Fec) (more : List Fec) (ends : Ends) (first : Trees) (puts : List Put)
+    (mid : Trees) (said : List Put)
+    → AllSettledSo core place fecs ends first puts mid said → LacksAny core place (fec ∷ []) ends mid said
+    → LacksAny core place (fecs ++ fec ∷ more) ends first puts
 then_lacks core place fecs fec more ends first puts mid said h k own is =
     settle_append (place_in place own) fecs (fec ∷ more) (stepped_of first ends.up puts)
-    ∙ bind_at (settle_all (place_in place own) fecs (stepped_of first ends.up puts)) (settle_all (place_in place own) (fec ∷ more)) (stepped_of mid ends.up said) None (h.made own is)
-    (first_of (place_in place own) fec more (stepped_of mid ends.up said) ∙ ap (λ (o : Option Stepped). o >>? settle_all (place_in place own) more) (k own is))
+    ∙ bind_at (settle_all (place_in place own) fecs (stepped_of first ends.up puts)) (settle_all (place_in place own) (fec ∷ more))
+    (stepped_of mid ends.up said) None (h.made own is)
+    (first_of (place_in place own) fec more (stepped_of mid ends.up said)
+    ∙ ap (λ (o : Option Stepped). o >>? settle_all (place_in place own) more) (k own is))
 
-pub none_settled : (core : Topology) (place : NodePlace) (ends : Ends) (old : Trees) (puts : List Put) → AreTied old ends → All IsPut puts → AllSettledSo core place [] ends old puts old puts
+pub none_settled : (core : Topology) (place : NodePlace) (ends : Ends) (old : Trees) (puts : List Put) → AreTied old ends → All IsPut puts
+    → AllSettledSo core place [] ends old puts old puts
 none_settled core place ends old puts tied written = record {
   made = λ own is. refl;
   tied = tied;
@@ -120,16 +140,23 @@ none_settled core place ends old puts tied written = record {
 
 -- ---- along a list
 
-pub settled_to : (core : Topology) (place : NodePlace) (fecs : List Fec) (at : ℕ) (fec : Fec) (ends : Ends) (first : Trees) (puts : List Put) (mid : Trees) (said : List Put) (new : Trees) (told : List Put)
+pub settled_to : (core : Topology) (place : NodePlace) (fecs : List Fec) (at : ℕ) (fec : Fec) (ends : Ends) (first : Trees) (puts : List Put)
+    (mid : Trees) (said : List Put) (new : Trees) (told : List Put)
     → at < length fecs → fec ≡ get_or fecs at fec
-    → AllSettledSo core place (take at fecs) ends first puts mid said → AllSettledSo core place (fec ∷ []) ends mid said new told → AllSettledSo core place (take (at + 1) fecs) ends first puts new told
+    → AllSettledSo core place (take at fecs) ends first puts mid said → AllSettledSo core place (fec ∷ []) ends mid said new told
+    → AllSettledSo core place (take (at + 1) fecs) ends first puts new told
 settled_to core place fecs at fec ends first puts mid said new told within is h k =
-    subst (λ (xs : List Fec). AllSettledSo core place xs ends first puts new told) (sym (take_more fecs at fec within ∙ ap (λ (x : Fec). take at fecs ++ x ∷ []) (sym is)))
+    subst (λ (xs : List Fec). AllSettledSo core place xs ends first puts new told)
+    (sym (take_more fecs at fec within ∙ ap (λ (x : Fec). take at fecs ++ x ∷ []) (sym is)))
     (then_settled core place (take at fecs) fec ends first puts mid said new told h k)
 
-pub lacks_at : (core : Topology) (place : NodePlace) (fecs : List Fec) (at : ℕ) (fec : Fec) (ends : Ends) (first : Trees) (puts : List Put) (mid : Trees) (said : List Put)
+pub lacks_at : (core : Topology) (place : NodePlace) (fecs : List Fec) (at : ℕ) (fec : Fec) (ends : Ends) (first : Trees) (puts : List Put)
+    (mid : Trees) (said : List Put)
     → at < length fecs → fec ≡ get_or fecs at fec
-    → AllSettledSo core place (take at fecs) ends first puts mid said → LacksAny core place (fec ∷ []) ends mid said → LacksAny core place fecs ends first puts
+    → AllSettledSo core place (take at fecs) ends first puts mid said → LacksAny core place (fec ∷ []) ends mid said
+    → LacksAny core place fecs ends first puts
 lacks_at core place fecs at fec ends first puts mid said within is h k =
-    subst (λ (xs : List Fec). LacksAny core place xs ends first puts) (ap (λ (xs : List Fec). take at fecs ++ xs) (sym (drop_more fecs at fec within ∙ ap (λ (x : Fec). x ∷ drop (at + 1) fecs) (sym is))) ∙ take-append-drop at fecs)
+    subst (λ (xs : List Fec). LacksAny core place xs ends first puts)
+    (ap (λ (xs : List Fec). take at fecs ++ xs) (sym (drop_more fecs at fec within ∙ ap (λ (x : Fec). x ∷ drop (at + 1) fecs) (sym is)))
+    ∙ take-append-drop at fecs)
     (then_lacks core place (take at fecs) fec (drop (at + 1) fecs) ends first puts mid said h k)

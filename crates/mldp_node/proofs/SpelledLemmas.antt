@@ -31,15 +31,18 @@ Told on mapped upstream free (changes.Withdraw to label) = mapped ≡ Some label
 Told on mapped upstream free changes.Wait = (on ≡ true) × (mapped ≡ None) × ((neighbour : NodeId) × (upstream ≡ Some neighbour))
 Told on mapped upstream free other = Unit {0}
 
-withdrawn_told : (on : Bool) (label : ℕ) (holder upstream : Option NodeId) (free : Option ℕ) → Told on (Some label) upstream free (withdrawn label holder)
+withdrawn_told : (on : Bool) (label : ℕ) (holder upstream : Option NodeId) (free : Option ℕ)
+    → Told on (Some label) upstream free (withdrawn label holder)
 withdrawn_told on label None upstream free = (label, refl)
 withdrawn_told on label (Some x) upstream free = refl
 
-moved_told : (t : Bool) (label : ℕ) (holder upstream : Option NodeId) (free : Option ℕ) → Told true (Some label) upstream free (cond t changes.Keep (withdrawn label holder))
+moved_told : (t : Bool) (label : ℕ) (holder upstream : Option NodeId) (free : Option ℕ)
+    → Told true (Some label) upstream free (cond t changes.Keep (withdrawn label holder))
 moved_told true label holder upstream free = (label, refl)
 moved_told false label holder upstream free = withdrawn_told true label holder upstream free
 
-pub told : (on : Bool) (mapped : Option ℕ) (holder upstream : Option NodeId) (ready : Bool) (free : Option ℕ) → Told on mapped upstream free (change_by on mapped holder upstream ready free)
+pub told : (on : Bool) (mapped : Option ℕ) (holder upstream : Option NodeId) (ready : Bool) (free : Option ℕ)
+    → Told on mapped upstream free (change_by on mapped holder upstream ready free)
 told true (Some label) holder upstream ready free = moved_told (same_neighbour holder upstream) label holder upstream free
 told true None holder (Some x) true (Some label) = (refl, refl)
 told true None holder (Some x) true None = tt
@@ -52,7 +55,8 @@ told false None holder upstream ready free = tt
 
 pub on_tree : (part : LabelData) (fec : Fec) → AreSpelled part → has_tree part fec ≡ true → IsElement fec
 on_tree part fec h e = elim (or_cases (has_branch part fec) (sets.contains part.leaves fec) e) [
-  | inl t ↦ let x = passing_member branch_cmp_total branch_cmp_exact (λ branch. same_fec branch.fec fec) part.branches t in subst IsElement (same_fec_equal x.0.fec fec x.2) (h.branches x.0 x.1)
+  | inl t ↦ let x = passing_member branch_cmp_total branch_cmp_exact (λ branch. same_fec branch.fec fec) part.branches t in
+      subst IsElement (same_fec_equal x.0.fec fec x.2) (h.branches x.0 x.1)
   | inr t ↦ h.leaves fec t
 ]
 
@@ -64,7 +68,8 @@ label_fits part label usage h e =
     let few = h.few in
     (low, omega (arith, low, within, few))
 
-pub with_use_spelled : (part : LabelData) (label : ℕ) (old new : LabelUse) → use_of part label ≡ Some old → AreSpelled part → ((f : Fec) (u : NodeId) → new ≡ uses.Mapped f u → IsElement f) → AreSpelled (with_use part label new)
+pub with_use_spelled : (part : LabelData) (label : ℕ) (old new : LabelUse) → use_of part label ≡ Some old → AreSpelled part
+    → ((f : Fec) (u : NodeId) → new ≡ uses.Mapped f u → IsElement f) → AreSpelled (with_use part label new)
 with_use_spelled part label old new is h own = record {
   leaves = h.leaves;
   branches = h.branches;
@@ -78,9 +83,11 @@ with_use_spelled part label old new is h own = record {
 kept_puts : (puts : List Put) → All IsPut puts → All IsPut (puts ++ [])
 kept_puts puts h = subst (λ (xs : List Put). All IsPut xs) (sym (append-nil puts)) h
 
-good : (upstream : Option NodeId) (old : Stepped) (fec : Fec) (change : Change) (new : Stepped) → AreSpelled old.part → All IsPut old.puts → Told (has_tree old.part fec) (mapped_label old.part fec) upstream (free_label old.part) change
+good : (upstream : Option NodeId) (old : Stepped) (fec : Fec) (change : Change) (new : Stepped) → AreSpelled old.part → All IsPut old.puts
+    → Told (has_tree old.part fec) (mapped_label old.part fec) upstream (free_label old.part) change
     → behind_change old fec change ≡ Some new → AreSpelled new.part × All IsPut new.puts
-good upstream old fec changes.Keep new h k t e = subst (λ (s : Stepped). AreSpelled s.part × All IsPut s.puts) (same_Some _ new e) (h, kept_puts old.puts k)
+good upstream old fec changes.Keep new h k t e =
+    subst (λ (s : Stepped). AreSpelled s.part × All IsPut s.puts) (same_Some _ new e) (h, kept_puts old.puts k)
 good upstream old fec changes.Wait new h k t e = subst (λ (s : Stepped). AreSpelled s.part × All IsPut s.puts) (same_Some _ new e)
     (record { leaves = h.leaves; branches = h.branches; mapped = h.mapped; few = h.few }, kept_puts old.puts k)
 good upstream old fec changes.Cancel new h k t e = subst (λ (s : Stepped). AreSpelled s.part × All IsPut s.puts) (same_Some _ new e)
@@ -97,9 +104,14 @@ good upstream old fec (changes.Map to label) new h k t e =
 good upstream old fec (changes.Withdraw to label) new h k t e =
     let own = mapped_some old.part fec label t in
     let more = with_use_spelled old.part label (uses.Mapped fec own.0) (uses.Leaving fec to) own.1 h (λ f u is. absurd cc) in
-    subst (λ (s : Stepped). AreSpelled s.part × All IsPut s.puts) (same_Some _ new e)
-    (more, All-push IsPut old.puts (record { to = to; message = messages.Withdraw fec label }) k (h.mapped fec label own.0 own.1, label_fits old.part label (uses.Mapped fec own.0) h own.1))
+    subst (λ (s : Stepped). AreSpelled s.part × All IsPut s.puts) (same_Some _ new e) (
+      more,
+      All-push IsPut old.puts (record { to = to; message = messages.Withdraw fec label }) k
+          (h.mapped fec label own.0 own.1, label_fits old.part label (uses.Mapped fec own.0) h own.1),
+    )
 
-pub settled_spelled : (upstream : Option NodeId) (fec : Fec) (old new : Stepped) → settled_toward upstream fec old ≡ Some new → AreSpelled old.part → All IsPut old.puts → AreSpelled new.part × All IsPut new.puts
+pub settled_spelled : (upstream : Option NodeId) (fec : Fec) (old new : Stepped) → settled_toward upstream fec old ≡ Some new → AreSpelled old.part
+    → All IsPut old.puts → AreSpelled new.part × All IsPut new.puts
 settled_spelled upstream fec old new e h k = good upstream old fec (change_toward upstream old.part fec) new h k
-    (told (has_tree old.part fec) (mapped_label old.part fec) (holder_of old.part fec) upstream (is_ready_to old.part upstream) (free_label old.part)) e
+    (told (has_tree old.part fec) (mapped_label old.part fec) (holder_of old.part fec) upstream (is_ready_to old.part upstream) (free_label old.part))
+    e

@@ -25,7 +25,8 @@ digit_only : (octet : ℕ) → digit_value octet < 16 → digit_of octet ≡ Som
 digit_only octet small = rw (lt-ltb (digit_value octet) 16 small) refl
 
 digits_read : (a b c d s : ℕ) → digits_of a b c d ≡ Some s
-    → ((digit_value a < 16) × (digit_value b < 16) × (digit_value c < 16) × (digit_value d < 16)) × (((digit_value a * 16 + digit_value b) * 16 + digit_value c) * 16 + digit_value d ≡ s)
+    → ((digit_value a < 16) × (digit_value b < 16) × (digit_value c < 16) × (digit_value d < 16))
+    × (((digit_value a * 16 + digit_value b) * 16 + digit_value c) * 16 + digit_value d ≡ s)
 unfolding digits_of
 digits_read a b c d s e =
     next_some _ (digit_of a) s e λ w read_a kept_a.
@@ -48,8 +49,10 @@ unfolding group_of
 group_read [] s e = absurd (none-some s e)
 group_read (d ∷ []) s e = let r = digits_read 48 48 48 d s e in (((omega arith, (r.0.3, tt)), omega (arith, r.1)), omega arith)
 group_read (c ∷ d ∷ []) s e = let r = digits_read 48 48 c d s e in (((omega arith, (r.0.2, (r.0.3, tt))), omega (arith, r.1)), omega arith)
-group_read (b ∷ c ∷ d ∷ []) s e = let r = digits_read 48 b c d s e in (((omega arith, (r.0.1, (r.0.2, (r.0.3, tt)))), omega (arith, r.1)), omega arith)
-group_read (a ∷ b ∷ c ∷ d ∷ []) s e = let r = digits_read a b c d s e in (((omega arith, (r.0.0, (r.0.1, (r.0.2, (r.0.3, tt))))), omega (arith, r.1)), omega arith)
+group_read (b ∷ c ∷ d ∷ []) s e = let r = digits_read 48 b c d s e in
+    (((omega arith, (r.0.1, (r.0.2, (r.0.3, tt)))), omega (arith, r.1)), omega arith)
+group_read (a ∷ b ∷ c ∷ d ∷ []) s e = let r = digits_read a b c d s e in
+    (((omega arith, (r.0.0, (r.0.1, (r.0.2, (r.0.3, tt))))), omega (arith, r.1)), omega arith)
 group_read (a ∷ b ∷ c ∷ d ∷ next ∷ more) s e = absurd (none-some s e)
 
 group_only : (text : List ℕ) (s : ℕ) → IsGroup text s → group_of text ≡ Some s
@@ -58,22 +61,28 @@ group_only [] s h = absurd (omega (arith, h.0.0.0))
 group_only (d ∷ []) s h = digits_only 48 48 48 d (omega arith) (omega arith) (omega arith) h.0.0.1.0 ∙ ap (λ n. Some n) (omega (arith, h.0.1))
 group_only (c ∷ d ∷ []) s h = digits_only 48 48 c d (omega arith) (omega arith) h.0.0.1.0 h.0.0.1.1.0 ∙ ap (λ n. Some n) (omega (arith, h.0.1))
 group_only (b ∷ c ∷ d ∷ []) s h = digits_only 48 b c d (omega arith) h.0.0.1.0 h.0.0.1.1.0 h.0.0.1.1.1.0 ∙ ap (λ n. Some n) (omega (arith, h.0.1))
-group_only (a ∷ b ∷ c ∷ d ∷ []) s h = digits_only a b c d h.0.0.1.0 h.0.0.1.1.0 h.0.0.1.1.1.0 h.0.0.1.1.1.1.0 ∙ ap (λ n. Some n) (omega (arith, h.0.1))
+group_only (a ∷ b ∷ c ∷ d ∷ []) s h =
+    digits_only a b c d h.0.0.1.0 h.0.0.1.1.0 h.0.0.1.1.1.0 h.0.0.1.1.1.1.0 ∙ ap (λ n. Some n) (omega (arith, h.0.1))
 group_only (a ∷ b ∷ c ∷ d ∷ next ∷ more) s h = absurd (omega (arith, h.1))
 
-front_read : (text : List ℕ) (front : ℕ × List ℕ) → group_front_of text ≡ Some front → (group : List ℕ) × (text ≡ group ++ 58 ∷ front.1) × IsGroup group front.0
+front_read : (text : List ℕ) (front : ℕ × List ℕ) → group_front_of text ≡ Some front
+    → (group : List ℕ) × (text ≡ group ++ 58 ∷ front.1) × IsGroup group front.0
 unfolding group_front_of
 front_read text front e =
     next_some _ _ front e λ cut found kept.
     next_some _ (group_of cut.0) front kept λ group read pair.
-    let (value, rest) = same_parts group front.0 cut.1 front.1 pair in
-    (cut.0, cut_read 58 text cut.0 cut.1 found ∙ ap (λ (l : List ℕ). cut.0 ++ 58 ∷ l) rest, subst (λ (n : ℕ). IsGroup cut.0 n) value (group_read cut.0 group read))
+    let (value, rest) = same_parts group front.0 cut.1 front.1 pair in (
+      cut.0,
+      cut_read 58 text cut.0 cut.1 found ∙ ap (λ (l : List ℕ). cut.0 ++ 58 ∷ l) rest,
+      subst (λ (n : ℕ). IsGroup cut.0 n) value (group_read cut.0 group read),
+    )
 
 front_only : (group rest : List ℕ) (s : ℕ) → IsGroup group s → group_front_of (group ++ 58 ∷ rest) ≡ Some (s, rest)
 unfolding group_front_of
 front_only group rest s h = rw (cut_digits 16 58 group rest h.0.0.1 (omega arith), group_only group s h) refl
 
-more_read : (lead text : List ℕ) (front : ℕ × List ℕ) (segments : List ℕ) → group_front_of text ≡ Some front → IsGroupsAfter false (58 ∷ []) (58 ∷ front.1) segments → IsGroupsAfter false lead (lead ++ text) (front.0 ∷ segments)
+more_read : (lead text : List ℕ) (front : ℕ × List ℕ) (segments : List ℕ) → group_front_of text ≡ Some front
+    → IsGroupsAfter false (58 ∷ []) (58 ∷ front.1) segments → IsGroupsAfter false lead (lead ++ text) (front.0 ∷ segments)
 more_read lead text front segments e h =
     let (group, spelled, is) = front_read text front e in
     inl (group, 58 ∷ front.1, ap (λ (l : List ℕ). lead ++ l) spelled ∙ sym (append_assoc lead group (58 ∷ front.1)), is, h)
@@ -103,7 +112,8 @@ groups_read text octets read =
     let at_a = more_read [] text a (b.0 ∷ c.0 ∷ d.0 ∷ e.0 ∷ f.0 ∷ g.0 ∷ h ∷ []) read_a at_b in
     (a.0 ∷ b.0 ∷ c.0 ∷ d.0 ∷ e.0 ∷ f.0 ∷ g.0 ∷ h ∷ [], sym (same_Some _ _ kept_h), at_a, refl)
 
-behind_colon : (text : List ℕ) (s : ℕ) (segments : List ℕ) → IsGroupsAfter false (58 ∷ []) (58 ∷ text) (s ∷ segments) → IsGroups false text (s ∷ segments)
+behind_colon : (text : List ℕ) (s : ℕ) (segments : List ℕ) → IsGroupsAfter false (58 ∷ []) (58 ∷ text) (s ∷ segments)
+    → IsGroups false text (s ∷ segments)
 behind_colon text s segments (inl h) = inl (h.0, h.1, ap (drop 1) h.2, h.3, h.4)
 behind_colon text s segments (inr h) = absurd cc
 
@@ -111,20 +121,26 @@ colon_first : (text : List ℕ) (s : ℕ) (segments : List ℕ) → IsGroupsAfte
 colon_first text s segments (inl h) = (h.0 ++ h.1, h.2)
 colon_first text s segments (inr h) = absurd cc
 
-front_there : (text group after rest : List ℕ) (s : ℕ) → text ≡ group ++ after → after ≡ 58 ∷ rest → IsGroup group s → group_front_of text ≡ Some (s, rest)
+front_there : (text group after rest : List ℕ) (s : ℕ) → text ≡ group ++ after → after ≡ 58 ∷ rest → IsGroup group s
+    → group_front_of text ≡ Some (s, rest)
 front_there text group after rest s e f is = rw (e, f) (front_only group rest s is)
 
-group_next : (text : List ℕ) (s t : ℕ) (segments : List ℕ) → IsGroups false text (s ∷ t ∷ segments) → (rest : List ℕ) × (group_front_of text ≡ Some (s, rest)) × IsGroups false rest (t ∷ segments)
+group_next : (text : List ℕ) (s t : ℕ) (segments : List ℕ) → IsGroups false text (s ∷ t ∷ segments)
+    → (rest : List ℕ) × (group_front_of text ≡ Some (s, rest)) × IsGroups false rest (t ∷ segments)
 group_next text s t segments (inl h) =
-    let (rest, e) = colon_first h.1 t segments h.4 in
-    (rest, front_there text h.0 h.1 rest s h.2 e h.3, behind_colon rest t segments (subst (λ (l : List ℕ). IsGroupsAfter false (58 ∷ []) l (t ∷ segments)) e h.4))
+    let (rest, e) = colon_first h.1 t segments h.4 in (
+      rest,
+      front_there text h.0 h.1 rest s h.2 e h.3,
+      behind_colon rest t segments (subst (λ (l : List ℕ). IsGroupsAfter false (58 ∷ []) l (t ∷ segments)) e h.4),
+    )
 group_next text s t segments (inr h) = absurd cc
 
 group_last : (text : List ℕ) (s : ℕ) → IsGroups false text (s ∷ []) → group_of text ≡ Some s
 group_last text s (inl h) = rw (h.2, h.4, append-nil) (group_only h.0 s h.3)
 group_last text s (inr h) = absurd cc
 
-eight_only : (text : List ℕ) (a b c d e f g h : ℕ) → IsGroups false text (a ∷ b ∷ c ∷ d ∷ e ∷ f ∷ g ∷ h ∷ []) → groups_of text ≡ Some (octets_of (a ∷ b ∷ c ∷ d ∷ e ∷ f ∷ g ∷ h ∷ []))
+eight_only : (text : List ℕ) (a b c d e f g h : ℕ) → IsGroups false text (a ∷ b ∷ c ∷ d ∷ e ∷ f ∷ g ∷ h ∷ [])
+    → groups_of text ≡ Some (octets_of (a ∷ b ∷ c ∷ d ∷ e ∷ f ∷ g ∷ h ∷ []))
 unfolding groups_of
 eight_only text a b c d e f g h is =
     let (text_b, read_a, is_b) = group_next text a b _ is in
@@ -139,7 +155,8 @@ eight_only text a b c d e f g h is =
 -- Eight groups are read as their octets.
 pub groups_only : (text segments : List ℕ) → IsGroups false text segments → length segments ≡ 8 → groups_of text ≡ Some (octets_of segments)
 groups_only text segments is all =
-    subst (λ (l : List ℕ). IsGroups false text l → groups_of text ≡ Some (octets_of l)) (sym (eight_items segments all)) (eight_only text _ _ _ _ _ _ _ _) is
+    subst (λ (l : List ℕ). IsGroups false text l → groups_of text ≡ Some (octets_of l)) (sym (eight_items segments all))
+    (eight_only text _ _ _ _ _ _ _ _) is
 
 may_end_dotted : (lead text segments : List ℕ) → IsGroupsAfter false lead text segments → IsGroupsAfter true lead text segments
 may_end_dotted lead text [] h = h
@@ -148,9 +165,11 @@ may_end_dotted lead text (s ∷ segments) (inr h) = absurd cc
 
 not_dotted : (text segments : List ℕ) (o : Option (List ℕ)) → IsGroups false text segments → length segments ≡ 8 → dotted_of text ≡ o → o ≡ None
 not_dotted text segments None is all e = refl
-not_dotted text segments (Some octets) is all e = absurd (IsDotted-not_colon_hex text octets segments (dotted_read text octets e) (inl (may_end_dotted [] text segments is, all)))
+not_dotted text segments (Some octets) is all e =
+    absurd (IsDotted-not_colon_hex text octets segments (dotted_read text octets e) (inl (may_end_dotted [] text segments is, all)))
 
-addr_from : (text : List ℕ) (o : Option (List ℕ)) (p : Option (List ℕ)) → dotted_of text ≡ o → groups_of text ≡ p → IfSome (elim o [ Some octets ↦ Some (V4 octets) | None ↦ p >>? λ octets. Some (V6 octets) ]) (IsAddrText text)
+addr_from : (text : List ℕ) (o : Option (List ℕ)) (p : Option (List ℕ)) → dotted_of text ≡ o → groups_of text ≡ p
+    → IfSome (elim o [ Some octets ↦ Some (V4 octets) | None ↦ p >>? λ octets. Some (V6 octets) ]) (IsAddrText text)
 addr_from text (Some octets) p e f = dotted_read text octets e
 addr_from text None (Some octets) e f = groups_read text octets f
 addr_from text None None e f = tt

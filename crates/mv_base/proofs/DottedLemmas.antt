@@ -59,7 +59,9 @@ dotted_read text octets e =
       d = d;
       fit = (small_a, small_b, small_c, small_d);
       value = sym (same_Some _ _ kept_d);
-      spelled = rw spelled_out (text_a ∙ ap (λ (l : List ℕ). decimal a.0 ++ 46 ∷ l) (text_b ∙ ap (λ (l : List ℕ). decimal b.0 ++ 46 ∷ l) (text_c ∙ ap (λ (l : List ℕ). decimal c.0 ++ 46 ∷ l) text_d)));
+      spelled =
+          rw spelled_out (text_a ∙ ap (λ (l : List ℕ). decimal a.0 ++ 46 ∷ l)
+          (text_b ∙ ap (λ (l : List ℕ). decimal b.0 ++ 46 ∷ l) (text_c ∙ ap (λ (l : List ℕ). decimal c.0 ++ 46 ∷ l) text_d)));
     }
 
 dotted_known : (a b c d : ℕ) → (a < 256) × (b < 256) × (c < 256) × (d < 256) → dotted_of (dotted_text a b c d) ≡ Some (a ∷ b ∷ c ∷ d ∷ [])

@@ -34,7 +34,8 @@ pub puts : (old a b : List ℕ) (p q : ℕ) → p + length a ≤ length old → 
 unfolding put_at
 puts old a b p q room at =
     let front : length (take p old ++ a) ≡ q = omega (arith, length-append (take p old) a, length-take p old) in
-    let whole : take p old ++ (a ++ drop (p + length a) old) ≡ (take p old ++ a) ++ drop q old = rw (at) (sym (append_assoc (take p old) a (drop (p + length a) old))) in
+    let whole : take p old ++ (a ++ drop (p + length a) old) ≡ (take p old ++ a) ++ drop q old =
+    rw (at) (sym (append_assoc (take p old) a (drop (p + length a) old))) in
     let taken : take q (take p old ++ (a ++ drop (p + length a) old)) ≡ take p old ++ a = rw whole (take_at (take p old ++ a) (drop q old) q front) in
     let back : drop (q + length b) (take p old ++ (a ++ drop (p + length a) old)) ≡ drop (p + length (a ++ b)) old =
     ap (λ (xs : List ℕ). drop (q + length b) xs) whole
@@ -42,7 +43,8 @@ puts old a b p q room at =
     ∙ ap (λ (xs : List ℕ). drop (length b) xs) (drop_at (take p old ++ a) (drop q old) q front)
     ∙ drop-drop (length b) q old
     ∙ ap (λ (n : ℕ). drop n old) (omega (arith, length-append a b)) in
-    rw (taken, back) (append_assoc (take p old) a (b ++ drop (p + length (a ++ b)) old) ∙ ap (λ (xs : List ℕ). take p old ++ xs) (sym (append_assoc a b (drop (p + length (a ++ b)) old))))
+    rw (taken, back) (append_assoc (take p old) a (b ++ drop (p + length (a ++ b)) old)
+    ∙ ap (λ (xs : List ℕ). take p old ++ xs) (sym (append_assoc a b (drop (p + length (a ++ b)) old))))
 
 -- A text written at the front stands there, and the others stay behind it.
 pub put_at_front : (old a : List ℕ) → put_at old 0 a ≡ a ++ drop (length a) old
@@ -95,7 +97,8 @@ passes_end c text d p = omega (arith, p.place, ap (λ (xs : List ℕ). length xs
 cursor_is : (left : List ℕ) (place : ℕ) (d : Cursor) → left ≡ d.left → place ≡ d.place → record { left = left; place = place } ≡ d
 cursor_is left place d p q = rw (p, q) refl
 
-after_is : (c : Cursor) (text : List ℕ) (d : Cursor) (n : ℕ) → Passes c text d → length text ≡ n → record { left = drop n c.left; place = c.place + n } ≡ d
+after_is : (c : Cursor) (text : List ℕ) (d : Cursor) (n : ℕ) → Passes c text d → length text ≡ n
+    → record { left = drop n c.left; place = c.place + n } ≡ d
 after_is c text d n p len = cursor_is (drop n c.left) (c.place + n) d (rw p.parts (drop_at text d.left n len)) (omega (arith, p.place, len))
 
 -- ---- so many octets
@@ -106,9 +109,11 @@ missing n c = record { place = c.place; needed = n; left = length c.left }
 
 pub octets_taken : (n : ℕ) (c : Cursor) (x : List ℕ × Cursor) → octets_at n c ≡ Ok x → Passes c x.0 x.1 × (length x.0 ≡ n)
 octets_taken n c x e =
-    let g = guard_ok (ltb (length c.left) n) (record { place = c.place; needed = n; left = length c.left }) (take n c.left, record { left = drop n c.left; place = c.place + n }) x e in
+    let g = guard_ok (ltb (length c.left) n) (record { place = c.place; needed = n; left = length c.left })
+    (take n c.left, record { left = drop n c.left; place = c.place + n }) x e in
     let len : length (take n c.left) ≡ n = length-take-le n c.left (ltb-false _ _ g.0) in
-    subst (λ (y : List ℕ × Cursor). Passes c y.0 y.1 × (length y.0 ≡ n)) g.1 (record { parts = sym (take-append-drop n c.left); place = rw len refl }, len)
+    subst (λ (y : List ℕ × Cursor). Passes c y.0 y.1 × (length y.0 ≡ n)) g.1
+    (record { parts = sym (take-append-drop n c.left); place = rw len refl }, len)
 
 pub octets_again : (n : ℕ) (c : Cursor) (text : List ℕ) (d : Cursor) → Passes c text d → length text ≡ n → octets_at n c ≡ Ok (text, d)
 octets_again n c text d p len =
@@ -174,27 +179,34 @@ wide32 = record {
   below = λ octets fits. omega (arith, fits 0, fits 1, fits 2, fits 3);
 }
 
-pub number_taken : (w : Width) (limit : ℕ) → IsWide w limit → (c : Cursor) (x : ℕ × Cursor) → IsOctets c.left → number_at w c ≡ Ok x → Passes c (to_be_bytes w x.0) x.1 × (x.0 < limit)
+pub number_taken : (w : Width) (limit : ℕ) → IsWide w limit → (c : Cursor) (x : ℕ × Cursor) → IsOctets c.left → number_at w c ≡ Ok x
+    → Passes c (to_be_bytes w x.0) x.1 × (x.0 < limit)
 number_taken w limit wide c x fits e =
     let k = byte_len w in
-    let g = guard_ok (ltb (length c.left) k) (missing k c) (from_be_bytes w (take k c.left), record { left = drop k c.left; place = c.place + k }) x e in
+    let g = guard_ok (ltb (length c.left) k) (missing k c) (from_be_bytes w (take k c.left), record { left = drop k c.left; place = c.place + k }) x e
+    in
     let len : length (take k c.left) ≡ k = length-take-le k c.left (ltb-false _ _ g.0) in
     let whole : to_be_bytes w (from_be_bytes w (take k c.left)) ≡ take k c.left = wide.back (take k c.left) len (octets_before k c.left fits) in
-    subst (λ (y : ℕ × Cursor). Passes c (to_be_bytes w y.0) y.1 × (y.0 < limit)) g.1
-    (record { parts = rw whole (sym (take-append-drop k c.left)); place = rw (whole, len) refl }, wide.below (take k c.left) (octets_before k c.left fits))
+    subst (λ (y : ℕ × Cursor). Passes c (to_be_bytes w y.0) y.1 × (y.0 < limit)) g.1 (
+      record { parts = rw whole (sym (take-append-drop k c.left)); place = rw (whole, len) refl },
+      wide.below (take k c.left) (octets_before k c.left fits),
+    )
 
-pub number_again : (w : Width) (limit : ℕ) → IsWide w limit → (c : Cursor) (n : ℕ) (d : Cursor) → Passes c (to_be_bytes w n) d → n < limit → number_at w c ≡ Ok (n, d)
+pub number_again : (w : Width) (limit : ℕ) → IsWide w limit → (c : Cursor) (n : ℕ) (d : Cursor) → Passes c (to_be_bytes w n) d → n < limit
+    → number_at w c ≡ Ok (n, d)
 number_again w limit wide c n d p lt =
     let k = byte_len w in
     let len = wide.len n in
-    let long : ltb (length c.left) k ≡ false = le-ltb _ _ (omega (arith, ap (λ (xs : List ℕ). length xs) p.parts, length-append (to_be_bytes w n) d.left)) in
+    let long : ltb (length c.left) k ≡ false =
+    le-ltb _ _ (omega (arith, ap (λ (xs : List ℕ). length xs) p.parts, length-append (to_be_bytes w n) d.left)) in
     let front : take k c.left ≡ to_be_bytes w n = rw p.parts (take_at (to_be_bytes w n) d.left k len) in
     rw (long, front, wide.again n lt, after_is c (to_be_bytes w n) d k p len) refl
 
 pub number_lacks : (w : Width) (c : Cursor) (f : Short) → number_at w c ≡ Err f → (length c.left < byte_len w) × (missing (byte_len w) c ≡ f)
 number_lacks w c f e =
     let k = byte_len w in
-    let g = guard_err (ltb (length c.left) k) (missing k c) (from_be_bytes w (take k c.left), record { left = drop k c.left; place = c.place + k }) f e in
+    let g = guard_err (ltb (length c.left) k) (missing k c) (from_be_bytes w (take k c.left), record { left = drop k c.left; place = c.place + k }) f
+    e in
     (ltb-true _ _ g.0, g.1)
 
 pub lacks_number : (w : Width) (c : Cursor) → length c.left < byte_len w → number_at w c ≡ Err (missing (byte_len w) c)
@@ -207,13 +219,17 @@ three_is octets len fits = ap (λ (xs : List ℕ). drop 1 xs) (wide32.back (0 �
 
 pub number24_taken : (c : Cursor) (x : ℕ × Cursor) → IsOctets c.left → number24_at c ≡ Ok x → Passes c (three x.0) x.1 × (x.0 < 2 ^ 24)
 number24_taken c x fits e =
-    let g = guard_ok (ltb (length c.left) 3) (missing 3 c) (from_be_bytes w32 (0 ∷ take 3 c.left), record { left = drop 3 c.left; place = c.place + 3 }) x e in
+    let g = guard_ok (ltb (length c.left) 3) (missing 3 c)
+    (from_be_bytes w32 (0 ∷ take 3 c.left), record { left = drop 3 c.left; place = c.place + 3 }) x e in
     let len : length (take 3 c.left) ≡ 3 = length-take-le 3 c.left (ltb-false _ _ g.0) in
     let f = octets_before 3 c.left fits in
     let whole : three (from_be_bytes w32 (0 ∷ take 3 c.left)) ≡ take 3 c.left = three_is (take 3 c.left) len f in
     let below : from_be_bytes w32 (0 ∷ take 3 c.left) < 2 ^ 24 = omega (arith, f 0, f 1, f 2) in
-    subst (λ (y : ℕ × Cursor). Passes c (three y.0) y.1 × (y.0 < 2 ^ 24)) g.1
-    (passes_is c (take 3 c.left) (three (from_be_bytes w32 (0 ∷ take 3 c.left))) _ _ (record { parts = sym (take-append-drop 3 c.left); place = ap (λ n. c.place + n) (sym len) }) (sym whole) refl, below)
+    subst (λ (y : ℕ × Cursor). Passes c (three y.0) y.1 × (y.0 < 2 ^ 24)) g.1 (
+      passes_is c (take 3 c.left) (three (from_be_bytes w32 (0 ∷ take 3 c.left))) _ _
+          (record { parts = sym (take-append-drop 3 c.left); place = ap (λ n. c.place + n) (sym len) }) (sym whole) refl,
+      below,
+    )
 
 pub number24_again : (c : Cursor) (n : ℕ) (d : Cursor) → Passes c (three n) d → n < 2 ^ 24 → number24_at c ≡ Ok (n, d)
 number24_again c n d p lt =
@@ -227,7 +243,8 @@ number24_again c n d p lt =
 
 pub number24_lacks : (c : Cursor) (f : Short) → number24_at c ≡ Err f → (length c.left < 3) × (missing 3 c ≡ f)
 number24_lacks c f e =
-    let g = guard_err (ltb (length c.left) 3) (missing 3 c) (from_be_bytes w32 (0 ∷ take 3 c.left), record { left = drop 3 c.left; place = c.place + 3 }) f e in
+    let g = guard_err (ltb (length c.left) 3) (missing 3 c)
+    (from_be_bytes w32 (0 ∷ take 3 c.left), record { left = drop 3 c.left; place = c.place + 3 }) f e in
     (ltb-true _ _ g.0, g.1)
 
 pub lacks_number24 : (c : Cursor) → length c.left < 3 → number24_at c ≡ Err (missing 3 c)
@@ -262,7 +279,8 @@ pub bind_ok : {A B E : Type 0} (r : Result A E) (f : A → Result B E) (y : B) �
 bind_ok (Ok x) f y e = (x, refl, e)
 bind_ok (Err d) f y e = absurd cc
 
-pub bind_err : {A B E : Type 0} (r : Result A E) (f : A → Result B E) (e : E) → (r >>= f) ≡ Err e → (r ≡ Err e) ⊎ ((x : A) × (r ≡ Ok x) × (f x ≡ Err e))
+pub bind_err : {A B E : Type 0} (r : Result A E) (f : A → Result B E) (e : E) → (r >>= f) ≡ Err e
+    → (r ≡ Err e) ⊎ ((x : A) × (r ≡ Ok x) × (f x ≡ Err e))
 bind_err (Ok x) f d e = inr (x, refl, e)
 bind_err (Err c) f d e = inl (err_again (err_is c d e))
 
@@ -275,22 +293,26 @@ field_err lacks (Ok y) f e = absurd cc
 field_err lacks (Err s) f e = (s, refl, cc)
 
 -- a field of n octets that lacks some of them
-lacks_is : {A E : Type 0} (n : ℕ) (c : Cursor) (lacks : ℕ → E) (r : Result A Short) (f : E) → ((s : Short) → r ≡ Err s → (length c.left < n) × (missing n c ≡ s)) → field lacks r ≡ Err f → (length c.left < n) × (f ≡ lacks c.place)
+lacks_is : {A E : Type 0} (n : ℕ) (c : Cursor) (lacks : ℕ → E) (r : Result A Short) (f : E)
+    → ((s : Short) → r ≡ Err s → (length c.left < n) × (missing n c ≡ s)) → field lacks r ≡ Err f → (length c.left < n) × (f ≡ lacks c.place)
 lacks_is n c lacks r f lack e =
     let s = field_err lacks r f e in
     let l = lack s.0 s.1 in
     (l.0, s.2 ∙ ap (λ m. lacks m.place) (sym l.1))
 
-pub octets_short : {E : Type 0} (n : ℕ) (c : Cursor) (lacks : ℕ → E) (f : E) → field lacks (octets_at n c) ≡ Err f → (length c.left < n) × (f ≡ lacks c.place)
+pub octets_short : {E : Type 0} (n : ℕ) (c : Cursor) (lacks : ℕ → E) (f : E) → field lacks (octets_at n c) ≡ Err f
+    → (length c.left < n) × (f ≡ lacks c.place)
 octets_short n c lacks f e = lacks_is n c lacks (octets_at n c) f (octets_lack n c) e
 
 pub octet_short : {E : Type 0} (c : Cursor) (lacks : ℕ → E) (f : E) → field lacks (octet_at c) ≡ Err f → (length c.left < 1) × (f ≡ lacks c.place)
 octet_short c lacks f e = lacks_is 1 c lacks (octet_at c) f (octet_lacks c) e
 
-pub number_short : {E : Type 0} (w : Width) (c : Cursor) (lacks : ℕ → E) (f : E) → field lacks (number_at w c) ≡ Err f → (length c.left < byte_len w) × (f ≡ lacks c.place)
+pub number_short : {E : Type 0} (w : Width) (c : Cursor) (lacks : ℕ → E) (f : E) → field lacks (number_at w c) ≡ Err f
+    → (length c.left < byte_len w) × (f ≡ lacks c.place)
 number_short w c lacks f e = lacks_is (byte_len w) c lacks (number_at w c) f (number_lacks w c) e
 
-pub number24_short : {E : Type 0} (c : Cursor) (lacks : ℕ → E) (f : E) → field lacks (number24_at c) ≡ Err f → (length c.left < 3) × (f ≡ lacks c.place)
+pub number24_short : {E : Type 0} (c : Cursor) (lacks : ℕ → E) (f : E) → field lacks (number24_at c) ≡ Err f
+    → (length c.left < 3) × (f ≡ lacks c.place)
 number24_short c lacks f e = lacks_is 3 c lacks (number24_at c) f (number24_lacks c) e
 
 pub known_ok : {A E : Type 0} (o : Option A) (e : E) (c : Cursor) (x : A × Cursor) → known o e c ≡ Ok x → (o ≡ Some x.0) × (x.1 ≡ c)
@@ -320,7 +342,8 @@ pub record IsCode {A : Type 0} (of : ℕ → Option A) (code : A → ℕ) : Type
 pub code_none : {A : Type 0} (of : ℕ → Option A) (code : A → ℕ) → IsCode of code → (n : ℕ) → of n ≡ None → (x : A) → n ≢ code x
 code_none of code codes n e x same = let clash : Some x ≡ None = sym (ap of same ∙ codes.again x) ∙ e in absurd cc
 
-none_code : {A : Type 0} (of : ℕ → Option A) (code : A → ℕ) → IsCode of code → (n : ℕ) → ((x : A) → n ≢ code x) → (o : Option A) → of n ≡ o → of n ≡ None
+none_code : {A : Type 0} (of : ℕ → Option A) (code : A → ℕ) → IsCode of code → (n : ℕ) → ((x : A) → n ≢ code x) → (o : Option A) → of n ≡ o
+    → of n ≡ None
 none_code of code codes n h None e = e
 none_code of code codes n h (Some x) e = absurd (h x (codes.is n x e))
 

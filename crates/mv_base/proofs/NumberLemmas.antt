@@ -32,8 +32,11 @@ number_written (digit ∷ []) h =
 number_written (digit ∷ next ∷ digits) h =
     let bounded = and_first (not (digit == 48) && nat_le (length (digit ∷ next ∷ digits)) 10) (list_all is_ascii_digit (digit ∷ next ∷ digits)) h in
     let all = and_second (not (digit == 48) && nat_le (length (digit ∷ next ∷ digits)) 10) (list_all is_ascii_digit (digit ∷ next ∷ digits)) h in
-    let few : length (digit ∷ next ∷ digits) ≤ 10 = leb-true _ _ (and_second (not (digit == 48)) (nat_le (length (digit ∷ next ∷ digits)) 10) bounded) in
-    sym (decimal-digits_value own (digit ∷ next ∷ digits) all (omega arith) (λ e. not_zero digit (and_first (not (digit == 48)) (nat_le (length (digit ∷ next ∷ digits)) 10) bounded) e _) (omega (arith, digits_value_short own (digit ∷ next ∷ digits) 10 all few)))
+    let few : length (digit ∷ next ∷ digits) ≤ 10 =
+    leb-true _ _ (and_second (not (digit == 48)) (nat_le (length (digit ∷ next ∷ digits)) 10) bounded) in
+    sym (decimal-digits_value own (digit ∷ next ∷ digits) all (omega arith)
+    (λ e. not_zero digit (and_first (not (digit == 48)) (nat_le (length (digit ∷ next ∷ digits)) 10) bounded) e _)
+    (omega (arith, digits_value_short own (digit ∷ next ∷ digits) 10 all few)))
 
 -- A text that is read as a number has at most 10 digits.
 pub number_short : (text : List ℕ) → is_number text ≡ true → length text ≤ 10
@@ -41,7 +44,8 @@ unfolding is_number
 number_short [] h = omega arith
 number_short (digit ∷ []) h = omega arith
 number_short (digit ∷ next ∷ digits) h =
-    leb-true _ _ (and_second (not (digit == 48)) (nat_le (length (digit ∷ next ∷ digits)) 10) (and_first (not (digit == 48) && nat_le (length (digit ∷ next ∷ digits)) 10) (list_all is_ascii_digit (digit ∷ next ∷ digits)) h))
+    leb-true _ _ (and_second (not (digit == 48)) (nat_le (length (digit ∷ next ∷ digits)) 10)
+    (and_first (not (digit == 48) && nat_le (length (digit ∷ next ∷ digits)) 10) (list_all is_ascii_digit (digit ∷ next ∷ digits)) h))
 
 all_of : (a b c : Bool) → a ≡ true → b ≡ true → c ≡ true → (a && b && c) ≡ true
 all_of a b c f g h = rw (f, g, h) refl
@@ -64,11 +68,13 @@ written_number (digit ∷ next ∷ digits) n small e =
     let long : 0 < n = omega (arith, length-decimal-le_succ n (omega arith), ap length e) in
     let first : 48 < get_or (digit ∷ next ∷ digits) 0 0 = first_of_written _ n long (omega arith) e in
     let few : length (digit ∷ next ∷ digits) ≤ 10 = omega (arith, ap length e, length-decimal-le 10 n (omega arith) small (omega arith)) in
-    all_of (not (digit == 48)) (nat_le (length (digit ∷ next ∷ digits)) 10) (list_all is_ascii_digit (digit ∷ next ∷ digits)) (not_equal digit first) (le-leb _ _ few) (digits_of_written _ n (omega arith) e)
+    all_of (not (digit == 48)) (nat_le (length (digit ∷ next ∷ digits)) 10) (list_all is_ascii_digit (digit ∷ next ∷ digits)) (not_equal digit first)
+    (le-leb _ _ few) (digits_of_written _ n (omega arith) e)
 
 if_so : {A : Type 0} (b : Bool) (x y : A) → b ≡ true → x ≡ y → only_if b x ≡ Some y
 if_so b x y h e = rw (h, e) refl
 
 -- What is written of a number is read as that number.
 pub number_only : (text : List ℕ) (n : ℕ) → n < 10 ^ 10 → text ≡ decimal n → number_of text ≡ Some n
-number_only text n small e = if_so (is_number text) _ _ (written_number text n small e) (ap (value_after 0) e ∙ digits_value-decimal own n (omega arith))
+number_only text n small e =
+    if_so (is_number text) _ _ (written_number text n small e) (ap (value_after 0) e ∙ digits_value-decimal own n (omega arith))

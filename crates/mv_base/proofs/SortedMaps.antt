@@ -78,11 +78,14 @@ module _ {K X : Type 0} (R : K → K → Ordering) (total : IsTotalOrder R) (exa
 
   pub inserted : (v : X) → IsStrictlySortedBy R (keys_of es) → IsStrictlySortedBy R (keys_of fs) → Changes R es fs k (Some v)
       → from_sorted {R = R} fs ≡ insert (from_sorted es) k v
-  inserted v a b u = same_map total exact (from_sorted fs) (insert (from_sorted es) k v) (λ q. changed (Some v) a b u q ∙ sym (get-insert total (from_sorted es) k v q))
+  inserted v a b u =
+      same_map total exact (from_sorted fs) (insert (from_sorted es) k v)
+      (λ q. changed (Some v) a b u q ∙ sym (get-insert total (from_sorted es) k v q))
 
   pub removed : IsStrictlySortedBy R (keys_of es) → IsStrictlySortedBy R (keys_of fs) → Changes R es fs k None
       → from_sorted {R = R} fs ≡ remove (from_sorted es) k
-  removed a b u = same_map total exact (from_sorted fs) (remove (from_sorted es) k) (λ q. changed None a b u q ∙ sym (get-remove total (from_sorted es) k q))
+  removed a b u =
+      same_map total exact (from_sorted fs) (remove (from_sorted es) k) (λ q. changed None a b u q ∙ sym (get-remove total (from_sorted es) k q))
 
 -- ---- keys that are compared part by part
 
@@ -92,7 +95,8 @@ then_equal Equal b h = (refl, h)
 then_equal Greater b h = absurd cc
 
 -- a key is between two others that compare alike in front
-pub level : (c x y : Ordering) (b : Bool) → (is_le x && not (is_lt y)) ≡ b → (is_le (ordering_then c x) && not (is_lt (ordering_then c y))) ≡ (is_eq c && b)
+pub level : (c x y : Ordering) (b : Bool) → (is_le x && not (is_lt y)) ≡ b
+    → (is_le (ordering_then c x) && not (is_lt (ordering_then c y))) ≡ (is_eq c && b)
 level Less x y b h = refl
 level Equal x y b h = h
 level Greater x y b h = refl

@@ -18,7 +18,8 @@ appended-nil None = tt
 appended-nil (Some x) = sym (append-nil x)
 
 -- A turn of the loop: the first n octets, and then m of the rest.
-pub appended-take : (old mid new : Option (List ℕ)) (piece : List ℕ) (n m : ℕ) → Appended old mid (take n piece) → Appended mid new (take m (take (length piece - n) (drop n piece))) → Appended old new (take (n + m) piece)
+pub appended-take : (old mid new : Option (List ℕ)) (piece : List ℕ) (n m : ℕ) → Appended old mid (take n piece)
+    → Appended mid new (take m (take (length piece - n) (drop n piece))) → Appended old new (take (n + m) piece)
 appended-take old mid new piece n m h k =
     rw take-add (appended-append old mid new (take n piece) (take m (drop n piece)) h (rw take_rest at k))
 
@@ -27,9 +28,14 @@ pub take-prefix : (n : ℕ) (piece : List ℕ) → IsPrefix (take n piece) piece
 take-prefix n piece = (drop n piece, sym (take-append-drop n piece))
 
 -- A turn that failed leaves the first n octets.
-pub appended_part : (old mid new : Option (List ℕ)) (piece : List ℕ) (n : ℕ) → Appended old mid (take n piece) → Appended mid new [] → AppendedPart old new piece
-appended_part old mid new piece n h k =
-    (take n piece, take-prefix n piece, subst (λ (l : List ℕ). Appended old new l) (append-nil (take n piece)) (appended-append old mid new (take n piece) [] h k))
+pub appended_part : (old mid new : Option (List ℕ)) (piece : List ℕ) (n : ℕ) → Appended old mid (take n piece) → Appended mid new []
+    → AppendedPart old new piece
+appended_part old mid new piece n h k = (
+  take n piece,
+  take-prefix n piece,
+  subst (λ (l : List ℕ). Appended old new l) (append-nil (take n piece))
+      (appended-append old mid new (take n piece) [] h k),
+)
 
 -- The whole is a prefix of itself.
 pub prefix-whole : (a : List ℕ) → IsPrefix a a

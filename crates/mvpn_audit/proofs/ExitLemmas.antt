@@ -54,7 +54,8 @@ said_more false true = refl
 said_more false false = refl
 
 exits_next : (all : List Numbered) (n : ℕ) (numbered : Numbered) → slice_get all n ≡ Some numbered → (old new : ExitMap) → AreExits (take n all) old →
-    ((own : Exit) → get is_exit new own ≡ noted_if (says numbered.value own) (get is_exit old own)) → IsUnique is_exit new → AreExits (take (n + 1) all) new
+    ((own : Exit) → get is_exit new own ≡ noted_if (says numbered.value own) (get is_exit old own)) → IsUnique is_exit new
+    → AreExits (take (n + 1) all) new
 exits_next all n numbered at old new are step unique = record {
   each = λ own.
       step own
@@ -67,11 +68,14 @@ pub there : (h w : Bool) → is_some (cond h (Some w) None) ≡ h
 there true w = refl
 there false w = refl
 
-repeat_is : (all : List Numbered) (n : ℕ) (old : ExitMap) → AreExits (take n all) old → (value : ReportLine) → has_exit old value ≡ is_repeat (take n all) value
-repeat_is all n old are (lines.Out number iface octets) = ap (λ (o : Option Bool). is_some o) (are.each (exit number iface)) ∙ there (has_out (take n all) (exit number iface)) false
+repeat_is : (all : List Numbered) (n : ℕ) (old : ExitMap) → AreExits (take n all) old → (value : ReportLine)
+    → has_exit old value ≡ is_repeat (take n all) value
+repeat_is all n old are (lines.Out number iface octets) =
+    ap (λ (o : Option Bool). is_some o) (are.each (exit number iface)) ∙ there (has_out (take n all) (exit number iface)) false
 repeat_is all n old are other = refl
 
-repeats_next : (all : List Numbered) (n : ℕ) (numbered : Numbered) → slice_get all n ≡ Some numbered → (repeats : List Bool) (earlier : Bool) → AreRepeats all n repeats →
+repeats_next : (all : List Numbered) (n : ℕ) (numbered : Numbered) → slice_get all n ≡ Some numbered → (repeats : List Bool) (earlier : Bool)
+    → AreRepeats all n repeats →
     earlier ≡ is_repeat (take n all) numbered.value → AreRepeats all (n + 1) (repeats ++ earlier ∷ [])
 repeats_next all n numbered at repeats earlier are own = record {
   few = length_more repeats earlier ∙ ap (λ k. k + 1) are.few;
@@ -88,16 +92,22 @@ repeats_next all n numbered at repeats earlier are own = record {
 }
 
 -- What one line more says.
-pub outs_next : (all : List Numbered) (n : ℕ) (numbered : Numbered) → slice_get all n ≡ Some numbered → (old new : ExitMap) (repeats more : List Bool) (earlier : Bool) →
-    AreOutLines all n (record { exits = old; repeats = repeats }) → ((own : Exit) → get is_exit new own ≡ noted_if (says numbered.value own) (get is_exit old own)) →
-    earlier ≡ has_exit old numbered.value → IsUnique is_exit new → more ≡ repeats ++ earlier ∷ [] → AreOutLines all (n + 1) (record { exits = new; repeats = more })
+pub outs_next : (all : List Numbered) (n : ℕ) (numbered : Numbered) → slice_get all n ≡ Some numbered
+    → (old new : ExitMap) (repeats more : List Bool) (earlier : Bool) →
+    AreOutLines all n (record { exits = old; repeats = repeats })
+    → ((own : Exit) → get is_exit new own ≡ noted_if (says numbered.value own) (get is_exit old own)) →
+    earlier ≡ has_exit old numbered.value → IsUnique is_exit new → more ≡ repeats ++ earlier ∷ []
+    → AreOutLines all (n + 1) (record { exits = new; repeats = more })
 outs_next all n numbered at old new repeats more earlier are step same unique grown = record {
   exits = exits_next all n numbered at old new are.exits step unique;
-  repeats = subst (λ (l : List Bool). AreRepeats all (n + 1) l) (sym grown) (repeats_next all n numbered at repeats earlier are.repeats (same ∙ repeat_is all n old are.exits numbered.value));
+  repeats =
+      subst (λ (l : List Bool). AreRepeats all (n + 1) l) (sym grown)
+      (repeats_next all n numbered at repeats earlier are.repeats (same ∙ repeat_is all n old are.exits numbered.value));
 }
 
 -- Without a line nothing has left.
-pub no_outs : (all : List Numbered) (outs : OutLines) → ((own : Exit) → get is_exit outs.exits own ≡ None) → IsUnique is_exit outs.exits → outs.repeats ≡ [] → AreOutLines all 0 outs
+pub no_outs : (all : List Numbered) (outs : OutLines) → ((own : Exit) → get is_exit outs.exits own ≡ None) → IsUnique is_exit outs.exits
+    → outs.repeats ≡ [] → AreOutLines all 0 outs
 no_outs all outs none unique empty = record {
   exits = record { each = none; unique = unique };
   repeats = record { few = ap (λ (l : List Bool). length l) empty; each = λ place numbered less e. absurd (omega (arith, less)) };
@@ -134,10 +144,12 @@ module _ (number : ℕ) (asked : List IfaceId) (i : ℕ) (d : IfaceId) (less : i
   abbrev lack : IfaceId → Bool
   lack iface = not (is_some (before (exit number iface)))
 
-  pub lacks_more : (lacks left now : Bool) → lacks ≡ list_any lack (take i asked) → left ≡ is_some (cur here) → now ≡ (lacks || not left) → now ≡ list_any lack (take (i + 1) asked)
+  pub lacks_more : (lacks left now : Bool) → lacks ≡ list_any lack (take i asked) → left ≡ is_some (cur here) → now ≡ (lacks || not left)
+      → now ≡ list_any lack (take (i + 1) asked)
   lacks_more lacks left now so same step =
       step
-      ∙ (λ k. so k || not ((same ∙ (ap (λ (o : Option Bool). is_some o) (held here) ∙ asked_keeps (asks number (take i asked) here) (before here))) k))
+      ∙ (λ k. so k || not ((same ∙ (ap (λ (o : Option Bool). is_some o) (held here) ∙ asked_keeps (asks number (take i asked) here) (before here)))
+      k))
       ∙ sym (list_any_more lack asked i d less)
 
 -- ---- one exit

@@ -58,7 +58,8 @@ module _ (sents : List Sent) (sent : Sent) (own : Exit) where
     | Before less ↦
         ap answer (got_before sents (sent ∷ []) place less)
         ∙ (sym (or-false (answer (slice_get sents place)))
-        ∙ ap (λ b. answer (slice_get sents place) || b) (sym (of_other last sent.asked own (ne_eqb last own.number (λ same. omega (arith, same, e, less))))))
+        ∙ ap (λ b. answer (slice_get sents place) || b)
+        (sym (of_other last sent.asked own (ne_eqb last own.number (λ same. omega (arith, same, e, less))))))
     | Same same ↦
         ap answer (ap (slice_get (sents ++ sent ∷ [])) same ∙ got_last sents sent)
         ∙ (sym (of_own last sent.asked own (eq-eqb last own.number (omega (arith, same, e))))
@@ -83,13 +84,16 @@ module _ (all : List Numbered) (sents : List Sent) (exits : ExitMap)
     (asked : (own : Exit) → get is_exit exits own ≡ cond (has_out all own) (Some (was_asked sents own.number own.iface)) None) where
   lacks_same : (number : ℕ) (receivers : List IfaceId) → lacks_in exits number receivers ≡ lacks all number receivers
   lacks_same number receivers =
-      (λ i. list_any (λ (iface : IfaceId). not ((ap (λ (o : Option Bool). is_some o) (asked (exit number iface)) ∙ there (has_out all (exit number iface)) (was_asked sents number iface)) i)) receivers)
+      (λ i. list_any (λ (iface : IfaceId). not ((ap (λ (o : Option Bool). is_some o) (asked (exit number iface))
+      ∙ there (has_out all (exit number iface)) (was_asked sents number iface)) i)) receivers)
 
-  lacks_is : (number : ℕ) (o : Option (List IfaceId)) → lacks_of exits number o ≡ (elim o [ None ↦ false | Some receivers ↦ lacks all number receivers ])
+  lacks_is : (number : ℕ) (o : Option (List IfaceId))
+      → lacks_of exits number o ≡ (elim o [ None ↦ false | Some receivers ↦ lacks all number receivers ])
   lacks_is number None = refl
   lacks_is number (Some receivers) = lacks_same number receivers
 
-missed_next : (all : List Numbered) (sents : List Sent) (sent : Sent) (missing : Option ℕ) (lacking : Bool) → lacking ≡ is_missing all (length sents + 1) sent → IsMissed all sents missing →
+missed_next : (all : List Numbered) (sents : List Sent) (sent : Sent) (missing : Option ℕ) (lacking : Bool)
+    → lacking ≡ is_missing all (length sents + 1) sent → IsMissed all sents missing →
     IsMissed all (sents ++ sent ∷ []) (first_of missing lacking sent.event)
 missed_next all sents sent (Some event) lacking e f = record {
   place = f.place;
@@ -114,13 +118,16 @@ missed_next all sents sent None false e none = λ place other at. elim (order pl
   | Same same ↦
       let one : sent ≡ other = some_same sent other (sym (got_last sents sent) ∙ (ap (slice_get (sents ++ sent ∷ [])) (sym same) ∙ at)) in
       (λ i. is_missing all (same i + 1) (sym one i)) ∙ sym e
-  | After more ↦ absurd (none-some other (sym (let long = length_more sents sent in got_none (sents ++ sent ∷ []) place (omega (arith, more, long))) ∙ at))
+  | After more ↦ absurd (none-some other (sym (let long = length_more sents sent in got_none (sents ++ sent ∷ []) place (omega (arith, more, long)))
+      ∙ at))
 ]
 
 -- ---- one datagram more
 
-pub found_next : (all : List Numbered) (sents : List Sent) (sent : Sent) (old new : Findings) → AreFound all sents old → (number : ℕ) → number ≡ length old.noted + 1 →
-    new.noted ≡ old.noted ++ noted_of sent ∷ [] → ((own : Exit) → get is_exit new.outs.exits own ≡ asked_if (asks_of number sent.asked own) (get is_exit old.outs.exits own)) →
+pub found_next : (all : List Numbered) (sents : List Sent) (sent : Sent) (old new : Findings) → AreFound all sents old → (number : ℕ)
+    → number ≡ length old.noted + 1 →
+    new.noted ≡ old.noted ++ noted_of sent ∷ [] →
+    ((own : Exit) → get is_exit new.outs.exits own ≡ asked_if (asks_of number sent.asked own) (get is_exit old.outs.exits own)) →
     IsUnique is_exit new.outs.exits → new.outs.repeats ≡ old.outs.repeats → (lacking : Bool) → lacking ≡ lacks_of old.outs.exits number sent.asked →
     new.missing ≡ first_of old.missing lacking sent.event → AreFound all (sents ++ sent ∷ []) new
 found_next all sents sent old new found number so noted asked unique repeats lacking lacks_so missing = record {
@@ -133,7 +140,9 @@ found_next all sents sent old new found number so noted asked unique repeats lac
       ∙ ap (λ b. cond (has_out all own) (Some b) None) (sym (was_next sents sent own))));
   repeats = subst (λ (l : List Bool). AreRepeats all (length all) l) (sym repeats) found.repeats;
   missing = subst (λ (o : Option ℕ). IsMissed all (sents ++ sent ∷ []) o) (sym missing)
-      (missed_next all sents sent old.missing lacking (lacks_so ∙ (ap (λ n. lacks_of old.outs.exits n sent.asked) last ∙ lacks_is all sents old.outs.exits found.asked (length sents + 1) sent.asked)) found.missing);
+      (missed_next all sents sent old.missing lacking
+      (lacks_so ∙ (ap (λ n. lacks_of old.outs.exits n sent.asked) last
+      ∙ lacks_is all sents old.outs.exits found.asked (length sents + 1) sent.asked)) found.missing);
 }
   where
     last : number ≡ length sents + 1
@@ -145,7 +154,8 @@ none_asked : (n : ℕ) (iface : IfaceId) → was_asked [] n iface ≡ false
 none_asked zero iface = refl
 none_asked (suc place) iface = refl
 
-pub none_found : (all : List Numbered) (findings : Findings) → AreOutLines all (length all) findings.outs → findings.noted ≡ [] → findings.missing ≡ None → AreFound all [] findings
+pub none_found : (all : List Numbered) (findings : Findings) → AreOutLines all (length all) findings.outs → findings.noted ≡ []
+    → findings.missing ≡ None → AreFound all [] findings
 none_found all findings outs noted missing = record {
   noted = noted;
   unique = outs.exits.unique;
@@ -158,17 +168,21 @@ none_found all findings outs noted missing = record {
 
 -- ---- one event more
 
-module _ (case : Case) (number : ℕ) (findings : Findings) (next : Option Sent) (e : sents_before case (number + 1) ≡ sents_before case number ++ listed next) where
+module _ (case : Case) (number : ℕ) (findings : Findings) (next : Option Sent)
+    (e : sents_before case (number + 1) ≡ sents_before case number ++ listed next) where
   pub found_on : (sent : Sent) → next ≡ Some sent → AreFound case.report.now.lines (sents_before case number ++ sent ∷ []) findings →
       AreFound case.report.now.lines (sents_before case (number + 1)) findings
   found_on sent is found =
-      subst (λ (l : List Sent). AreFound case.report.now.lines l findings) (sym (e ∙ ap (λ (o : Option Sent). sents_before case number ++ listed o) is)) found
+      subst (λ (l : List Sent). AreFound case.report.now.lines l findings)
+      (sym (e ∙ ap (λ (o : Option Sent). sents_before case number ++ listed o) is)) found
 
-  pub found_still : next ≡ None → AreFound case.report.now.lines (sents_before case number) findings → AreFound case.report.now.lines (sents_before case (number + 1)) findings
+  pub found_still : next ≡ None → AreFound case.report.now.lines (sents_before case number) findings
+      → AreFound case.report.now.lines (sents_before case (number + 1)) findings
   found_still is found =
       subst (λ (l : List Sent). AreFound case.report.now.lines l findings)
       (sym (e ∙ (ap (λ (o : Option Sent). sents_before case number ++ listed o) is ∙ append_none (sents_before case number)))) found
 
-pub found_all : (case : Case) (count : ℕ) (findings : Findings) → count ≡ length (events_of case) → AreFound case.report.now.lines (sents_before case count) findings →
+pub found_all : (case : Case) (count : ℕ) (findings : Findings) → count ≡ length (events_of case)
+    → AreFound case.report.now.lines (sents_before case count) findings →
     AreFound case.report.now.lines (sents_of case) findings
 found_all case count findings same found = subst (λ (l : List Sent). AreFound case.report.now.lines l findings) (all_sent case count same) found

@@ -61,12 +61,14 @@ module _ (case : Case) (is : IsCase case) where
   sent_list = datagrams (audited_of case).refused 0 (events_of case)
 
   -- a datagram that is named is one of all
-  pub among_all : (event place : ℕ) (datagram : Datagram) → named_before (audited_of case) event (suc place) ≡ Some datagram → slice_get sent_list place ≡ Some datagram
+  pub among_all : (event place : ℕ) (datagram : Datagram) → named_before (audited_of case) event (suc place) ≡ Some datagram
+      → slice_get sent_list place ≡ Some datagram
   among_all event place datagram e =
       before_some (0 + event) (slice_get sent_list place) datagram (sym (named_front (audited_of case).refused 0 (events_of case) event place) ∙ e)
 
   -- the octets of a datagram
-  pub octets_are : (place : ℕ) (datagram : Datagram) → slice_get sent_list place ≡ Some datagram → octets_at (events_of case) datagram.event ≡ datagram.octets
+  pub octets_are : (place : ℕ) (datagram : Datagram) → slice_get sent_list place ≡ Some datagram
+      → octets_at (events_of case) datagram.event ≡ datagram.octets
   octets_are place datagram e =
       let r = sent_there (audited_of case).refused 0 (events_of case) place datagram e in
       let there = r.there in
@@ -75,10 +77,12 @@ module _ (case : Case) (is : IsCase case) where
       ∙ octets_same datagram.event r.timed.event datagram r.sends
 
   -- what is noted of the datagram that is named
-  pub named_sent : (event number : ℕ) → sent_named (sents_of case) event number ≡ option_map (sent_of case) (named_before (audited_of case) event number)
+  pub named_sent : (event number : ℕ) → sent_named (sents_of case) event number
+      ≡ option_map (sent_of case) (named_before (audited_of case) event number)
   named_sent event zero = refl
   named_sent event (suc place) =
-      ap (λ (o : Option Sent). elim o [ None ↦ None | Some sent ↦ cond (nat_lt sent.event event) (Some sent) None ]) (got_mapped (sent_of case) sent_list place)
+      ap (λ (o : Option Sent). elim o [ None ↦ None | Some sent ↦ cond (nat_lt sent.event event) (Some sent) None ])
+      (got_mapped (sent_of case) sent_list place)
       ∙ (by (slice_get sent_list place)
       ∙ ap (option_map (sent_of case)) (ap (λ n. before n (slice_get sent_list place)) (let plain : event ≡ 0 + event = omega arith in plain)
       ∙ sym (named_front (audited_of case).refused 0 (events_of case) event place)))
@@ -87,11 +91,14 @@ module _ (case : Case) (is : IsCase case) where
       lifted true datagram = refl
       lifted false datagram = refl
 
-      by : (o : Option Datagram) → ◌≡◌ {A = Option Sent} (elim (option_map (sent_of case) o) [ None ↦ None | Some sent ↦ cond (nat_lt sent.event event) (Some sent) None ]) (option_map (sent_of case) (before event o))
+      by : (o : Option Datagram) → ◌≡◌ {A = Option Sent}
+          (elim (option_map (sent_of case) o) [ None ↦ None | Some sent ↦ cond (nat_lt sent.event event) (Some sent) None ])
+          (option_map (sent_of case) (before event o))
       by None = refl
       by (Some datagram) = lifted (nat_lt datagram.event event) datagram
 
-  named_place : (event number : ℕ) (datagram : Datagram) → named_before (audited_of case) event number ≡ Some datagram → (at : ℕ) × (slice_get sent_list at ≡ Some datagram)
+  named_place : (event number : ℕ) (datagram : Datagram) → named_before (audited_of case) event number ≡ Some datagram
+      → (at : ℕ) × (slice_get sent_list at ≡ Some datagram)
   named_place event zero datagram e = absurd (none-some datagram e)
   named_place event (suc at) datagram e = (at, among_all event at datagram e)
 
@@ -108,7 +115,8 @@ module _ (case : Case) (is : IsCase case) where
 
   -- the event's octets are few
   pub is_short : (event : ℕ) (timed : Timed) → slice_get (events_of case) event ≡ Some timed → IsShort timed.event
-  is_short event timed e = by timed.event (each_got (λ (t : Timed). IsEventOf (scenario_of case) t.event) (events_of case) event timed is.rules.events e)
+  is_short event timed e =
+      by timed.event (each_got (λ (t : Timed). IsEventOf (scenario_of case) t.event) (events_of case) event timed is.rules.events e)
     where
       by : (own : Event) → IsEventOf (scenario_of case) own → IsShort own
       by (events.Send site source group payload) h = h.2
@@ -116,21 +124,25 @@ module _ (case : Case) (is : IsCase case) where
 
   -- ---- what is found of the datagram that is named
 
-  noted_same : (sents : List Sent) (event number : ℕ) → noted_named (map noted_of sents) event number ≡ option_map noted_of (sent_named sents event number)
+  noted_same : (sents : List Sent) (event number : ℕ)
+      → noted_named (map noted_of sents) event number ≡ option_map noted_of (sent_named sents event number)
   noted_same sents event zero = refl
   noted_same sents event (suc place) =
-      ap (λ (o : Option Noted). elim o [ None ↦ None | Some noted ↦ cond (nat_lt noted.event event) (Some noted) None ]) (got_mapped noted_of sents place) ∙ by (slice_get sents place)
+      ap (λ (o : Option Noted). elim o [ None ↦ None | Some noted ↦ cond (nat_lt noted.event event) (Some noted) None ])
+      (got_mapped noted_of sents place) ∙ by (slice_get sents place)
     where
       lifted : (b : Bool) (sent : Sent) → cond b (Some (noted_of sent)) None ≡ option_map noted_of (cond b (Some sent) None)
       lifted true sent = refl
       lifted false sent = refl
 
-      by : (o : Option Sent) → ◌≡◌ {A = Option Noted} (elim (option_map noted_of o) [ None ↦ None | Some noted ↦ cond (nat_lt noted.event event) (Some noted) None ])
+      by : (o : Option Sent) → ◌≡◌ {A = Option Noted}
+          (elim (option_map noted_of o) [ None ↦ None | Some noted ↦ cond (nat_lt noted.event event) (Some noted) None ])
           (option_map noted_of (elim o [ None ↦ None | Some sent ↦ cond (nat_lt sent.event event) (Some sent) None ]))
       by None = refl
       by (Some sent) = lifted (nat_lt sent.event event) sent
 
-  named_asked : (sents : List Sent) (event number : ℕ) (iface : IfaceId) (sent : Sent) → sent_named sents event number ≡ Some sent → was_asked sents number iface ≡ is_asked_by sent iface
+  named_asked : (sents : List Sent) (event number : ℕ) (iface : IfaceId) (sent : Sent) → sent_named sents event number ≡ Some sent
+      → was_asked sents number iface ≡ is_asked_by sent iface
   named_asked sents event zero iface sent e = absurd (none-some sent e)
   named_asked sents event (suc place) iface sent e = by (slice_get sents place) e
     where
@@ -143,7 +155,8 @@ module _ (case : Case) (is : IsCase case) where
           under true one = ap (λ (s : Sent). is_asked_by s iface) (some_same own sent one)
           under false one = absurd (none-some sent one)
 
-  module _ (findings : Findings) (found : AreFound case.report.now.lines (sents_of case) findings) (out : Out) (said : has_out case.report.now.lines (exit out.number out.iface) ≡ true) where
+  module _ (findings : Findings) (found : AreFound case.report.now.lines (sents_of case) findings) (out : Out)
+      (said : has_out case.report.now.lines (exit out.number out.iface) ≡ true) where
     noted_so : noted_named findings.noted out.event out.number ≡ option_map noted_of (sent_named (sents_of case) out.event out.number)
     noted_so = ap (λ (l : List Noted). noted_named l out.event out.number) found.noted ∙ noted_same (sents_of case) out.event out.number
 
@@ -158,25 +171,32 @@ module _ (case : Case) (is : IsCase case) where
         let same = ap (λ (n : Noted). n.event) m.2 in
         omega (arith, less, same)
 
-    asked_so : (sent : Sent) → sent_named (sents_of case) out.event out.number ≡ Some sent → is_asked_in findings.outs.exits (exit out.number out.iface) ≡ is_asked_by sent out.iface
+    asked_so : (sent : Sent) → sent_named (sents_of case) out.event out.number ≡ Some sent
+        → is_asked_in findings.outs.exits (exit out.number out.iface) ≡ is_asked_by sent out.iface
     asked_so sent e =
         ap (λ (o : Option Bool). elim o [ None ↦ false | Some asked ↦ asked ])
         (found.asked (exit out.number out.iface) ∙ ap (λ b. cond b (Some (was_asked (sents_of case) out.number out.iface)) None) said)
         ∙ named_asked (sents_of case) out.event out.number out.iface sent e
 
     -- The offence of an `out` line that names a datagram is that by what is noted of it.
-    pub fault_noted : (noted : Noted) → noted_named findings.noted out.event out.number ≡ Some noted → (asked earlier : Bool) → asked ≡ is_asked_in findings.outs.exits (exit out.number out.iface) →
+    pub fault_noted : (noted : Noted) → noted_named findings.noted out.event out.number ≡ Some noted → (asked earlier : Bool)
+        → asked ≡ is_asked_in findings.outs.exits (exit out.number out.iface) →
         fault_by case noted out asked earlier ≡ fault_of case out earlier
     fault_noted noted e asked earlier same =
         let m = of_noted noted e in
         (λ i. fault_by case (sym m.2 i) out ((same ∙ asked_so m.0 m.1) i) earlier)
-        ∙ ap (λ (o : Option Sent). elim o [ None ↦ Some offences.Number | Some sent ↦ fault_by case (noted_of sent) out (is_asked_by sent out.iface) earlier ]) (sym m.1)
+        ∙ ap (λ (o : Option Sent). elim o [
+          | None ↦ Some offences.Number
+          | Some sent ↦
+              fault_by case (noted_of sent) out (is_asked_by sent out.iface) earlier
+        ]) (sym m.1)
 
     pub fault_unnamed : noted_named findings.noted out.event out.number ≡ None → (earlier : Bool) → Some offences.Number ≡ fault_of case out earlier
     fault_unnamed e earlier = by (sent_named (sents_of case) out.event out.number) (sym noted_so ∙ e)
       where
         by : (o : Option Sent) → option_map noted_of o ≡ None →
-            ◌≡◌ {A = Option Offence} (Some offences.Number) (elim o [ None ↦ Some offences.Number | Some sent ↦ fault_by case (noted_of sent) out (is_asked_by sent out.iface) earlier ])
+            ◌≡◌ {A = Option Offence} (Some offences.Number)
+            (elim o [ None ↦ Some offences.Number | Some sent ↦ fault_by case (noted_of sent) out (is_asked_by sent out.iface) earlier ])
         by None same = refl
         by (Some sent) same = absurd (none-some (noted_of sent) (sym same))
 
@@ -223,7 +243,8 @@ module _ (case : Case) (is : IsCase case) where
       not_asked : is_receiver (audited_of case) datagram out.iface ≡ true → Has offences.Asked → ⊥
       not_asked t (other, e, window, f) = both_no _ t (ap (λ (d : Datagram). is_receiver (audited_of case) d out.iface) (sym (one other e)) ∙ f)
 
-      no_window : is_windowed case datagram.event ≡ false → (other : Datagram) → named_before (audited_of case) out.event out.number ≡ Some other → InWindow (audited_of case) other → ⊥
+      no_window : is_windowed case datagram.event ≡ false → (other : Datagram) → named_before (audited_of case) out.event out.number ≡ Some other
+          → InWindow (audited_of case) other → ⊥
       no_window f other e window = both_no _ (windowed datagram (subst (InWindow (audited_of case)) (one other e) window)) f
 
       says_bytes : (out.bytes.now ≡ datagram.octets → ⊥) → Says (Some offences.Bytes)
@@ -282,7 +303,8 @@ module _ (case : Case) (is : IsCase case) where
             least offences.Asked h = omega arith
             least offences.Missing h = absurd h
 
-        says_asked : is_windowed case datagram.event ≡ true → earlier ≡ false → is_receiver (audited_of case) datagram out.iface ≡ false → Says (Some offences.Asked)
+        says_asked : is_windowed case datagram.event ≡ true → earlier ≡ false → is_receiver (audited_of case) datagram out.iface ≡ false
+            → Says (Some offences.Asked)
         says_asked w f isnt = ((datagram, named, in_window datagram w, isnt), least)
           where
             least : (reason : Offence) → Has reason → rank offences.Asked ≤ rank reason
@@ -299,36 +321,53 @@ module _ (case : Case) (is : IsCase case) where
         asked_here = receivers (past_of case datagram.event) datagram.site datagram.source datagram.group
 
         says_in : (w e a : Bool) → is_windowed case datagram.event ≡ w → earlier ≡ e → is_receiver (audited_of case) datagram out.iface ≡ a →
-            Says (fault_in (is_some (cond w (Some asked_here) None)) (elim (cond w (Some asked_here) None) [ None ↦ false | Some asked ↦ is_asked asked out.iface ]) e)
+            Says (fault_in (is_some (cond w (Some asked_here) None))
+            (elim (cond w (Some asked_here) None) [ None ↦ false | Some asked ↦ is_asked asked out.iface ]) e)
         says_in false e a w d r = says_none (no_again w) (no_asked w)
         says_in true true a w d r = says_again w d
         says_in true false a w d r = by a r
           where
-            by : (b : Bool) → is_receiver (audited_of case) datagram out.iface ≡ b → Says (cond (is_asked asked_here out.iface) None (Some offences.Asked))
+            by : (b : Bool) → is_receiver (audited_of case) datagram out.iface ≡ b
+                → Says (cond (is_asked asked_here out.iface) None (Some offences.Asked))
             by true t = subst (λ b. Says (cond b None (Some offences.Asked))) (sym t) (says_none (not_again d) (not_asked t))
             by false f = subst (λ b. Says (cond b None (Some offences.Asked))) (sym f) (says_asked w d f)
 
-      says_by : (bytes admitted : Bool) → pointwise nat_eq out.bytes.now datagram.octets ≡ bytes → site_admitted (scenario_of case) out.iface datagram.site ≡ admitted →
-          Says (cond (not bytes) (Some offences.Bytes) (cond (not admitted) (Some offences.Admit) (fault_in (is_some (sent_of case datagram).asked) (is_asked_by (sent_of case datagram) out.iface) earlier)))
+      says_by : (bytes admitted : Bool) → pointwise nat_eq out.bytes.now datagram.octets ≡ bytes
+          → site_admitted (scenario_of case) out.iface datagram.site ≡ admitted →
+          Says (cond (not bytes) (Some offences.Bytes)
+          (cond (not admitted) (Some offences.Admit)
+          (fault_in (is_some (sent_of case datagram).asked) (is_asked_by (sent_of case datagram) out.iface) earlier)))
       says_by false admitted b a = says_bytes (λ same. true≢false (sym ((bytes_decides out.bytes.now datagram.octets).1 same) ∙ b))
       says_by true false b a = says_admit ((bytes_decides out.bytes.now datagram.octets).0 b) a
       says_by true true b a =
-          says_in ((bytes_decides out.bytes.now datagram.octets).0 b) a (is_windowed case datagram.event) earlier (is_receiver (audited_of case) datagram out.iface) refl refl refl
+          says_in ((bytes_decides out.bytes.now datagram.octets).0 b) a (is_windowed case datagram.event) earlier
+          (is_receiver (audited_of case) datagram out.iface) refl refl refl
 
-      says_named : (at : ℕ) → slice_get sent_list at ≡ Some datagram → Says (fault_by case (noted_of (sent_of case datagram)) out (is_asked_by (sent_of case datagram) out.iface) earlier)
+      says_named : (at : ℕ) → slice_get sent_list at ≡ Some datagram
+          → Says (fault_by case (noted_of (sent_of case datagram)) out (is_asked_by (sent_of case datagram) out.iface) earlier)
       says_named at e =
           subst (λ (l : List ℕ). Says (cond (not (pointwise nat_eq out.bytes.now l)) (Some offences.Bytes)
-          (cond (not (site_admitted (scenario_of case) out.iface datagram.site)) (Some offences.Admit) (fault_in (is_some (sent_of case datagram).asked) (is_asked_by (sent_of case datagram) out.iface) earlier)))) (sym (octets_are at datagram e))
+          (cond (not (site_admitted (scenario_of case) out.iface datagram.site)) (Some offences.Admit)
+          (fault_in (is_some (sent_of case datagram).asked) (is_asked_by (sent_of case datagram) out.iface) earlier))))
+          (sym (octets_are at datagram e))
           (says_by (pointwise nat_eq out.bytes.now datagram.octets) (site_admitted (scenario_of case) out.iface datagram.site) refl refl)
 
     -- The offence of an `out` line is the first one of its offences.
     pub fault_says : Says (fault_of case out earlier)
     fault_says =
-        subst (λ (o : Option Sent). Says (elim o [ None ↦ Some offences.Number | Some sent ↦ fault_by case (noted_of sent) out (is_asked_by sent out.iface) earlier ])) (sym (named_sent out.event out.number))
+        subst (λ (o : Option Sent). Says (elim o [
+          | None ↦ Some offences.Number
+          | Some sent ↦
+              fault_by case (noted_of sent) out (is_asked_by sent out.iface) earlier
+        ])) (sym (named_sent out.event out.number))
         (by (named_before (audited_of case) out.event out.number) refl)
       where
         by : (o : Option Datagram) → named_before (audited_of case) out.event out.number ≡ o →
-            Says (elim (option_map (sent_of case) o) [ None ↦ Some offences.Number | Some sent ↦ fault_by case (noted_of sent) out (is_asked_by sent out.iface) earlier ])
+            Says (elim (option_map (sent_of case) o) [
+              | None ↦ Some offences.Number
+              | Some sent ↦
+                  fault_by case (noted_of sent) out (is_asked_by sent out.iface) earlier
+            ])
         by None e = unnamed_least e
           where
             unnamed_least : named_before (audited_of case) out.event out.number ≡ None → Says (Some offences.Number)

@@ -27,7 +27,8 @@ passes-from_any test (x ∷ xs) h = elim (or_cases (test x) (list_any test xs) h
 ]
 
 -- The test of any says so where an element passes.
-pub any-from_at : {X : Type 0} (test : X → Bool) (xs : List X) (place : ℕ) (value : X) → slice_get xs place ≡ Some value → test value ≡ true → list_any test xs ≡ true
+pub any-from_at : {X : Type 0} (test : X → Bool) (xs : List X) (place : ℕ) (value : X) → slice_get xs place ≡ Some value → test value ≡ true
+    → list_any test xs ≡ true
 any-from_at test [] place value e h = absurd cc
 any-from_at test (x ∷ xs) zero value e h = let same : x ≡ value = cc in or_left (test x) (list_any test xs) (rw same h)
 any-from_at test (x ∷ xs) (suc place) value e h = or_right (test x) (list_any test xs) (any-from_at test xs place value e h)

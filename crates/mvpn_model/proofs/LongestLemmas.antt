@@ -18,7 +18,15 @@ record Longer (best : Option Route) (route : Route) : Type 0 where
 
 longer_of : (best route : Route) (b : Bool) → nat_le route.prefix.bits best.prefix.bits ≡ b → Longer (Some best) route
 longer_of best route true h = record { kept = best; is = rw h refl; own = leb-true _ _ h; before = omega arith; one = inr refl }
-longer_of best route false h = record { kept = route; is = rw h refl; own = omega arith; before = let lt = leb-false route.prefix.bits best.prefix.bits h in omega (arith, lt); one = inl refl }
+longer_of best route false h =
+    record {
+      kept = route;
+      is = rw h refl;
+      own = omega arith;
+      before = let lt = leb-false route.prefix.bits best.prefix.bits h in
+          omega (arith, lt);
+      one = inl refl;
+    }
 
 longer_is : (best : Option Route) (route : Route) → Longer best route
 longer_is None route = record { kept = route; is = refl; own = omega arith; before = tt; one = inl refl }
@@ -37,7 +45,9 @@ before_both : (best : Option Route) (m n : ℕ) → IfSome best (λ b. b.prefix.
 before_both None m n h le = tt
 before_both (Some b) m n h le = omega (arith, h, le)
 
-found_more : (p : Route → Bool) (best : Option Route) (x : Route) (xs : List Route) (route : Route) → p x ≡ true → Longer best x → (longer best x ≡ Some route) ⊎ ((place : ℕ) × (slice_get xs place ≡ Some route) × (p route ≡ true)) → (best ≡ Some route) ⊎ ((place : ℕ) × (slice_get (x ∷ xs) place ≡ Some route) × (p route ≡ true))
+found_more : (p : Route → Bool) (best : Option Route) (x : Route) (xs : List Route) (route : Route) → p x ≡ true → Longer best x
+    → (longer best x ≡ Some route) ⊎ ((place : ℕ) × (slice_get xs place ≡ Some route) × (p route ≡ true))
+    → (best ≡ Some route) ⊎ ((place : ℕ) × (slice_get (x ∷ xs) place ≡ Some route) × (p route ≡ true))
 found_more p best x xs route px l (inr f) = inr (suc f.0, f.1, f.2)
 found_more p best x xs route px l (inl e) =
     let same : l.kept ≡ route = let i = l.is in cc in
@@ -46,17 +56,22 @@ found_more p best x xs route px l (inl e) =
       | inr k ↦ inl (k ∙ ap (λ (r : Route). Some r) same)
     ]
 
-more_found : (p : Route → Bool) (best : Option Route) (x : Route) (xs : List Route) (route : Route) → (best ≡ Some route) ⊎ ((place : ℕ) × (slice_get xs place ≡ Some route) × (p route ≡ true)) → (best ≡ Some route) ⊎ ((place : ℕ) × (slice_get (x ∷ xs) place ≡ Some route) × (p route ≡ true))
+more_found : (p : Route → Bool) (best : Option Route) (x : Route) (xs : List Route) (route : Route)
+    → (best ≡ Some route) ⊎ ((place : ℕ) × (slice_get xs place ≡ Some route) × (p route ≡ true))
+    → (best ≡ Some route) ⊎ ((place : ℕ) × (slice_get (x ∷ xs) place ≡ Some route) × (p route ≡ true))
 more_found p best x xs route (inl e) = inl e
 more_found p best x xs route (inr f) = inr (suc f.0, f.1, f.2)
 
-kept_within : (best : Option Route) (x kept : Route) (n : ℕ) → longer best x ≡ Some kept → IfSome (longer best x) (λ b. b.prefix.bits ≤ n) → kept.prefix.bits ≤ n
+kept_within : (best : Option Route) (x kept : Route) (n : ℕ) → longer best x ≡ Some kept → IfSome (longer best x) (λ b. b.prefix.bits ≤ n)
+    → kept.prefix.bits ≤ n
 kept_within best x kept n e h = rw e at h
 
 no_pass : (p : Route → Bool) (x other : Route) → p x ≡ false → x ≡ other → p other ≡ true → ⊥
 no_pass p x other px same po = let q : p other ≡ false = subst (λ (r : Route). p r ≡ false) same px in absurd cc
 
-longest_of : (p : Route → Bool) (best : Option Route) (x : Route) (xs : List Route) (route : Route) (b : Bool) → p x ≡ b → longest_after best (cond b (x ∷ filter p xs) (filter p xs)) ≡ Some route → ((start : Option Route) → longest_after start (filter p xs) ≡ Some route → IsBest p start xs route) → IsBest p best (x ∷ xs) route
+longest_of : (p : Route → Bool) (best : Option Route) (x : Route) (xs : List Route) (route : Route) (b : Bool) → p x ≡ b
+    → longest_after best (cond b (x ∷ filter p xs) (filter p xs)) ≡ Some route
+    → ((start : Option Route) → longest_after start (filter p xs) ≡ Some route → IsBest p start xs route) → IsBest p best (x ∷ xs) route
 longest_of p best x xs route true px h again =
     let l = longer_is best x in
     let r = again (longer best x) h in
@@ -67,19 +82,23 @@ longest_of p best x xs route true px h again =
       before = before_both best l.kept.prefix.bits route.prefix.bits l.before le;
     }
   where
-    at_place : x.prefix.bits ≤ route.prefix.bits → ((place : ℕ) (other : Route) → slice_get xs place ≡ Some other → p other ≡ true → other.prefix.bits ≤ route.prefix.bits) → (place : ℕ) (other : Route) → slice_get (x ∷ xs) place ≡ Some other → p other ≡ true → other.prefix.bits ≤ route.prefix.bits
+    at_place : x.prefix.bits ≤ route.prefix.bits
+        → ((place : ℕ) (other : Route) → slice_get xs place ≡ Some other → p other ≡ true → other.prefix.bits ≤ route.prefix.bits)
+        → (place : ℕ) (other : Route) → slice_get (x ∷ xs) place ≡ Some other → p other ≡ true → other.prefix.bits ≤ route.prefix.bits
     at_place own more zero other e po = let same : x ≡ other = cc in subst (λ (r : Route). r.prefix.bits ≤ route.prefix.bits) same own
     at_place own more (suc place) other e po = more place other e po
 longest_of p best x xs route false px h again =
     let r = again best h in
     record { found = more_found p best x xs route r.found; longest = at_place r.longest; before = r.before }
   where
-    at_place : ((place : ℕ) (other : Route) → slice_get xs place ≡ Some other → p other ≡ true → other.prefix.bits ≤ route.prefix.bits) → (place : ℕ) (other : Route) → slice_get (x ∷ xs) place ≡ Some other → p other ≡ true → other.prefix.bits ≤ route.prefix.bits
+    at_place : ((place : ℕ) (other : Route) → slice_get xs place ≡ Some other → p other ≡ true → other.prefix.bits ≤ route.prefix.bits)
+        → (place : ℕ) (other : Route) → slice_get (x ∷ xs) place ≡ Some other → p other ≡ true → other.prefix.bits ≤ route.prefix.bits
     at_place more zero other e po = let same : x ≡ other = cc in absurd (no_pass p x other px same po)
     at_place more (suc place) other e po = more place other e po
 
 -- The longest of those that pass is one of them or the best before, and none is longer.
-longest_best : (p : Route → Bool) (best : Option Route) (all : List Route) (route : Route) → longest_after best (filter p all) ≡ Some route → IsBest p best all route
+longest_best : (p : Route → Bool) (best : Option Route) (all : List Route) (route : Route) → longest_after best (filter p all) ≡ Some route
+    → IsBest p best all route
 longest_best p best [] route h = record { found = inl h; longest = λ place other e po. absurd cc; before = at_itself best route h }
 longest_best p best (x ∷ xs) route h = longest_of p best x xs route (p x) refl h (λ start k. longest_best p start xs route k)
 
@@ -88,17 +107,23 @@ never_lost : (kept : Route) (all : List Route) → longest_after (Some kept) all
 never_lost kept [] h = absurd cc
 never_lost kept (x ∷ xs) h = let l = longer_is (Some kept) x in never_lost l.kept xs (subst (λ (o : Option Route). longest_after o xs ≡ None) l.is h)
 
-none_of : (p : Route → Bool) (best : Option Route) (x : Route) (xs : List Route) (b : Bool) → p x ≡ b → longest_after best (cond b (x ∷ filter p xs) (filter p xs)) ≡ None → (longest_after best (filter p xs) ≡ None → (place : ℕ) (route : Route) → slice_get xs place ≡ Some route → p route ≡ false) → (place : ℕ) (route : Route) → slice_get (x ∷ xs) place ≡ Some route → p route ≡ false
-none_of p best x xs true px h again place route e = let l = longer_is best x in absurd (never_lost l.kept (filter p xs) (subst (λ (o : Option Route). longest_after o (filter p xs) ≡ None) l.is h))
+none_of : (p : Route → Bool) (best : Option Route) (x : Route) (xs : List Route) (b : Bool) → p x ≡ b
+    → longest_after best (cond b (x ∷ filter p xs) (filter p xs)) ≡ None
+    → (longest_after best (filter p xs) ≡ None → (place : ℕ) (route : Route) → slice_get xs place ≡ Some route → p route ≡ false)
+    → (place : ℕ) (route : Route) → slice_get (x ∷ xs) place ≡ Some route → p route ≡ false
+none_of p best x xs true px h again place route e = let l = longer_is best x in
+    absurd (never_lost l.kept (filter p xs) (subst (λ (o : Option Route). longest_after o (filter p xs) ≡ None) l.is h))
 none_of p best x xs false px h again zero route e = let same : x ≡ route = cc in subst (λ (r : Route). p r ≡ false) same px
 none_of p best x xs false px h again (suc place) route e = again h place route e
 
 -- Where there is no longest, none passes.
-longest_none : (p : Route → Bool) (best : Option Route) (all : List Route) → longest_after best (filter p all) ≡ None → (place : ℕ) (route : Route) → slice_get all place ≡ Some route → p route ≡ false
+longest_none : (p : Route → Bool) (best : Option Route) (all : List Route) → longest_after best (filter p all) ≡ None → (place : ℕ) (route : Route)
+    → slice_get all place ≡ Some route → p route ≡ false
 longest_none p best [] h place route e = absurd cc
 longest_none p best (x ∷ xs) h place route e = none_of p best x xs (p x) refl h (λ k. longest_none p best xs k) place route e
 
-best_home : (all : List Route) (source : Addr) (site : SiteId) (route : Route) → IsBest (λ route. covers route.prefix source) None all route → route.site ≡ site → IsLongest all source site
+best_home : (all : List Route) (source : Addr) (site : SiteId) (route : Route) → IsBest (λ route. covers route.prefix source) None all route
+    → route.site ≡ site → IsLongest all source site
 best_home all source site route best of_site = elim best.found [
   | inl e ↦ absurd cc
   | inr f ↦ record { place = f.0; route = route; among = f.1; covering = f.2; of_site = of_site; longest = best.longest }
@@ -108,15 +133,18 @@ best_home all source site route best of_site = elim best.found [
 pub home_longest : (all : List Route) (source : Addr) (site : SiteId) → home_by all source ≡ Some site → IsLongest all source site
 home_longest all source site h = by (longest_after None (filter (λ route. covers route.prefix source) all)) refl h
   where
-    by : (found : Option Route) → longest_after None (filter (λ route. covers route.prefix source) all) ≡ found → option_map (λ route. route.site) found ≡ Some site → IsLongest all source site
+    by : (found : Option Route) → longest_after None (filter (λ route. covers route.prefix source) all) ≡ found
+        → option_map (λ route. route.site) found ≡ Some site → IsLongest all source site
     by None e k = absurd cc
-    by (Some route) e k = let of_site : route.site ≡ site = cc in best_home all source site route (longest_best (λ route. covers route.prefix source) None all route e) of_site
+    by (Some route) e k = let of_site : route.site ≡ site = cc in
+        best_home all source site route (longest_best (λ route. covers route.prefix source) None all route e) of_site
 
 -- A source without a home is covered by no route.
 pub home_uncovered : (all : List Route) (source : Addr) → home_by all source ≡ None → IsUncovered all source
 home_uncovered all source h = by (longest_after None (filter (λ route. covers route.prefix source) all)) refl h
   where
-    by : (found : Option Route) → longest_after None (filter (λ route. covers route.prefix source) all) ≡ found → option_map (λ route. route.site) found ≡ None → IsUncovered all source
+    by : (found : Option Route) → longest_after None (filter (λ route. covers route.prefix source) all) ≡ found
+        → option_map (λ route. route.site) found ≡ None → IsUncovered all source
     by None e k = longest_none (λ route. covers route.prefix source) None all e
     by (Some route) e k = absurd cc
 

@@ -14,7 +14,8 @@ pub ticks_few : (scenario : Scenario) (event : Event) → IsEventOf scenario eve
 ticks_few scenario (events.Tick count) h = h.1
 ticks_few scenario other h = omega arith
 
-ticks_take : (scenario : Scenario) (n : ℕ) (list : List Timed) → AllByRecursion (λ timed. IsEventOf scenario timed.event) list → ticks_in (take n list) ≤ 1000000 * length list
+ticks_take : (scenario : Scenario) (n : ℕ) (list : List Timed) → AllByRecursion (λ timed. IsEventOf scenario timed.event) list
+    → ticks_in (take n list) ≤ 1000000 * length list
 ticks_take scenario zero list h = omega arith
 ticks_take scenario (suc n) [] h = omega arith
 ticks_take scenario (suc n) (timed ∷ more) h = omega (arith, ticks_few scenario timed.event h.0, ticks_take scenario n more h.1)

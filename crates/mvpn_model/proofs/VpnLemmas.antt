@@ -66,7 +66,8 @@ pub vpn_of_one : (scenario : Scenario) (a b : VrfId) → a.0 ≡ b.0 → same_vp
 vpn_of_one scenario a b e = let same_id : a ≡ b = ap (λ n. record { 0 = n }) e in rw same_id (same-refl (targets_of scenario b))
 
 -- VRFs of one VPN admit each other.
-pub admits-vpn : (scenario : Scenario) → Rules scenario → (a b : VrfId) → a.0 < length scenario.vrfs → same_vpn scenario a b ≡ true → admits scenario a b ≡ true
+pub admits-vpn : (scenario : Scenario) → Rules scenario → (a b : VrfId) → a.0 < length scenario.vrfs → same_vpn scenario a b ≡ true
+    → admits scenario a b ≡ true
 admits-vpn scenario rules a b h s =
     let p = vrf_at scenario a.0 h in
     let some : 0 < length (targets_of scenario a) = rw (targets-at scenario a p.vrf p.at) (vrf_rules_at scenario rules a.0 p.vrf p.at).some in
@@ -81,7 +82,8 @@ vpn_of_site scenario rules i j iface other d e s = elim (cases_order i j) [
       let same_iface : iface ≡ other = cc in
       vpn_of_one scenario iface.vrf other.vrf (ap (λ (x : Iface). x.vrf.0) same_iface)
   | inr (inl below) ↦ (vpns_at scenario rules i j iface other below d e).mixed s
-  | inr (inr above) ↦ same-sym (targets_of scenario iface.vrf) (targets_of scenario other.vrf) ∙ (vpns_at scenario rules j i other iface above e d).mixed (sym s)
+  | inr (inr above) ↦ same-sym (targets_of scenario iface.vrf) (targets_of scenario other.vrf)
+      ∙ (vpns_at scenario rules j i other iface above e d).mixed (sym s)
 ]
 
 -- ---- where a site's datagrams enter
@@ -99,15 +101,24 @@ pub enters-at : (scenario : Scenario) (site : SiteId) (vrf : VrfId) → is_attac
 enters-at scenario site vrf t =
     let p = passes-from_any (λ iface. is_of_site site iface && is_of_vrf vrf iface) scenario.ifaces t in
     let both = and_parts (is_of_site site p.value) (is_of_vrf vrf p.value) p.passes in
-    record { place = p.place; iface = p.value; at = p.at; of_site = eqb-true p.value.site.0 site.0 both.0; in_vrf = eqb-true p.value.vrf.0 vrf.0 both.1 }
+    record {
+      place = p.place;
+      iface = p.value;
+      at = p.at;
+      of_site = eqb-true p.value.site.0 site.0 both.0;
+      in_vrf =
+          eqb-true p.value.vrf.0 vrf.0 both.1;
+    }
 
 -- The same, of the VRFs from one on.
-entered_from-each : (scenario : Scenario) (site : SiteId) (number : ℕ) (vrfs : List Vrf) → AllByRecursion (EntersAt scenario site) (entered_from scenario site number vrfs)
+entered_from-each : (scenario : Scenario) (site : SiteId) (number : ℕ) (vrfs : List Vrf)
+    → AllByRecursion (EntersAt scenario site) (entered_from scenario site number vrfs)
 entered_from-each scenario site number [] = tt
 entered_from-each scenario site number (vrf ∷ more) =
     let here : VrfId = record { 0 = number } in
     let rest = entered_from-each scenario site (number + 1) more in
-    cond_both (is_attached_at scenario here site) (here ∷ entered_from scenario site (number + 1) more) (entered_from scenario site (number + 1) more) (AllByRecursion (EntersAt scenario site))
+    cond_both (is_attached_at scenario here site) (here ∷ entered_from scenario site (number + 1) more) (entered_from scenario site (number + 1) more)
+    (AllByRecursion (EntersAt scenario site))
     (λ t. (enters-at scenario site here t, rest))
     (λ f. rest)
 
@@ -116,11 +127,13 @@ pub entered-each : (scenario : Scenario) (site : SiteId) → AllByRecursion (Ent
 entered-each scenario site = entered_from-each scenario site 0 scenario.vrfs
 
 -- The VRF of an interface admits that of each interface of a site that is attached there.
-pub admits-entered : (scenario : Scenario) → Rules scenario → (site : SiteId) (vrf : VrfId) → EntersAt scenario site vrf → (own : VrfId) → own.0 ≡ vrf.0 →
+pub admits-entered : (scenario : Scenario) → Rules scenario → (site : SiteId) (vrf : VrfId) → EntersAt scenario site vrf → (own : VrfId)
+    → own.0 ≡ vrf.0 →
     (i : ℕ) (other : Iface) → slice_get scenario.ifaces i ≡ Some other → other.site.0 ≡ site.0 → admits scenario own other.vrf ≡ true
 admits-entered scenario rules site vrf is own e i other d s =
     let same_id : own ≡ is.iface.vrf = ap (λ n. record { 0 = n }) (e ∙ sym is.in_vrf) in
-    rw same_id (admits-vpn scenario rules is.iface.vrf other.vrf (iface_rules_at scenario rules is.place is.iface is.at).vrf (vpn_of_site scenario rules is.place i is.iface other is.at d (is.of_site ∙ sym s)))
+    rw same_id (admits-vpn scenario rules is.iface.vrf other.vrf (iface_rules_at scenario rules is.place is.iface is.at).vrf
+    (vpn_of_site scenario rules is.place i is.iface other is.at d (is.of_site ∙ sym s)))
 
 -- ---- a scenario with at most one edge
 
@@ -132,15 +145,18 @@ HasOneEdge scenario = (a b : NodeId) → IsEdge scenario a → IsEdge scenario b
 one_by_targets : (scenario : Scenario) → Rules scenario → HasOneEdge scenario → (v w : ℕ) (vrf other : Vrf) → slice_get scenario.vrfs v ≡ Some vrf →
     slice_get scenario.vrfs w ≡ Some other → same vrf.targets other.targets ≡ true → v ≡ w
 one_by_targets scenario rules one v w vrf other d e s =
-    let edges : vrf.edge.0 ≡ other.edge.0 = one vrf.edge other.edge (vrf_rules_at scenario rules v vrf d).edge (vrf_rules_at scenario rules w other e).edge in
+    let edges : vrf.edge.0 ≡ other.edge.0 =
+    one vrf.edge other.edge (vrf_rules_at scenario rules v vrf d).edge (vrf_rules_at scenario rules w other e).edge in
     elim (cases_order v w) [
       | inl equal ↦ equal
       | inr (inl below) ↦ absurd (false≢true (sym ((apart_at scenario rules v w vrf other below d e).vpn edges) ∙ s))
-      | inr (inr above) ↦ absurd (false≢true (sym ((apart_at scenario rules w v other vrf above e d).vpn (sym edges)) ∙ same-sym other.targets vrf.targets ∙ s))
+      | inr (inr above) ↦ absurd (false≢true (sym ((apart_at scenario rules w v other vrf above e d).vpn (sym edges))
+          ∙ same-sym other.targets vrf.targets ∙ s))
     ]
 
 -- Two VRFs of one VPN are one.
-pub one_by_vpn : (scenario : Scenario) → Rules scenario → HasOneEdge scenario → (a b : VrfId) → a.0 < length scenario.vrfs → b.0 < length scenario.vrfs →
+pub one_by_vpn : (scenario : Scenario) → Rules scenario → HasOneEdge scenario → (a b : VrfId) → a.0 < length scenario.vrfs
+    → b.0 < length scenario.vrfs →
     same_vpn scenario a b ≡ true → a.0 ≡ b.0
 one_by_vpn scenario rules one a b h k s =
     let p = vrf_at scenario a.0 h in
@@ -155,7 +171,8 @@ pub record IsVrfOfSite (scenario : Scenario) (site : SiteId) (vrf : VrfId) : Typ
   pub one : (i : ℕ) (iface : Iface) → slice_get scenario.ifaces i ≡ Some iface → is_of_site site iface ≡ true → iface.vrf.0 ≡ vrf.0
 
 -- The VRF of a site's first interface is the site's.
-vrf_of_first : (scenario : Scenario) → Rules scenario → HasOneEdge scenario → (site : SiteId) (first : Iface) → find (is_of_site site) scenario.ifaces ≡ Some first →
+vrf_of_first : (scenario : Scenario) → Rules scenario → HasOneEdge scenario → (site : SiteId) (first : Iface)
+    → find (is_of_site site) scenario.ifaces ≡ Some first →
     IsVrfOfSite scenario site first.vrf
 vrf_of_first scenario rules one site first e =
     let p = passes-from_find (is_of_site site) scenario.ifaces first e in
@@ -170,10 +187,12 @@ vrf_of_first scenario rules one site first e =
     }
 
 -- The same, from the VRF that is found.
-pub vrf_of_site-is : (scenario : Scenario) → Rules scenario → HasOneEdge scenario → (site : SiteId) (vrf : VrfId) → vrf_of_site scenario site ≡ Some vrf → IsVrfOfSite scenario site vrf
+pub vrf_of_site-is : (scenario : Scenario) → Rules scenario → HasOneEdge scenario → (site : SiteId) (vrf : VrfId)
+    → vrf_of_site scenario site ≡ Some vrf → IsVrfOfSite scenario site vrf
 vrf_of_site-is scenario rules one site vrf e = found (find (is_of_site site) scenario.ifaces) refl e
   where
-    found : (o : Option Iface) → find (is_of_site site) scenario.ifaces ≡ o → option_map (λ iface. iface.vrf) o ≡ Some vrf → IsVrfOfSite scenario site vrf
+    found : (o : Option Iface) → find (is_of_site site) scenario.ifaces ≡ o → option_map (λ iface. iface.vrf) o ≡ Some vrf
+        → IsVrfOfSite scenario site vrf
     found None d h = absurd cc
     found (Some first) d h = let same_vrf : first.vrf ≡ vrf = cc in rw (sym same_vrf) (vrf_of_first scenario rules one site first d)
 
@@ -182,20 +201,24 @@ abbrev enters_number : Scenario → SiteId → ℕ → Bool
 enters_number scenario site number = is_attached_at scenario (record { 0 = number }) site
 
 -- A site has an interface in its own VRF alone.
-enters_in_one : (scenario : Scenario) (site : SiteId) (vrf : VrfId) → IsVrfOfSite scenario site vrf → (number : ℕ) → enters_number scenario site number ≡ (vrf.0 == number)
+enters_in_one : (scenario : Scenario) (site : SiteId) (vrf : VrfId) → IsVrfOfSite scenario site vrf → (number : ℕ)
+    → enters_number scenario site number ≡ (vrf.0 == number)
 enters_in_one scenario site vrf is number = both_ways (enters_number scenario site number) (vrf.0 == number)
     (λ t.
     let p = enters-at scenario site (record { 0 = number }) t in
     eq-eqb vrf.0 number (sym (is.one p.place p.iface p.at (eq-eqb p.iface.site.0 site.0 p.of_site)) ∙ p.in_vrf))
-    (λ t. any-from_at (λ iface. is_of_site site iface && is_of_vrf (record { 0 = number }) iface) scenario.ifaces is.enters.place is.enters.iface is.enters.at
-    (and_from (is_of_site site is.enters.iface) (is.enters.iface.vrf.0 == number) (eq-eqb is.enters.iface.site.0 site.0 is.enters.of_site) (eq-eqb is.enters.iface.vrf.0 number (is.enters.in_vrf ∙ eqb-true vrf.0 number t))))
+    (λ t. any-from_at (λ iface. is_of_site site iface && is_of_vrf (record { 0 = number }) iface) scenario.ifaces is.enters.place is.enters.iface
+    is.enters.at
+    (and_from (is_of_site site is.enters.iface) (is.enters.iface.vrf.0 == number) (eq-eqb is.enters.iface.site.0 site.0 is.enters.of_site)
+    (eq-eqb is.enters.iface.vrf.0 number (is.enters.in_vrf ∙ eqb-true vrf.0 number t))))
 
 -- A datagram enters at none of VRFs in which the site has no interface.
 entered_from-none : (scenario : Scenario) (site : SiteId) (number : ℕ) (vrfs : List Vrf) →
     ((n : ℕ) → number ≤ n → enters_number scenario site n ≡ false) → entered_from scenario site number vrfs ≡ []
 entered_from-none scenario site number [] h = refl
 entered_from-none scenario site number (vrf ∷ more) h =
-    cond-false (enters_number scenario site number) (record { 0 = number } ∷ entered_from scenario site (number + 1) more) (entered_from scenario site (number + 1) more) (h number (omega arith))
+    cond-false (enters_number scenario site number) (record { 0 = number } ∷ entered_from scenario site (number + 1) more)
+    (entered_from scenario site (number + 1) more) (h number (omega arith))
     ∙ entered_from-none scenario site (number + 1) more (λ n le. h n (omega (arith, le)))
 
 -- A datagram enters at the one VRF in which the site has an interface.
@@ -204,29 +227,39 @@ entered_from-one : (scenario : Scenario) (site : SiteId) (vrf : VrfId) → ((n :
 entered_from-one scenario site vrf h number [] low high = absurd (omega (arith, low, high))
 entered_from-one scenario site vrf h number (first ∷ more) low high = elim (cases_lt number vrf.0) [
   | inl below ↦
-      cond-false (enters_number scenario site number) (record { 0 = number } ∷ entered_from scenario site (number + 1) more) (entered_from scenario site (number + 1) more) (h number ∙ ne_eqb vrf.0 number (λ e. omega (arith, e, below)))
+      cond-false (enters_number scenario site number) (record { 0 = number } ∷ entered_from scenario site (number + 1) more)
+      (entered_from scenario site (number + 1) more) (h number ∙ ne_eqb vrf.0 number (λ e. omega (arith, e, below)))
       ∙ entered_from-one scenario site vrf h (number + 1) more (omega (arith, below)) (omega (arith, high))
   | inr from ↦
       let same_number : vrf.0 ≡ number = omega (arith, from, low) in
       let this : record { 0 = number } ≡ vrf = ap (λ n. record { 0 = n }) (sym same_number) in
-      let none : entered_from scenario site (number + 1) more ≡ [] = entered_from-none scenario site (number + 1) more (λ n le. h n ∙ ne_eqb vrf.0 n (λ e. omega (arith, e, le, same_number))) in
-      cond-true (enters_number scenario site number) (record { 0 = number } ∷ entered_from scenario site (number + 1) more) (entered_from scenario site (number + 1) more) (h number ∙ eq-eqb vrf.0 number same_number)
+      let none : entered_from scenario site (number + 1) more ≡ [] =
+      entered_from-none scenario site (number + 1) more (λ n le. h n ∙ ne_eqb vrf.0 n (λ e. omega (arith, e, le, same_number))) in
+      cond-true (enters_number scenario site number) (record { 0 = number } ∷ entered_from scenario site (number + 1) more)
+      (entered_from scenario site (number + 1) more) (h number ∙ eq-eqb vrf.0 number same_number)
       ∙ cc
 ]
 
 -- A site's datagrams enter at the VRF of its first interface alone.
-pub entered-one : (scenario : Scenario) → Rules scenario → HasOneEdge scenario → (site : SiteId) → entered scenario site ≡ option_to_list (vrf_of_site scenario site)
+pub entered-one : (scenario : Scenario) → Rules scenario → HasOneEdge scenario → (site : SiteId)
+    → entered scenario site ≡ option_to_list (vrf_of_site scenario site)
 entered-one scenario rules one site = found (find (is_of_site site) scenario.ifaces) refl
   where
-    found : (o : Option Iface) → find (is_of_site site) scenario.ifaces ≡ o → entered scenario site ≡ option_to_list (option_map (λ iface. iface.vrf) o)
-    found None d = entered_from-none scenario site 0 scenario.vrfs (λ n le. none-from_each (λ iface. is_of_site site iface && is_of_vrf (record { 0 = n }) iface) scenario.ifaces (λ place value e t.
-        false≢true (sym (none-from_find (is_of_site site) scenario.ifaces d) ∙ any-from_at (is_of_site site) scenario.ifaces place value e (and_parts (is_of_site site value) (is_of_vrf (record { 0 = n }) value) t).0)))
+    found : (o : Option Iface) → find (is_of_site site) scenario.ifaces ≡ o
+        → entered scenario site ≡ option_to_list (option_map (λ iface. iface.vrf) o)
+    found None d =
+        entered_from-none scenario site 0 scenario.vrfs
+        (λ n le. none-from_each (λ iface. is_of_site site iface && is_of_vrf (record { 0 = n }) iface) scenario.ifaces (λ place value e t.
+        false≢true (sym (none-from_find (is_of_site site) scenario.ifaces d)
+        ∙ any-from_at (is_of_site site) scenario.ifaces place value e
+        (and_parts (is_of_site site value) (is_of_vrf (record { 0 = n }) value) t).0)))
     found (Some first) d =
         let is = vrf_of_first scenario rules one site first d in
         entered_from-one scenario site first.vrf (enters_in_one scenario site first.vrf is) 0 scenario.vrfs (omega arith) (omega (arith, is.known))
 
 -- An interface is in a VRF where it is of the VRF's VPN.
-pub vrf_is_vpn : (scenario : Scenario) → Rules scenario → HasOneEdge scenario → (vrf : VrfId) → vrf.0 < length scenario.vrfs → (i : ℕ) (iface : Iface) →
+pub vrf_is_vpn : (scenario : Scenario) → Rules scenario → HasOneEdge scenario → (vrf : VrfId) → vrf.0 < length scenario.vrfs
+    → (i : ℕ) (iface : Iface) →
     slice_get scenario.ifaces i ≡ Some iface → is_of_vrf vrf iface ≡ same_vpn scenario vrf iface.vrf
 vrf_is_vpn scenario rules one vrf known i iface e = both_ways (is_of_vrf vrf iface) (same_vpn scenario vrf iface.vrf)
     (λ t. vpn_of_one scenario vrf iface.vrf (sym (eqb-true iface.vrf.0 vrf.0 t)))
@@ -236,11 +269,13 @@ vrf_is_vpn scenario rules one vrf known i iface e = both_ways (is_of_vrf vrf ifa
 pub attached_at-vpn : (scenario : Scenario) → Rules scenario → HasOneEdge scenario → (vrf : VrfId) → vrf.0 < length scenario.vrfs → (site : SiteId) →
     is_attached_at scenario vrf site ≡ is_attached scenario vrf site
 attached_at-vpn scenario rules one vrf known site =
-    any-same (λ iface. is_of_site site iface && is_of_vrf vrf iface) (λ iface. is_of_site site iface && same_vpn scenario vrf iface.vrf) scenario.ifaces
+    any-same (λ iface. is_of_site site iface && is_of_vrf vrf iface) (λ iface. is_of_site site iface && same_vpn scenario vrf iface.vrf)
+    scenario.ifaces
     (λ i iface e. ap (λ b. is_of_site site iface && b) (vrf_is_vpn scenario rules one vrf known i iface e))
 
 -- The local choice of a VRF is the home of the source in its VPN.
-pub local_choice-home : (scenario : Scenario) → Rules scenario → HasOneEdge scenario → (vrf : VrfId) → vrf.0 < length scenario.vrfs → (source : Addr) →
+pub local_choice-home : (scenario : Scenario) → Rules scenario → HasOneEdge scenario → (vrf : VrfId) → vrf.0 < length scenario.vrfs
+    → (source : Addr) →
     local_choice scenario vrf source ≡ home scenario vrf source
 local_choice-home scenario rules one vrf known source =
     let same_sites : is_attached_at scenario vrf ≡ is_attached scenario vrf = λ k site. attached_at-vpn scenario rules one vrf known site k in

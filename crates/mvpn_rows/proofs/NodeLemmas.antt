@@ -10,7 +10,8 @@ abbrev edge_or : Option Node → Bool
 edge_or None = false
 edge_or (Some node) = node.edge
 
-module _ (scenario : Scenario) (nodes : List Node) (are : nodes ≡ scenario.nodes) (place : ℕ) (n : NodeId) (number : place ≡ n.0) (node : Bor Node) (item : IsItemAt nodes place (Some node)) where
+module _ (scenario : Scenario) (nodes : List Node) (are : nodes ≡ scenario.nodes) (place : ℕ) (n : NodeId) (number : place ≡ n.0) (node : Bor Node)
+    (item : IsItemAt nodes place (Some node)) where
   pub node_at : slice_get scenario.nodes n.0 ≡ Some node.now
   node_at = (λ i. slice_get (sym are i) (sym number i)) ∙ slice_get_read nodes (length nodes) place node.now refl item.3.0 item.1
 

@@ -4,8 +4,14 @@ use mvpn_model::{History, asks, home, receivers};
 use scenario_text::read;
 use std::test::Fail;
 
-const TEXT: &[u8] =
-    b"edge E 192.0.2.1\nvrf V E 1 1:1 1:1 highest\nsite X 10.1.0.0/16\nsite Y 10.2.0.0/16\niface I V X 10.1.0.1\niface J V Y 10.2.0.1\nevents\njoin J 10.1.0.9 232.1.1.1";
+const TEXT: &[u8] = b"edge E 192.0.2.1\n\
+    vrf V E 1 1:1 1:1 highest\n\
+    site X 10.1.0.0/16\n\
+    site Y 10.2.0.0/16\n\
+    iface I V X 10.1.0.1\n\
+    iface J V Y 10.2.0.1\n\
+    events\n\
+    join J 10.1.0.9 232.1.1.1";
 
 const SOURCE: Addr = Addr::V4([10, 1, 0, 9]);
 

@@ -5,8 +5,16 @@ use mvpn_tool::{End, World, run};
 use std::test::Fail;
 
 /// An edge, a core node and another edge. The sessions are up, and no timer has run.
-const TEXT: &[u8] =
-    b"edge E 192.0.2.1\ncore C 192.0.2.9\nedge F 192.0.2.2\nlink E C 1\nlink F C 1\nvrf V E 1 1:1 1:1 highest\nevents\nheal\nsettle\nselect V 10.1.0.9 232.1.1.1";
+const TEXT: &[u8] = b"edge E 192.0.2.1\n\
+    core C 192.0.2.9\n\
+    edge F 192.0.2.2\n\
+    link E C 1\n\
+    link F C 1\n\
+    vrf V E 1 1:1 1:1 highest\n\
+    events\n\
+    heal\n\
+    settle\n\
+    select V 10.1.0.9 232.1.1.1";
 
 /// How many selections the edge of that number has, where the scenario has such an edge.
 fn selections_at(world: &World, node: NodeId) -> Option<u32> {

@@ -39,7 +39,8 @@ long_fault octets more fault long (IsUnmarked short none is) = absurd (omega (ar
 long_fault octets more fault long (OfScript short front behind cut e) = absurd (omega (arith, long, short))
 long_fault octets more fault long (OfReport short front behind cut script e stray is) = absurd (omega (arith, long, short))
 
-long_read : (octets more : List ℕ) (result : Result AuditText ReadFault) → 16777216 < length octets → IsRead octets result → IsRead (octets ++ more) result
+long_read : (octets more : List ℕ) (result : Result AuditText ReadFault) → 16777216 < length octets → IsRead octets result
+    → IsRead (octets ++ more) result
 long_read octets more (Ok found) long r = let short = r.short in absurd (omega (arith, long, short))
 long_read octets more (Err (faults.Text fault)) long r = long_fault octets more fault long r
 long_read octets more (Err faults.NoMemory) long r = tt
@@ -50,7 +51,8 @@ pub record InputRead (left : Option (List ℕ)) (result : Result AuditText ReadF
   pub is_input : IsInput left input
   pub is : IsRead input result
 
-pub input_read : (left new : Option (List ℕ)) (octets : List ℕ) (result : Result AuditText ReadFault) → IsReadUpTo 16777216 left new octets → IsRead octets result → InputRead left result
+pub input_read : (left new : Option (List ℕ)) (octets : List ℕ) (result : Result AuditText ReadFault) → IsReadUpTo 16777216 left new octets
+    → IsRead octets result → InputRead left result
 input_read None new octets result h r = record { input = octets; is_input = tt; is = r }
 input_read (Some xs) None octets result h r = absurd h.taken
 input_read (Some xs) (Some ys) octets result h r = elim (cases_lt 16777216 (length octets)) [
@@ -60,7 +62,8 @@ input_read (Some xs) (Some ys) octets result h r = elim (cases_lt 16777216 (leng
 
 -- ---- the numbers of lines
 
-last_within : (end : ℕ) (timed : Timed) (more : List Timed) → timed.line < end → AllByRecursion (λ timed. timed.line < end) more → last_line (timed ∷ more) < end
+last_within : (end : ℕ) (timed : Timed) (more : List Timed) → timed.line < end → AllByRecursion (λ timed. timed.line < end) more
+    → last_line (timed ∷ more) < end
 last_within end timed [] h all = h
 last_within end timed (next ∷ more) h all = last_within end next more all.0 all.1
 
@@ -68,7 +71,8 @@ last_before : (end : ℕ) (events : List Timed) → 0 < end → AllByRecursion (
 last_before end [] h all = h
 last_before end (timed ∷ more) h all = last_within end timed more all.0 all.1
 
-lines_rise : (scenario : Scenario) (bound number end : ℕ) (all : List (List ℕ)) (read : List Numbered) → bound < number → end ≡ number + length all → AreWritten scenario number all read → LinesRise bound read end
+lines_rise : (scenario : Scenario) (bound number end : ℕ) (all : List (List ℕ)) (read : List Numbered) → bound < number → end ≡ number + length all
+    → AreWritten scenario number all read → LinesRise bound read end
 lines_rise scenario bound number end [] [] h e w = omega (arith, h, e)
 lines_rise scenario bound number end [] (one ∷ more) h e w = absurd w
 lines_rise scenario bound number end (octets ∷ rest) [] h e w = absurd w
@@ -80,7 +84,8 @@ pub comes_after : (text : List ℕ) (script : Script) (report : ReportLines) →
 comes_after text script report h =
     let front = front_rules h.front script h.scripted in
     let last : last_line script.events < script.end = last_before script.end script.events (omega (arith, front.1)) front.0.last in
-    lines_rise script.scenario (last_line script.events) (length h.front + 2) report.end h.behind report.lines (omega (arith, last, front.1)) h.end h.reported
+    lines_rise script.scenario (last_line script.events) (length h.front + 2) report.end h.behind report.lines (omega (arith, last, front.1)) h.end
+    h.reported
 
 -- ---- how an audit ends
 
@@ -104,20 +109,25 @@ verdict_not_label (Err stop) (inl t) e = absurd cc
 verdict_not_label (Err stop) (inr t) e = absurd cc
 
 -- The text had a fault.
-pub ends_faulty : (left old new : Option (List ℕ)) (fault : TextFault) (stop : Stop) → InputRead left (Err (faults.Text fault)) → (stop ≡ stops.Text → Appended old new (fault_text fault)) →
+pub ends_faulty : (left old new : Option (List ℕ)) (fault : TextFault) (stop : Stop) → InputRead left (Err (faults.Text fault))
+    → (stop ≡ stops.Text → Appended old new (fault_text fault)) →
     (stop ≡ stops.Text) ⊎ AppendedPart old new (fault_text fault) → (stop ≢ stops.Source) × (stop ≢ stops.Label) → AuditEnds left (Err stop) old new
 ends_faulty left old new fault stops.Text r w p n = record { input = r.input; is_input = r.is_input; fault = fault; has = r.is; text = w refl }
 ends_faulty left old new fault stops.Source r w p n = absurd (n.0 refl)
 ends_faulty left old new fault stops.Sink r w (inl t) n = absurd cc
-ends_faulty left old new fault stops.Sink r w (inr p) n = record { input = r.input; is_input = r.is_input; text = fault_text fault; tells = OfFault fault r.is refl; part = p }
+ends_faulty left old new fault stops.Sink r w (inr p) n =
+    record { input = r.input; is_input = r.is_input; text = fault_text fault; tells = OfFault fault r.is refl; part = p }
 ends_faulty left old new fault stops.Memory r w (inl t) n = absurd cc
-ends_faulty left old new fault stops.Memory r w (inr p) n = inr (record { input = r.input; is_input = r.is_input; text = fault_text fault; tells = OfFault fault r.is refl; part = p })
+ends_faulty left old new fault stops.Memory r w (inr p) n =
+    inr (record { input = r.input; is_input = r.is_input; text = fault_text fault; tells = OfFault fault r.is refl; part = p })
 ends_faulty left old new fault stops.Label r w p n = absurd (n.1 refl)
 
 -- The report was judged.
-pub ends_judged : (left old new : Option (List ℕ)) (found : AuditText) (result : Result Verdict Stop) → InputRead left (Ok found) → VerdictEnds found.script found.report result old new →
+pub ends_judged : (left old new : Option (List ℕ)) (found : AuditText) (result : Result Verdict Stop) → InputRead left (Ok found)
+    → VerdictEnds found.script found.report result old new →
     IfErr result (λ e. (e ≡ stops.Sink) ⊎ (e ≡ stops.Memory)) → AuditEnds left result old new
-ends_judged left old new found (Ok verdict) r v o = record { input = r.input; is_input = r.is_input; script = found.script; report = found.report; said = r.is; is = v.0; text = v.1 }
+ends_judged left old new found (Ok verdict) r v o =
+    record { input = r.input; is_input = r.is_input; script = found.script; report = found.report; said = r.is; is = v.0; text = v.1 }
 ends_judged left old new found (Err stops.Sink) r v o =
     record { input = r.input; is_input = r.is_input; text = _; tells = OfVerdict found.script found.report v.verdict r.is v.is refl; part = v.part }
 ends_judged left old new found (Err stops.Memory) r v o = inl v
@@ -154,13 +164,16 @@ module _ (left rest old new : Option (List ℕ)) (source_before source_now sink_
   }
 
   -- The script and the report that were judged are those that the source tells.
-  same_report : (verdict : Verdict) (input : List ℕ) (script : Script) (report : ReportLines) → (j : Judged left old new verdict) → left ≡ Some input → Says input script report → (j.script ≡ script) × (j.report ≡ report)
+  same_report : (verdict : Verdict) (input : List ℕ) (script : Script) (report : ReportLines) → (j : Judged left old new verdict) → left ≡ Some input
+      → Says input script report → (j.script ≡ script) × (j.report ≡ report)
   same_report verdict input script report j tells said =
-      said_once input j.script script j.report report (subst (λ (text : List ℕ). Says text j.script j.report) (read_is left j.input input j.is_input tells) j.said) said
+      said_once input j.script script j.report report
+      (subst (λ (text : List ℕ). Says text j.script j.report) (read_is left j.input input j.is_input tells) j.said) said
 
   judged_whole : (verdict : Verdict) (input : List ℕ) (fault : TextFault) → Judged left old new verdict → left ≡ Some input → HasFault input fault → ⊥
   judged_whole verdict input fault j tells has =
-      said_whole input j.script j.report fault (subst (λ (text : List ℕ). Says text j.script j.report) (read_is left j.input input j.is_input tells) j.said) has
+      said_whole input j.script j.report fault (subst (λ (text : List ℕ). Says text j.script j.report) (read_is left j.input input j.is_input tells)
+      j.said) has
 
   pub yes_ended : Judged left old new verdicts.Yes → AuditRun (ending 0)
   yes_ended j = record {
@@ -169,7 +182,8 @@ module _ (left rest old new : Option (List ℕ)) (source_before source_now sink_
     eight = λ e. absurd (omega (arith, e));
     eight_always = λ script report line reason gives offends.
         let same = same_report verdicts.Yes gives.0 script report j gives.1 gives.2 in
-        absurd (j.is line reason (subst (λ (s : Script). Offends s j.report line reason) (sym same.0) (subst (λ (r : ReportLines). Offends script r line reason) (sym same.1) offends)));
+        absurd (j.is line reason (subst (λ (s : Script). Offends s j.report line reason) (sym same.0)
+        (subst (λ (r : ReportLines). Offends script r line reason) (sym same.1) offends)));
     three = λ e. absurd (omega (arith, e));
     three_always = λ input fault tells has. absurd (judged_whole verdicts.Yes input fault j tells has);
     four = λ e. absurd (omega (arith, e));
@@ -188,7 +202,8 @@ module _ (left rest old new : Option (List ℕ)) (source_before source_now sink_
     zero = λ e. absurd (omega (arith, e));
     zero_always = λ script report gives none.
         let same = same_report (verdicts.No line reason) gives.0 script report j gives.1 gives.2 in
-        absurd (none line reason (subst (λ (s : Script). Offends s report line reason) same.0 (subst (λ (r : ReportLines). Offends j.script r line reason) same.1 j.is.offends)));
+        absurd (none line reason (subst (λ (s : Script). Offends s report line reason) same.0
+        (subst (λ (r : ReportLines). Offends j.script r line reason) same.1 j.is.offends)));
     eight = λ e. (line, reason, j);
     eight_always = λ script report other another gives offends. inl refl;
     three = λ e. absurd (omega (arith, e));
@@ -204,9 +219,11 @@ module _ (left rest old new : Option (List ℕ)) (source_before source_now sink_
     worldless = refl;
   }
 
-  faulty_not : (script : Script) (report : ReportLines) (input : List ℕ) → AuditsFaulty left old new → left ≡ Some input → Says input script report → ⊥
+  faulty_not : (script : Script) (report : ReportLines) (input : List ℕ) → AuditsFaulty left old new → left ≡ Some input → Says input script report
+      → ⊥
   faulty_not script report input f tells said =
-      said_whole input script report f.fault said (subst (λ (text : List ℕ). HasFault text f.fault) (read_is left f.input input f.is_input tells) f.has)
+      said_whole input script report f.fault said (subst (λ (text : List ℕ). HasFault text f.fault) (read_is left f.input input f.is_input tells)
+      f.has)
 
   pub fault_ended : AuditsFaulty left old new → AuditRun (ending 3)
   fault_ended f = record {

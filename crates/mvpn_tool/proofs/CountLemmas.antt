@@ -43,5 +43,6 @@ counts_by a b outs refused calm = λ i. record { outs = outs i; refused = refuse
 -- All lines of a report, one by one.
 pub counted_all : (all : List ReportLine) → fold with_line no_counts all ≡ counts_in all
 counted_all all =
-    counts_by (fold with_line no_counts all) (counts_in all) (outs_of all no_counts ∙ counted_by is_out all) (refused_of all no_counts ∙ counted_by is_refused all)
+    counts_by (fold with_line no_counts all) (counts_in all) (outs_of all no_counts ∙ counted_by is_out all)
+    (refused_of all no_counts ∙ counted_by is_refused all)
     (calm_of all no_counts ∙ counted_by is_calm all)

@@ -37,7 +37,8 @@ both_true b c x y z h k = rw (h, k) refl
 long_alike : {X : Type 0} (octets more : List ℕ) (long x y : X) → 16777216 < length octets
     → cond (nat_lt 16777216 (length (octets ++ more))) long x ≡ cond (nat_lt 16777216 (length octets)) long y
 long_alike octets more long x y h =
-    both_true (nat_lt 16777216 (length (octets ++ more))) (nat_lt 16777216 (length octets)) long x y (lt-ltb 16777216 (length (octets ++ more)) (omega (arith, length-append octets more, h))) (lt-ltb 16777216 (length octets) h)
+    both_true (nat_lt 16777216 (length (octets ++ more))) (nat_lt 16777216 (length octets)) long x y
+    (lt-ltb 16777216 (length (octets ++ more)) (omega (arith, length-append octets more, h))) (lt-ltb 16777216 (length octets) h)
 
 -- So each text that a command reads is bounded.
 pub script-bounded : IsBounded script_of
@@ -56,7 +57,8 @@ pub probe-bounded : IsBounded probe_of
 probe-bounded octets h more = long_alike octets more _ _ _ h
 
 -- What was read says what the whole input says.
-pub says-alike : {X : Type 0} (says : List ℕ → X) (left new : Option (List ℕ)) (octets : List ℕ) → IsBounded says → IsReadUpTo 16777216 left new octets → SaysAlike says left octets
+pub says-alike : {X : Type 0} (says : List ℕ → X) (left new : Option (List ℕ)) (octets : List ℕ) → IsBounded says
+    → IsReadUpTo 16777216 left new octets → SaysAlike says left octets
 says-alike says None new octets b h = record { input = octets; is_input = tt; same = refl }
 says-alike says (Some xs) None octets b h = absurd h.taken
 says-alike says (Some xs) (Some ys) octets b h = elim (cases_lt 16777216 (length octets)) [
@@ -84,23 +86,32 @@ takes left new (Err stops.Memory) t = tt
 takes left new (Err stops.Label) t = t
 
 -- The text had a fault.
-pub ends-fault : (output : Output) (left old new : Option (List ℕ)) (octets : List ℕ) (fault : TextFault) (stop : Stop) → SaysAlike script_of left octets → script_of octets ≡ Err fault →
-    (stop ≡ stops.Text → Appended old new (fault_text fault)) → (stop ≡ stops.Text) ⊎ AppendedPart old new (fault_text fault) → (stop ≢ stops.Source) × (stop ≢ stops.Label) → ReplayEnds output left (Err stop) old new
-ends-fault output left old new octets fault stops.Text a e w p n = record { input = a.input; is_input = a.is_input; fault = fault; said = a.same ∙ e; text = w refl }
+pub ends-fault : (output : Output) (left old new : Option (List ℕ)) (octets : List ℕ) (fault : TextFault) (stop : Stop)
+    → SaysAlike script_of left octets → script_of octets ≡ Err fault →
+    (stop ≡ stops.Text → Appended old new (fault_text fault)) → (stop ≡ stops.Text) ⊎ AppendedPart old new (fault_text fault)
+    → (stop ≢ stops.Source) × (stop ≢ stops.Label) → ReplayEnds output left (Err stop) old new
+ends-fault output left old new octets fault stops.Text a e w p n =
+    record { input = a.input; is_input = a.is_input; fault = fault; said = a.same ∙ e; text = w refl }
 ends-fault output left old new octets fault stops.Source a e w p n = absurd (n.0 refl)
 ends-fault output left old new octets fault stops.Sink a e w (inl t) n = absurd cc
 ends-fault output left old new octets fault stops.Sink a e w (inr p) n = record { input = a.input; is_input = a.is_input; part = rw (a.same, e) p }
 ends-fault output left old new octets fault stops.Memory a e w (inl t) n = absurd cc
-ends-fault output left old new octets fault stops.Memory a e w (inr p) n = inr (record { input = a.input; is_input = a.is_input; part = rw (a.same, e) p })
+ends-fault output left old new octets fault stops.Memory a e w (inr p) n =
+    inr (record { input = a.input; is_input = a.is_input; part = rw (a.same, e) p })
 ends-fault output left old new octets fault stops.Label a e w p n = absurd (n.1 refl)
 
 -- The script was replayed.
-pub ends-script : (output : Output) (left old new : Option (List ℕ)) (octets : List ℕ) (script : Script) (result : Result WorldView Stop) → SaysAlike script_of left octets → script_of octets ≡ Ok script →
-    Replays output script result old new → IfErr result (λ e. (e ≡ stops.Label) ⊎ (e ≡ stops.Sink) ⊎ (e ≡ stops.Memory)) → ReplayEnds output left result old new
-ends-script output left old new octets script (Ok view) a e r o = record { input = a.input; is_input = a.is_input; script = script; said = a.same ∙ e; holds = r }
-ends-script output left old new octets script (Err stops.Label) a e r o = record { input = a.input; is_input = a.is_input; script = script; said = a.same ∙ e; holds = r }
+pub ends-script : (output : Output) (left old new : Option (List ℕ)) (octets : List ℕ) (script : Script) (result : Result WorldView Stop)
+    → SaysAlike script_of left octets → script_of octets ≡ Ok script →
+    Replays output script result old new → IfErr result (λ e. (e ≡ stops.Label) ⊎ (e ≡ stops.Sink) ⊎ (e ≡ stops.Memory))
+    → ReplayEnds output left result old new
+ends-script output left old new octets script (Ok view) a e r o =
+    record { input = a.input; is_input = a.is_input; script = script; said = a.same ∙ e; holds = r }
+ends-script output left old new octets script (Err stops.Label) a e r o =
+    record { input = a.input; is_input = a.is_input; script = script; said = a.same ∙ e; holds = r }
 ends-script output left old new octets script (Err stops.Sink) a e r o = record { input = a.input; is_input = a.is_input; part = rw (a.same, e) r }
-ends-script output left old new octets script (Err stops.Memory) a e r o = inr (record { input = a.input; is_input = a.is_input; part = rw (a.same, e) r })
+ends-script output left old new octets script (Err stops.Memory) a e r o =
+    inr (record { input = a.input; is_input = a.is_input; part = rw (a.same, e) r })
 ends-script output left old new octets script (Err stops.Text) a e r (inl t) = absurd cc
 ends-script output left old new octets script (Err stops.Text) a e r (inr (inl t)) = absurd cc
 ends-script output left old new octets script (Err stops.Text) a e r (inr (inr t)) = absurd cc

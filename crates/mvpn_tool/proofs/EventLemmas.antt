@@ -50,7 +50,8 @@ not_label stop (inl sink) e = absurd cc
 not_label stop (inr memory) e = absurd cc
 
 -- Lines that name what is there and keep to their bounds are known.
-all_known : (scenario : Scenario) (all : List ReportLine) → AllByRecursion (IsLineOf scenario) all → AllByRecursion HasTypeBounds all → AllByRecursion (IsKnown scenario) all
+all_known : (scenario : Scenario) (all : List ReportLine) → AllByRecursion (IsLineOf scenario) all → AllByRecursion HasTypeBounds all
+    → AllByRecursion (IsKnown scenario) all
 all_known scenario [] names bounds = tt
 all_known scenario (line ∷ more) names bounds = ((names.0, bounds.0), all_known scenario more names.1 bounds.1)
 
@@ -66,37 +67,55 @@ module _ (output : Output) (scenario : Scenario) (timed : Timed) (view : WorldVi
   written place own = event_output output scenario place.script.events (report_of place.trace) place.count own
 
   abbrev pub reached : Here → IsReached timed view
-  reached place = record { cores = place.cores; script = place.script; count = place.count; trace = place.trace; world = place.state; behind = place.behind; next = place.next }
+  reached place =
+      record {
+        cores = place.cores;
+        script = place.script;
+        count = place.count;
+        trace = place.trace;
+        world = place.state;
+        behind =
+            place.behind;
+        next = place.next;
+      }
 
   module _ (now : WorldView) (own new_lines : List ReportLine) (none : own ≡ []) where
     -- The lines that a step made are those of its event.
-    step_lines : (place : Here) → (a : Advances place.cores place.script.scenario (take place.count place.script.events) place.trace place.state timed own new_lines now) → new_lines ≡ lines_in a.acts
+    step_lines : (place : Here) → (a : Advances place.cores place.script.scenario (take place.count place.script.events) place.trace place.state timed
+        own new_lines now) → new_lines ≡ lines_in a.acts
     step_lines place a = a.told ∙ ap (λ (l : List ReportLine). l ++ lines_in a.acts) none
 
-    made_lines : (place : Here) → Advances place.cores place.script.scenario (take place.count place.script.events) place.trace place.state timed own new_lines now →
+    made_lines : (place : Here) → Advances place.cores place.script.scenario (take place.count place.script.events) place.trace place.state timed own
+        new_lines now →
         new_lines ≡ own_lines place
     made_lines place a = step_lines place a ∙ ap (event_lines timed.line) (sym a.is)
 
-    halt_lines : (n : NodeId) (place : Here) → (a : Lacks place.state timed n own new_lines) → new_lines ++ lines.Halt timed.line n ∷ [] ≡ lines_in a.acts ++ lines.Halt timed.line n ∷ []
-    halt_lines n place a = ap (λ (l : List ReportLine). l ++ lines.Halt timed.line n ∷ []) (a.told ∙ ap (λ (l : List ReportLine). l ++ lines_in a.acts) none)
+    halt_lines : (n : NodeId) (place : Here) → (a : Lacks place.state timed n own new_lines)
+        → new_lines ++ lines.Halt timed.line n ∷ [] ≡ lines_in a.acts ++ lines.Halt timed.line n ∷ []
+    halt_lines n place a =
+        ap (λ (l : List ReportLine). l ++ lines.Halt timed.line n ∷ []) (a.told ∙ ap (λ (l : List ReportLine). l ++ lines_in a.acts) none)
 
-    lacking_lines : (n : NodeId) (place : Here) → Lacks place.state timed n own new_lines → new_lines ++ lines.Halt timed.line n ∷ [] ≡ own_lines place
+    lacking_lines : (n : NodeId) (place : Here) → Lacks place.state timed n own new_lines
+        → new_lines ++ lines.Halt timed.line n ∷ [] ≡ own_lines place
     lacking_lines n place a = halt_lines n place a ∙ ap (event_lines timed.line) (sym a.is)
 
     module _ (steps : Steps timed.line timed.event view now own new_lines (Ok tt)) where
-      advance : (place : Here) → Advances place.cores place.script.scenario (take place.count place.script.events) place.trace place.state timed own new_lines now
+      advance : (place : Here) → Advances place.cores place.script.scenario (take place.count place.script.events) place.trace place.state timed own
+          new_lines now
       advance place = steps.made place.cores place.script.scenario (take place.count place.script.events) place.trace place.state place.behind.is
 
       pub made_are_known : (place : Here) → All (IsLineOf scenario) (own_lines place) → All (IsLineOf scenario) new_lines
       made_are_known place known = subst (All (IsLineOf scenario)) (sym (made_lines place (advance place))) known
 
       -- What is to be written of them can be written.
-      pub made_may_be_written : (place : Here) → All IsHop (event_hops place.script.events (report_of place.trace) place.count (own_lines place)) → MayWrite output timed so_far new_lines
+      pub made_may_be_written : (place : Here) → All IsHop (event_hops place.script.events (report_of place.trace) place.count (own_lines place))
+          → MayWrite output timed so_far new_lines
       made_may_be_written place spelled =
           let a = advance place in
           subst (λ (l : List ReportLine). MayWrite output timed so_far l) (sym (step_lines place a))
           (may_write scenario timed view so_far output place a.acts a.next a.is
-          (subst (λ (l : List ReportLine). All IsHop (event_hops place.script.events (report_of place.trace) place.count l)) (sym (made_lines place a) ∙ step_lines place a) spelled))
+          (subst (λ (l : List ReportLine). All IsHop (event_hops place.script.events (report_of place.trace) place.count l))
+          (sym (made_lines place a) ∙ step_lines place a) spelled))
 
       -- What is written by what is kept is what is to be written of the event.
       made_written : (place : Here) → output_after output scenario timed so_far new_lines ≡ written place (own_lines place)
@@ -108,9 +127,11 @@ module _ (output : Output) (scenario : Scenario) (timed : Timed) (view : WorldVi
 
       -- The step was made, what is to be written of it was written, and it is kept.
       pub event_made : ((place : Here) → All (IsLineOf scenario) (own_lines place)) → All HasTypeBounds new_lines →
-          (kept_now : SoFar) (old new : Option (List ℕ)) (result : Answer) → OnOk result (Appended old new (output_after output scenario timed so_far new_lines)) →
+          (kept_now : SoFar) (old new : Option (List ℕ)) (result : Answer)
+          → OnOk result (Appended old new (output_after output scenario timed so_far new_lines)) →
           OnOk result (kept_now ≡ kept_after output timed so_far new_lines) →
-          OnErr result (AppendedPart old new (output_after output scenario timed so_far new_lines)) → IfErr result (λ stop. (stop ≡ stops.Sink) ⊎ (stop ≡ stops.Memory)) →
+          OnErr result (AppendedPart old new (output_after output scenario timed so_far new_lines))
+          → IfErr result (λ stop. (stop ≡ stops.Sink) ⊎ (stop ≡ stops.Memory)) →
           EventEnds output scenario timed view now so_far kept_now old new result
       event_made names bounds kept_now old new (Ok tt) whole keeps part others = record {
         made = λ place.
@@ -121,10 +142,13 @@ module _ (output : Output) (scenario : Scenario) (timed : Timed) (view : WorldVi
               is = a.is;
               behind = reached_more timed view (reached place) own new_lines now a;
               known = subst (AllByRecursion (IsKnown scenario)) (step_lines place a)
-                  (all_known scenario new_lines (recursion_from_All (IsLineOf scenario) new_lines (made_are_known place (names place))) (recursion_from_All HasTypeBounds new_lines bounds));
+                  (all_known scenario new_lines (recursion_from_All (IsLineOf scenario) new_lines (made_are_known place (names place)))
+                  (recursion_from_All HasTypeBounds new_lines bounds));
               text = subst (λ (l : List ℕ). Appended old new l) (made_written place) whole;
-              kept = subst (λ (k : SoFar). IsKept output place.script.events (report_of (place.trace ++ traced place.count a.acts)) (place.count + 1) k)
-                  (sym (keeps ∙ ap (kept_after output timed so_far) (step_lines place a))) (kept_then scenario timed view so_far output place a.acts a.next a.is);
+              kept = subst (λ (k : SoFar). IsKept output place.script.events (report_of (place.trace ++ traced place.count a.acts)) (place.count + 1)
+                  k)
+                  (sym (keeps ∙ ap (kept_after output timed so_far) (step_lines place a)))
+                  (kept_then scenario timed view so_far output place a.acts a.next a.is);
             };
         lacks = λ e. absurd (not_failed stops.Label e);
         part = tt;
@@ -137,7 +161,9 @@ module _ (output : Output) (scenario : Scenario) (timed : Timed) (view : WorldVi
 
     module _ (n : NodeId) (steps : Steps timed.line timed.event view now own new_lines (Err (halts.NoLabel n))) where
       lacking : (place : Here) → Lacks place.state timed n own new_lines
-      lacking place = steps.lacks n refl place.behind.is.going place.cores place.script.scenario (take place.count place.script.events) place.trace place.state place.behind.is
+      lacking place =
+          steps.lacks n refl place.behind.is.going place.cores place.script.scenario (take place.count place.script.events) place.trace place.state
+          place.behind.is
 
       pub lacking_are_known : (place : Here) → All (IsLineOf scenario) (own_lines place) →
           All (IsLineOf scenario) (new_lines ++ lines.Halt timed.line n ∷ [])
@@ -151,8 +177,10 @@ module _ (output : Output) (scenario : Scenario) (timed : Timed) (view : WorldVi
           ∙ ap (written place) (sym (halt_lines n place a) ∙ lacking_lines n place a)
 
       -- The event lacks a label, and what is to be written of it was written.
-      pub event_lacks : (kept_now : SoFar) (old new : Option (List ℕ)) (stop : Stop) → (stop ≡ stops.Label → Appended old new (halt_output output scenario (new_lines ++ lines.Halt timed.line n ∷ []))) →
-          AppendedPart old new (halt_output output scenario (new_lines ++ lines.Halt timed.line n ∷ [])) → EventEnds output scenario timed view now so_far kept_now old new (Err stop)
+      pub event_lacks : (kept_now : SoFar) (old new : Option (List ℕ)) (stop : Stop)
+          → (stop ≡ stops.Label → Appended old new (halt_output output scenario (new_lines ++ lines.Halt timed.line n ∷ []))) →
+          AppendedPart old new (halt_output output scenario (new_lines ++ lines.Halt timed.line n ∷ []))
+          → EventEnds output scenario timed view now so_far kept_now old new (Err stop)
       event_lacks kept_now old new stop whole part = record {
         made = tt;
         lacks = λ e place.
@@ -167,7 +195,8 @@ module _ (output : Output) (scenario : Scenario) (timed : Timed) (view : WorldVi
       }
 
   -- Memory ran out, and nothing was written.
-  pub event_stops : (now : WorldView) (kept_now : SoFar) (old : Option (List ℕ)) → EventEnds output scenario timed view now so_far kept_now old old (Err stops.Memory)
+  pub event_stops : (now : WorldView) (kept_now : SoFar) (old : Option (List ℕ))
+      → EventEnds output scenario timed view now so_far kept_now old old (Err stops.Memory)
   event_stops now kept_now old = record {
     made = tt;
     lacks = λ e. absurd (not_label stops.Memory (inr refl) (same_stop stops.Memory stops.Label e));

@@ -14,7 +14,8 @@ use Rattle.network_events.proofs.ScriptLemmas.{behind_next, next_clock, next_eve
 use Rattle.mvpn_tool.specs.FirstEvents.{IsBehindFirst, IsReached}
 
 -- nothing has happened yet
-pub behind_none : (script : Script) → ScriptRules script → (view : WorldView) → IsBegun script.scenario view → (cores : Cores) → AreCoresOf script.scenario cores
+pub behind_none : (script : Script) → ScriptRules script → (view : WorldView) → IsBegun script.scenario view → (cores : Cores)
+    → AreCoresOf script.scenario cores
     → IsBehindFirst cores script 0 [] (start script.scenario cores) view
 behind_none script rules view begun cores of_scenario = record { rules = rules; is = begun.behind cores of_scenario }
 

@@ -18,7 +18,8 @@ reads octets = Ok octets
 -- ---- the lines of a file
 
 -- The hops and the fault that a file tells have these lines.
-pub tells_of : (r : Result FileLines NoMemory) (hops read : List CoreHop) (fault : Option (ℕ × PcapFault)) (octets text : List ℕ) → Tells hops fault octets → text ≡ hop_lines read → read ≡ hops
+pub tells_of : (r : Result FileLines NoMemory) (hops read : List CoreHop) (fault : Option (ℕ × PcapFault)) (octets text : List ℕ)
+    → Tells hops fault octets → text ≡ hop_lines read → read ≡ hops
     → IfOk r (λ lines. TellsFault fault text lines.refused lines.text) → IfOk r (λ lines. TellsHops lines.refused octets lines.text)
 tells_of (Err want) hops read fault octets text tells is same h = tt
 tells_of (Ok lines) hops read None octets text tells is same h = rw (h.1) (hops, tells, h.0 ∙ is ∙ ap hop_lines same)
@@ -26,23 +27,28 @@ tells_of (Ok lines) hops read (Some f) octets text tells is same h =
     rw (h.1) (hops, f.0, f.1, tells, h.0 ∙ ap (λ (t : List ℕ). t ++ refused_line f.0 (pcap_word f.1)) (is ∙ ap hop_lines same))
 
 -- Without a fault there is no line of one.
-pub whole_of : (r : Result FileLines NoMemory) (fault : Option (ℕ × PcapFault)) (text : List ℕ) → fault ≡ None → IfOk r (λ lines. TellsFault fault text lines.refused lines.text) → IfOk r (λ lines. lines.refused ≡ false)
+pub whole_of : (r : Result FileLines NoMemory) (fault : Option (ℕ × PcapFault)) (text : List ℕ) → fault ≡ None
+    → IfOk r (λ lines. TellsFault fault text lines.refused lines.text) → IfOk r (λ lines. lines.refused ≡ false)
 whole_of (Err want) fault text e h = tt
 whole_of (Ok lines) None text e h = h.1
 whole_of (Ok lines) (Some f) text e h = absurd cc
 
-pub faulty_of : (r : Result FileLines NoMemory) (fault : Option (ℕ × PcapFault)) (f : ℕ × PcapFault) (text : List ℕ) → fault ≡ Some f → IfOk r (λ lines. TellsFault fault text lines.refused lines.text) → IfOk r (λ lines. lines.refused ≡ true)
+pub faulty_of : (r : Result FileLines NoMemory) (fault : Option (ℕ × PcapFault)) (f : ℕ × PcapFault) (text : List ℕ) → fault ≡ Some f
+    → IfOk r (λ lines. TellsFault fault text lines.refused lines.text) → IfOk r (λ lines. lines.refused ≡ true)
 faulty_of (Err want) fault f text e h = tt
 faulty_of (Ok lines) None f text e h = absurd cc
 faulty_of (Ok lines) (Some g) f text e h = h.1
 
 -- Two slices of one input are one.
-pub same_within : (first second items : List ℕ) → first ≡ items → second ≡ items → within_limit first ≡ reads first → within_limit items ≡ reads second
+pub same_within : (first second items : List ℕ) → first ≡ items → second ≡ items → within_limit first ≡ reads first
+    → within_limit items ≡ reads second
 same_within first second items p q e = sym (ap within_limit p) ∙ e ∙ ap reads (p ∙ sym q)
 
 -- One line more.
-pub lines_more : (hops : List CoreHop) (i : ℕ) (hop : CoreHop) (text new : List ℕ) → i < length hops → hop ≡ get_or hops i hop → text ≡ hop_lines (take i hops) → new ≡ text ++ hop_line hop
+pub lines_more : (hops : List CoreHop) (i : ℕ) (hop : CoreHop) (text new : List ℕ) → i < length hops → hop ≡ get_or hops i hop
+    → text ≡ hop_lines (take i hops) → new ≡ text ++ hop_line hop
     → new ≡ hop_lines (take (i + 1) hops)
 lines_more hops i hop text new lt is so_far h =
     let one : take (i + 1) hops ≡ take i hops ++ hop ∷ [] = take_more hops i hop lt ∙ ap (λ (x : CoreHop). take i hops ++ x ∷ []) (sym is) in
-    h ∙ ap (λ (t : List ℕ). t ++ hop_line hop) so_far ∙ flat_map_more hop_line [] (take i hops) hop ∙ ap (λ (hs : List CoreHop). flat_map hop_line hs) (sym one)
+    h ∙ ap (λ (t : List ℕ). t ++ hop_line hop) so_far ∙ flat_map_more hop_line [] (take i hops) hop
+    ∙ ap (λ (hs : List CoreHop). flat_map hop_line hs) (sym one)

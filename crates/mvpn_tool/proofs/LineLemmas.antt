@@ -14,21 +14,25 @@ use Rattle.run_laws.proofs.rule_laws.Halting.{each_behind}
 
 -- What holds of all parts holds of each.
 module _ {X Y : Type 0} (P : Y → Type 0) (f : X → List Y) where
-  part_each : (xs : List X) (place : ℕ) (x : X) → place < length xs → x ≡ get_or xs place x → AllByRecursion P (flat_map f xs) → AllByRecursion P (f x)
+  part_each : (xs : List X) (place : ℕ) (x : X) → place < length xs → x ≡ get_or xs place x → AllByRecursion P (flat_map f xs)
+      → AllByRecursion P (f x)
   part_each [] place x less is all = absurd (omega (arith, less))
   part_each (y ∷ ys) zero x less is all = subst (λ (z : X). AllByRecursion P (f z)) (sym is) (each_front P (f y) (flat_map f ys) all)
   part_each (y ∷ ys) (suc place) x less is all = part_each ys place x (omega (arith, less)) is (each_behind P (f y) (flat_map f ys) all)
 
 -- The hops of a line have spellings, where those of all lines do.
-pub line_spelled : (clock : ℕ) (sent : List (List ℕ)) (all : List ReportLine) (place : ℕ) (line : ReportLine) → place < length all → line ≡ get_or all place line →
+pub line_spelled : (clock : ℕ) (sent : List (List ℕ)) (all : List ReportLine) (place : ℕ) (line : ReportLine) → place < length all
+    → line ≡ get_or all place line →
     All IsHop (flat_map (hop_by clock sent) all) → All IsHop (hop_by clock sent line)
 line_spelled clock sent all place line less is spelled =
     All-from_recursion IsHop (hop_by clock sent line)
     (part_each IsHop (hop_by clock sent) all place line less is (recursion_from_All IsHop (flat_map (hop_by clock sent) all) spelled))
 
 -- So the hop of a `hop` line has one.
-pub hop_spelled : (clock : ℕ) (sent : List (List ℕ)) (line : ReportLine) (from to : NodeId) (label ttl number : ℕ) (bytes : List ℕ) → line ≡ lines.Hop from to label ttl number →
-    bytes ≡ datagram_octets sent number → All IsHop (hop_by clock sent line) → IsHop (record { tick = clock; from = from; to = to; label = label; ttl = ttl; bytes = bytes })
+pub hop_spelled : (clock : ℕ) (sent : List (List ℕ)) (line : ReportLine) (from to : NodeId) (label ttl number : ℕ) (bytes : List ℕ)
+    → line ≡ lines.Hop from to label ttl number →
+    bytes ≡ datagram_octets sent number → All IsHop (hop_by clock sent line)
+    → IsHop (record { tick = clock; from = from; to = to; label = label; ttl = ttl; bytes = bytes })
 hop_spelled clock sent line from to label ttl number bytes is same spelled =
     let own : List CoreHop = hop_by clock sent (lines.Hop from to label ttl number) in
     let each = recursion_from_All IsHop own (subst (λ (l : ReportLine). All IsHop (hop_by clock sent l)) is spelled) in

@@ -51,7 +51,8 @@ abbrev pub halted_report : List Traced → ℕ → ℕ → List Happened → Nod
 halted_report trace count line acts node = report_of (trace ++ traced count acts) ++ record { event = count; lines = lines.Halt line node ∷ [] } ∷ []
 
 -- Where the event at that place lacks a label, the run halts there.
-pub halts_at : (cores : Cores) (script : Script) (count : ℕ) (trace : List Traced) (state : World) (timed : Timed) (acts : List Happened) (node : NodeId) → AreCoresOf script.scenario cores →
+pub halts_at : (cores : Cores) (script : Script) (count : ℕ) (trace : List Traced) (state : World) (timed : Timed) (acts : List Happened)
+    (node : NodeId) → AreCoresOf script.scenario cores →
     Run cores script (take count script.events) trace state → slice_get script.events count ≡ Some timed → outcome state timed ≡ Halted acts node →
     Halts cores script (halted_report trace count timed.line acts node) node
 halts_at cores script count trace state timed acts node of_scenario run at lacks = record {
@@ -65,19 +66,24 @@ halts_at cores script count trace state timed acts node of_scenario run at lacks
   run = run;
   acts = acts;
   lacks = lacks;
-  whole = ap (λ (n : ℕ). report_of (trace ++ traced n acts) ++ record { event = n; lines = lines.Halt timed.line node ∷ [] } ∷ []) (sym (length_first script.events count timed at));
+  whole = ap (λ (n : ℕ). report_of (trace ++ traced n acts) ++ record { event = n; lines = lines.Halt timed.line node ∷ [] } ∷ [])
+      (sym (length_first script.events count timed at));
 }
 
-known_append : (scenario : Scenario) (first more : List ReportLine) → AllByRecursion (IsKnown scenario) first → AllByRecursion (IsKnown scenario) more → AllByRecursion (IsKnown scenario) (first ++ more)
+known_append : (scenario : Scenario) (first more : List ReportLine) → AllByRecursion (IsKnown scenario) first → AllByRecursion (IsKnown scenario) more
+    → AllByRecursion (IsKnown scenario) (first ++ more)
 known_append scenario [] more a b = b
 known_append scenario (line ∷ first) more a b = (a.0, known_append scenario first more a.1 b)
 
 -- The lines of one event more are known.
-known_more : (scenario : Scenario) (trace : List Traced) (count : ℕ) (acts : List Happened) → AllByRecursion (IsKnown scenario) (lines_of (report_of trace)) → AllByRecursion (IsKnown scenario) (lines_in acts) →
+known_more : (scenario : Scenario) (trace : List Traced) (count : ℕ) (acts : List Happened)
+    → AllByRecursion (IsKnown scenario) (lines_of (report_of trace)) → AllByRecursion (IsKnown scenario) (lines_in acts) →
     AllByRecursion (IsKnown scenario) (lines_of (report_of (trace ++ traced count acts)))
 known_more scenario trace count acts a b =
-    subst (AllByRecursion (IsKnown scenario)) (sym (ap lines_of (report_of-append trace (traced count acts)) ∙ lines_of-append (report_of trace) (report_of (traced count acts))))
-    (known_append scenario (lines_of (report_of trace)) (lines_of (report_of (traced count acts))) a (subst (AllByRecursion (IsKnown scenario)) (sym (lines_at count acts)) b))
+    subst (AllByRecursion (IsKnown scenario)) (sym
+    (ap lines_of (report_of-append trace (traced count acts)) ∙ lines_of-append (report_of trace) (report_of (traced count acts))))
+    (known_append scenario (lines_of (report_of trace)) (lines_of (report_of (traced count acts))) a
+    (subst (AllByRecursion (IsKnown scenario)) (sym (lines_at count acts)) b))
 
 -- nothing happened yet
 nothing_kept : (output : Output) (events : List Timed) (so_far : SoFar) → so_far.clock ≡ 0 → so_far.sent ≡ [] → IsKept output events [] 0 so_far
@@ -97,11 +103,13 @@ module _ (known : KnownRuns) (output : Output) (script : Script) (rules : Script
       record {
         report = on.report;
         is_report = on.is_report;
-        text = subst (AppendedPart old new) (sym begins.1) (part_of_front old new (text []) begins.0 (subst (AppendedPart old new) (sym (output_none known.text output script)) part));
+        text = subst (AppendedPart old new) (sym begins.1)
+            (part_of_front old new (text []) begins.0 (subst (AppendedPart old new) (sym (output_none known.text output script)) part));
       }
 
   -- No event was replayed yet.
-  pub replayed-none : (old new : Option (List ℕ)) (view : WorldView) → IsBegun script.scenario view → Appended old new (front_of output) → (so_far : SoFar) → so_far.clock ≡ 0 → so_far.sent ≡ [] → OnWay output script 0 old new view so_far
+  pub replayed-none : (old new : Option (List ℕ)) (view : WorldView) → IsBegun script.scenario view → Appended old new (front_of output)
+      → (so_far : SoFar) → so_far.clock ≡ 0 → so_far.sent ≡ [] → OnWay output script 0 old new view so_far
   replayed-none old new view begun front so_far clock sent =
       let own = known.cores script.scenario rules.scenario in
       record {
@@ -116,7 +124,8 @@ module _ (known : KnownRuns) (output : Output) (script : Script) (rules : Script
         kept = nothing_kept output script.events so_far clock sent;
       }
 
-  module _ (scenario : Scenario) (names : script.scenario ≡ scenario) (count : ℕ) (timed : Timed) (old mid new : Option (List ℕ)) (view : WorldView) (so_far : SoFar)
+  module _ (scenario : Scenario) (names : script.scenario ≡ scenario) (count : ℕ) (timed : Timed) (old mid new : Option (List ℕ)) (view : WorldView)
+      (so_far : SoFar)
       (at : slice_get script.events count ≡ Some timed) (way : OnWay output script count old mid view so_far) where
     abbrev r : Replayed output script count old mid view
     r = way.replayed
@@ -144,23 +153,29 @@ module _ (known : KnownRuns) (output : Output) (script : Script) (rules : Script
     own = written_at output scenario timed view so_far place_of
 
     own_text : own ≡ own_by (outcome r.state timed)
-    own_text = ap (λ (s : Scenario). event_output output s script.events (report_of r.trace) count (event_lines timed.line (outcome r.state timed))) (sym names)
+    own_text =
+        ap (λ (s : Scenario). event_output output s script.events (report_of r.trace) count (event_lines timed.line (outcome r.state timed)))
+        (sym names)
 
-    more_text : (acts : List Happened) (next : World) → outcome r.state timed ≡ Done acts next → text (report_of (r.trace ++ traced count acts)) ≡ text (report_of r.trace) ++ own
+    more_text : (acts : List Happened) (next : World) → outcome r.state timed ≡ Done acts next
+        → text (report_of (r.trace ++ traced count acts)) ≡ text (report_of r.trace) ++ own
     more_text acts next is =
         output_more known.text r.cores script rules count r.trace r.state r.behind.is.run timed at acts next is output
         ∙ ap (λ (l : List ℕ). text (report_of r.trace) ++ l) (ap own_by (sym is) ∙ sym own_text)
 
     -- One event more.
-    replayed-more : (now : WorldView) (kept_now : SoFar) → GoesOn output scenario timed view so_far place_of mid new now kept_now → OnWay output script (count + 1) old new now kept_now
+    replayed-more : (now : WorldView) (kept_now : SoFar) → GoesOn output scenario timed view so_far place_of mid new now kept_now
+        → OnWay output script (count + 1) old new now kept_now
     replayed-more now kept_now g = record {
       replayed = record {
         cores = r.cores;
         trace = r.trace ++ traced count g.acts;
         state = g.state;
         behind = g.behind;
-        known = known_more script.scenario r.trace count g.acts r.known (subst (λ (s : Scenario). AllByRecursion (IsKnown s) (lines_in g.acts)) (sym names) g.known);
-        text = subst (Appended old new) (sym (more_text g.acts g.state g.is)) (appended-append old mid new (text (report_of r.trace)) own r.text g.text);
+        known = known_more script.scenario r.trace count g.acts r.known
+            (subst (λ (s : Scenario). AllByRecursion (IsKnown s) (lines_in g.acts)) (sym names) g.known);
+        text = subst (Appended old new) (sym (more_text g.acts g.state g.is))
+            (appended-append old mid new (text (report_of r.trace)) own r.text g.text);
       };
       kept = g.kept;
     }
@@ -173,7 +188,8 @@ module _ (known : KnownRuns) (output : Output) (script : Script) (rules : Script
     halts_here : (acts : List Happened) (node : NodeId) → outcome r.state timed ≡ Halted acts node → Halts r.cores script (own_report acts node) node
     halts_here acts node lacks = halts_at r.cores script count r.trace r.state timed acts node r.behind.is.of_scenario r.behind.is.run at lacks
 
-    halted_text : (acts : List Happened) (node : NodeId) → outcome r.state timed ≡ Halted acts node → text (own_report acts node) ≡ text (report_of r.trace) ++ own
+    halted_text : (acts : List Happened) (node : NodeId) → outcome r.state timed ≡ Halted acts node
+        → text (own_report acts node) ≡ text (report_of r.trace) ++ own
     halted_text acts node lacks =
         output_halted known.text r.cores script rules count r.trace r.state r.behind.is.run timed at acts node lacks output
         ∙ ap (λ (l : List ℕ). text (report_of r.trace) ++ l) (ap own_by (sym lacks) ∙ sym own_text)
@@ -184,12 +200,14 @@ module _ (known : KnownRuns) (output : Output) (script : Script) (rules : Script
       report = own_report l.acts l.node;
       node = l.node;
       halted = known.halted r.cores script (own_report l.acts l.node) l.node rules octets (halts_here l.acts l.node l.is);
-      text = subst (Appended old new) (sym (halted_text l.acts l.node l.is)) (appended-append old mid new (text (report_of r.trace)) own r.text l.text);
+      text = subst (Appended old new) (sym (halted_text l.acts l.node l.is))
+          (appended-append old mid new (text (report_of r.trace)) own r.text l.text);
     }
 
     -- ---- where it ended early
 
-    run_more : (acts : List Happened) (next : World) → outcome r.state timed ≡ Done acts next → Run r.cores script (take (suc count) script.events) (r.trace ++ traced count acts) next
+    run_more : (acts : List Happened) (next : World) → outcome r.state timed ≡ Done acts next
+        → Run r.cores script (take (suc count) script.events) (r.trace ++ traced count acts) next
     run_more acts next is =
         subst (λ (l : List Timed). Run r.cores script l (r.trace ++ traced count acts) next) (sym (take_to script.events count timed at))
         (run_next r.cores script count r.trace r.state r.behind.is.run rules timed at acts next is)
@@ -203,7 +221,8 @@ module _ (known : KnownRuns) (output : Output) (script : Script) (rules : Script
           let trace : List Traced = r.trace ++ traced count acts in
           let on = known.begins r.cores script (suc count) trace next rules octets r.behind.is.of_scenario (run_more acts next is) in
           let begins = output_begins known.text output script (report_of trace) on in
-          let all : text on.report ≡ (text (report_of r.trace) ++ own) ++ begins.0 = begins.1 ∙ ap (λ (l : List ℕ). l ++ begins.0) (more_text acts next is) in
+          let all : text on.report ≡ (text (report_of r.trace) ++ own) ++ begins.0 =
+          begins.1 ∙ ap (λ (l : List ℕ). l ++ begins.0) (more_text acts next is) in
           record {
             report = on.report;
             is_report = on.is_report;
@@ -220,10 +239,12 @@ module _ (known : KnownRuns) (output : Output) (script : Script) (rules : Script
 
     -- ---- what an event leaves
 
-    pub after-event : (now : WorldView) (kept_now : SoFar) → EventEnds output scenario timed view now so_far kept_now mid new (Ok tt) → OnWay output script (count + 1) old new now kept_now
+    pub after-event : (now : WorldView) (kept_now : SoFar) → EventEnds output scenario timed view now so_far kept_now mid new (Ok tt)
+        → OnWay output script (count + 1) old new now kept_now
     after-event now kept_now ends = replayed-more now kept_now (ends.made place_of)
 
-    pub after-stop : (now : WorldView) (kept_now : SoFar) (stop : Stop) → EventEnds output scenario timed view now so_far kept_now mid new (Err stop) → Replays output script (Err stop) old new
+    pub after-stop : (now : WorldView) (kept_now : SoFar) (stop : Stop) → EventEnds output scenario timed view now so_far kept_now mid new (Err stop)
+        → Replays output script (Err stop) old new
     after-stop now kept_now stops.Label ends = replayed-halted (ends.lacks refl place_of)
     after-stop now kept_now stops.Text ends = replayed-part (ends.part place_of)
     after-stop now kept_now stops.Source ends = replayed-part (ends.part place_of)
@@ -231,20 +252,28 @@ module _ (known : KnownRuns) (output : Output) (script : Script) (rules : Script
     after-stop now kept_now stops.Memory ends = replayed-part (ends.part place_of)
 
   -- It ended before the first event, with at most the front written.
-  pub never-begun : (old new : Option (List ℕ)) (result : Result WorldView Stop) (stop : Stop) → result ≡ Err stop → (stop ≡ stops.Sink) ⊎ (stop ≡ stops.Memory) → AppendedPart old new (front_of output) → Replays output script result old new
-  never-begun old new result stop is (inl sink) part = subst (λ (r : Result WorldView Stop). Replays output script r old new) (sym (is ∙ ap ended sink)) (replayed-front old new part)
-  never-begun old new result stop is (inr memory) part = subst (λ (r : Result WorldView Stop). Replays output script r old new) (sym (is ∙ ap ended memory)) (replayed-front old new part)
+  pub never-begun : (old new : Option (List ℕ)) (result : Result WorldView Stop) (stop : Stop) → result ≡ Err stop
+      → (stop ≡ stops.Sink) ⊎ (stop ≡ stops.Memory) → AppendedPart old new (front_of output) → Replays output script result old new
+  never-begun old new result stop is (inl sink) part =
+      subst (λ (r : Result WorldView Stop). Replays output script r old new) (sym (is ∙ ap ended sink)) (replayed-front old new part)
+  never-begun old new result stop is (inr memory) part =
+      subst (λ (r : Result WorldView Stop). Replays output script r old new) (sym (is ∙ ap ended memory)) (replayed-front old new part)
 
   -- All events were replayed.
-  pub replayed-all : (count : ℕ) (old new : Option (List ℕ)) (view : WorldView) (so_far : SoFar) → count ≡ length script.events → OnWay output script count old new view so_far → ReplaysWhole output script old new view
+  pub replayed-all : (count : ℕ) (old new : Option (List ℕ)) (view : WorldView) (so_far : SoFar) → count ≡ length script.events
+      → OnWay output script count old new view so_far → ReplaysWhole output script old new view
   replayed-all count old new view so_far all way =
-      let whole : Replayed output script (length script.events) old new view = subst (λ (n : ℕ). Replayed output script n old new view) all way.replayed in
+      let whole : Replayed output script (length script.events) old new view =
+      subst (λ (n : ℕ). Replayed output script n old new view) all way.replayed in
       record {
         replayed = whole;
         whole = known.whole whole.cores script whole.trace whole.state rules octets whole.behind.is.of_scenario
-            (subst (λ (l : List Timed). Run whole.cores script l whole.trace whole.state) (take_all (length script.events) script.events (omega arith)) whole.behind.is.run);
+            (subst (λ (l : List Timed). Run whole.cores script l whole.trace whole.state)
+            (take_all (length script.events) script.events (omega arith)) whole.behind.is.run);
       }
 
 -- The event at a place of the list is that of the script.
-pub event_at : (script : Script) (timeds : List Timed) (i : ℕ) (timed : Timed) → timeds ≡ script.events → i < length timeds → timed ≡ get_or timeds i timed → slice_get script.events i ≡ Some timed
-event_at script timeds i timed same less is = subst (λ (l : List Timed). slice_get l i ≡ Some timed) same (slice_get_read timeds (length timeds) i timed refl less is)
+pub event_at : (script : Script) (timeds : List Timed) (i : ℕ) (timed : Timed) → timeds ≡ script.events → i < length timeds
+    → timed ≡ get_or timeds i timed → slice_get script.events i ≡ Some timed
+event_at script timeds i timed same less is =
+    subst (λ (l : List Timed). slice_get l i ≡ Some timed) same (slice_get_read timeds (length timeds) i timed refl less is)

@@ -28,38 +28,48 @@ use Rattle.mvpn_tool.specs.declared.command.Output.{Output}
 use Rattle.mvpn_tool.specs.declared.command.Output.TheVariants as outputs
 use Rattle.mvpn_tool.proofs.TextLemmas.{text_halted, text_more, text_none, text_of-append}
 
-module _ (texts : (detail : Detail) (scenario : Scenario) (report : List Entry) → text_of detail scenario report ≡ lines_text detail scenario (lines_of report)) where
+module _ (texts : (detail : Detail) (scenario : Scenario) (report : List Entry)
+    → text_of detail scenario report ≡ lines_text detail scenario (lines_of report)) where
   -- Nothing but the front is written of an empty report.
   pub output_none : (output : Output) (script : Script) → output_of output script [] ≡ front_of output
   output_none (outputs.Report detail) script = text_none texts detail script.scenario
   output_none outputs.Hops script = append-nil (front_of outputs.Hops)
 
   -- The output of a report that goes on begins with that of its first entries.
-  pub output_begins : (output : Output) (script : Script) (first : List Entry) (on : ReportGoesOn script first) → (rest : List ℕ) × (output_of output script on.report ≡ output_of output script first ++ rest)
-  output_begins (outputs.Report detail) script first on =
-      (text_of detail script.scenario on.more, ap (text_of detail script.scenario) on.whole ∙ text_of-append texts detail script.scenario first on.more)
+  pub output_begins : (output : Output) (script : Script) (first : List Entry) (on : ReportGoesOn script first)
+      → (rest : List ℕ) × (output_of output script on.report ≡ output_of output script first ++ rest)
+  output_begins (outputs.Report detail) script first on = (
+    text_of detail script.scenario on.more,
+    ap (text_of detail script.scenario) on.whole
+        ∙ text_of-append texts detail script.scenario first on.more,
+  )
   output_begins outputs.Hops script first on = (
     flat_map (hop_text BigEndian) on.more_hops,
     ap (λ (hops : List CoreHop). front_of outputs.Hops ++ flat_map (hop_text BigEndian) hops) on.hops
         ∙ ap (λ (l : List ℕ). front_of outputs.Hops ++ l) (flat_map-append (hop_text BigEndian) (hops_of script.events first) on.more_hops)
-        ∙ sym (append_assoc (front_of outputs.Hops) (flat_map (hop_text BigEndian) (hops_of script.events first)) (flat_map (hop_text BigEndian) on.more_hops)),
+        ∙ sym (append_assoc (front_of outputs.Hops) (flat_map (hop_text BigEndian) (hops_of script.events first))
+        (flat_map (hop_text BigEndian) on.more_hops)),
   )
 
-  module _ (cores : Cores) (script : Script) (rules : ScriptRules script) (count : ℕ) (trace : List Traced) (state : World) (run : Run cores script (take count script.events) trace state)
+  module _ (cores : Cores) (script : Script) (rules : ScriptRules script) (count : ℕ) (trace : List Traced) (state : World)
+      (run : Run cores script (take count script.events) trace state)
       (timed : Timed) (at : slice_get script.events count ≡ Some timed) (acts : List Happened) where
     -- what is written of the event's lines
     abbrev own_output : Output → List ReportLine → List ℕ
     own_output output own = event_output output script.scenario script.events (report_of trace) count own
 
     module _ (next : World) (is : outcome state timed ≡ Done acts next) where
-      body_more : (output : Output) → body_of output script (report_of (trace ++ traced count acts)) ≡ body_of output script (report_of trace) ++ own_output output (lines_in acts)
+      body_more : (output : Output) → body_of output script (report_of (trace ++ traced count acts)) ≡ body_of output script (report_of trace)
+          ++ own_output output (lines_in acts)
       body_more (outputs.Report detail) = text_more texts detail script.scenario trace count acts
       body_more outputs.Hops =
           ap (flat_map (hop_text BigEndian)) (hops_next cores script count trace state run rules timed at acts next is)
-          ∙ flat_map-append (hop_text BigEndian) (hops_of script.events (report_of trace)) (event_hops script.events (report_of trace) count (lines_in acts))
+          ∙ flat_map-append (hop_text BigEndian) (hops_of script.events (report_of trace))
+          (event_hops script.events (report_of trace) count (lines_in acts))
 
       -- The acts of one event more.
-      pub output_more : (output : Output) → output_of output script (report_of (trace ++ traced count acts)) ≡ output_of output script (report_of trace) ++ own_output output (lines_in acts)
+      pub output_more : (output : Output) → output_of output script (report_of (trace ++ traced count acts))
+          ≡ output_of output script (report_of trace) ++ own_output output (lines_in acts)
       output_more output =
           ap (λ (l : List ℕ). front_of output ++ l) (body_more output)
           ∙ sym (append_assoc (front_of output) (body_of output script (report_of trace)) (own_output output (lines_in acts)))
@@ -68,7 +78,8 @@ module _ (texts : (detail : Detail) (scenario : Scenario) (report : List Entry) 
       abbrev halted : List Entry
       halted = report_of (trace ++ traced count acts) ++ record { event = count; lines = lines.Halt timed.line node ∷ [] } ∷ []
 
-      body_halted : (output : Output) → body_of output script halted ≡ body_of output script (report_of trace) ++ own_output output (lines_in acts ++ lines.Halt timed.line node ∷ [])
+      body_halted : (output : Output) → body_of output script halted ≡ body_of output script (report_of trace)
+          ++ own_output output (lines_in acts ++ lines.Halt timed.line node ∷ [])
       body_halted (outputs.Report detail) = text_halted texts detail script.scenario trace count acts (lines.Halt timed.line node)
       body_halted outputs.Hops =
           let own = lines_in acts ++ lines.Halt timed.line node ∷ [] in
@@ -79,7 +90,9 @@ module _ (texts : (detail : Detail) (scenario : Scenario) (report : List Entry) 
           (sym (halting_hops state timed acts node is script.events (refused_lines (report_of trace) ++ flat_map refused_line own) count))
 
       -- Those of an event that lacks a label, and the line that says so.
-      pub output_halted : (output : Output) → output_of output script halted ≡ output_of output script (report_of trace) ++ own_output output (lines_in acts ++ lines.Halt timed.line node ∷ [])
+      pub output_halted : (output : Output) → output_of output script halted ≡ output_of output script (report_of trace)
+          ++ own_output output (lines_in acts ++ lines.Halt timed.line node ∷ [])
       output_halted output =
           ap (λ (l : List ℕ). front_of output ++ l) (body_halted output)
-          ∙ sym (append_assoc (front_of output) (body_of output script (report_of trace)) (own_output output (lines_in acts ++ lines.Halt timed.line node ∷ [])))
+          ∙ sym (append_assoc (front_of output) (body_of output script (report_of trace))
+          (own_output output (lines_in acts ++ lines.Halt timed.line node ∷ [])))

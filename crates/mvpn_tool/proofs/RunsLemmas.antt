@@ -45,37 +45,51 @@ one_script : (x y : Script) → read_as x ≡ read_as y → x ≡ y
 one_script x y e = cc
 
 -- What was read is what the source tells that it had left.
-same_script : (left : Option (List ℕ)) (read input : List ℕ) (script other : Script) → IsInput left read → script_of read ≡ Ok script → left ≡ Some input → script_of input ≡ Ok other → script ≡ other
+same_script : (left : Option (List ℕ)) (read input : List ℕ) (script other : Script) → IsInput left read → script_of read ≡ Ok script
+    → left ≡ Some input → script_of input ≡ Ok other → script ≡ other
 same_script None read input script other is said tells says = absurd cc
 same_script (Some xs) read input script other is said tells says =
     one_script script other (sym said ∙ ap script_of (sym is ∙ some_is xs input tells) ∙ says)
 
 -- What was read is no faulty text.
-not_faulty : (left : Option (List ℕ)) (read input : List ℕ) (script : Script) (fault : TextFault) → IsInput left read → script_of read ≡ Ok script → left ≡ Some input → script_of input ≡ Err fault → ⊥
+not_faulty : (left : Option (List ℕ)) (read input : List ℕ) (script : Script) (fault : TextFault) → IsInput left read → script_of read ≡ Ok script
+    → left ≡ Some input → script_of input ≡ Err fault → ⊥
 not_faulty None read input script fault is said tells says = absurd cc
 not_faulty (Some xs) read input script fault is said tells says =
     (let both : read_as script ≡ Err fault = sym said ∙ ap script_of (sym is ∙ some_is xs input tells) ∙ says in absurd cc)
 
-module _ (never_both : (cores : Cores) (script : Script) (events : List Timed) (trace : List Traced) (new : World) (report : List Entry) (node : NodeId) → Run cores script events trace new →
+module _ (never_both : (cores : Cores) (script : Script) (events : List Timed) (trace : List Traced) (new : World) (report : List Entry)
+    (node : NodeId) → Run cores script events trace new →
     Halts cores (of_events script events) report node → ⊥) where
   not_both : (script : Script) → AllRun script → OneHalts script → ⊥
   not_both script all one =
       let same : all.cores ≡ one.cores = same_cores script.scenario all.cores one.cores all.of_scenario one.halt.of_scenario in
-      never_both one.cores script script.events all.trace all.state one.report one.node (subst (λ (own : Cores). Run own script script.events all.trace all.state) same all.run) one.halt
+      never_both one.cores script script.events all.trace all.state one.report one.node
+      (subst (λ (own : Cores). Run own script script.events all.trace all.state) same all.run) one.halt
 
   -- A script of which all was replayed does not halt.
-  pub well_not_halted : (output : Output) (left old new : Option (List ℕ)) (view : WorldView) → EndsWell output left old new view → (input : List ℕ) (script : Script) → left ≡ Some input → script_of input ≡ Ok script → OneHalts script → ⊥
+  pub well_not_halted : (output : Output) (left old new : Option (List ℕ)) (view : WorldView) → EndsWell output left old new view
+      → (input : List ℕ) (script : Script) → left ≡ Some input → script_of input ≡ Ok script → OneHalts script → ⊥
   well_not_halted output left old new view ends input script tells says one =
       let same = same_script left ends.input input ends.script script ends.is_input ends.said tells says in
       let whole = ends.holds.whole in
-      not_both ends.script (record { cores = ends.holds.replayed.cores; of_scenario = whole.of_scenario; trace = ends.holds.replayed.trace; state = ends.holds.replayed.state; run = whole.run })
+      not_both ends.script (record {
+        cores = ends.holds.replayed.cores;
+        of_scenario = whole.of_scenario;
+        trace = ends.holds.replayed.trace;
+        state =
+            ends.holds.replayed.state;
+        run = whole.run;
+      })
       (subst OneHalts (sym same) one)
 
   -- A script that halts does not run to its end.
-  pub halted_not_whole : (output : Output) (left old new : Option (List ℕ)) → EndsHalted output left old new → (input : List ℕ) (script : Script) → left ≡ Some input → script_of input ≡ Ok script → AllRun script → ⊥
+  pub halted_not_whole : (output : Output) (left old new : Option (List ℕ)) → EndsHalted output left old new → (input : List ℕ) (script : Script)
+      → left ≡ Some input → script_of input ≡ Ok script → AllRun script → ⊥
   halted_not_whole output left old new ends input script tells says all =
       let same = same_script left ends.input input ends.script script ends.is_input ends.said tells says in
-      not_both ends.script (subst AllRun (sym same) all) (record { cores = ends.holds.cores; report = ends.holds.report; node = ends.holds.node; halt = ends.holds.halted.halt })
+      not_both ends.script (subst AllRun (sym same) all)
+      (record { cores = ends.holds.cores; report = ends.holds.report; node = ends.holds.node; halt = ends.holds.halted.halt })
 
   -- ---- the two ends of a replay
 

@@ -51,7 +51,8 @@ same_stop stop other e = cc
 
 module _ (timed : Timed) (view now : WorldView) (before after : Counts) (own new_lines : List ReportLine) (none : own ≡ []) where
   -- The step was made, and its lines were counted.
-  pub event_counted : Steps timed.line timed.event view now own new_lines (Ok tt) → after ≡ fold with_line before new_lines → EventCounts timed view now before after (Ok tt)
+  pub event_counted : Steps timed.line timed.event view now own new_lines (Ok tt) → after ≡ fold with_line before new_lines
+      → EventCounts timed view now before after (Ok tt)
   event_counted steps told = record {
     made = λ at.
         let a = steps.made at.cores at.script.scenario (take at.count at.script.events) at.trace at.world at.behind.is in
@@ -66,7 +67,8 @@ module _ (timed : Timed) (view now : WorldView) (before after : Counts) (own new
   }
 
   -- A label is lacking.
-  pub event_lacks_label : (n : NodeId) → Steps timed.line timed.event view now own new_lines (Err (halts.NoLabel n)) → EventCounts timed view now before after (Err stops.Label)
+  pub event_lacks_label : (n : NodeId) → Steps timed.line timed.event view now own new_lines (Err (halts.NoLabel n))
+      → EventCounts timed view now before after (Err stops.Label)
   event_lacks_label n steps = record {
     made = tt;
     lacks = λ e at.
@@ -89,7 +91,8 @@ pub record SweptSoFar (script : Script) (count : ℕ) (view : WorldView) (counts
   pub told : counts ≡ fold with_line no_counts (lines_of (report_of trace))
 
 -- the counts behind the acts of one event more
-more_counts : (counts after : Counts) (trace : List Traced) (number : ℕ) (acts : List Happened) → counts ≡ fold with_line no_counts (lines_of (report_of trace)) →
+more_counts : (counts after : Counts) (trace : List Traced) (number : ℕ) (acts : List Happened)
+    → counts ≡ fold with_line no_counts (lines_of (report_of trace)) →
     after ≡ fold with_line counts (lines_in acts) → after ≡ fold with_line no_counts (lines_of (report_of (trace ++ traced number acts)))
 more_counts counts after trace number acts told more =
     more
@@ -106,10 +109,12 @@ module _ (known : KnownRuns) (script : Script) (rules : ScriptRules script) (oct
       let own = known.cores script.scenario rules.scenario in
       record { cores = own.0; trace = []; state = start script.scenario own.0; behind = behind_none script rules view begun own.0 own.1; told = none }
 
-  module _ (count : ℕ) (timed : Timed) (view : WorldView) (counts : Counts) (at : slice_get script.events count ≡ Some timed) (so_far : SweptSoFar script count view counts) where
+  module _ (count : ℕ) (timed : Timed) (view : WorldView) (counts : Counts) (at : slice_get script.events count ≡ Some timed)
+      (so_far : SweptSoFar script count view counts) where
     -- where the next event is met
     abbrev pub swept_to : IsReached timed view
-    swept_to = record { cores = so_far.cores; script = script; count = count; trace = so_far.trace; world = so_far.state; behind = so_far.behind; next = at }
+    swept_to =
+        record { cores = so_far.cores; script = script; count = count; trace = so_far.trace; world = so_far.state; behind = so_far.behind; next = at }
 
     -- One event more.
     pub swept_more : (now : WorldView) (after : Counts) → EventCounts timed view now counts after (Ok tt) → SweptSoFar script (count + 1) now after
@@ -124,16 +129,19 @@ module _ (known : KnownRuns) (script : Script) (rules : ScriptRules script) (oct
         }
 
     -- The event lacks memory.
-    pub swept_stops : (now : WorldView) (after : Counts) (stop : Stop) → NeverHalts script → EventCounts timed view now counts after (Err stop) → (stop ≡ stops.Label) ⊎ (stop ≡ stops.Memory) → stop ≡ stops.Memory
+    pub swept_stops : (now : WorldView) (after : Counts) (stop : Stop) → NeverHalts script → EventCounts timed view now counts after (Err stop)
+        → (stop ≡ stops.Label) ⊎ (stop ≡ stops.Memory) → stop ≡ stops.Memory
     swept_stops now after stop never ends (inl label) =
         let lacks = ends.lacks (ap stopped label) swept_to in
         absurd
         (never so_far.cores (halted_report so_far.trace count timed.line lacks.acts lacks.node) lacks.node
-        (halts_at so_far.cores script count so_far.trace so_far.state timed lacks.acts lacks.node so_far.behind.is.of_scenario so_far.behind.is.run at lacks.is))
+        (halts_at so_far.cores script count so_far.trace so_far.state timed lacks.acts lacks.node so_far.behind.is.of_scenario so_far.behind.is.run at
+        lacks.is))
     swept_stops now after stop never ends (inr memory) = memory
 
   -- All events ran.
-  pub swept_all : (count : ℕ) (view : WorldView) (counts : Counts) → count ≡ length script.events → SweptSoFar script count view counts → SweepsWhole script (record { world = view; counts = counts })
+  pub swept_all : (count : ℕ) (view : WorldView) (counts : Counts) → count ≡ length script.events → SweptSoFar script count view counts
+      → SweepsWhole script (record { world = view; counts = counts })
   swept_all count view counts all so_far =
       let whole : SweptSoFar script (length script.events) view counts = subst (λ (n : ℕ). SweptSoFar script n view counts) all so_far in
       record {
@@ -142,14 +150,16 @@ module _ (known : KnownRuns) (script : Script) (rules : ScriptRules script) (oct
         state = whole.state;
         behind = whole.behind;
         whole = known.whole whole.cores script whole.trace whole.state rules octets whole.behind.is.of_scenario
-            (subst (λ (l : List Timed). Run whole.cores script l whole.trace whole.state) (take_all (length script.events) script.events (omega arith)) whole.behind.is.run);
+            (subst (λ (l : List Timed). Run whole.cores script l whole.trace whole.state)
+            (take_all (length script.events) script.events (omega arith)) whole.behind.is.run);
         counts = whole.told ∙ counted_all (lines_of (report_of whole.trace));
       }
 
 -- ---- a number
 
 module _ (number : ℕ) (script : Script) (said : script_of (made number) ≡ Ok script) (few : (cores : Cores) → HoldsFewLabels cores script) where
-  numbers_of : (Written : List ℕ → Type 0) (swept : Swept) → SweepsWhole script swept → Written (sweep_text number swept.world.network.datagrams.count swept.counts) →
+  numbers_of : (Written : List ℕ → Type 0) (swept : Swept) → SweepsWhole script swept
+      → Written (sweep_text number swept.world.network.datagrams.count swept.counts) →
       TellsNumbers Written number swept.world script
   numbers_of Written swept whole text = record {
     counts = swept.counts;
@@ -159,16 +169,20 @@ module _ (number : ℕ) (script : Script) (said : script_of (made number) ≡ Ok
   }
 
   -- The line was written.
-  pub number_swept : (old new : Option (List ℕ)) (swept : Swept) → SweepsWhole script swept → Appended old new (sweep_text number swept.world.network.datagrams.count swept.counts) →
+  pub number_swept : (old new : Option (List ℕ)) (swept : Swept) → SweepsWhole script swept
+      → Appended old new (sweep_text number swept.world.network.datagrams.count swept.counts) →
       SweepsWell number old new swept.world
   number_swept old new swept whole text = record { script = script; said = said; holds = numbers_of (Appended old new) swept whole text }
 
   -- It was not, or a part of it.
-  pub number_cut : (old new : Option (List ℕ)) (swept : Swept) (stop : Stop) → SweepsWhole script swept → AppendedPart old new (sweep_text number swept.world.network.datagrams.count swept.counts) →
+  pub number_cut : (old new : Option (List ℕ)) (swept : Swept) (stop : Stop) → SweepsWhole script swept
+      → AppendedPart old new (sweep_text number swept.world.network.datagrams.count swept.counts) →
       (IsErrOf (stopped stop) stops.Memory → Appended old new []) → (stop ≡ stops.Sink) ⊎ (stop ≡ stops.Memory) → SweepEnds number (Err stop) old new
   number_cut old new swept stop whole text nothing (inl sink) =
-      subst (λ (s : Stop). SweepEnds number (Err s) old new) (sym sink) (record { script = script; said = said; holds = (swept.world, numbers_of (AppendedPart old new) swept whole text) })
-  number_cut old new swept stop whole text nothing (inr memory) = subst (λ (s : Stop). SweepEnds number (Err s) old new) (sym memory) (nothing (ap stopped memory))
+      subst (λ (s : Stop). SweepEnds number (Err s) old new) (sym sink)
+      (record { script = script; said = said; holds = (swept.world, numbers_of (AppendedPart old new) swept whole text) })
+  number_cut old new swept stop whole text nothing (inr memory) =
+      subst (λ (s : Stop). SweepEnds number (Err s) old new) (sym memory) (nothing (ap stopped memory))
 
 -- There was no memory, and nothing was written.
 pub number_unmade : (number : ℕ) (old : Option (List ℕ)) (stop : Stop) → stop ≡ stops.Memory → SweepEnds number (Err stop) old old
@@ -183,7 +197,9 @@ abbrev pub AreNeverHalting : Type 0
 AreNeverHalting = (cores : Cores) (number : ℕ) (report : List Entry) (node : NodeId) → Halts cores (made_script number) report node → ⊥
 
 abbrev pub HoldFewLabels : Type 0
-HoldFewLabels = (cores : Cores) (number count : ℕ) (trace : List Traced) (new : World) (node : NodeId) → Run cores (made_script number) (take count (made_script number).events) trace new →
+HoldFewLabels =
+    (cores : Cores) (number count : ℕ) (trace : List Traced) (new : World) (node : NodeId)
+    → Run cores (made_script number) (take count (made_script number).events) trace new →
     labels_held (part_of (new.network.state.node node)) ≤ 260
 
 abbrev said_as : Script → Result Script TextFault
@@ -197,11 +213,14 @@ same_script are_read number script said = one_script (made_script number) script
 
 -- The script that the text of a number says never halts.
 pub made_never_halts : AreRead → AreNeverHalting → (number : ℕ) (script : Script) → script_of (made number) ≡ Ok script → NeverHalts script
-made_never_halts are_read never number script said = subst NeverHalts (same_script are_read number script said) (λ cores report node. never cores number report node)
+made_never_halts are_read never number script said =
+    subst NeverHalts (same_script are_read number script said) (λ cores report node. never cores number report node)
 
 -- Its nodes hold few labels.
-pub made_holds_few : AreRead → HoldFewLabels → (number : ℕ) (script : Script) → script_of (made number) ≡ Ok script → (cores : Cores) → HoldsFewLabels cores script
-made_holds_few are_read few number script said cores = subst (HoldsFewLabels cores) (same_script are_read number script said) (λ count trace state node. few cores number count trace state node)
+pub made_holds_few : AreRead → HoldFewLabels → (number : ℕ) (script : Script) → script_of (made number) ≡ Ok script → (cores : Cores)
+    → HoldsFewLabels cores script
+made_holds_few are_read few number script said cores =
+    subst (HoldsFewLabels cores) (same_script are_read number script said) (λ count trace state node. few cores number count trace state node)
 
 -- It says no fault.
 pub made_not_faulty : AreRead → (number : ℕ) (fault : TextFault) → script_of (made number) ≡ Err fault → ⊥

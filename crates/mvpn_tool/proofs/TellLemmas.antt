@@ -49,7 +49,8 @@ some_is : (x y : List ℕ) → Some x ≡ Some y → x ≡ y
 some_is x y e = cc
 
 -- A prefix of what is told was written.
-pub part_told : {X : Type 0} (Tells : Bool → X → List ℕ → Type 0) (result : Result Bool Stop) (stop : Stop) (what : X) (written text : List ℕ) (refused : Bool) (old new : Option (List ℕ)) → result ≡ Err stop → stop ≡ stops.Sink → Tells refused what text
+pub part_told : {X : Type 0} (Tells : Bool → X → List ℕ → Type 0) (result : Result Bool Stop) (stop : Stop) (what : X) (written text : List ℕ)
+    (refused : Bool) (old new : Option (List ℕ)) → result ≡ Err stop → stop ≡ stops.Sink → Tells refused what text
     → written ≡ text → AppendedPart old new written → TellEnd Tells what result old new
 part_told Tells result stop what written text refused old new e is tells same part =
     rw (e, is) (record { refused = refused; text = text; tells = tells; written = subst (AppendedPart old new) same part })
@@ -64,19 +65,22 @@ module _ {X : Type 0} (read : List ℕ → Result X TextFault) where
   one_value x y e = cc
 
   -- What the input says is what was read, where the source told it.
-  pub one_reading : (left : Option (List ℕ)) (text input : List ℕ) (what other : X) → SaysAlike read left text → read text ≡ Ok what → left ≡ Some input → read input ≡ Ok other → what ≡ other
+  pub one_reading : (left : Option (List ℕ)) (text input : List ℕ) (what other : X) → SaysAlike read left text → read text ≡ Ok what
+      → left ≡ Some input → read input ≡ Ok other → what ≡ other
   one_reading None text input what other a e l h = absurd cc
   one_reading (Some xs) text input what other a e l h =
       let is : xs ≡ input = some_is xs input l in
       one_value what other (sym e ∙ sym a.same ∙ ap read (sym a.is_input ∙ is) ∙ h)
 
   -- An input says something or has a fault, and not both.
-  said_whole : (left : Option (List ℕ)) (text input : List ℕ) (what : X) (fault : TextFault) → IsInput left text → read text ≡ says what → left ≡ Some input → read input ≡ Err fault → ⊥
+  said_whole : (left : Option (List ℕ)) (text input : List ℕ) (what : X) (fault : TextFault) → IsInput left text → read text ≡ says what
+      → left ≡ Some input → read input ≡ Err fault → ⊥
   said_whole None text input what fault is e l h = absurd cc
   said_whole (Some xs) text input what fault is e l h =
       (let both : says what ≡ Err fault = sym e ∙ ap read (sym is ∙ some_is xs input l) ∙ h in absurd cc)
 
-  said_faulty : (left : Option (List ℕ)) (text input : List ℕ) (what : X) (fault : TextFault) → IsInput left text → read text ≡ Err fault → left ≡ Some input → read input ≡ says what → ⊥
+  said_faulty : (left : Option (List ℕ)) (text input : List ℕ) (what : X) (fault : TextFault) → IsInput left text → read text ≡ Err fault
+      → left ≡ Some input → read input ≡ says what → ⊥
   said_faulty None text input what fault is e l h = absurd cc
   said_faulty (Some xs) text input what fault is e l h =
       (let both : says what ≡ Err fault = sym h ∙ ap read (sym (sym is ∙ some_is xs input l)) ∙ e in absurd cc)
@@ -86,20 +90,25 @@ module _ {X : Type 0} (read : List ℕ → Result X TextFault) where
 
     -- The text had a fault.
     pub tell_faulty : (left old new : Option (List ℕ)) (octets : List ℕ) (fault : TextFault) (stop : Stop) →
-        (stop ≡ stops.Text → Appended old new (fault_text fault)) → (stop ≡ stops.Text) ⊎ AppendedPart old new (fault_text fault) → (stop ≢ stops.Source) × (stop ≢ stops.Label) →
+        (stop ≡ stops.Text → Appended old new (fault_text fault)) → (stop ≡ stops.Text) ⊎ AppendedPart old new (fault_text fault)
+        → (stop ≢ stops.Source) × (stop ≢ stops.Label) →
         SaysAlike read left octets → read octets ≡ Err fault → TellEnds read Tells left (Err stop) old new
-    tell_faulty left old new octets fault stops.Text w p n a e = record { input = a.input; is_input = a.is_input; fault = fault; said = a.same ∙ e; text = w refl }
+    tell_faulty left old new octets fault stops.Text w p n a e =
+        record { input = a.input; is_input = a.is_input; fault = fault; said = a.same ∙ e; text = w refl }
     tell_faulty left old new octets fault stops.Source w p n a e = absurd (n.0 refl)
     tell_faulty left old new octets fault stops.Sink w (inl t) n a e = absurd cc
     tell_faulty left old new octets fault stops.Sink w (inr p) n a e = record { input = a.input; is_input = a.is_input; part = rw (a.same, e) p }
     tell_faulty left old new octets fault stops.Memory w (inl t) n a e = absurd cc
-    tell_faulty left old new octets fault stops.Memory w (inr p) n a e = inr (record { input = a.input; is_input = a.is_input; part = rw (a.same, e) p })
+    tell_faulty left old new octets fault stops.Memory w (inr p) n a e =
+        inr (record { input = a.input; is_input = a.is_input; part = rw (a.same, e) p })
     tell_faulty left old new octets fault stops.Label w p n a e = absurd (n.1 refl)
 
     -- What is told was written.
-    pub tell_ends : (left old new : Option (List ℕ)) (text : List ℕ) (what : X) (result : Result Bool Stop) → SaysAlike read left text → read text ≡ Ok what →
+    pub tell_ends : (left old new : Option (List ℕ)) (text : List ℕ) (what : X) (result : Result Bool Stop) → SaysAlike read left text
+        → read text ≡ Ok what →
         TellEnd Tells what result old new → IfErr result (λ e. (e ≡ stops.Sink) ⊎ (e ≡ stops.Memory)) → TellEnds read Tells left result old new
-    tell_ends left old new text what (Ok refused) a e l o = record { input = a.input; is_input = a.is_input; what = what; said = a.same ∙ e; text = l.0; tells = l.1; written = l.2 }
+    tell_ends left old new text what (Ok refused) a e l o =
+        record { input = a.input; is_input = a.is_input; what = what; said = a.same ∙ e; text = l.0; tells = l.1; written = l.2 }
     tell_ends left old new text what (Err stops.Sink) a e l o = record { input = a.input; is_input = a.is_input; part = rw (a.same, e) l }
     tell_ends left old new text what (Err stops.Memory) a e l o = inl l
     tell_ends left old new text what (Err stops.Label) a e l (inl t) = absurd cc

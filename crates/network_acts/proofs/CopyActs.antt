@@ -52,58 +52,80 @@ some_idle Fits own old same (at, fits, is) = (at.world, (own_is own old same at 
 pub some_entering : (Fits : Standing → Type 0) (own old : NetworkView) → own ≡ old → IsSomeHandling (OfPlane Fits) old → planes.IsSome Fits own.plane
 some_entering Fits own old same (at, number, datagram, fits, is) = (standing_of at, fits, (subst (IsHandling at number datagram) (sym same) is).plane)
 
-pub some_landing : (from to : NodeId) (landed : Landed) (own old : NetworkView) → own ≡ old → IsSomeLanded from to landed old → planes.IsSome (IsCurrent to) own.plane
-some_landing from to landed own old same (at, place, may, is) = (standing_of at, may.node, (subst (HasLanded at from to place landed) (sym same) is).plane)
+pub some_landing : (from to : NodeId) (landed : Landed) (own old : NetworkView) → own ≡ old → IsSomeLanded from to landed old
+    → planes.IsSome (IsCurrent to) own.plane
+some_landing from to landed own old same (at, place, may, is) =
+    (standing_of at, may.node, (subst (HasLanded at from to place landed) (sym same) is).plane)
 
 current_of : (world : World) (number : ℕ) (datagram : Datagram) (view : DatagramsView) → Handles world number datagram view → stored.IsHandling view
 current_of world number datagram view handles = subst (λ (o : Option Current). T (is_some o)) (sym handles.is) tt
 
 -- some datagram is being sent
 pub some_sending : (Fits : Instant → Type 0) (own old : NetworkView) → own ≡ old → IsSomeHandling Fits old → stored.IsSomeSending own.datagrams
-some_sending Fits own old same (at, number, datagram, fits, is) = (at.world, number, datagram, (subst (IsHandling at number datagram) (sym same) is).datagrams)
+some_sending Fits own old same (at, number, datagram, fits, is) =
+    (at.world, number, datagram, (subst (IsHandling at number datagram) (sym same) is).datagrams)
 
-pub landing_current : (from to : NodeId) (landed : Landed) (own old : NetworkView) → own ≡ old → IsSomeLanded from to landed old → stored.IsHandling own.datagrams
+pub landing_current : (from to : NodeId) (landed : Landed) (own old : NetworkView) → own ≡ old → IsSomeLanded from to landed old
+    → stored.IsHandling own.datagrams
 landing_current from to landed own old same (at, place, may, is) =
     let left = (subst (HasLanded at from to place landed) (sym same) is).left in
     current_of (without_copy at.world from to place) left.copy.number left.datagram own.datagrams left.handles
 
 -- ---- another world with the same nodes and sessions
 
-module _ (at : Instant) (own : NetworkView) (world : World) (same : at.world.network ≡ world.network) (scenario : own.scenario ≡ scenario_of at.world) (plane : IsIn (standing_of at) own.plane) (view : DatagramsView) where
+module _ (at : Instant) (own : NetworkView) (world : World) (same : at.world.network ≡ world.network) (scenario : own.scenario ≡ scenario_of at.world)
+    (plane : IsIn (standing_of at) own.plane) (view : DatagramsView) where
   scenario_there : own.scenario ≡ scenario_of world
   scenario_there = scenario ∙ ap (λ (n : OctetNetwork Nodes). n.state.scenario) same
 
   plane_there : IsIn (standing_of (record at { world = world })) own.plane
   plane_there = subst (λ (n : OctetNetwork Nodes). IsPlane n.state.scenario at.cores at.moment n own.plane) same plane
 
-  sending_there : (number : ℕ) (datagram : Datagram) → IsSending world number datagram view → IsHandling (record at { world = world }) number datagram (record own { datagrams = view })
+  sending_there : (number : ℕ) (datagram : Datagram) → IsSending world number datagram view
+      → IsHandling (record at { world = world }) number datagram (record own { datagrams = view })
   sending_there number datagram sending = record { scenario = scenario_there; plane = plane_there; datagrams = sending }
 
-  landing_there : (number : ℕ) (datagram : Datagram) → Handles world number datagram view → IsLanding (record at { world = world }) number datagram (record own { datagrams = view })
+  landing_there : (number : ℕ) (datagram : Datagram) → Handles world number datagram view
+      → IsLanding (record at { world = world }) number datagram (record own { datagrams = view })
   landing_there number datagram handles = record { scenario = scenario_there; plane = plane_there; datagrams = handles }
 
 -- ---- a datagram is accepted, and its copies are put on links
 
-pub accepts : (own old : NetworkView) → own ≡ old → (view : DatagramsView) → ((world : World) (datagram : Datagram) → IsIdle world own.datagrams → IsSending (with_datagram datagram world) (own.datagrams.count + 1) datagram view)
-    → (at : Instant) (datagram : Datagram) → IsWorld at old → IsHandling (record at { world = with_datagram datagram at.world }) (length at.world.datagrams + 1) datagram (record own { datagrams = view })
+pub accepts : (own old : NetworkView) → own ≡ old → (view : DatagramsView)
+    → ((world : World) (datagram : Datagram) → IsIdle world own.datagrams
+    → IsSending (with_datagram datagram world) (own.datagrams.count + 1) datagram view)
+    → (at : Instant) (datagram : Datagram) → IsWorld at old
+    → IsHandling (record at { world = with_datagram datagram at.world }) (length at.world.datagrams + 1) datagram
+    (record own { datagrams = view })
 accepts own old same view accept at datagram is =
     let now = own_is own old same at is in
     record {
       scenario = now.scenario;
       plane = now.plane;
-      datagrams = subst (λ (count : ℕ). IsSending (with_datagram datagram at.world) (count + 1) datagram view) now.datagrams.count (accept at.world datagram now.datagrams);
+      datagrams =
+          subst (λ (count : ℕ). IsSending (with_datagram datagram at.world) (count + 1) datagram view) now.datagrams.count
+          (accept at.world datagram now.datagrams);
     }
 
-pub sends : (own old : NetworkView) → own ≡ old → (octets : List ℕ) (clock : ℕ) (view : DatagramsView) → ((at : Standing) → IsIn at own.plane → clock ≡ at.network.state.clock)
-    → ((world : World) (number : ℕ) (datagram : Datagram) → IsSending world number datagram own.datagrams → clock_of world ≡ clock → octets ≡ datagram.octets → IsIdle world view)
-    → (at : Instant) (number : ℕ) (datagram : Datagram) → IsHandling at number datagram old → octets ≡ datagram.octets → IsWorld at (record own { datagrams = view })
+pub sends : (own old : NetworkView) → own ≡ old → (octets : List ℕ) (clock : ℕ) (view : DatagramsView)
+    → ((at : Standing) → IsIn at own.plane → clock ≡ at.network.state.clock)
+    → ((world : World) (number : ℕ) (datagram : Datagram) → IsSending world number datagram own.datagrams → clock_of world ≡ clock
+    → octets ≡ datagram.octets → IsIdle world view)
+    → (at : Instant) (number : ℕ) (datagram : Datagram) → IsHandling at number datagram old → octets ≡ datagram.octets
+    → IsWorld at (record own { datagrams = view })
 sends own old same octets clock view ticks send at number datagram is text =
     let now = subst (IsHandling at number datagram) (sym same) is in
-    record { scenario = now.scenario; plane = now.plane; datagrams = send at.world number datagram now.datagrams (sym (ticks (standing_of at) now.plane)) text }
+    record {
+      scenario = now.scenario;
+      plane = now.plane;
+      datagrams =
+          send at.world number datagram now.datagrams (sym (ticks (standing_of at) now.plane)) text;
+    }
 
 -- ---- the datagram is no longer handled
 
-pub finished : (own old : NetworkView) → own ≡ old → (view : DatagramsView) → ((world : World) (number : ℕ) (datagram : Datagram) → Handles world number datagram own.datagrams → IsIdle world view)
+pub finished : (own old : NetworkView) → own ≡ old → (view : DatagramsView)
+    → ((world : World) (number : ℕ) (datagram : Datagram) → Handles world number datagram own.datagrams → IsIdle world view)
     → (at : Instant) (number : ℕ) (datagram : Datagram) → IsLanding at number datagram old → IsWorld at (record own { datagrams = view })
 finished own old same view finish at number datagram is =
     let now = subst (IsLanding at number datagram) (sym same) is in
@@ -111,7 +133,8 @@ finished own old same view finish at number datagram is =
 
 -- ---- a copy is dropped
 
-pub drops : (own old : NetworkView) → own ≡ old → (from to : NodeId) (place : ℕ) (view : DatagramsView) → ((world : World) → IsIdle world own.datagrams → IsIdle (without_copy world from to place) view)
+pub drops : (own old : NetworkView) → own ≡ old → (from to : NodeId) (place : ℕ) (view : DatagramsView)
+    → ((world : World) → IsIdle world own.datagrams → IsIdle (without_copy world from to place) view)
     → (at : Instant) → IsWorld at old → Passes at at.moment (Drop from to place) (record own { datagrams = view })
 drops own old same from to place view drop at is =
     let now = own_is own old same at is in
@@ -125,26 +148,32 @@ drops own old same from to place view drop at is =
 -- ---- a datagram leaves a node
 
 -- What a call that lets the datagram leave, which is sent or handled, says of its datagrams and lines.
-pub record Leaves (Has : World → ℕ → Datagram → DatagramsView → Type 0) (n : NodeId) (ttl clock : ℕ) (fate : Fate) (old new : DatagramsView) (lines new_lines : List ReportLine) : Type 0 where
-  pub left : (world : World) (number : ℕ) (datagram : Datagram) (own : fates.Fate) → Has world number datagram old → clock_of world ≡ clock → IsFate own fate
+pub record Leaves (Has : World → ℕ → Datagram → DatagramsView → Type 0) (n : NodeId) (ttl clock : ℕ) (fate : Fate) (old new : DatagramsView)
+    (lines new_lines : List ReportLine) : Type 0 where
+  pub left : (world : World) (number : ℕ) (datagram : Datagram) (own : fates.Fate) → Has world number datagram old → clock_of world ≡ clock
+      → IsFate own fate
       → Has (with_branches n ttl number own.branches world) number datagram new
   pub lines_are : (world : World) (number : ℕ) (datagram : Datagram) (own : fates.Fate) → Has world number datagram old → IsFate own fate
       → new_lines ≡ lines ++ (map (λ iface. told.Out number iface datagram.octets) own.outs ++ map (hop_line n ttl number) own.branches)
 
 -- so it says where it is told the interfaces and branches of a fate
-pub leaves_by : (Has : World → ℕ → Datagram → DatagramsView → Type 0) (n : NodeId) (ttl clock : ℕ) (fate : Fate) (outs : List IfaceId) (branches : List Branch) (old new : DatagramsView) (lines new_lines : List ReportLine)
+pub leaves_by : (Has : World → ℕ → Datagram → DatagramsView → Type 0) (n : NodeId) (ttl clock : ℕ) (fate : Fate) (outs : List IfaceId)
+    (branches : List Branch) (old new : DatagramsView) (lines new_lines : List ReportLine)
     → outs ≡ fate.outs → branches ≡ fate.branches
-    → ((world : World) (number : ℕ) (datagram : Datagram) → Has world number datagram old → clock_of world ≡ clock → Has (with_branches n ttl number branches world) number datagram new)
+    → ((world : World) (number : ℕ) (datagram : Datagram) → Has world number datagram old → clock_of world ≡ clock
+    → Has (with_branches n ttl number branches world) number datagram new)
     → ((world : World) (number : ℕ) (datagram : Datagram) → Has world number datagram old
     → new_lines ≡ lines ++ (map (λ iface. told.Out number iface datagram.octets) outs ++ map (hop_line n ttl number) branches))
     → Leaves Has n ttl clock fate old new lines new_lines
 leaves_by Has n ttl clock fate outs branches old new lines new_lines at on left lines_are =
     record {
       left = λ world number datagram own handled now is.
-          subst (λ (on_branches : List Branch). Has (with_branches n ttl number on_branches world) number datagram new) (on ∙ is.branches) (left world number datagram handled now);
+          subst (λ (on_branches : List Branch). Has (with_branches n ttl number on_branches world) number datagram new) (on ∙ is.branches)
+          (left world number datagram handled now);
       lines_are = λ world number datagram own handled is.
           lines_are world number datagram handled
-          ∙ (λ i. lines ++ (map (λ iface. told.Out number iface datagram.octets) ((at ∙ is.outs) i) ++ map (hop_line n ttl number) ((on ∙ is.branches) i)));
+          ∙ (λ i. lines ++ (map (λ iface. told.Out number iface datagram.octets) ((at ∙ is.outs) i)
+          ++ map (hop_line n ttl number) ((on ∙ is.branches) i)));
     }
 
 -- a datagram of these octets is being sent
@@ -152,9 +181,11 @@ abbrev pub SendsOf : List ℕ → World → ℕ → Datagram → DatagramsView �
 SendsOf octets world number datagram view = IsSending world number datagram view × (octets ≡ datagram.octets)
 
 -- so says a call that is told its octets
-pub leaves_sending : (octets : List ℕ) (n : NodeId) (clock : ℕ) (fate : Fate) (outs : List IfaceId) (branches : List Branch) (old new : DatagramsView) (lines new_lines : List ReportLine)
+pub leaves_sending : (octets : List ℕ) (n : NodeId) (clock : ℕ) (fate : Fate) (outs : List IfaceId) (branches : List Branch) (old new : DatagramsView)
+    (lines new_lines : List ReportLine)
     → outs ≡ fate.outs → branches ≡ fate.branches
-    → ((world : World) (number : ℕ) (datagram : Datagram) → IsSending world number datagram old → IsSending (with_branches n 255 number branches world) number datagram new)
+    → ((world : World) (number : ℕ) (datagram : Datagram) → IsSending world number datagram old
+    → IsSending (with_branches n 255 number branches world) number datagram new)
     → ((world : World) (number : ℕ) (datagram : Datagram) → IsSending world number datagram old
     → new_lines ≡ lines ++ (map (λ iface. told.Out number iface octets) outs ++ map (hop_line n 255 number) branches))
     → Leaves (SendsOf octets) n 255 clock fate old new lines new_lines
@@ -162,7 +193,8 @@ leaves_sending octets n clock fate outs branches old new lines new_lines at on l
     leaves_by (SendsOf octets) n 255 clock fate outs branches old new lines new_lines at on
     (λ world number datagram sending _. (left world number datagram sending.0, sending.1))
     (λ world number datagram sending.
-    lines_are world number datagram sending.0 ∙ (λ i. lines ++ (map (λ iface. told.Out number iface (sending.1 i)) outs ++ map (hop_line n 255 number) branches)))
+    lines_are world number datagram sending.0 ∙ (λ i. lines
+    ++ (map (λ iface. told.Out number iface (sending.1 i)) outs ++ map (hop_line n 255 number) branches)))
 
 pub on_ok_both : {P Q R : Type 0} (result : Result (Unit {0}) NoMemory) → (P → Q → R) → OnOk result P → OnOk result Q → OnOk result R
 on_ok_both (Ok done) both p q = both p q
@@ -170,21 +202,27 @@ on_ok_both (Err fault) both p q = tt
 
 -- ---- a datagram enters
 
-enters_alike : (world : World) (n : NodeId) (vrf : VrfId) (found : Vrf) (edge : EdgeData) (datagram : Datagram) → slice_get (scenario_of world).vrfs vrf.0 ≡ Some found → found.edge ≡ n
+enters_alike : (world : World) (n : NodeId) (vrf : VrfId) (found : Vrf) (edge : EdgeData) (datagram : Datagram)
+    → slice_get (scenario_of world).vrfs vrf.0 ≡ Some found → found.edge ≡ n
     → world.network.state.node n ≡ world_nodes.Edge edge → datagram_at world (length world.datagrams) ≡ Some datagram
     → act world (Enter vrf) ≡ Ok (fated world n 255 (length world.datagrams) datagram.octets []
-    (entering_fate (place_of world.network.state n) (clock_of world) edge (record { id = vrf; vrf = found }) datagram.site datagram.source datagram.group))
+    (entering_fate (place_of world.network.state n) (clock_of world) edge (record { id = vrf; vrf = found }) datagram.site datagram.source
+    datagram.group))
 enters_alike world n vrf found edge datagram at own node last =
     (λ i. Ok (entering world vrf (at i) (last i)))
     ∙ (ap (λ (s : NodeState). Ok (enters_at world (record { id = vrf; vrf = found }) s datagram)) (ap world.network.state.node own ∙ node)
     ∙ ap (λ (m : NodeId). Ok (fated world m 255 (length world.datagrams) datagram.octets []
-    (entering_fate (place_of world.network.state m) (clock_of world) edge (record { id = vrf; vrf = found }) datagram.site datagram.source datagram.group))) own)
+    (entering_fate (place_of world.network.state m) (clock_of world) edge (record { id = vrf; vrf = found }) datagram.site datagram.source
+    datagram.group))) own)
 
-pub enters : (own old : NetworkView) → own ≡ old → (n : NodeId) (vrf : VrfId) (site : SiteId) (packet : Packet) (fate : Fate) (view : DatagramsView) (lines new_lines : List ReportLine)
+pub enters : (own old : NetworkView) → own ≡ old
+    → (n : NodeId) (vrf : VrfId) (site : SiteId) (packet : Packet) (fate : Fate) (view : DatagramsView) (lines new_lines : List ReportLine)
     → ((at : Standing) → (is : IsEdgeOf vrf n at) → IsIn at own.plane → (edge : EdgeData) → at.network.state.node n ≡ world_nodes.Edge edge
-    → IsFate (entering_fate (place_of at.network.state n) at.network.state.clock edge (record { id = vrf; vrf = is.vrf }) site packet.source packet.group) fate)
+    → IsFate (entering_fate (place_of at.network.state n) at.network.state.clock edge (record { id = vrf; vrf = is.vrf }) site packet.source
+    packet.group) fate)
     → (octets : List ℕ) → octets ≡ packet.octets → ((clock : ℕ) → Leaves (SendsOf octets) n 255 clock fate own.datagrams view lines new_lines)
-    → (at : Instant) (datagram : Datagram) → IsEdgeOf vrf n (standing_of at) → IsSentBy site packet datagram → IsHandling at (length at.world.datagrams) datagram old
+    → (at : Instant) (datagram : Datagram) → IsEdgeOf vrf n (standing_of at) → IsSentBy site packet datagram
+    → IsHandling at (length at.world.datagrams) datagram old
     → Enters at vrf datagram lines new_lines (record own { datagrams = view })
 enters own old same n vrf site packet fate view lines new_lines goes octets text leaves at datagram stands sent handled =
     let number = length at.world.datagrams in
@@ -192,17 +230,22 @@ enters own old same n vrf site packet fate view lines new_lines goes octets text
     let own_octets : octets ≡ datagram.octets = text ∙ sym sent.octets in
     let edge = edge_here n vrf own.plane (standing_of at) stands now.plane in
     let place = place_of at.world.network.state n in
-    let is : IsFate (entering_fate place (clock_of at.world) edge.0 (record { id = vrf; vrf = stands.vrf }) datagram.site datagram.source datagram.group) fate =
+    let is : IsFate (entering_fate place (clock_of at.world) edge.0 (record { id = vrf; vrf = stands.vrf }) datagram.site datagram.source
+    datagram.group) fate =
     subst (λ (f : fates.Fate). IsFate f fate)
-    (λ i. entering_fate place (clock_of at.world) edge.0 (record { id = vrf; vrf = stands.vrf }) (sym sent.site i) (sym sent.source i) (sym sent.group i))
+    (λ i. entering_fate place (clock_of at.world) edge.0 (record { id = vrf; vrf = stands.vrf }) (sym sent.site i) (sym sent.source i)
+    (sym sent.group i))
     (goes (standing_of at) stands now.plane edge.0 edge.1) in
-    let expected = entering_fate place (clock_of at.world) edge.0 (record { id = vrf; vrf = stands.vrf }) datagram.site datagram.source datagram.group in
+    let expected =
+    entering_fate place (clock_of at.world) edge.0 (record { id = vrf; vrf = stands.vrf }) datagram.site datagram.source datagram.group in
     let behind = with_branches n 255 number expected.branches at.world in
     record {
       behind = fated at.world n 255 number datagram.octets [] expected;
       is = enters_alike at.world n vrf stands.vrf edge.0 datagram stands.stands stands.edge edge.1 now.datagrams.of_it;
-      stands = sending_there at own behind (sym (branches_keep n 255 number expected.branches at.world)) now.scenario now.plane view (length behind.datagrams) datagram
-          (subst (λ (k : ℕ). IsSending behind k datagram view) (ap (λ (ds : List Datagram). length ds) (sym (branches_datagrams n 255 number expected.branches at.world)))
+      stands = sending_there at own behind (sym (branches_keep n 255 number expected.branches at.world)) now.scenario now.plane view
+          (length behind.datagrams) datagram
+          (subst (λ (k : ℕ). IsSending behind k datagram view)
+          (ap (λ (ds : List Datagram). length ds) (sym (branches_datagrams n 255 number expected.branches at.world)))
           ((leaves (clock_of at.world)).left at.world number datagram expected (now.datagrams, own_octets) refl is).0);
       told = (leaves (clock_of at.world)).lines_are at.world number datagram expected (now.datagrams, own_octets) is;
     }
@@ -210,7 +253,8 @@ enters own old same n vrf site packet fate view lines new_lines goes octets text
 -- ---- a copy lands
 
 -- the datagram of a copy is a packet of its flow
-flow_of : (datagrams : List Datagram) (number : ℕ) (datagram : Datagram) → AllByRecursion IsOfFlow datagrams → numbered datagrams number ≡ Some datagram → IsOfFlow datagram
+flow_of : (datagrams : List Datagram) (number : ℕ) (datagram : Datagram) → AllByRecursion IsOfFlow datagrams
+    → numbered datagrams number ≡ Some datagram → IsOfFlow datagram
 flow_of datagrams zero datagram flows at = absurd (none-some datagram at)
 flow_of datagrams (suc place) datagram flows at = all_at IsOfFlow datagrams place datagram flows at
 
@@ -226,9 +270,11 @@ module _ (from to : NodeId) (copy : Landed) (own old : NetworkView) (same : own 
       let left = is.left in
       let gone = without_copy at.world from to place in
       let handles = subst (λ (n : NetworkView). Handles gone left.copy.number left.datagram n.datagrams) (sym same) left.handles in
-      ap packet_of (are gone left.copy.number left.datagram handles) ∙ flow_of at.world.datagrams left.copy.number left.datagram may.flows left.handles.of_it
+      ap packet_of (are gone left.copy.number left.datagram handles)
+      ∙ flow_of at.world.datagrams left.copy.number left.datagram may.flows left.handles.of_it
 
-  pub packet_is : (at : Instant) (place : ℕ) → MayLand to at → (is : HasLanded at from to place copy old) → (packet : Packet) → packet_of octets ≡ Ok packet
+  pub packet_is : (at : Instant) (place : ℕ) → MayLand to at → (is : HasLanded at from to place copy old) → (packet : Packet)
+      → packet_of octets ≡ Ok packet
       → packet ≡ record { source = is.left.datagram.source; group = is.left.datagram.group; octets = is.left.datagram.octets }
   packet_is at place may is packet e = ap (packet_or packet) (sym e ∙ packet_here at place may is)
 
@@ -243,7 +289,8 @@ fate_alike world n (world_nodes.CoreNode part) from label datagram = refl
 
 -- where it goes
 pub lands_at : (from to : NodeId) (copy : Landed) (own old : NetworkView) → own ≡ old → (packet : Packet) (fate result : Fate)
-    → ((at : Standing) → IsCurrent to at → IsIn at own.plane → IsFate (queries.landing_fate at.network.state to (at.network.state.node to) from copy.label packet.source packet.group) fate)
+    → ((at : Standing) → IsCurrent to at → IsIn at own.plane
+    → IsFate (queries.landing_fate at.network.state to (at.network.state.node to) from copy.label packet.source packet.group) fate)
     → ((expected : fates.Fate) → IsFate expected fate → IsFate (with_ttl copy.ttl expected) result)
     → (at : Instant) (place : ℕ) → MayLand to at → (is : HasLanded at from to place copy old)
     → packet ≡ record { source = is.left.datagram.source; group = is.left.datagram.group; octets = is.left.datagram.octets }
@@ -253,16 +300,22 @@ lands_at from to copy own old same packet fate result arrives drops_ at place ma
     let gone = without_copy at.world from to place in
     let state = at.world.network.state.node to in
     let plane = subst (λ (n : NetworkView). IsIn (standing_of at) n.plane) (sym same) is.plane in
-    let goes : queries.landing_fate at.world.network.state to state from copy.label packet.source packet.group ≡ fate_at gone to state from left.copy.label left.datagram =
-    (λ i. queries.landing_fate at.world.network.state to state from (left.label i) (read i).source (read i).group) ∙ fate_alike gone to state from left.copy.label left.datagram in
+    let goes : queries.landing_fate at.world.network.state to state from copy.label packet.source packet.group
+    ≡ fate_at gone to state from left.copy.label left.datagram =
+    (λ i. queries.landing_fate at.world.network.state to state from (left.label i) (read i).source (read i).group)
+    ∙ fate_alike gone to state from left.copy.label left.datagram in
     subst (λ (ttl : ℕ). IsFate (with_ttl ttl (fate_at gone to state from left.copy.label left.datagram)) result) left.ttl
-    (drops_ (fate_at gone to state from left.copy.label left.datagram) (subst (λ (f : fates.Fate). IsFate f fate) goes (arrives (standing_of at) may.node plane)))
+    (drops_ (fate_at gone to state from left.copy.label left.datagram)
+    (subst (λ (f : fates.Fate). IsFate f fate) goes (arrives (standing_of at) may.node plane)))
 
-pub lands : (from to : NodeId) (copy : Landed) (own old : NetworkView) → own ≡ old → (fate : Fate) (ttl clock : ℕ) (view : DatagramsView) (lines between new_lines : List ReportLine)
+pub lands : (from to : NodeId) (copy : Landed) (own old : NetworkView) → own ≡ old
+    → (fate : Fate) (ttl clock : ℕ) (view : DatagramsView) (lines between new_lines : List ReportLine)
     → ttl ≡ copy.ttl - 1 → ((at : Standing) → IsIn at own.plane → clock ≡ at.network.state.clock)
-    → ((at : Instant) (place : ℕ) → MayLand to at → (is : HasLanded at from to place copy old) → IsFate (landing_fate at from to place is.left.copy is.left.datagram) fate)
+    → ((at : Instant) (place : ℕ) → MayLand to at → (is : HasLanded at from to place copy old)
+    → IsFate (landing_fate at from to place is.left.copy is.left.datagram) fate)
     → between ≡ lines ++ told.Land from to copy.label copy.number ∷ [] → Leaves Handles to ttl clock fate own.datagrams view between new_lines
-    → (at : Instant) (place : ℕ) → MayLand to at → HasLanded at from to place copy old → Lands at from to place lines new_lines (record own { datagrams = view })
+    → (at : Instant) (place : ℕ) → MayLand to at → HasLanded at from to place copy old
+    → Lands at from to place lines new_lines (record own { datagrams = view })
 lands from to copy own old same fate ttl clock view lines between new_lines lower ticks goes first leaves at place may is =
     let left = is.left in
     let gone = without_copy at.world from to place in
@@ -276,15 +329,19 @@ lands from to copy own old same fate ttl clock view lines between new_lines lowe
       number = left.copy.number;
       datagram = left.datagram;
       behind = fated gone to (left.copy.ttl - 1) left.copy.number left.datagram.octets (landed_line ∷ []) expected;
-      is = ap (λ (o : Option LinkCopy). Ok (landing at.world from to place o)) left.at ∙ ap (λ (o : Option Datagram). Ok (landed gone from to left.copy o)) left.handles.of_it;
-      stands = landing_there at own behind (sym (branches_keep to (left.copy.ttl - 1) left.copy.number expected.branches gone)) now.scenario now.plane view left.copy.number left.datagram
+      is = ap (λ (o : Option LinkCopy). Ok (landing at.world from to place o)) left.at
+          ∙ ap (λ (o : Option Datagram). Ok (landed gone from to left.copy o)) left.handles.of_it;
+      stands = landing_there at own behind (sym (branches_keep to (left.copy.ttl - 1) left.copy.number expected.branches gone)) now.scenario now.plane
+          view left.copy.number left.datagram
           (subst (λ (k : ℕ). Handles (with_branches to k left.copy.number expected.branches gone) left.copy.number left.datagram view) lowered
           (leaves.left gone left.copy.number left.datagram expected handles (sym (ticks (standing_of at) now.plane)) (goes at place may is)));
       told =
           leaves.lines_are gone left.copy.number left.datagram expected handles (goes at place may is)
           ∙ ((λ i. (first ∙ (λ j. lines ++ told.Land from to (left.label j) (left.number j) ∷ [])) i
-          ++ (map (λ iface. told.Out left.copy.number iface left.datagram.octets) expected.outs ++ map (hop_line to (lowered i) left.copy.number) expected.branches))
-          ∙ append_assoc lines (landed_line ∷ []) (map (λ iface. told.Out left.copy.number iface left.datagram.octets) expected.outs ++ map (hop_line to (left.copy.ttl - 1) left.copy.number) expected.branches));
+          ++ (map (λ iface. told.Out left.copy.number iface left.datagram.octets) expected.outs
+          ++ map (hop_line to (lowered i) left.copy.number) expected.branches))
+          ∙ append_assoc lines (landed_line ∷ []) (map (λ iface. told.Out left.copy.number iface left.datagram.octets) expected.outs
+          ++ map (hop_line to (left.copy.ttl - 1) left.copy.number) expected.branches));
     }
 
 -- ---- a hop
@@ -298,7 +355,8 @@ landed_here own old same from to place copy view land at is =
     record { scenario = now.scenario; plane = now.plane; left = land at.world now.datagrams }
 
 pub some_landed : (own old : NetworkView) → own ≡ old → (from to : NodeId) (place : ℕ) (copy : Landed) (view : DatagramsView)
-    → ((world : World) → IsIdle world own.datagrams → stored.HasLanded world from to place copy view) → IsSome (MayLand to) old → IsSomeLanded from to copy (record own { datagrams = view })
+    → ((world : World) → IsIdle world own.datagrams → stored.HasLanded world from to place copy view) → IsSome (MayLand to) old
+    → IsSomeLanded from to copy (record own { datagrams = view })
 some_landed own old same from to place copy view land (at, may, is) = (at, place, may, landed_here own old same from to place copy view land at is)
 
 -- no copy is there
@@ -315,9 +373,11 @@ none_lands own old same from to place view lines none stays at is =
     }
 
 -- the copy has gone on, and its datagram is no longer handled
-pub hops : (own old : NetworkView) → own ≡ old → (from to : NodeId) (place : ℕ) (copy : Landed) (view : DatagramsView) (next new : NetworkView) (lines new_lines : List ReportLine)
+pub hops : (own old : NetworkView) → own ≡ old
+    → (from to : NodeId) (place : ℕ) (copy : Landed) (view : DatagramsView) (next new : NetworkView) (lines new_lines : List ReportLine)
     → ((world : World) → IsIdle world own.datagrams → stored.HasLanded world from to place copy view)
-    → ((at : Instant) (place : ℕ) → MayLand to at → HasLanded at from to place copy (record own { datagrams = view }) → Lands at from to place lines new_lines next)
+    → ((at : Instant) (place : ℕ) → MayLand to at → HasLanded at from to place copy (record own { datagrams = view })
+    → Lands at from to place lines new_lines next)
     → ((at : Instant) (number : ℕ) (datagram : Datagram) → IsLanding at number datagram next → IsWorld at new)
     → (at : Instant) → MayLand to at → IsWorld at old → Made at at.moment (Land from to place) lines new_lines new
 hops own old same from to place copy view next new lines new_lines land arrives finishes at may is =

@@ -35,15 +35,19 @@ use Rattle.network_acts.specs.NetworkView.{NetworkView}
 -- ---- which world it is
 
 -- the plane is that of the world, in the words of that world's own scenario
-in_own_words : (scenario : Scenario) (cores : Cores) (moment : Moment) (network : OctetNetwork Nodes) (plane : PlaneView) → IsPlane scenario cores moment network plane → IsPlane network.state.scenario cores moment network plane
+in_own_words : (scenario : Scenario) (cores : Cores) (moment : Moment) (network : OctetNetwork Nodes) (plane : PlaneView)
+    → IsPlane scenario cores moment network plane → IsPlane network.state.scenario cores moment network plane
 in_own_words scenario cores moment network plane is = subst (λ (s : Scenario). IsPlane s cores moment network plane) (sym is.around.scenario_is) is
 
 -- datagrams that are not handled are the same where nodes and sessions alone change
-idle_still : (world : World) (network : OctetNetwork Nodes) (view : DatagramsView) → IsIdle world view → IsIdle (record world { network = network }) view
-idle_still world network view idle = record { stores = record { copies = idle.stores.copies; buffers = idle.stores.buffers }; none = idle.none; count = idle.count }
+idle_still : (world : World) (network : OctetNetwork Nodes) (view : DatagramsView) → IsIdle world view
+    → IsIdle (record world { network = network }) view
+idle_still world network view idle =
+    record { stores = record { copies = idle.stores.copies; buffers = idle.stores.buffers }; none = idle.none; count = idle.count }
 
 -- the network behind a change of its plane
-world_behind : (at : Instant) (moment : Moment) (network : OctetNetwork Nodes) (own : NetworkView) (plane : PlaneView) → IsWorld at own → IsPlane (scenario_of at.world) at.cores moment network plane
+world_behind : (at : Instant) (moment : Moment) (network : OctetNetwork Nodes) (own : NetworkView) (plane : PlaneView) → IsWorld at own
+    → IsPlane (scenario_of at.world) at.cores moment network plane
     → IsWorld (record { cores = at.cores; moment = moment; world = record at.world { network = network } }) (record own { plane = plane })
 world_behind at moment network own plane is now = record {
   scenario = is.scenario ∙ sym now.around.scenario_is;
@@ -64,7 +68,8 @@ own_is own old same at is = subst (IsWorld at) (sym same) is
 
 -- ---- an act
 
-made : (at : Instant) (moment : Moment) (happening : Act) (n : NodeId) (before : List ReportLine) (acts : List (OctetAct NodeCall)) (lines new_lines : List ReportLine) (own : NetworkView) (plane : PlaneView)
+made : (at : Instant) (moment : Moment) (happening : Act) (n : NodeId) (before : List ReportLine) (acts : List (OctetAct NodeCall))
+    (lines new_lines : List ReportLine) (own : NetworkView) (plane : PlaneView)
     → act at.world happening ≡ at_node at.world n before acts → IsWorld at own → Acted (standing_of at) moment acts before lines new_lines plane
     → Made at moment happening lines new_lines (record own { plane = plane })
 made at moment happening n before acts lines new_lines own plane form is done = record {
@@ -74,27 +79,33 @@ made at moment happening n before acts lines new_lines own plane form is done = 
   told = done.told;
 }
 
-lacks : (world : World) (happening : Act) (n : NodeId) (before : List ReportLine) (acts : List (OctetAct NodeCall)) → act world happening ≡ at_node world n before acts → octet_run system world.network acts ≡ None
+lacks : (world : World) (happening : Act) (n : NodeId) (before : List ReportLine) (acts : List (OctetAct NodeCall))
+    → act world happening ≡ at_node world n before acts → octet_run system world.network acts ≡ None
     → act world happening ≡ Err n
 lacks world happening n before acts form none = form ∙ ap (λ (o : Option (Behind (OctetNetwork Nodes))). with_network world before o n) none
 
 module _ (own old : NetworkView) (same : own ≡ old) (plane : PlaneView) where
   -- an act at a node
-  pub acts_as : (Fits : Standing → Type 0) (moment : Moment → Moment) (happening : Act) (n : NodeId) (acts : List (OctetAct NodeCall)) (first : Standing → List ReportLine) (lines new_lines : List ReportLine)
+  pub acts_as : (Fits : Standing → Type 0) (moment : Moment → Moment) (happening : Act) (n : NodeId) (acts : List (OctetAct NodeCall))
+      (first : Standing → List ReportLine) (lines new_lines : List ReportLine)
       (result : Result (Unit {0}) NodeFault) → ((at : Instant) → act at.world happening ≡ at_node at.world n (first (standing_of at)) acts)
-      → Acts Fits moment acts first own.plane plane lines new_lines result → ActsAs (OfPlane Fits) moment happening n old (record own { plane = plane }) lines new_lines result
+      → Acts Fits moment acts first own.plane plane lines new_lines result
+      → ActsAs (OfPlane Fits) moment happening n old (record own { plane = plane }) lines new_lines result
   acts_as Fits moment happening n acts first lines new_lines result form row = record {
     made = on_ok_weaker result (λ each at fits is.
         let now = own_is own old same at is in
-        made at (moment at.moment) happening n (first (standing_of at)) acts lines new_lines own plane (form at) now (each (standing_of at) fits now.plane)) row.made;
+        made at (moment at.moment) happening n (first (standing_of at)) acts lines new_lines own plane (form at) now
+        (each (standing_of at) fits now.plane)) row.made;
     lacks = λ e at fits is.
         let none = row.lacks e (standing_of at) fits (own_is own old same at is).plane in
         (lacks at.world happening n (first (standing_of at)) acts (form at) none.0, none.1);
   }
 
   -- a call of a customer or of the operator
-  pub customer_acts_as : (Fits : Standing → Type 0) (n : NodeId) (call : Call) (is_full : Standing → Bool) (lines new_lines : List ReportLine) (result : Result Verdict NodeFault)
-      → CustomerActs Fits n call is_full own.plane plane lines new_lines result → CustomerActsAs Fits n call is_full old (record own { plane = plane }) lines new_lines result
+  pub customer_acts_as : (Fits : Standing → Type 0) (n : NodeId) (call : Call) (is_full : Standing → Bool) (lines new_lines : List ReportLine)
+      (result : Result Verdict NodeFault)
+      → CustomerActs Fits n call is_full own.plane plane lines new_lines result
+      → CustomerActsAs Fits n call is_full old (record own { plane = plane }) lines new_lines result
   customer_acts_as Fits n call is_full lines new_lines result row = record {
     made = λ e at fits is.
         let now = own_is own old same at is in
@@ -117,7 +128,8 @@ none_put : (ways : List Direction) → flat_map (put_line []) ways ≡ []
 none_put [] = refl
 none_put (over ∷ more) = none_put more
 
-acted : (at : Standing) (acts : List (OctetAct NodeCall)) (moment : Moment) (plane : PlaneView) → passing.Passes at acts moment plane → Acted at moment acts [] [] [] plane
+acted : (at : Standing) (acts : List (OctetAct NodeCall)) (moment : Moment) (plane : PlaneView) → passing.Passes at acts moment plane
+    → Acted at moment acts [] [] [] plane
 acted at acts moment plane done = record {
   new = record { network = done.network; puts = [] };
   run = done.run;
@@ -126,15 +138,19 @@ acted at acts moment plane done = record {
 }
 
 module _ (own old : NetworkView) (same : own ≡ old) (plane : PlaneView) where
-  pub passes : (at : Instant) (moment : Moment) (happening : Act) (n : NodeId) (acts : List (OctetAct NodeCall)) → act at.world happening ≡ at_node at.world n [] acts → IsWorld at old
-      → (IsIn (standing_of at) own.plane → passing.Passes (standing_of at) acts moment plane) → Passes at moment happening (record own { plane = plane })
+  pub passes : (at : Instant) (moment : Moment) (happening : Act) (n : NodeId) (acts : List (OctetAct NodeCall))
+      → act at.world happening ≡ at_node at.world n [] acts → IsWorld at old
+      → (IsIn (standing_of at) own.plane → passing.Passes (standing_of at) acts moment plane)
+      → Passes at moment happening (record own { plane = plane })
   passes at moment happening n acts form is passed =
       let now = own_is own old same at is in
       made at moment happening n [] acts [] [] own plane form now (acted (standing_of at) acts moment plane (passed now.plane))
 
-  pub passes_as : (Fits : Instant → Type 0) (moment : Moment → Moment) (happening : Act) (n : NodeId) (acts : List (OctetAct NodeCall)) (result : Result (Unit {0}) NoMemory)
+  pub passes_as : (Fits : Instant → Type 0) (moment : Moment → Moment) (happening : Act) (n : NodeId) (acts : List (OctetAct NodeCall))
+      (result : Result (Unit {0}) NoMemory)
       → ((at : Instant) → act at.world happening ≡ at_node at.world n [] acts)
-      → OnOk result ((at : Instant) → IsWorld at old → IsIn (standing_of at) own.plane → passing.Passes (standing_of at) acts (moment at.moment) plane)
+      → OnOk result ((at : Instant) → IsWorld at old → IsIn (standing_of at) own.plane
+      → passing.Passes (standing_of at) acts (moment at.moment) plane)
       → PassesAs Fits moment happening old (record own { plane = plane }) result
   passes_as Fits moment happening n acts result form done =
       on_ok_weaker result (λ each at fits is. passes at (moment at.moment) happening n acts (form at) is (each at is)) done
@@ -142,7 +158,8 @@ module _ (own old : NetworkView) (same : own ≡ old) (plane : PlaneView) where
   -- time passes, and copies are removed
   pub ticks : (at : Instant) (count : ℕ) (datagrams : DatagramsView) → IsWorld at old
       → (IsIn (standing_of at) own.plane → passing.Passes (standing_of at) (octets.Call (Elapse count) ∷ []) at.moment plane)
-      → ((world : World) → IsIdle world own.datagrams → IsIn (record { scenario = scenario_of at.world; cores = at.cores; moment = at.moment; network = world.network }) plane
+      → ((world : World) → IsIdle world own.datagrams
+      → IsIn (record { scenario = scenario_of at.world; cores = at.cores; moment = at.moment; network = world.network }) plane
       → scenario_of world ≡ scenario_of at.world → IsIdle (aged world) datagrams)
       → Passes at at.moment (Tick count) (record { scenario = own.scenario; plane = plane; datagrams = datagrams })
   ticks at count datagrams is passed ages =
@@ -153,6 +170,11 @@ module _ (own old : NetworkView) (same : own ≡ old) (plane : PlaneView) where
       record {
         behind = record { world = aged world; lines = [] ++ put_lines (scenario_of at.world) done.new.puts };
         is = ap (λ (o : Option (Behind (OctetNetwork Nodes))). with_aged (with_network at.world [] o (record { 0 = 0 }))) done.run;
-        stands = record { scenario = stands.scenario; plane = stands.plane; datagrams = ages world stands.datagrams done.is done.is.around.scenario_is };
+        stands = record {
+          scenario = stands.scenario;
+          plane = stands.plane;
+          datagrams =
+              ages world stands.datagrams done.is done.is.around.scenario_is;
+        };
         told = done.told;
       }

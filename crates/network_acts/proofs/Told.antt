@@ -30,7 +30,8 @@ have_ends own all same at is =
     (each_weaker (HasNodes scenario) (λ s. HasEnds s (standing_of at)) (λ s has. record { first = has.0; second = has.1 }) (sessions scenario)
     (sessions_within scenario is.plane.around.steady.sound.lines)))
 
-pub some_ends : (own old : NetworkView) → own ≡ old → (all : List Session) → all ≡ sessions old.scenario → IsSome Any old → planes.IsSome (HaveEnds all) own.plane
+pub some_ends : (own old : NetworkView) → own ≡ old → (all : List Session) → all ≡ sessions old.scenario → IsSome Any old
+    → planes.IsSome (HaveEnds all) own.plane
 some_ends own old same all are (at, fits, is) =
     let now = own_is own old same at is in
     (standing_of at, have_ends own all (are ∙ ap (λ (n : NetworkView). sessions n.scenario) (sym same)) at now, now.plane)
@@ -39,30 +40,36 @@ some_ends own old same all are (at, fits, is) =
 exact : (most count counted n : ℕ) → counted ≡ count → counted < most → count ≡ min n most → counted ≡ n
 exact most count counted n same below is = omega (arith, same, below, is)
 
-pub tells : (own old : NetworkView) → own ≡ old → (all : List Session) → all ≡ sessions old.scenario → (octets copies live due due_told waiting waiting_told : ℕ) (lines new_lines : List ReportLine)
+pub tells : (own old : NetworkView) → own ≡ old → (all : List Session) → all ≡ sessions old.scenario
+    → (octets copies live due due_told waiting waiting_told : ℕ) (lines new_lines : List ReportLine)
     → ((at : Standing) → IsIn at own.plane → octets ≡ octets_in_transit (without_copies at.network))
     → ((world : World) → IsIdle world own.datagrams → AreLinked world → copies ≡ length (all_copies world))
     → ((world : World) → IsIdle world own.datagrams → AreLinked world → live ≡ datagrams_with_copy (all_copies world) (length world.datagrams))
     → ((at : Standing) → IsIn at own.plane → due ≡ min (sum_by (node_due at.network.state) (all_nodes at.scenario)) 18446744073709551615)
     → (due_told ≡ due) × (due_told < 18446744073709551615)
-    → ((at : Standing) → HaveEnds all at → IsIn at own.plane → waiting ≡ min (count_by (λ session. not (is_ready (without_copies at.network) session)) all) 18446744073709551615)
+    → ((at : Standing) → HaveEnds all at → IsIn at own.plane
+    → waiting ≡ min (count_by (λ session. not (is_ready (without_copies at.network) session)) all) 18446744073709551615)
     → (waiting_told ≡ waiting) × (waiting_told < 18446744073709551615)
     → new_lines ≡ lines ++ told.State octets copies live due_told waiting_told ∷ []
     → (at : Instant) → IsWorld at old → AreLinked at.world → Made at at.moment Tell lines new_lines old
-tells own old same all are octets copies live due due_told waiting waiting_told lines new_lines total on with_copy timers due_is ready waiting_is pushed at is linked =
+tells own old same all are octets copies live due due_told waiting waiting_told lines new_lines total on with_copy timers due_is ready waiting_is
+    pushed at is linked =
     let now = own_is own old same at is in
     let standing = standing_of at in
     let own_sessions : all ≡ sessions own.scenario = are ∙ ap (λ (n : NetworkView). sessions n.scenario) (sym same) in
-    let late : due_told ≡ due_timers at.world = exact 18446744073709551615 due due_told (due_timers at.world) due_is.0 due_is.1 (timers standing now.plane) in
+    let late : due_told ≡ due_timers at.world =
+    exact 18446744073709551615 due due_told (due_timers at.world) due_is.0 due_is.1 (timers standing now.plane) in
     let open_ : waiting_told ≡ unready at.world =
     exact 18446744073709551615 waiting waiting_told (unready at.world) waiting_is.0 waiting_is.1
     (ready standing (have_ends own all own_sessions at now) now.plane
-    ∙ ap (λ (l : List Session). min (count_by (λ session. not (is_ready at.world session)) l) 18446744073709551615) (own_sessions ∙ ap sessions now.scenario)) in
+    ∙ ap (λ (l : List Session). min (count_by (λ session. not (is_ready at.world session)) l) 18446744073709551615)
+    (own_sessions ∙ ap sessions now.scenario)) in
     record {
       behind = record { world = at.world; lines = state_line at.world ∷ [] };
       is = refl;
       stands = is;
       told =
           pushed
-          ∙ (λ i. lines ++ told.State (total standing now.plane i) (on at.world now.datagrams linked i) (with_copy at.world now.datagrams linked i) (late i) (open_ i) ∷ []);
+          ∙ (λ i. lines ++ told.State (total standing now.plane i) (on at.world now.datagrams linked i) (with_copy at.world now.datagrams linked i)
+          (late i) (open_ i) ∷ []);
     }

@@ -49,7 +49,8 @@ repriced_itself [] h = tt
 repriced_itself (link ∷ more) h = (refl, refl, h.0, repriced_itself more h.1)
 
 -- one of them gets another cost
-pub repriced_more : (links others : List Link) (a b : NodeId) (cost : ℕ) → AreRepriced links others → (1 ≤ cost) × (cost ≤ 65535) → AreRepriced links (with_cost a b cost others)
+pub repriced_more : (links others : List Link) (a b : NodeId) (cost : ℕ) → AreRepriced links others → (1 ≤ cost) × (cost ≤ 65535)
+    → AreRepriced links (with_cost a b cost others)
 repriced_more [] [] a b cost h is = tt
 repriced_more [] (other ∷ others) a b cost h is = absurd h
 repriced_more (link ∷ more) [] a b cost h is = absurd h
@@ -66,7 +67,8 @@ repriced_costs [] (other ∷ others) h = absurd h
 repriced_costs (link ∷ more) [] h = absurd h
 repriced_costs (link ∷ more) (other ∷ others) h = (h.2, repriced_costs more others h.3)
 
-pub repriced_ends : (nodes : ℕ) (links others : List Link) → AllByRecursion (HasEnds nodes) links → AreRepriced links others → AllByRecursion (HasEnds nodes) others
+pub repriced_ends : (nodes : ℕ) (links others : List Link) → AllByRecursion (HasEnds nodes) links → AreRepriced links others
+    → AllByRecursion (HasEnds nodes) others
 repriced_ends nodes [] [] ends h = tt
 repriced_ends nodes [] (other ∷ others) ends h = absurd h
 repriced_ends nodes (link ∷ more) [] ends h = absurd h

@@ -58,24 +58,30 @@ no_notes = none_in_order note_cmp_total
 no_vrf_flows : (place : EdgePlace) (now : ℕ) (own : OwnVrf) → vrf_flows place now no_control own ≡ []
 no_vrf_flows place now own = λ i. map (with_upstream place no_control own) (filter (is_flow place now no_control own) (
     found_in (joined_by place own) (map (λ e. e.0) (no_entries entry_cmp Expiry i))
-    ++ (map noted_flow (filter (λ note. is_iface_of place.scenario own.id note.iface) (no_notes i)) ++ flat_map (active_from own) (no_entries node_cmp Taken i))))
+    ++ (map noted_flow (filter (λ note. is_iface_of place.scenario own.id note.iface) (no_notes i))
+    ++ flat_map (active_from own) (no_entries node_cmp Taken i))))
 
 no_flows : (place : EdgePlace) (now : ℕ) → flows_at place now no_control ≡ maps.empty
-no_flows place now = ap (λ (all : List (VrfFlow × Option Upstream)). maps.from_entries {R = flow_cmp} all) (flat_none (vrf_flows place now no_control) (no_vrf_flows place now) (own_vrfs place))
+no_flows place now =
+    ap (λ (all : List (VrfFlow × Option Upstream)). maps.from_entries {R = flow_cmp} all)
+    (flat_none (vrf_flows place now no_control) (no_vrf_flows place now) (own_vrfs place))
 
 refreshed_nothing : (place : EdgePlace) (now : ℕ) → refreshed place now no_control ≡ no_control
 refreshed_nothing place now = λ i. record no_control { flows = no_flows place now i }
 
 kept_nothing : (now : ℕ) → kept_at maps.empty now ≡ maps.empty
 kept_nothing now = empty_by entry_cmp_total _ (λ q.
-    maps.get-retain_keys maps.empty (λ at. counts now (maps.get maps.empty at)) q (λ x e i. counts now ((maps.get-empty {X = Expiry} entry_cmp x ∙ sym (maps.get-empty entry_cmp q)) i))
+    maps.get-retain_keys maps.empty (λ at. counts now (maps.get maps.empty at)) q
+    (λ x e i. counts now ((maps.get-empty {X = Expiry} entry_cmp x ∙ sym (maps.get-empty entry_cmp q)) i))
     ∙ (λ i. cond (counts now (maps.get-empty {X = Expiry} entry_cmp q i)) (maps.get-empty {X = Expiry} entry_cmp q i) None))
 
 timed_nothing : (place : EdgePlace) (now : ℕ) → timed place now no_control ≡ no_control
 timed_nothing place now = λ i. record {
   entries = kept_nothing now i;
   notes = sets.empty;
-  selections = maps.from_entries {R = pattern_cmp} (map (λ (entry : VrfPattern × Selected). (entry.0, selection_run place.scenario.delay now entry.1)) (no_entries pattern_cmp Selected i));
+  selections =
+      maps.from_entries {R = pattern_cmp} (map (λ (entry : VrfPattern × Selected). (entry.0, selection_run place.scenario.delay now entry.1))
+      (no_entries pattern_cmp Selected i));
   flows = maps.empty;
   peers = maps.from_entries {R = node_cmp} (map (taken_run place now) (no_entries node_cmp Taken i));
 }
@@ -83,19 +89,23 @@ timed_nothing place now = λ i. record {
 no_tunnels : (place : EdgePlace) (own : OwnVrf) → tunnels_of place no_control own ≡ []
 no_tunnels place own = λ i.
     flat_map (inclusive_tunnels place own) (no_entries node_cmp Taken i)
-    ++ flat_map (flow_tunnels place no_control own) (filter (λ (entry : VrfFlow × Option Upstream). entry.0.vrf.0 == own.id.0) (no_entries flow_cmp (Option Upstream) i))
+    ++ flat_map (flow_tunnels place no_control own)
+    (filter (λ (entry : VrfFlow × Option Upstream). entry.0.vrf.0 == own.id.0) (no_entries flow_cmp (Option Upstream) i))
 
 no_leaves : (place : EdgePlace) → leaves place no_control ≡ sets.empty
-no_leaves place = ap (λ (all : List Fec). sets.from_list {R = fec_cmp} all) (flat_none (tunnels_of place no_control) (no_tunnels place) (own_vrfs place))
+no_leaves place =
+    ap (λ (all : List Fec). sets.from_list {R = fec_cmp} all) (flat_none (tunnels_of place no_control) (no_tunnels place) (own_vrfs place))
 
 no_changed_leaves : (place : EdgePlace) → changed_leaves (leaves place no_control) (leaves place no_control) ≡ []
 no_changed_leaves place =
     (λ i. changed_leaves (no_leaves place i) (no_leaves place i))
     ∙ (λ i. map (λ fec. if sets.contains (sets.empty {R = fec_cmp}) fec then label_calls.Want fec else label_calls.Unwant fec)
-    (filter (λ fec. not (sets.contains (sets.empty {R = fec_cmp}) fec && sets.contains (sets.empty {R = fec_cmp}) fec)) ((ap in_order (no_union fec_cmp_total fec_cmp_exact) ∙ none_in_order fec_cmp_total) i)))
+    (filter (λ fec. not (sets.contains (sets.empty {R = fec_cmp}) fec && sets.contains (sets.empty {R = fec_cmp}) fec))
+    ((ap in_order (no_union fec_cmp_total fec_cmp_exact) ∙ none_in_order fec_cmp_total) i)))
 
 -- a call with a label step of its own raises and loses no BGP session
-raises_stay : (now : ℕ) (old : FinMap node_cmp ℕ) (call : steps.Call) (own : label_calls.Call) → own_label_call call ≡ Some own → raised_after now old call ≡ old
+raises_stay : (now : ℕ) (old : FinMap node_cmp ℕ) (call : steps.Call) (own : label_calls.Call) → own_label_call call ≡ Some own
+    → raised_after now old call ≡ old
 raises_stay now old (steps.Label neighbour message) own e = refl
 raises_stay now old (steps.Raised kinds.Ldp peer) own e = refl
 raises_stay now old (steps.Raised kinds.Bgp peer) own e = absurd cc
@@ -115,18 +125,24 @@ abbrev edge_of : LabelData → EdgeData
 edge_of part = record { control = no_control; part = part; raised = maps.empty }
 
 -- a step that changes no control makes its own label step alone
-idle_edge_step : (place : EdgePlace) (now : ℕ) (part : LabelData) (call : steps.Call) (own : label_calls.Call) (new : Stepped) → own_label_call call ≡ Some own → control_step place now no_control call ≡ no_control → label_step (label_place place.scenario place.core place.me) now part own ≡ Some new
+idle_edge_step : (place : EdgePlace) (now : ℕ) (part : LabelData) (call : steps.Call) (own : label_calls.Call) (new : Stepped)
+    → own_label_call call ≡ Some own → control_step place now no_control call ≡ no_control
+    → label_step (label_place place.scenario place.core place.me) now part own ≡ Some new
     → edge_step place now (edge_of part) call ≡ Some (record { edge = edge_of new.part; row = record { old = part; call = own; new = new } ∷ [] })
 idle_edge_step place now part call own new calls same made =
-    (λ i. label_row place now part (one_call (calls i) ++ changed_leaves (leaves place no_control) (leaves place (same i))) >>? λ row. Some (record { edge = record { control = same i; part = part_after part row; raised = raises_stay now maps.empty call own calls i }; row = row }))
+    (λ i. label_row place now part (one_call (calls i) ++ changed_leaves (leaves place no_control) (leaves place (same i))) >>? λ row. Some
+    (record { edge = record { control = same i; part = part_after part row; raised = raises_stay now maps.empty call own calls i }; row = row }))
     ∙ (λ i. label_row place now part (own ∷ no_changed_leaves place i) >>? λ row. Some (record { edge = edge_of (part_after part row); row = row }))
-    ∙ (λ i. (made i >>? λ next. label_row place now next.part [] >>? λ behind. Some (record { old = part; call = own; new = next } ∷ behind)) >>? λ row. Some (record { edge = edge_of (part_after part row); row = row }))
+    ∙ (λ i. (made i >>? λ next. label_row place now next.part [] >>? λ behind. Some (record { old = part; call = own; new = next } ∷ behind)) >>?
+    λ row. Some (record { edge = edge_of (part_after part row); row = row }))
 
 no_bgp_puts : (place : EdgePlace) → bgp_puts place no_control no_control ≡ []
 no_bgp_puts place = flat_none (λ peer. map (bgp_put place.me peer) (put_to place no_control no_control peer)) none (edges place.scenario)
   where
     none : (peer : NodeId) → map (bgp_put place.me peer) (put_to place no_control no_control peer) ≡ []
-    none peer = λ i. map (bgp_put place.me peer) (if is_some (maps.get-empty {X = Taken} node_cmp peer i) then changes same_value (told place no_control peer) (told place no_control peer) else [])
+    none peer =
+        λ i. map (bgp_put place.me peer) (if is_some (maps.get-empty {X = Taken} node_cmp peer i) then changes same_value (told place no_control peer)
+        (told place no_control peer) else [])
 
 -- ---- nodes
 
@@ -134,14 +150,16 @@ no_bgp_puts place = flat_none (λ peer. map (bgp_put place.me peer) (put_to plac
 abbrev pub as_node : Bool → LabelData → NodeState
 as_node edge part = if edge then Edge (edge_of part) else CoreNode part
 
-idle_called : (nodes : Nodes) (n : NodeId) (edge : Bool) (part new : LabelData) (call : steps.Call) (own : label_calls.Call) → own_label_call call ≡ Some own → control_step (place_of nodes n) nodes.clock no_control call ≡ no_control
+idle_called : (nodes : Nodes) (n : NodeId) (edge : Bool) (part new : LabelData) (call : steps.Call) (own : label_calls.Call)
+    → own_label_call call ≡ Some own → control_step (place_of nodes n) nodes.clock no_control call ≡ no_control
     → label_step (label_place_of nodes n) nodes.clock part own ≡ Some (record { part = new; puts = [] })
     → node_called nodes n (as_node edge part) call ≡ Some (record { state = with_node nodes n (as_node edge new); puts = [] })
 idle_called nodes n true part new call own calls same made =
     (λ i. idle_edge_step (place_of nodes n) nodes.clock part call own (record { part = new; puts = [] }) calls same made i >>? λ next.
     Some (record {
       state = with_node nodes n (Edge next.edge);
-      puts = bgp_puts (place_of nodes n) no_control next.edge.control ++ flat_map (label_puts n (addr_of nodes.scenario n) (label_place_of nodes n) nodes.clock) next.row;
+      puts = bgp_puts (place_of nodes n) no_control next.edge.control
+          ++ flat_map (label_puts n (addr_of nodes.scenario n) (label_place_of nodes n) nodes.clock) next.row;
     }))
     ∙ (λ i. Some (record { state = with_node nodes n (as_node true new); puts = no_bgp_puts (place_of nodes n) i ++ [] }))
 idle_called nodes n false part new call own calls same made =
@@ -166,13 +184,15 @@ none_mapped zero = refl
 none_mapped (suc count) = none_mapped count
 
 raised_part : (place : Place) (now count : ℕ) (ends : FinMap node_cmp End) (peer : NodeId)
-    → label_step place now (idle count ends) (label_calls.Raised peer) ≡ Some (record { part = idle count (maps.insert ends peer (raised_end now)); puts = [] })
+    → label_step place now (idle count ends) (label_calls.Raised peer)
+    ≡ Some (record { part = idle count (maps.insert ends peer (raised_end now)); puts = [] })
 raised_part place now count ends peer = refl
 
 timed_part : (place : Place) (now count : ℕ) (ends : FinMap node_cmp End)
     → label_step place now (idle count ends) label_calls.Timers ≡ Some (record { part = idle count (holds_run place.life now ends); puts = [] })
 timed_part place now count ends = λ i.
-    option_map counted (settle_all place (none_in_order fec_cmp_total i) (record { part = record (idle count (holds_run place.life now ends)) { labels = all_same (woken now) refl count i }; puts = [] }))
+    option_map counted (settle_all place (none_in_order fec_cmp_total i)
+    (record { part = record (idle count (holds_run place.life now ends)) { labels = all_same (woken now) refl count i }; puts = [] }))
 
 noticed_part : (place : Place) (now count : ℕ) (ends : FinMap node_cmp End) (peer : NodeId)
     → label_step place now (idle count ends) (label_calls.Noticed peer) ≡ Some (record { part = idle count (maps.remove ends peer); puts = [] })
@@ -187,7 +207,8 @@ noticed_part place now count ends peer = λ i.
   where
     no_trees : labels.trees (idle count ends) ≡ []
     no_trees =
-        (λ i. in_order (sets.from_list {R = fec_cmp} (map (λ (branch : Branch). branch.fec) (none_in_order branch_cmp_total i) ++ (none_in_order fec_cmp_total i ++ none_mapped count i))))
+        (λ i. in_order (sets.from_list {R = fec_cmp}
+        (map (λ (branch : Branch). branch.fec) (none_in_order branch_cmp_total i) ++ (none_in_order fec_cmp_total i ++ none_mapped count i))))
         ∙ none_in_order fec_cmp_total
 
 -- ---- what an idle node does
@@ -196,17 +217,21 @@ pub raised_node : (nodes : Nodes) (n peer : NodeId) (edge : Bool) (count : ℕ) 
     → node_called nodes n (as_node edge (idle count ends)) (steps.Raised kinds.Ldp peer)
     ≡ Some (record { state = with_node nodes n (as_node edge (idle count (maps.insert ends peer (raised_end nodes.clock)))); puts = [] })
 raised_node nodes n peer edge count ends =
-    idle_called nodes n edge _ _ (steps.Raised kinds.Ldp peer) (label_calls.Raised peer) refl (refreshed_nothing (place_of nodes n) nodes.clock) (raised_part (label_place_of nodes n) nodes.clock count ends peer)
+    idle_called nodes n edge _ _ (steps.Raised kinds.Ldp peer) (label_calls.Raised peer) refl (refreshed_nothing (place_of nodes n) nodes.clock)
+    (raised_part (label_place_of nodes n) nodes.clock count ends peer)
 
 pub timed_node : (nodes : Nodes) (n : NodeId) (edge : Bool) (count : ℕ) (ends : FinMap node_cmp End)
     → node_called nodes n (as_node edge (idle count ends)) steps.Timers
     ≡ Some (record { state = with_node nodes n (as_node edge (idle count (holds_run nodes.scenario.life nodes.clock ends))); puts = [] })
 timed_node nodes n edge count ends =
-    idle_called nodes n edge _ _ steps.Timers label_calls.Timers refl (ap (refreshed (place_of nodes n) nodes.clock) (timed_nothing (place_of nodes n) nodes.clock) ∙ refreshed_nothing (place_of nodes n) nodes.clock)
+    idle_called nodes n edge _ _ steps.Timers label_calls.Timers refl
+    (ap (refreshed (place_of nodes n) nodes.clock) (timed_nothing (place_of nodes n) nodes.clock)
+    ∙ refreshed_nothing (place_of nodes n) nodes.clock)
     (timed_part (label_place_of nodes n) nodes.clock count ends)
 
 pub noticed_node : (nodes : Nodes) (n peer : NodeId) (edge : Bool) (count : ℕ) (ends : FinMap node_cmp End)
     → node_called nodes n (as_node edge (idle count ends)) (steps.Noticed kinds.Ldp peer)
     ≡ Some (record { state = with_node nodes n (as_node edge (idle count (maps.remove ends peer))); puts = [] })
 noticed_node nodes n peer edge count ends =
-    idle_called nodes n edge _ _ (steps.Noticed kinds.Ldp peer) (label_calls.Noticed peer) refl (refreshed_nothing (place_of nodes n) nodes.clock) (noticed_part (label_place_of nodes n) nodes.clock count ends peer)
+    idle_called nodes n edge _ _ (steps.Noticed kinds.Ldp peer) (label_calls.Noticed peer) refl (refreshed_nothing (place_of nodes n) nodes.clock)
+    (noticed_part (label_place_of nodes n) nodes.clock count ends peer)

@@ -26,19 +26,25 @@ module _ {K : Type 0} {R : K → K → Ordering} (total : IsTotalOrder R) where
   no_pairs : {X : Type 0} (es : List (K × X)) → ((q : K) → find R q es ≡ None) → es ≡ []
   no_pairs [] none = refl
   no_pairs (e ∷ es) none =
-      let here : cond (eq_by_cmp R e.0 e.0) (Some e.1) (find R e.0 es) ≡ Some e.1 = ap (λ (r : Ordering). cond (is_eq r) (Some e.1) (find R e.0 es)) (tied_itself total e.0) in
+      let here : cond (eq_by_cmp R e.0 e.0) (Some e.1) (find R e.0 es) ≡ Some e.1 =
+      ap (λ (r : Ordering). cond (is_eq r) (Some e.1) (find R e.0 es)) (tied_itself total e.0) in
       let nowhere : Some e.1 ≡ None = sym here ∙ none e.0 in
       absurd cc
 
   pub empty_by : {X : Type 0} (m : FinMap R X) → ((q : K) → maps.get m q ≡ None) → m ≡ maps.empty
-  empty_by {X} m none = maps.same_entries_map m maps.empty (no_pairs (maps.entries m) (λ q. sym (maps.get-entries m q) ∙ none q) ∙ sym (no_entries R X))
+  empty_by {X} m none =
+      maps.same_entries_map m maps.empty (no_pairs (maps.entries m) (λ q. sym (maps.get-entries m q) ∙ none q) ∙ sym (no_entries R X))
 
 module _ {K : Type 0} {R : K → K → Ordering} (total : IsTotalOrder R) (exact : IsAntisymmetric R) where
   pub no_union : sets.union (sets.empty {R = R}) sets.empty ≡ sets.empty
-  no_union = sets.same_set total exact _ sets.empty (λ q. sets.contains-union total sets.empty sets.empty q ∙ (λ i. sets.contains-empty R q i || sets.contains-empty R q i) ∙ sym (sets.contains-empty R q))
+  no_union =
+      sets.same_set total exact _ sets.empty (λ q. sets.contains-union total sets.empty sets.empty q
+      ∙ (λ i. sets.contains-empty R q i || sets.contains-empty R q i) ∙ sym (sets.contains-empty R q))
 
   pub none_retained : (p : K → Bool) → sets.retain (sets.empty {R = R}) p ≡ sets.empty
-  none_retained p = sets.same_set total exact _ sets.empty (λ q. retained total exact sets.empty p q ∙ ap (λ b. b && p q) (sets.contains-empty R q) ∙ sym (sets.contains-empty R q))
+  none_retained p =
+      sets.same_set total exact _ sets.empty (λ q. retained total exact sets.empty p q ∙ ap (λ b. b && p q) (sets.contains-empty R q)
+      ∙ sym (sets.contains-empty R q))
 
 -- the entries of a map that is made of a list, in order
 abbrev pub ordered : {K X : Type 0} → (K → K → Ordering) → List (K × X) → List (K × X)

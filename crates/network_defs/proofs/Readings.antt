@@ -62,12 +62,18 @@ abbrev joined : Small → Session → Bool
 joined small session = small.joined (direction session.kind session.a session.b)
 
 abbrev ready : Small → Session → Bool
-ready small session = joined small session && elim session.kind [ kinds.Bgp ↦ true | kinds.Ldp ↦ has_held small session.a session.b && has_held small session.b session.a ]
+ready small session =
+    joined small session && elim session.kind [
+      | kinds.Bgp ↦ true
+      | kinds.Ldp ↦
+          has_held small session.a session.b && has_held small session.b session.a
+    ]
 
 ready_is : (small : Small) (session : Session) → is_ready (world small) session ≡ ready small session
 ready_is small session = ap (λ (b : Bool). joined small session && b) (by session.kind)
   where
-    by : (kind : Kind) → ◌≡◌ {A = Bool} (elim kind [ kinds.Bgp ↦ true | kinds.Ldp ↦ are_held (world small) session ]) (elim kind [ kinds.Bgp ↦ true | kinds.Ldp ↦ has_held small session.a session.b && has_held small session.b session.a ])
+    by : (kind : Kind) → ◌≡◌ {A = Bool} (elim kind [ kinds.Bgp ↦ true | kinds.Ldp ↦ are_held (world small) session ])
+        (elim kind [ kinds.Bgp ↦ true | kinds.Ldp ↦ has_held small session.a session.b && has_held small session.b session.a ])
     by kinds.Bgp = refl
     by kinds.Ldp = λ i. held_is small session.a session.b i && held_is small session.b session.a i
 
@@ -79,20 +85,25 @@ no_less n = omega arith
 
 part_due : (small : Small) (n : NodeId) (ends : List (NodeId × End))
     → labels.due (label_place_of (nodes_of network cores small) n) small.clock (idle 4 (maps.from_entries ends)) ≡ holds_due small.clock ends
-part_due small n ends = no_less (count_by (is_hold_due 2 small.clock) (maps.values (maps.from_entries {R = node_cmp} ends))) ∙ ap (λ (all : List (NodeId × End)). count_by (is_hold_due 2 small.clock) (map (λ (entry : NodeId × End). entry.1) all)) (entries_made node_cmp_total ends)
+part_due small n ends =
+    no_less (count_by (is_hold_due 2 small.clock) (maps.values (maps.from_entries {R = node_cmp} ends)))
+    ∙ ap (λ (all : List (NodeId × End)). count_by (is_hold_due 2 small.clock) (map (λ (entry : NodeId × End). entry.1) all))
+    (entries_made node_cmp_total ends)
 
 no_more : (n : ℕ) → n + 0 ≡ n
 no_more n = omega arith
 
-due_by : (small : Small) (n : NodeId) (edge : Bool) (ends : List (NodeId × End)) → ◌≡◌ {A = ℕ} (elim (as_node edge (idle 4 (maps.from_entries ends))) [
-  | Edge own ↦ edges.due (place_of (nodes_of network cores small) n) small.clock own
-  | CoreNode part ↦ labels.due (label_place_of (nodes_of network cores small) n) small.clock part
-]) (holds_due small.clock ends)
+due_by : (small : Small) (n : NodeId) (edge : Bool) (ends : List (NodeId × End))
+    → ◌≡◌ {A = ℕ} (elim (as_node edge (idle 4 (maps.from_entries ends))) [
+      | Edge own ↦ edges.due (place_of (nodes_of network cores small) n) small.clock own
+      | CoreNode part ↦ labels.due (label_place_of (nodes_of network cores small) n) small.clock part
+    ]) (holds_due small.clock ends)
 due_by small n false ends = part_due small n ends
 due_by small n true ends =
     (λ i. part_due small n ends i
     + (count_by (λ expiry. not (is_after expiry small.clock)) (map (λ e. e.1) (no_entries entry_cmp Expiry i))
-    + (count_by (is_selection_due 3 small.clock) (map (λ e. e.1) (no_entries pattern_cmp Selected i)) + sum_by (due_from (place_of (nodes_of network cores small) n) small.clock) (no_entries node_cmp Taken i))))
+    + (count_by (is_selection_due 3 small.clock) (map (λ e. e.1) (no_entries pattern_cmp Selected i)) + sum_by
+    (due_from (place_of (nodes_of network cores small) n) small.clock) (no_entries node_cmp Taken i))))
     ∙ no_more (holds_due small.clock ends)
 
 abbrev due_at : Small → NodeId → ℕ
@@ -105,4 +116,6 @@ abbrev pub line_of : Small → ReportLine
 line_of small = lines.State 0 0 0 (sum_by (due_at small) (all_nodes network)) (count_by (λ session. not (ready small session)) (sessions network))
 
 pub line_is : (small : Small) → state_line (world small) ≡ line_of small
-line_is small = λ i. lines.State 0 0 0 (sum_by (λ n. due_is small n i) (all_nodes network)) (count_by (λ session. not (ready_is small session i)) (sessions network))
+line_is small =
+    λ i. lines.State 0 0 0 (sum_by (λ n. due_is small n i) (all_nodes network))
+    (count_by (λ session. not (ready_is small session i)) (sessions network))

@@ -32,18 +32,21 @@ record Kept (scenario : Scenario) (world : World) : Type 0 where
   even : IsEven scenario world
   flows : AreOfFlows world
 
-event_kept : (scenario : Scenario) (timed : Timed) → IsEventOf scenario timed.event → (old : World) (acts : List Happened) (next : World) → outcome old timed ≡ Done acts next → Kept scenario old → Kept scenario next
+event_kept : (scenario : Scenario) (timed : Timed) → IsEventOf scenario timed.event → (old : World) (acts : List Happened) (next : World)
+    → outcome old timed ≡ Done acts next → Kept scenario old → Kept scenario next
 event_kept scenario timed is old acts next e kept = by (refusal old timed.event) refl e
   where
     by : (o : Option Refusal) → refusal old timed.event ≡ o
-        → (elim o [ None ↦ done old timed.event | Some reason ↦ Done (record { act = None; lines = told.Refused timed.line reason ∷ [] } ∷ []) old ]) ≡ Done acts next → Kept scenario next
+        → (elim o [ None ↦ done old timed.event | Some reason ↦ Done (record { act = None; lines = told.Refused timed.line reason ∷ [] } ∷ []) old ])
+        ≡ Done acts next → Kept scenario next
     by None free made = record {
       even = comes_done (IsEven scenario) (done old timed.event) acts next made (event_even timed.event scenario old kept.even);
       flows = flows_behind old timed.event acts next free made (subst (λ (s : Scenario). IsEventOf s timed.event) (sym kept.even.own) is) kept.flows;
     }
     by (Some reason) free made = subst (Kept scenario) (let same : old ≡ next = cc in same) kept
 
-runs_kept : (scenario : Scenario) (all : List Timed) → AllByRecursion (λ (timed : Timed). IsEventOf scenario timed.event) all → (old : World) (number : ℕ) (trace : List Traced) (new : World) → Runs old number all trace new
+runs_kept : (scenario : Scenario) (all : List Timed) → AllByRecursion (λ (timed : Timed). IsEventOf scenario timed.event) all
+    → (old : World) (number : ℕ) (trace : List Traced) (new : World) → Runs old number all trace new
     → Kept scenario old → Kept scenario new
 runs_kept scenario [] of_it old number trace new run kept = subst (Kept scenario) (sym run.1) kept
 runs_kept scenario (timed ∷ more) of_it old number trace new run kept =
@@ -51,7 +54,8 @@ runs_kept scenario (timed ∷ more) of_it old number trace new run kept =
 
 -- ---- between two events
 
-module _ (cores : Cores) (scenario : Scenario) (events : List Timed) (trace : List Traced) (world : World) (view : WorldView) (behind : IsBehind cores scenario events trace world view) where
+module _ (cores : Cores) (scenario : Scenario) (events : List Timed) (trace : List Traced) (world : World) (view : WorldView)
+    (behind : IsBehind cores scenario events trace world view) where
   abbrev any_script : Script
   any_script = record { scenario = scenario; events = events; end = 0 }
 
@@ -59,7 +63,8 @@ module _ (cores : Cores) (scenario : Scenario) (events : List Timed) (trace : Li
   linked = run_is_linked cores any_script events trace world (links_once scenario behind.rules) behind.run
 
   kept : Kept scenario world
-  kept = runs_kept scenario events behind.events_of (start scenario cores) 0 trace world behind.run (record { even = record { own = refl; alike = start_alike scenario cores }; flows = tt })
+  kept = runs_kept scenario events behind.events_of (start scenario cores) 0 trace world behind.run
+      (record { even = record { own = refl; alike = start_alike scenario cores }; flows = tt })
 
   pub scenario_behind : scenario_of world ≡ scenario
   scenario_behind = linked.network.nodes.place
@@ -69,7 +74,9 @@ module _ (cores : Cores) (scenario : Scenario) (events : List Timed) (trace : Li
   network_scenario = behind.stands.scenario ∙ scenario_behind
 
   pub links_behind : AreLinked world
-  links_behind = are_linked world (subst Rules (sym scenario_behind) behind.rules) (subst (λ (s : Scenario). AreSound s world) (sym scenario_behind) linked.sound)
+  links_behind =
+      are_linked world (subst Rules (sym scenario_behind) behind.rules)
+      (subst (λ (s : Scenario). AreSound s world) (sym scenario_behind) linked.sound)
 
   pub ready_there : IsReady (between_events cores world)
   ready_there = record {

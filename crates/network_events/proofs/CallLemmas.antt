@@ -30,8 +30,10 @@ module _ (event : Event) (old : NetworkView) (lines : List ReportLine) where
     pub fits : Fits at
     pub does : done at.world event ≡ row (one ∷ []) at.world
 
-  pub act_meets : (Fits : Instant → Type 0) (one : Act) (n : NodeId) (new : NetworkView) (new_lines : List ReportLine) (answer : Result (Unit {0}) NodeFault)
-      → ((at : Instant) → IsReady at → IsWorld at old → IsAct Fits one at) → ((at : Instant) → IsReady at → IsWorld at old → refusal at.world event ≡ None)
+  pub act_meets : (Fits : Instant → Type 0) (one : Act) (n : NodeId) (new : NetworkView) (new_lines : List ReportLine)
+      (answer : Result (Unit {0}) NodeFault)
+      → ((at : Instant) → IsReady at → IsWorld at old → IsAct Fits one at)
+      → ((at : Instant) → IsReady at → IsWorld at old → refusal at.world event ≡ None)
       → ActsAs Fits same_moment one n old new lines new_lines answer → Meets event old new lines new_lines (met (answer_at n answer))
   act_meets Fits one n new new_lines answer is_act free acts =
       meets_done event old lines new new_lines (answer_at n answer) free
@@ -45,19 +47,24 @@ module _ (event : Event) (old : NetworkView) (lines : List ReportLine) where
     pub does : done at.world event ≡ row (At n call ∷ []) at.world
     pub why : refusal at.world event ≡ refused_if (is_full (standing_of at)) refusals.Full
 
-  pub call_meets : (Fits : Standing → Type 0) (n : NodeId) (call : Call) (is_full : Standing → Bool) (new : NetworkView) (new_lines : List ReportLine) (answer : Result Verdict NodeFault)
-      → ((at : Instant) → IsReady at → IsWorld at old → IsCall Fits n call is_full at) → CustomerActsAs Fits n call is_full old new lines new_lines answer → Meets event old new lines new_lines (verdict_at n answer)
+  pub call_meets : (Fits : Standing → Type 0) (n : NodeId) (call : Call) (is_full : Standing → Bool) (new : NetworkView) (new_lines : List ReportLine)
+      (answer : Result Verdict NodeFault)
+      → ((at : Instant) → IsReady at → IsWorld at old → IsCall Fits n call is_full at)
+      → CustomerActsAs Fits n call is_full old new lines new_lines answer → Meets event old new lines new_lines (verdict_at n answer)
   call_meets Fits n call is_full new new_lines (Ok VerdictMade) is_call acts =
-      act_meets (OfPlane Fits) (At n call) n new new_lines (Ok tt) (λ at ready is. record { fits = (is_call at ready is).fits; does = (is_call at ready is).does })
+      act_meets (OfPlane Fits) (At n call) n new new_lines (Ok tt)
+      (λ at ready is. record { fits = (is_call at ready is).fits; does = (is_call at ready is).does })
       (λ at ready is. (is_call at ready is).why ∙ ap (λ (b : Bool). refused_if b refusals.Full) (acts.made refl at (is_call at ready is).fits is).0)
       (record { made = λ at fits is. (acts.made refl at fits is).1; lacks = λ e. absurd cc })
   call_meets Fits n call is_full new new_lines (Ok VerdictFull) is_call acts =
       let full = acts.full refl in
       subst (λ (l : List ReportLine). Meets event old new lines l (Ok (Some refusals.Full))) (sym full.2)
       (subst (λ (v : NetworkView). Meets event old v lines lines (Ok (Some refusals.Full))) (sym full.1)
-      (meets_refused event old lines refusals.Full (λ at ready is. (is_call at ready is).why ∙ ap (λ (b : Bool). refused_if b refusals.Full) (full.0 at (is_call at ready is).fits is))))
+      (meets_refused event old lines refusals.Full
+      (λ at ready is. (is_call at ready is).why ∙ ap (λ (b : Bool). refused_if b refusals.Full) (full.0 at (is_call at ready is).fits is))))
   call_meets Fits n call is_full new new_lines (Err faults.NoLabel) is_call acts =
-      act_meets (OfPlane Fits) (At n call) n new new_lines (Err faults.NoLabel) (λ at ready is. record { fits = (is_call at ready is).fits; does = (is_call at ready is).does })
+      act_meets (OfPlane Fits) (At n call) n new new_lines (Err faults.NoLabel)
+      (λ at ready is. record { fits = (is_call at ready is).fits; does = (is_call at ready is).does })
       (λ at ready is. (is_call at ready is).why ∙ ap (λ (b : Bool). refused_if b refusals.Full) (acts.lacks refl at (is_call at ready is).fits is).0)
       (record { made = tt; lacks = λ e at fits is. let lacking = acts.lacks refl at fits is in (lacking.1, lacking.2) })
   call_meets Fits n call is_full new new_lines (Err faults.NoMemory) is_call acts = meets_memory event old lines new new_lines

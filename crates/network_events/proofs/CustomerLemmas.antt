@@ -64,26 +64,32 @@ use Rattle.network_events.proofs.PlaceLemmas.{at_iface, at_vrf, own_rules, some_
 abbrev pub AreFull : NetworkView → Bool → Type 0
 AreFull network full = (at : Instant) → IsWorld at network → are_sessions_full at.world ≡ full
 
-pub are_full : (network : NetworkView) (told full : Bool) → ((at : Instant) → IsWorld at network → told ≡ are_sessions_full at.world) → told ≡ full → AreFull network full
+pub are_full : (network : NetworkView) (told full : Bool) → ((at : Instant) → IsWorld at network → told ≡ are_sessions_full at.world) → told ≡ full
+    → AreFull network full
 are_full network told full is e at own = sym (is at own) ∙ e
 
 -- ---- the edge that was found
 
-pub found_edge : (old : NetworkView) (iface : IfaceId) (scenario : Scenario) → scenario ≡ old.scenario → (told found : Option NodeId) → told ≡ edge_of scenario iface → told ≡ found → edge_of old.scenario iface ≡ found
+pub found_edge : (old : NetworkView) (iface : IfaceId) (scenario : Scenario) → scenario ≡ old.scenario → (told found : Option NodeId)
+    → told ≡ edge_of scenario iface → told ≡ found → edge_of old.scenario iface ≡ found
 found_edge old iface scenario same told found is e = ap (λ (s : Scenario). edge_of s iface) (sym same) ∙ (sym is ∙ e)
 
-pub found_vrf_edge : (old : NetworkView) (vrf : VrfId) (scenario : Scenario) → scenario ≡ old.scenario → (told found : Option NodeId) → told ≡ edge_of_vrf scenario vrf → told ≡ found → edge_of_vrf old.scenario vrf ≡ found
+pub found_vrf_edge : (old : NetworkView) (vrf : VrfId) (scenario : Scenario) → scenario ≡ old.scenario → (told found : Option NodeId)
+    → told ≡ edge_of_vrf scenario vrf → told ≡ found → edge_of_vrf old.scenario vrf ≡ found
 found_vrf_edge old vrf scenario same told found is e = ap (λ (s : Scenario). edge_of_vrf s vrf) (sym same) ∙ (sym is ∙ e)
 
-pub no_edge : (old : NetworkView) (iface : IfaceId) → IsSome IsReady old → iface.0 < length old.scenario.ifaces → edge_of old.scenario iface ≡ None → ⊥
+pub no_edge : (old : NetworkView) (iface : IfaceId) → IsSome IsReady old → iface.0 < length old.scenario.ifaces → edge_of old.scenario iface ≡ None
+    → ⊥
 no_edge old iface (at, ready, is) within e = some_edge old.scenario (own_rules at old is.scenario is.plane) iface within e
 
 -- ---- tests, one after another
 
-ours_full : (ours full : Bool) (rest : Option Refusal) → ours ≡ true → full ≡ true → (if not ours then Some refusals.Ours else if full then Some refusals.Full else rest) ≡ Some refusals.Full
+ours_full : (ours full : Bool) (rest : Option Refusal) → ours ≡ true → full ≡ true
+    → (if not ours then Some refusals.Ours else if full then Some refusals.Full else rest) ≡ Some refusals.Full
 ours_full ours full rest e f = rw (e, f) refl
 
-ours_free : (ours full : Bool) (rest : Option Refusal) → ours ≡ true → full ≡ false → (if not ours then Some refusals.Ours else if full then Some refusals.Full else rest) ≡ rest
+ours_free : (ours full : Bool) (rest : Option Refusal) → ours ≡ true → full ≡ false
+    → (if not ours then Some refusals.Ours else if full then Some refusals.Full else rest) ≡ rest
 ours_free ours full rest e f = rw (e, f) refl
 
 not_ours : (ours : Bool) (rest : Option Refusal) → ours ≡ false → (if not ours then Some refusals.Ours else rest) ≡ Some refusals.Ours
@@ -96,15 +102,19 @@ record OfMessage (iface : IfaceId) (message : JoinPrune) (world : World) (event 
   why : refusal world event ≡ message_refusal world (handed iface message)
   does : done world event ≡ with_message (handed iface message) world
 
-of_message : (iface : IfaceId) (message : JoinPrune) (world : World) (event : Event) → HandsMessage (scenario_of world) iface message event → OfMessage iface message world event
+of_message : (iface : IfaceId) (message : JoinPrune) (world : World) (event : Event) → HandsMessage (scenario_of world) iface message event
+    → OfMessage iface message world event
 of_message iface message world (events.Join i entry) e = record { why = ap (message_refusal world) e; does = ap (λ o. with_message o world) e }
 of_message iface message world (events.Prune i entry) e = record { why = ap (message_refusal world) e; does = ap (λ o. with_message o world) e }
 of_message iface message world (events.Pim i octets) e = by (decoded octets) refl e
   where
-    by : (read : Result JoinPrune (ℕ × PimFault)) → decoded octets ≡ read → elim read [ Ok m ↦ handed i m | Err fault ↦ None ] ≡ handed iface message → OfMessage iface message world (events.Pim i octets)
+    by : (read : Result JoinPrune (ℕ × PimFault)) → decoded octets ≡ read → elim read [ Ok m ↦ handed i m | Err fault ↦ None ] ≡ handed iface message
+        → OfMessage iface message world (events.Pim i octets)
     by (Ok m) is h = record {
       why =
-          ap (λ (r : Result JoinPrune (ℕ × PimFault)). option_or (elim r [ Ok own ↦ None | Err fault ↦ Some (refusals.Bytes fault.0 (fault_word fault.1)) ]) (message_refusal world (message_of (scenario_of world) (events.Pim i octets)))) is
+          ap (λ (r : Result JoinPrune (ℕ × PimFault)). option_or
+          (elim r [ Ok own ↦ None | Err fault ↦ Some (refusals.Bytes fault.0 (fault_word fault.1)) ])
+          (message_refusal world (message_of (scenario_of world) (events.Pim i octets)))) is
           ∙ ap (message_refusal world) e;
       does = ap (λ o. with_message o world) e;
     }
@@ -115,7 +125,8 @@ same_message : (a b : JoinPrune) (octets : List ℕ) → decoded octets ≡ Ok a
 same_message a b octets e f = ap (λ (r : Result JoinPrune (ℕ × PimFault)). elim r [ Ok m ↦ m | Err fault ↦ a ]) (sym e ∙ f)
 
 module _ (old : NetworkView) (iface : IfaceId) (octets : List ℕ) (own : IsForIface old.scenario iface octets) where
-  message_fits : (n : NodeId) → edge_of old.scenario iface ≡ Some n → (at : Instant) → IsReady at → IsWorld at old → IsMessageTo n iface octets (standing_of at)
+  message_fits : (n : NodeId) → edge_of old.scenario iface ≡ Some n → (at : Instant) → IsReady at → IsWorld at old
+      → IsMessageTo n iface octets (standing_of at)
   message_fits n e at ready is = record {
     place = at_iface at old is.scenario is.plane n iface ready.resting.rest e;
     message = own.message;
@@ -137,7 +148,8 @@ module _ (old : NetworkView) (iface : IfaceId) (octets : List ℕ) (own : IsForI
     ours_there : (at : Instant) → IsWorld at old → is_ours (scenario_of at.world) (record { iface = iface; message = named }) ≡ true
     ours_there at is =
         subst (λ (s : Scenario). is_ours s (record { iface = iface; message = named }) ≡ true) is.scenario
-        (subst (λ (m : JoinPrune). is_ours old.scenario (record { iface = iface; message = m }) ≡ true) (same_message own.message named octets own.spelled hands.1) own.ours)
+        (subst (λ (m : JoinPrune). is_ours old.scenario (record { iface = iface; message = m }) ≡ true)
+        (same_message own.message named octets own.spelled hands.1) own.ours)
 
     abbrev too_many : (at : Instant) → Option NodeId → Option Refusal
     too_many at o = refused_if (are_too_many (applied (control_at at.world o).entries iface named (clock_of at.world))) refusals.Full
@@ -146,10 +158,13 @@ module _ (old : NetworkView) (iface : IfaceId) (octets : List ℕ) (own : IsForI
     message_full full =
         meets_refused event old lines refusals.Full (λ at ready is.
         (is_of at is).why
-        ∙ ours_full (is_ours (scenario_of at.world) (record { iface = iface; message = named })) (are_sessions_full at.world) (too_many at (edge_of (scenario_of at.world) iface)) (ours_there at is) (full at is))
+        ∙ ours_full (is_ours (scenario_of at.world) (record { iface = iface; message = named })) (are_sessions_full at.world)
+        (too_many at (edge_of (scenario_of at.world) iface)) (ours_there at is) (full at is))
 
-    pub message_taken : (n : NodeId) → edge_of old.scenario iface ≡ Some n → AreFull old false → (new : NetworkView) (new_lines : List ReportLine) (answer : Result Verdict NodeFault)
-        → ((m : JoinPrune) → decoded octets ≡ Ok m → CustomerActsAs (IsMessageTo n iface octets) n (steps.Pim iface m) (is_message_full n iface m) old new lines new_lines answer) → Meets event old new lines new_lines (verdict_at n answer)
+    pub message_taken : (n : NodeId) → edge_of old.scenario iface ≡ Some n → AreFull old false
+        → (new : NetworkView) (new_lines : List ReportLine) (answer : Result Verdict NodeFault)
+        → ((m : JoinPrune) → decoded octets ≡ Ok m → CustomerActsAs (IsMessageTo n iface octets) n (steps.Pim iface m) (is_message_full n iface m) old
+        new lines new_lines answer) → Meets event old new lines new_lines (verdict_at n answer)
     message_taken n e free new new_lines answer acts =
         call_meets event old lines (IsMessageTo n iface octets) n (steps.Pim iface named) (is_message_full n iface named) new new_lines answer
         (λ at ready is.
@@ -159,7 +174,8 @@ module _ (old : NetworkView) (iface : IfaceId) (octets : List ℕ) (own : IsForI
           does = (is_of at is).does ∙ ap (λ (o : Option NodeId). at_edge o (steps.Pim iface named) at.world) fits.place.edge;
           why =
               (is_of at is).why
-              ∙ (ours_free (is_ours (scenario_of at.world) (record { iface = iface; message = named })) (are_sessions_full at.world) (too_many at (edge_of (scenario_of at.world) iface)) (ours_there at is) (free at is)
+              ∙ (ours_free (is_ours (scenario_of at.world) (record { iface = iface; message = named })) (are_sessions_full at.world)
+              (too_many at (edge_of (scenario_of at.world) iface)) (ours_there at is) (free at is)
               ∙ ap (too_many at) fits.place.edge);
         })
         (acts named hands.1)
@@ -169,7 +185,8 @@ module _ (old : NetworkView) (iface : IfaceId) (octets : List ℕ) (own : IsForI
 written_read : (message : JoinPrune) (octets : List ℕ) → IsJoinPrune message → octets ≡ written message → decoded octets ≡ Ok message
 written_read message octets spelled e = ap decoded e ∙ spelled_read (written message) message (written_spells message spelled)
 
-pub written_for : (scenario : Scenario) (iface : IfaceId) (message : JoinPrune) (octets : List ℕ) → IsWrittenFor scenario iface message → octets ≡ written message → IsForIface scenario iface octets
+pub written_for : (scenario : Scenario) (iface : IfaceId) (message : JoinPrune) (octets : List ℕ) → IsWrittenFor scenario iface message
+    → octets ≡ written message → IsForIface scenario iface octets
 written_for scenario iface message octets own e = record {
   within = own.within;
   message = message;
@@ -178,7 +195,8 @@ written_for scenario iface message octets own e = record {
   sound = own.sound;
 }
 
-pub written_hands : (scenario : Scenario) (iface : IfaceId) (message : JoinPrune) (octets : List ℕ) (event : Event) → IsWrittenFor scenario iface message → octets ≡ written message → HandsMessage scenario iface message event
+pub written_hands : (scenario : Scenario) (iface : IfaceId) (message : JoinPrune) (octets : List ℕ) (event : Event)
+    → IsWrittenFor scenario iface message → octets ≡ written message → HandsMessage scenario iface message event
     → Hands scenario iface octets event
 written_hands scenario iface message octets event own e hands = (message, written_read message octets own.spelled e, hands)
 
@@ -187,41 +205,47 @@ record OwnAddr (scenario : Scenario) (iface : IfaceId) (group : Addr) : Type 0 w
   is : IsAddr (own_addr scenario iface)
   family : AreOfOneFamily (own_addr scenario iface) group
 
-own_addr_is : (scenario : Scenario) → Rules scenario → (iface : IfaceId) (group : Addr) → iface.0 < length scenario.ifaces → IsOfIface scenario iface group → OwnAddr scenario iface group
+own_addr_is : (scenario : Scenario) → Rules scenario → (iface : IfaceId) (group : Addr) → iface.0 < length scenario.ifaces
+    → IsOfIface scenario iface group → OwnAddr scenario iface group
 own_addr_is scenario rules iface group within one =
     let own = element_at scenario.ifaces iface.0 within in
-    let same : own_addr scenario iface ≡ own.0.addr = ap (λ (o : Option Iface). elim o [ None ↦ V4 (0 ∷ 0 ∷ 0 ∷ 0 ∷ []) | Some found ↦ found.addr ]) own.1 in
+    let same : own_addr scenario iface ≡ own.0.addr =
+    ap (λ (o : Option Iface). elim o [ None ↦ V4 (0 ∷ 0 ∷ 0 ∷ 0 ∷ []) | Some found ↦ found.addr ]) own.1 in
     record {
       is = subst IsAddr (sym same) (iface_rules_at scenario rules iface.0 own.0 own.1).addr;
-      family = subst (λ (a : Addr). AreOfOneFamily a group) (sym same) (subst (λ (o : Option Iface). IfSome o (λ found. AreOfOneFamily found.addr group)) own.1 one);
+      family = subst (λ (a : Addr). AreOfOneFamily a group) (sym same)
+          (subst (λ (o : Option Iface). IfSome o (λ found. AreOfOneFamily found.addr group)) own.1 one);
     }
 
-module _ (old : NetworkView) (iface : IfaceId) (entry : JoinEntry) (message : JoinPrune) (addr : Addr) (own : addr ≡ own_addr old.scenario iface) where
-  pub join_for : IsSome IsReady old → IsGiven old.scenario (events.Join iface entry) → message ≡ join_of addr entry → IsWrittenFor old.scenario iface message
-  join_for (at, ready, is) given e =
-      let addr_is = own_addr_is old.scenario (own_rules at old is.scenario is.plane) iface (group_of entry) given.of_it.0 given.of_it.2 in
-      subst (IsWrittenFor old.scenario iface) (sym (e ∙ ap (λ (a : Addr). join_of a entry) own)) (record {
-        within = given.of_it.0;
-        spelled = join_spelled (own_addr old.scenario iface) entry addr_is.is given.of_it.1 addr_is.family;
-        neighbour = refl;
-        sound = join_is_sound old.scenario iface entry given.sound.1;
-      })
+module _ (old : NetworkView) (iface : IfaceId) (entry : JoinEntry) (message : JoinPrune) (addr : Addr) (own : addr ≡ own_addr old.scenario iface)
+  where
+    pub join_for : IsSome IsReady old → IsGiven old.scenario (events.Join iface entry) → message ≡ join_of addr entry
+        → IsWrittenFor old.scenario iface message
+    join_for (at, ready, is) given e =
+        let addr_is = own_addr_is old.scenario (own_rules at old is.scenario is.plane) iface (group_of entry) given.of_it.0 given.of_it.2 in
+        subst (IsWrittenFor old.scenario iface) (sym (e ∙ ap (λ (a : Addr). join_of a entry) own)) (record {
+          within = given.of_it.0;
+          spelled = join_spelled (own_addr old.scenario iface) entry addr_is.is given.of_it.1 addr_is.family;
+          neighbour = refl;
+          sound = join_is_sound old.scenario iface entry given.sound.1;
+        })
 
-  pub join_hands : message ≡ join_of addr entry → HandsMessage old.scenario iface message (events.Join iface entry)
-  join_hands e = ap (handed iface) (sym (e ∙ ap (λ (a : Addr). join_of a entry) own))
+    pub join_hands : message ≡ join_of addr entry → HandsMessage old.scenario iface message (events.Join iface entry)
+    join_hands e = ap (handed iface) (sym (e ∙ ap (λ (a : Addr). join_of a entry) own))
 
-  pub prune_for : IsSome IsReady old → IsGiven old.scenario (events.Prune iface entry) → message ≡ prune_of addr entry → IsWrittenFor old.scenario iface message
-  prune_for (at, ready, is) given e =
-      let addr_is = own_addr_is old.scenario (own_rules at old is.scenario is.plane) iface (group_of entry) given.of_it.0 given.of_it.2 in
-      subst (IsWrittenFor old.scenario iface) (sym (e ∙ ap (λ (a : Addr). prune_of a entry) own)) (record {
-        within = given.of_it.0;
-        spelled = prune_spelled (own_addr old.scenario iface) entry addr_is.is given.of_it.1 addr_is.family;
-        neighbour = refl;
-        sound = prune_is_sound old.scenario iface entry given.sound.1;
-      })
+    pub prune_for : IsSome IsReady old → IsGiven old.scenario (events.Prune iface entry) → message ≡ prune_of addr entry
+        → IsWrittenFor old.scenario iface message
+    prune_for (at, ready, is) given e =
+        let addr_is = own_addr_is old.scenario (own_rules at old is.scenario is.plane) iface (group_of entry) given.of_it.0 given.of_it.2 in
+        subst (IsWrittenFor old.scenario iface) (sym (e ∙ ap (λ (a : Addr). prune_of a entry) own)) (record {
+          within = given.of_it.0;
+          spelled = prune_spelled (own_addr old.scenario iface) entry addr_is.is given.of_it.1 addr_is.family;
+          neighbour = refl;
+          sound = prune_is_sound old.scenario iface entry given.sound.1;
+        })
 
-  pub prune_hands : message ≡ prune_of addr entry → HandsMessage old.scenario iface message (events.Prune iface entry)
-  prune_hands e = ap (handed iface) (sym (e ∙ ap (λ (a : Addr). prune_of a entry) own))
+    pub prune_hands : message ≡ prune_of addr entry → HandsMessage old.scenario iface message (events.Prune iface entry)
+    prune_hands e = ap (handed iface) (sym (e ∙ ap (λ (a : Addr). prune_of a entry) own))
 
 -- ---- messages that are read
 
@@ -232,7 +256,8 @@ module _ (old : NetworkView) (iface : IfaceId) (octets : List ℕ) (lines : List
   pub read_hands : (neighbour : Addr) → IsRead octets neighbour → Hands old.scenario iface octets (events.Pim iface octets)
   read_hands neighbour (m, e, to) = (m, e, read_given m e)
 
-  pub read_for : (neighbour : Addr) → IsRead octets neighbour → IsGiven old.scenario (events.Pim iface octets) → same_addr neighbour (own_addr old.scenario iface) ≡ true → IsForIface old.scenario iface octets
+  pub read_for : (neighbour : Addr) → IsRead octets neighbour → IsGiven old.scenario (events.Pim iface octets)
+      → same_addr neighbour (own_addr old.scenario iface) ≡ true → IsForIface old.scenario iface octets
   read_for neighbour (message, e, to) given same = record {
     within = given.of_it.0;
     message = message;
@@ -241,17 +266,22 @@ module _ (old : NetworkView) (iface : IfaceId) (octets : List ℕ) (lines : List
     sound = subst IsSoundGiven (read_given message e) (read_is_sound iface octets given.sound);
   }
 
-  pub read_not_ours : (neighbour : Addr) → IsRead octets neighbour → same_addr neighbour (own_addr old.scenario iface) ≡ false → Meets (events.Pim iface octets) old old lines lines (Ok (Some refusals.Ours))
+  pub read_not_ours : (neighbour : Addr) → IsRead octets neighbour → same_addr neighbour (own_addr old.scenario iface) ≡ false
+      → Meets (events.Pim iface octets) old old lines lines (Ok (Some refusals.Ours))
   read_not_ours neighbour (message, e, to) other =
       meets_refused (events.Pim iface octets) old lines refusals.Ours (λ at ready is.
-      (of_message iface message at.world (events.Pim iface octets) (subst (λ (s : Scenario). HandsMessage s iface message (events.Pim iface octets)) is.scenario (read_given message e))).why
+      (of_message iface message at.world (events.Pim iface octets)
+      (subst (λ (s : Scenario). HandsMessage s iface message (events.Pim iface octets)) is.scenario (read_given message e))).why
       ∙ not_ours (is_ours (scenario_of at.world) (record { iface = iface; message = message })) _
-      (subst (λ (s : Scenario). same_addr message.neighbour (own_addr s iface) ≡ false) is.scenario (ap (λ (a : Addr). same_addr a (own_addr old.scenario iface)) to ∙ other)))
+      (subst (λ (s : Scenario). same_addr message.neighbour (own_addr s iface) ≡ false) is.scenario
+      (ap (λ (a : Addr). same_addr a (own_addr old.scenario iface)) to ∙ other)))
 
-  pub read_fault : (place : ℕ) (fault : PimFault) → decoded octets ≡ Err (place, fault) → Meets (events.Pim iface octets) old old lines lines (Ok (Some (refusals.Bytes place (fault_word fault))))
+  pub read_fault : (place : ℕ) (fault : PimFault) → decoded octets ≡ Err (place, fault)
+      → Meets (events.Pim iface octets) old old lines lines (Ok (Some (refusals.Bytes place (fault_word fault))))
   read_fault place fault e =
       meets_refused (events.Pim iface octets) old lines (refusals.Bytes place (fault_word fault)) (λ at ready is.
-      ap (λ (r : Result JoinPrune (ℕ × PimFault)). option_or (elim r [ Ok own ↦ None | Err f ↦ Some (refusals.Bytes f.0 (fault_word f.1)) ]) (message_refusal at.world (message_of (scenario_of at.world) (events.Pim iface octets)))) e)
+      ap (λ (r : Result JoinPrune (ℕ × PimFault)). option_or (elim r [ Ok own ↦ None | Err f ↦ Some (refusals.Bytes f.0 (fault_word f.1)) ])
+      (message_refusal at.world (message_of (scenario_of at.world) (events.Pim iface octets)))) e)
 
 -- ---- notes
 
@@ -280,10 +310,13 @@ module _ (old : NetworkView) (iface : IfaceId) (source group : Addr) (lines : Li
       meets_refused (events.Active iface source group) old lines refusals.Full
       (λ at ready is. full_first (are_sessions_full at.world) (lacks_room (control_at at.world (edge_of (scenario_of at.world) iface))) (full at is))
 
-  pub note_taken : (n : NodeId) → edge_of old.scenario iface ≡ Some n → AreFull old false → (new : NetworkView) (new_lines : List ReportLine) (answer : Result Verdict NodeFault)
-      → CustomerActsAs (IsIfaceEdge n iface) n (steps.Active iface source group) (is_note_full n (note_of iface source group)) old new lines new_lines answer → Meets (events.Active iface source group) old new lines new_lines (verdict_at n answer)
+  pub note_taken : (n : NodeId) → edge_of old.scenario iface ≡ Some n → AreFull old false
+      → (new : NetworkView) (new_lines : List ReportLine) (answer : Result Verdict NodeFault)
+      → CustomerActsAs (IsIfaceEdge n iface) n (steps.Active iface source group) (is_note_full n (note_of iface source group)) old new lines new_lines
+      answer → Meets (events.Active iface source group) old new lines new_lines (verdict_at n answer)
   note_taken n e free new new_lines answer acts =
-      call_meets (events.Active iface source group) old lines (IsIfaceEdge n iface) n (steps.Active iface source group) (is_note_full n (note_of iface source group)) new new_lines answer
+      call_meets (events.Active iface source group) old lines (IsIfaceEdge n iface) n (steps.Active iface source group)
+      (is_note_full n (note_of iface source group)) new new_lines answer
       (λ at ready is.
       let fits = iface_fits old iface n e at ready is in
       record {
@@ -296,111 +329,144 @@ module _ (old : NetworkView) (iface : IfaceId) (source group : Addr) (lines : Li
       acts
 
   pub idle_full : AreFull old true → Meets (events.Idle iface source group) old old lines lines (Ok (Some refusals.Full))
-  idle_full full = meets_refused (events.Idle iface source group) old lines refusals.Full (λ at ready is. ap (λ (b : Bool). refused_if b refusals.Full) (full at is))
+  idle_full full =
+      meets_refused (events.Idle iface source group) old lines refusals.Full
+      (λ at ready is. ap (λ (b : Bool). refused_if b refusals.Full) (full at is))
 
-  pub idle_taken : (n : NodeId) → edge_of old.scenario iface ≡ Some n → AreFull old false → (new : NetworkView) (new_lines : List ReportLine) (answer : Result (Unit {0}) NodeFault)
-      → ActsAs (OfPlane (IsIfaceEdge n iface)) same_moment (At n (steps.Idle iface source group)) n old new lines new_lines answer → Meets (events.Idle iface source group) old new lines new_lines (met (answer_at n answer))
+  pub idle_taken : (n : NodeId) → edge_of old.scenario iface ≡ Some n → AreFull old false
+      → (new : NetworkView) (new_lines : List ReportLine) (answer : Result (Unit {0}) NodeFault)
+      → ActsAs (OfPlane (IsIfaceEdge n iface)) same_moment (At n (steps.Idle iface source group)) n old new lines new_lines answer
+      → Meets (events.Idle iface source group) old new lines new_lines (met (answer_at n answer))
   idle_taken n e free new new_lines answer acts =
-      act_meets (events.Idle iface source group) old lines (OfPlane (IsIfaceEdge n iface)) (At n (steps.Idle iface source group)) n new new_lines answer
-      (λ at ready is. record { fits = iface_fits old iface n e at ready is; does = ap (λ (o : Option NodeId). at_edge o (steps.Idle iface source group) at.world) (iface_fits old iface n e at ready is).edge })
+      act_meets (events.Idle iface source group) old lines (OfPlane (IsIfaceEdge n iface)) (At n (steps.Idle iface source group)) n new new_lines
+      answer
+      (λ at ready is. record {
+        fits = iface_fits old iface n e at ready is;
+        does =
+            ap (λ (o : Option NodeId). at_edge o (steps.Idle iface source group) at.world) (iface_fits old iface n e at ready is).edge;
+      })
       (λ at ready is. ap (λ (b : Bool). refused_if b refusals.Full) (free at is)) acts
 
   -- an event that names a flow is one of a sound flow
-  pub idle_flow : IsSome IsReady old → IsGiven old.scenario (events.Idle iface source group) → IsOctets (addr_octets source) → IsOctets (addr_octets group) → IsFlow source group
-  idle_flow (at, ready, is) given s g = sound_event old.scenario (events.Active iface source group) (own_rules at old is.scenario is.plane) given.of_it (s, (g, tt))
+  pub idle_flow : IsSome IsReady old → IsGiven old.scenario (events.Idle iface source group) → IsOctets (addr_octets source)
+      → IsOctets (addr_octets group) → IsFlow source group
+  idle_flow (at, ready, is) given s g =
+      sound_event old.scenario (events.Active iface source group) (own_rules at old is.scenario is.plane) given.of_it (s, (g, tt))
 
 -- ---- selections
 
-module _ (old : NetworkView) (vrf : VrfId) (pattern : Pattern) (n : NodeId) (e : edge_of_vrf old.scenario vrf ≡ Some n) (lines : List ReportLine) where
-  abbrev key : VrfPattern
-  key = record { vrf = vrf; pattern = pattern }
+module _ (old : NetworkView) (vrf : VrfId) (pattern : Pattern) (n : NodeId) (e : edge_of_vrf old.scenario vrf ≡ Some n) (lines : List ReportLine)
+  where
+    abbrev key : VrfPattern
+    key = record { vrf = vrf; pattern = pattern }
 
-  vrf_fits : (at : Instant) → IsReady at → IsWorld at old → IsVrfEdge n vrf (standing_of at)
-  vrf_fits at ready is = at_vrf at old is.scenario is.plane n vrf ready.resting.rest e
+    vrf_fits : (at : Instant) → IsReady at → IsWorld at old → IsVrfEdge n vrf (standing_of at)
+    vrf_fits at ready is = at_vrf at old is.scenario is.plane n vrf ready.resting.rest e
 
-  pub some_vrf : IsSome IsReady old → IsSome (OfPlane (IsVrfEdge n vrf)) old
-  some_vrf (at, ready, is) = (at, vrf_fits at ready is, is)
+    pub some_vrf : IsSome IsReady old → IsSome (OfPlane (IsVrfEdge n vrf)) old
+    some_vrf (at, ready, is) = (at, vrf_fits at ready is, is)
 
-  -- whether the pattern is selected at the VRF of every world that the network is
-  abbrev pub IsSelected : Bool → Type 0
-  IsSelected selected = (at : Instant) → IsVrfEdge n vrf (standing_of at) → IsWorld at old → selected ≡ maps.contains_key (control_of (at.world.network.state.node n)).selections key
+    -- whether the pattern is selected at the VRF of every world that the network is
+    abbrev pub IsSelected : Bool → Type 0
+    IsSelected selected =
+        (at : Instant) → IsVrfEdge n vrf (standing_of at) → IsWorld at old
+        → selected ≡ maps.contains_key (control_of (at.world.network.state.node n)).selections key
 
-  selected_there : (selected : Bool) → IsSelected selected → (at : Instant) → IsReady at → IsWorld at old → is_selected at.world vrf pattern ≡ selected
-  selected_there selected h at ready is =
-      let fits = vrf_fits at ready is in
-      ap (λ (o : Option NodeId). maps.contains_key (control_at at.world o).selections key) fits.edge ∙ sym (h at fits is)
+    selected_there : (selected : Bool) → IsSelected selected → (at : Instant) → IsReady at → IsWorld at old
+        → is_selected at.world vrf pattern ≡ selected
+    selected_there selected h at ready is =
+        let fits = vrf_fits at ready is in
+        ap (λ (o : Option NodeId). maps.contains_key (control_at at.world o).selections key) fits.edge ∙ sym (h at fits is)
 
-  none_there : (o : Option Selected) → false ≡ elim o [ None ↦ false | Some found ↦ true ] → o ≡ None
-  none_there None h = refl
-  none_there (Some found) h = absurd cc
+    none_there : (o : Option Selected) → false ≡ elim o [ None ↦ false | Some found ↦ true ] → o ≡ None
+    none_there None h = refl
+    none_there (Some found) h = absurd cc
 
-  some_there : (o : Option Selected) → true ≡ elim o [ None ↦ false | Some found ↦ true ] → (found : Selected) × (o ≡ Some found)
-  some_there None h = absurd cc
-  some_there (Some found) h = (found, refl)
+    some_there : (o : Option Selected) → true ≡ elim o [ None ↦ false | Some found ↦ true ] → (found : Selected) × (o ≡ Some found)
+    some_there None h = absurd cc
+    some_there (Some found) h = (found, refl)
 
-  unselected_fits : IsSelected false → (at : Instant) → IsReady at → IsWorld at old → IsUnselected n vrf pattern (standing_of at)
-  unselected_fits h at ready is = record {
-    place = vrf_fits at ready is;
-    new = none_there (maps.get (control_of (at.world.network.state.node n)).selections key) (h at (vrf_fits at ready is) is);
-  }
+    unselected_fits : IsSelected false → (at : Instant) → IsReady at → IsWorld at old → IsUnselected n vrf pattern (standing_of at)
+    unselected_fits h at ready is = record {
+      place = vrf_fits at ready is;
+      new = none_there (maps.get (control_of (at.world.network.state.node n)).selections key) (h at (vrf_fits at ready is) is);
+    }
 
-  pub some_unselected : IsSelected false → IsSome IsReady old → IsSome (OfPlane (IsUnselected n vrf pattern)) old
-  some_unselected h (at, ready, is) = (at, unselected_fits h at ready is, is)
+    pub some_unselected : IsSelected false → IsSome IsReady old → IsSome (OfPlane (IsUnselected n vrf pattern)) old
+    some_unselected h (at, ready, is) = (at, unselected_fits h at ready is, is)
 
-  -- a pattern that a node has selected is a sound one
-  kept_pattern : (node : NodeState) → SoundNode node → (found : Selected) → maps.get (control_of node).selections key ≡ Some found → SoundPattern pattern
-  kept_pattern (Edge edge) sound found h = sound.0.selections key found h
-  kept_pattern (CoreNode part) sound found h = absurd (none-some found (sym (maps.get-empty pattern_cmp key) ∙ h))
+    -- a pattern that a node has selected is a sound one
+    kept_pattern : (node : NodeState) → SoundNode node → (found : Selected) → maps.get (control_of node).selections key ≡ Some found
+        → SoundPattern pattern
+    kept_pattern (Edge edge) sound found h = sound.0.selections key found h
+    kept_pattern (CoreNode part) sound found h = absurd (none-some found (sym (maps.get-empty pattern_cmp key) ∙ h))
 
-  pub selected_pattern : IsSelected true → IsSome IsReady old → SoundPattern pattern
-  selected_pattern h (at, ready, is) =
-      let node = at.world.network.state.node n in
-      let some = some_there (maps.get (control_of node).selections key) (h at (vrf_fits at ready is) is) in
-      kept_pattern node (is.plane.around.steady.sound.node n) some.0 some.1
+    pub selected_pattern : IsSelected true → IsSome IsReady old → SoundPattern pattern
+    selected_pattern h (at, ready, is) =
+        let node = at.world.network.state.node n in
+        let some = some_there (maps.get (control_of node).selections key) (h at (vrf_fits at ready is) is) in
+        kept_pattern node (is.plane.around.steady.sound.node n) some.0 some.1
 
-  pub select_again : IsSelected true → Meets (events.Select vrf pattern) old old lines lines (Ok (Some refusals.State))
-  select_again h =
-      meets_refused (events.Select vrf pattern) old lines refusals.State (λ at ready is.
-      ap (λ (b : Bool). option_or (refused_if b refusals.State) (refused_if (are_sessions_full at.world || nat_le selection_limit (selections_at at.world vrf)) refusals.Full)) (selected_there true h at ready is))
+    pub select_again : IsSelected true → Meets (events.Select vrf pattern) old old lines lines (Ok (Some refusals.State))
+    select_again h =
+        meets_refused (events.Select vrf pattern) old lines refusals.State (λ at ready is.
+        ap (λ (b : Bool). option_or (refused_if b refusals.State)
+        (refused_if (are_sessions_full at.world || nat_le selection_limit (selections_at at.world vrf)) refusals.Full))
+        (selected_there true h at ready is))
 
-  select_why : IsSelected false → (at : Instant) → IsReady at → IsWorld at old → refusal at.world (events.Select vrf pattern) ≡ refused_if (are_sessions_full at.world || nat_le selection_limit (selections_at at.world vrf)) refusals.Full
-  select_why h at ready is =
-      ap (λ (b : Bool). option_or (refused_if b refusals.State) (refused_if (are_sessions_full at.world || nat_le selection_limit (selections_at at.world vrf)) refusals.Full)) (selected_there false h at ready is)
+    select_why : IsSelected false → (at : Instant) → IsReady at → IsWorld at old
+        → refusal at.world (events.Select vrf pattern)
+        ≡ refused_if (are_sessions_full at.world || nat_le selection_limit (selections_at at.world vrf)) refusals.Full
+    select_why h at ready is =
+        ap (λ (b : Bool). option_or (refused_if b refusals.State)
+        (refused_if (are_sessions_full at.world || nat_le selection_limit (selections_at at.world vrf)) refusals.Full))
+        (selected_there false h at ready is)
 
-  pub select_full : IsSelected false → AreFull old true → Meets (events.Select vrf pattern) old old lines lines (Ok (Some refusals.Full))
-  select_full h full =
-      meets_refused (events.Select vrf pattern) old lines refusals.Full (λ at ready is.
-      select_why h at ready is ∙ full_first (are_sessions_full at.world) (nat_le selection_limit (selections_at at.world vrf)) (full at is))
+    pub select_full : IsSelected false → AreFull old true → Meets (events.Select vrf pattern) old old lines lines (Ok (Some refusals.Full))
+    select_full h full =
+        meets_refused (events.Select vrf pattern) old lines refusals.Full (λ at ready is.
+        select_why h at ready is ∙ full_first (are_sessions_full at.world) (nat_le selection_limit (selections_at at.world vrf)) (full at is))
 
-  pub select_taken : IsSelected false → AreFull old false → (new : NetworkView) (new_lines : List ReportLine) (answer : Result Verdict NodeFault)
-      → CustomerActsAs (IsUnselected n vrf pattern) n (steps.Select vrf pattern) (is_selection_full n) old new lines new_lines answer → Meets (events.Select vrf pattern) old new lines new_lines (verdict_at n answer)
-  select_taken h free new new_lines answer acts =
-      call_meets (events.Select vrf pattern) old lines (IsUnselected n vrf pattern) n (steps.Select vrf pattern) (is_selection_full n) new new_lines answer
-      (λ at ready is.
-      let fits = unselected_fits h at ready is in
-      record {
-        fits = fits;
-        does = ap (λ (o : Option NodeId). at_edge o (steps.Select vrf pattern) at.world) fits.place.edge;
-        why =
-            select_why h at ready is
-            ∙ (free_first (are_sessions_full at.world) (nat_le selection_limit (selections_at at.world vrf)) (free at is)
-            ∙ ap (λ (o : Option NodeId). refused_if (nat_le selection_limit (maps.len (control_at at.world o).selections)) refusals.Full) fits.place.edge);
-      })
-      acts
+    pub select_taken : IsSelected false → AreFull old false → (new : NetworkView) (new_lines : List ReportLine) (answer : Result Verdict NodeFault)
+        → CustomerActsAs (IsUnselected n vrf pattern) n (steps.Select vrf pattern) (is_selection_full n) old new lines new_lines answer
+        → Meets (events.Select vrf pattern) old new lines new_lines (verdict_at n answer)
+    select_taken h free new new_lines answer acts =
+        call_meets (events.Select vrf pattern) old lines (IsUnselected n vrf pattern) n (steps.Select vrf pattern) (is_selection_full n) new new_lines
+        answer
+        (λ at ready is.
+        let fits = unselected_fits h at ready is in
+        record {
+          fits = fits;
+          does = ap (λ (o : Option NodeId). at_edge o (steps.Select vrf pattern) at.world) fits.place.edge;
+          why =
+              select_why h at ready is
+              ∙ (free_first (are_sessions_full at.world) (nat_le selection_limit (selections_at at.world vrf)) (free at is)
+              ∙ ap (λ (o : Option NodeId). refused_if (nat_le selection_limit (maps.len (control_at at.world o).selections)) refusals.Full)
+              fits.place.edge);
+        })
+        acts
 
-  abbrev unselected_why : (at : Instant) → Bool → Option Refusal
-  unselected_why at b = option_or (refused_if (not b) refusals.State) (refused_if (are_sessions_full at.world) refusals.Full)
+    abbrev unselected_why : (at : Instant) → Bool → Option Refusal
+    unselected_why at b = option_or (refused_if (not b) refusals.State) (refused_if (are_sessions_full at.world) refusals.Full)
 
-  pub unselect_none : IsSelected false → Meets (events.Unselect vrf pattern) old old lines lines (Ok (Some refusals.State))
-  unselect_none h = meets_refused (events.Unselect vrf pattern) old lines refusals.State (λ at ready is. ap (unselected_why at) (selected_there false h at ready is))
+    pub unselect_none : IsSelected false → Meets (events.Unselect vrf pattern) old old lines lines (Ok (Some refusals.State))
+    unselect_none h =
+        meets_refused (events.Unselect vrf pattern) old lines refusals.State
+        (λ at ready is. ap (unselected_why at) (selected_there false h at ready is))
 
-  pub unselect_full : IsSelected true → AreFull old true → Meets (events.Unselect vrf pattern) old old lines lines (Ok (Some refusals.Full))
-  unselect_full h full =
-      meets_refused (events.Unselect vrf pattern) old lines refusals.Full (λ at ready is. ap (unselected_why at) (selected_there true h at ready is) ∙ ap (λ (b : Bool). refused_if b refusals.Full) (full at is))
+    pub unselect_full : IsSelected true → AreFull old true → Meets (events.Unselect vrf pattern) old old lines lines (Ok (Some refusals.Full))
+    unselect_full h full =
+        meets_refused (events.Unselect vrf pattern) old lines refusals.Full
+        (λ at ready is. ap (unselected_why at) (selected_there true h at ready is) ∙ ap (λ (b : Bool). refused_if b refusals.Full) (full at is))
 
-  pub unselect_taken : IsSelected true → AreFull old false → (new : NetworkView) (new_lines : List ReportLine) (answer : Result (Unit {0}) NodeFault)
-      → ActsAs (OfPlane (IsVrfEdge n vrf)) same_moment (At n (steps.Unselect vrf pattern)) n old new lines new_lines answer → Meets (events.Unselect vrf pattern) old new lines new_lines (met (answer_at n answer))
-  unselect_taken h free new new_lines answer acts =
-      act_meets (events.Unselect vrf pattern) old lines (OfPlane (IsVrfEdge n vrf)) (At n (steps.Unselect vrf pattern)) n new new_lines answer
-      (λ at ready is. record { fits = vrf_fits at ready is; does = ap (λ (o : Option NodeId). at_edge o (steps.Unselect vrf pattern) at.world) (vrf_fits at ready is).edge })
-      (λ at ready is. ap (unselected_why at) (selected_there true h at ready is) ∙ ap (λ (b : Bool). refused_if b refusals.Full) (free at is)) acts
+    pub unselect_taken : IsSelected true → AreFull old false → (new : NetworkView) (new_lines : List ReportLine) (answer : Result (Unit {0}) NodeFault)
+        → ActsAs (OfPlane (IsVrfEdge n vrf)) same_moment (At n (steps.Unselect vrf pattern)) n old new lines new_lines answer
+        → Meets (events.Unselect vrf pattern) old new lines new_lines (met (answer_at n answer))
+    unselect_taken h free new new_lines answer acts =
+        act_meets (events.Unselect vrf pattern) old lines (OfPlane (IsVrfEdge n vrf)) (At n (steps.Unselect vrf pattern)) n new new_lines answer
+        (λ at ready is. record {
+          fits = vrf_fits at ready is;
+          does =
+              ap (λ (o : Option NodeId). at_edge o (steps.Unselect vrf pattern) at.world) (vrf_fits at ready is).edge;
+        })
+        (λ at ready is. ap (unselected_why at) (selected_there true h at ready is) ∙ ap (λ (b : Bool). refused_if b refusals.Full) (free at is)) acts

@@ -44,8 +44,10 @@ use Rattle.network_events.proofs.RowLemmas.{row_append}
 -- ---- acts that lack no label
 
 -- what an event does is made
-pub makes_meet : (Fits : Instant → Type 0) (change : World → Outcome) (event : Event) (old new : NetworkView) (lines new_lines : List ReportLine) (answer : Result (Unit {0}) NoMemory)
-    → ((at : Instant) → IsReady at → IsWorld at old → (refusal at.world event ≡ None) × Fits at × (done at.world event ≡ change at.world)) → Makes Fits change old new lines new_lines answer
+pub makes_meet : (Fits : Instant → Type 0) (change : World → Outcome) (event : Event) (old new : NetworkView) (lines new_lines : List ReportLine)
+    (answer : Result (Unit {0}) NoMemory)
+    → ((at : Instant) → IsReady at → IsWorld at old → (refusal at.world event ≡ None) × Fits at × (done at.world event ≡ change at.world))
+    → Makes Fits change old new lines new_lines answer
     → Meets event old new lines new_lines (met (of_memory answer))
 makes_meet Fits change event old new lines new_lines (Err wanting) h makes = meets_memory event old lines new new_lines
 makes_meet Fits change event old new lines new_lines (Ok made) h makes =
@@ -55,15 +57,18 @@ makes_meet Fits change event old new lines new_lines (Ok made) h makes =
     })
 
 -- what one act does
-pub made_makes : (Fits : Instant → Type 0) (one : Act) (old new : NetworkView) (lines new_lines : List ReportLine) (answer : Result (Unit {0}) NoMemory)
-    → OnOk answer ((at : Instant) → Fits at → IsWorld at old → Made at at.moment one lines new_lines new) → Makes Fits (row (one ∷ [])) old new lines new_lines answer
+pub made_makes : (Fits : Instant → Type 0) (one : Act) (old new : NetworkView) (lines new_lines : List ReportLine)
+    (answer : Result (Unit {0}) NoMemory)
+    → OnOk answer ((at : Instant) → Fits at → IsWorld at old → Made at at.moment one lines new_lines new)
+    → Makes Fits (row (one ∷ [])) old new lines new_lines answer
 made_makes Fits one old new lines new_lines (Err wanting) made = tt
 made_makes Fits one old new lines new_lines (Ok done) made = λ at fits is. made_did at at.moment one lines new_lines new (made at fits is)
 
 -- ---- a datagram that enters
 
 -- what stands in between two rows of acts
-pub two_rows : (first more : List Act) (world mid new : World) (acts behind : List Happened) → row first world ≡ Done acts mid → row more mid ≡ Done behind new → row (first ++ more) world ≡ Done (acts ++ behind) new
+pub two_rows : (first more : List Act) (world mid new : World) (acts behind : List Happened) → row first world ≡ Done acts mid
+    → row more mid ≡ Done behind new → row (first ++ more) world ≡ Done (acts ++ behind) new
 two_rows first more world mid new acts behind e f = row_append first more world ∙ then_done acts mid (row more) (row first world) e behind new f
 
 module _ (site : SiteId) (packet : Packet) where
@@ -72,13 +77,15 @@ module _ (site : SiteId) (packet : Packet) where
   enters_none network lines at datagram is = record { acts = []; world = at.world; is = refl; stands = is.stands; told = sym (append-nil lines) }
 
   -- the network behind it is such a world as well
-  pub sent_again : (vrfs : List VrfId) (old new : NetworkView) (lines new_lines : List ReportLine) → EntersAt site packet vrfs old new lines new_lines → IsSomeSent site packet old → IsSomeSent site packet new
+  pub sent_again : (vrfs : List VrfId) (old new : NetworkView) (lines new_lines : List ReportLine) → EntersAt site packet vrfs old new lines new_lines
+      → IsSomeSent site packet old → IsSomeSent site packet new
   sent_again vrfs old new lines new_lines enters (at, datagram, is) =
       let has = enters at datagram is in
       (record at { world = has.world }, datagram, record { rest = is.rest; sent = is.sent; stands = has.stands })
 
   -- one VRF more
-  pub enters_more : (vrfs : List VrfId) (vrf : VrfId) (old mid new : NetworkView) (lines mid_lines new_lines : List ReportLine) → EntersAt site packet vrfs old mid lines mid_lines → EntersAt site packet (vrf ∷ []) mid new mid_lines new_lines
+  pub enters_more : (vrfs : List VrfId) (vrf : VrfId) (old mid new : NetworkView) (lines mid_lines new_lines : List ReportLine)
+      → EntersAt site packet vrfs old mid lines mid_lines → EntersAt site packet (vrf ∷ []) mid new mid_lines new_lines
       → EntersAt site packet (vrfs ++ vrf ∷ []) old new lines new_lines
   enters_more vrfs vrf old mid new lines mid_lines new_lines one two at datagram is =
       let first = one at datagram is in
@@ -94,10 +101,13 @@ module _ (site : SiteId) (packet : Packet) where
         told = two_told lines mid_lines new_lines first.acts more.acts first.told more.told;
       }
 
-  pub enters_next : (vrfs : List VrfId) (k : ℕ) (d vrf : VrfId) (old mid new : NetworkView) (lines mid_lines new_lines : List ReportLine) → k < length vrfs → vrf ≡ get_or vrfs k d
-      → EntersAt site packet (take k vrfs) old mid lines mid_lines → EntersAt site packet (vrf ∷ []) mid new mid_lines new_lines → EntersAt site packet (take (k + 1) vrfs) old new lines new_lines
+  pub enters_next : (vrfs : List VrfId) (k : ℕ) (d vrf : VrfId) (old mid new : NetworkView) (lines mid_lines new_lines : List ReportLine)
+      → k < length vrfs → vrf ≡ get_or vrfs k d
+      → EntersAt site packet (take k vrfs) old mid lines mid_lines → EntersAt site packet (vrf ∷ []) mid new mid_lines new_lines
+      → EntersAt site packet (take (k + 1) vrfs) old new lines new_lines
   enters_next vrfs k d vrf old mid new lines mid_lines new_lines lt same one two =
-      subst (λ (l : List VrfId). EntersAt site packet l old new lines new_lines) (sym (take_more vrfs k d lt ∙ ap (λ (v : VrfId). take k vrfs ++ v ∷ []) (sym same)))
+      subst (λ (l : List VrfId). EntersAt site packet l old new lines new_lines)
+      (sym (take_more vrfs k d lt ∙ ap (λ (v : VrfId). take k vrfs ++ v ∷ []) (sym same)))
       (enters_more (take k vrfs) vrf old mid new lines mid_lines new_lines one two)
 
   -- So many VRFs have been entered, and the network is such a world.
@@ -108,17 +118,26 @@ module _ (site : SiteId) (packet : Packet) where
   pub entering_none : (network : NetworkView) (lines : List ReportLine) → IsSomeSent site packet network → OnEntering [] network lines lines network
   entering_none network lines some = record { enters = enters_none network lines; some = some }
 
-  pub entering_next : (vrfs : List VrfId) (k : ℕ) (d vrf : VrfId) (old mid new : NetworkView) (lines mid_lines new_lines : List ReportLine) → k < length vrfs → vrf ≡ get_or vrfs k d
-      → OnEntering (take k vrfs) old lines mid_lines mid → EntersAt site packet (vrf ∷ []) mid new mid_lines new_lines → OnEntering (take (k + 1) vrfs) old lines new_lines new
+  pub entering_next : (vrfs : List VrfId) (k : ℕ) (d vrf : VrfId) (old mid new : NetworkView) (lines mid_lines new_lines : List ReportLine)
+      → k < length vrfs → vrf ≡ get_or vrfs k d
+      → OnEntering (take k vrfs) old lines mid_lines mid → EntersAt site packet (vrf ∷ []) mid new mid_lines new_lines
+      → OnEntering (take (k + 1) vrfs) old lines new_lines new
   entering_next vrfs k d vrf old mid new lines mid_lines new_lines lt same on one =
-      record { enters = enters_next vrfs k d vrf old mid new lines mid_lines new_lines lt same on.enters one; some = sent_again (vrf ∷ []) mid new mid_lines new_lines one on.some }
+      record {
+        enters = enters_next vrfs k d vrf old mid new lines mid_lines new_lines lt same on.enters one;
+        some =
+            sent_again (vrf ∷ []) mid new mid_lines new_lines one on.some;
+      }
 
-  pub entering_all : (vrfs : List VrfId) (k : ℕ) (old new : NetworkView) (lines new_lines : List ReportLine) → length vrfs ≤ k → OnEntering (take k vrfs) old lines new_lines new → EntersAt site packet vrfs old new lines new_lines
-  entering_all vrfs k old new lines new_lines le on = (subst (λ (l : List VrfId). OnEntering l old lines new_lines new) (take_all k vrfs le) on).enters
+  pub entering_all : (vrfs : List VrfId) (k : ℕ) (old new : NetworkView) (lines new_lines : List ReportLine) → length vrfs ≤ k
+      → OnEntering (take k vrfs) old lines new_lines new → EntersAt site packet vrfs old new lines new_lines
+  entering_all vrfs k old new lines new_lines le on =
+      (subst (λ (l : List VrfId). OnEntering l old lines new_lines new) (take_all k vrfs le) on).enters
 
   -- ---- at one VRF
 
-  entered_at : (vrf : VrfId) (new : NetworkView) (lines new_lines : List ReportLine) (at : Instant) (datagram : Datagram) → Enters at vrf datagram lines new_lines new → HasEntered at (vrf ∷ []) datagram lines new_lines new
+  entered_at : (vrf : VrfId) (new : NetworkView) (lines new_lines : List ReportLine) (at : Instant) (datagram : Datagram)
+      → Enters at vrf datagram lines new_lines new → HasEntered at (vrf ∷ []) datagram lines new_lines new
   entered_at vrf new lines new_lines at datagram enters = record {
     acts = record { act = Some (Enter vrf); lines = enters.behind.lines } ∷ [];
     world = enters.behind.world;
@@ -128,15 +147,20 @@ module _ (site : SiteId) (packet : Packet) where
   }
 
   module _ (vrf : VrfId) (old : NetworkView) where
-    pub some_handling : (n : NodeId) → edge_of_vrf old.scenario vrf ≡ Some n → IsSomeSent site packet old → IsSomeHandling (OfPlane (IsEdgeOf vrf n)) old
-    some_handling n e (at, datagram, is) = (at, length at.world.datagrams, datagram, at_vrf_of at old is.stands.scenario is.stands.plane n vrf is.rest e, is.stands)
+    pub some_handling : (n : NodeId) → edge_of_vrf old.scenario vrf ≡ Some n → IsSomeSent site packet old
+        → IsSomeHandling (OfPlane (IsEdgeOf vrf n)) old
+    some_handling n e (at, datagram, is) =
+        (at, length at.world.datagrams, datagram, at_vrf_of at old is.stands.scenario is.stands.plane n vrf is.rest e, is.stands)
 
-    pub enters_there : (n : NodeId) → edge_of_vrf old.scenario vrf ≡ Some n → (new : NetworkView) (lines new_lines : List ReportLine) (answer : Result (Unit {0}) NoMemory)
-        → OnOk answer ((at : Instant) (own : Datagram) → IsEdgeOf vrf n (standing_of at) → IsSentBy site packet own → IsHandling at (length at.world.datagrams) own old → Enters at vrf own lines new_lines new)
+    pub enters_there : (n : NodeId) → edge_of_vrf old.scenario vrf ≡ Some n
+        → (new : NetworkView) (lines new_lines : List ReportLine) (answer : Result (Unit {0}) NoMemory)
+        → OnOk answer ((at : Instant) (own : Datagram) → IsEdgeOf vrf n (standing_of at) → IsSentBy site packet own
+        → IsHandling at (length at.world.datagrams) own old → Enters at vrf own lines new_lines new)
         → OnOk answer (EntersAt site packet (vrf ∷ []) old new lines new_lines)
     enters_there n e new lines new_lines (Err wanting) h = tt
     enters_there n e new lines new_lines (Ok done) h =
-        λ at datagram is. entered_at vrf new lines new_lines at datagram (h at datagram (at_vrf_of at old is.stands.scenario is.stands.plane n vrf is.rest e) is.sent is.stands)
+        λ at datagram is. entered_at vrf new lines new_lines at datagram
+        (h at datagram (at_vrf_of at old is.stands.scenario is.stands.plane n vrf is.rest e) is.sent is.stands)
 
     abbrev edge_in : Option Vrf → Option NodeId
     edge_in o = elim o [ None ↦ None | Some found ↦ Some found.edge ]
@@ -167,28 +191,36 @@ module _ (site : SiteId) (packet : Packet) (old mid : NetworkView) where
 
   -- from every world that the network was, any datagram is being sent in the one with it
   abbrev pub Accepts : Type 0
-  Accepts = (at : Instant) (datagram : Datagram) → IsWorld at old → IsHandling (record at { world = with_datagram datagram at.world }) (length at.world.datagrams + 1) datagram mid
+  Accepts =
+      (at : Instant) (datagram : Datagram) → IsWorld at old
+      → IsHandling (record at { world = with_datagram datagram at.world }) (length at.world.datagrams + 1) datagram mid
 
-  accepted : Accepts → (at : Instant) → IsReady at → IsWorld at old → IsSent site packet sent_one mid (record at { world = with_datagram sent_one at.world })
+  accepted : Accepts → (at : Instant) → IsReady at → IsWorld at old
+      → IsSent site packet sent_one mid (record at { world = with_datagram sent_one at.world })
   accepted accepts at ready is = record {
     rest = ready.resting.rest;
     sent = record { site = refl; source = refl; group = refl; octets = refl };
-    stands = subst (λ n. IsHandling (record at { world = with_datagram sent_one at.world }) n sent_one mid) (sym (length-append at.world.datagrams (sent_one ∷ []))) (accepts at sent_one is);
+    stands = subst (λ n. IsHandling (record at { world = with_datagram sent_one at.world }) n sent_one mid)
+        (sym (length-append at.world.datagrams (sent_one ∷ []))) (accepts at sent_one is);
   }
 
   pub some_sent : Accepts → IsSome IsReady old → IsSomeSent site packet mid
   some_sent accepts (at, ready, is) = (record at { world = with_datagram sent_one at.world }, sent_one, accepted accepts at ready is)
 
   -- the datagram is still being sent once it has entered
-  pub some_behind : Accepts → (vrfs : List VrfId) (behind : NetworkView) (lines new_lines : List ReportLine) → EntersAt site packet vrfs mid behind lines new_lines
+  pub some_behind : Accepts → (vrfs : List VrfId) (behind : NetworkView) (lines new_lines : List ReportLine)
+      → EntersAt site packet vrfs mid behind lines new_lines
       → IsSome IsReady old → IsSomeHandling Any behind
   some_behind accepts vrfs behind lines new_lines enters (at, ready, is) =
       let has = enters (record at { world = with_datagram sent_one at.world }) sent_one (accepted accepts at ready is) in
       (record at { world = has.world }, length has.world.datagrams, sent_one, tt, has.stands)
 
-  pub sent_all : Accepts → (vrfs : List VrfId) → vrfs ≡ entered old.scenario site → (behind new : NetworkView) (lines new_lines : List ReportLine) → EntersAt site packet vrfs mid behind lines new_lines
-      → (octets : List ℕ) → octets ≡ packet.octets → ((at : Instant) (number : ℕ) (datagram : Datagram) → IsHandling at number datagram behind → octets ≡ datagram.octets → IsWorld at new)
-      → (at : Instant) → IsReady at → IsWorld at old → Did at at.moment (sent site packet.source packet.group packet.octets at.world) lines new_lines new
+  pub sent_all : Accepts → (vrfs : List VrfId) → vrfs ≡ entered old.scenario site → (behind new : NetworkView) (lines new_lines : List ReportLine)
+      → EntersAt site packet vrfs mid behind lines new_lines
+      → (octets : List ℕ) → octets ≡ packet.octets
+      → ((at : Instant) (number : ℕ) (datagram : Datagram) → IsHandling at number datagram behind → octets ≡ datagram.octets → IsWorld at new)
+      → (at : Instant) → IsReady at → IsWorld at old
+      → Did at at.moment (sent site packet.source packet.group packet.octets at.world) lines new_lines new
   sent_all accepts vrfs all behind new lines new_lines enters octets text finishes at ready is =
       let has = enters (record at { world = with_datagram sent_one at.world }) sent_one (accepted accepts at ready is) in
       let same : vrfs ≡ entered (scenario_of at.world) site = all ∙ ap (λ (s : Scenario). entered s site) is.scenario in
@@ -215,33 +247,43 @@ module _ (site : SiteId) (octets : List ℕ) where
   abbrev group_or : Result Packet (ℕ × PacketFault) → Addr
   group_or read = elim read [ Ok p ↦ p.group | Err found ↦ no_addr ]
 
-  pub sends_written : (source group : Addr) (payload : List ℕ) → octets ≡ packet source group payload → packet_of octets ≡ Ok (record { source = source; group = group; octets = octets })
+  pub sends_written : (source group : Addr) (payload : List ℕ) → octets ≡ packet source group payload
+      → packet_of octets ≡ Ok (record { source = source; group = group; octets = octets })
       → Sends site octets (events.Send site source group payload)
   sends_written source group payload e read = record {
     refuses = λ world. sym (ap (refused_by (refused_if (are_links_full world) refusals.Full)) read);
     does = λ world. λ i. sent site (sym (ap source_or read) i) (sym (ap group_or read) i) (sym e i) world;
   }
 
-  pub sends_flow : (source group : Addr) (payload : List ℕ) → NamesFlow source group → length payload ≤ payload_limit → octets ≡ packet source group payload → Sends site octets (events.Send site source group payload)
+  pub sends_flow : (source group : Addr) (payload : List ℕ) → NamesFlow source group → length payload ≤ payload_limit
+      → octets ≡ packet source group payload → Sends site octets (events.Send site source group payload)
   sends_flow source group payload names few e =
-      sends_written source group payload e (subst (λ (o : List ℕ). packet_of o ≡ Ok (record { source = source; group = group; octets = o })) (sym e) (written_flow source group payload names few))
+      sends_written source group payload e (subst (λ (o : List ℕ). packet_of o ≡ Ok (record { source = source; group = group; octets = o })) (sym e)
+      (written_flow source group payload names few))
 
   module _ (event : Event) (sends : Sends site octets event) (old : NetworkView) (lines : List ReportLine) where
     abbrev pub AreFull : Bool → Type 0
     AreFull full = (at : Instant) → IsReady at → IsWorld at old → are_links_full at.world ≡ full
 
-    pub octets_fault : (found : ℕ × PacketFault) → packet_of octets ≡ Err found → Meets event old old lines lines (Ok (Some (refusals.Bytes found.0 (packet_word found.1))))
+    pub octets_fault : (found : ℕ × PacketFault) → packet_of octets ≡ Err found
+        → Meets event old old lines lines (Ok (Some (refusals.Bytes found.0 (packet_word found.1))))
     octets_fault found read =
-        meets_refused event old lines (refusals.Bytes found.0 (packet_word found.1)) (λ at ready is. sends.refuses at.world ∙ ap (refused_by (refused_if (are_links_full at.world) refusals.Full)) read)
+        meets_refused event old lines (refusals.Bytes found.0 (packet_word found.1))
+        (λ at ready is. sends.refuses at.world ∙ ap (refused_by (refused_if (are_links_full at.world) refusals.Full)) read)
 
-    why : (own : Packet) → packet_of octets ≡ Ok own → (full : Bool) → (at : Instant) → are_links_full at.world ≡ full → refusal at.world event ≡ refused_if full refusals.Full
-    why own read full at is = sends.refuses at.world ∙ (ap (refused_by (refused_if (are_links_full at.world) refusals.Full)) read ∙ ap (λ (b : Bool). refused_if b refusals.Full) is)
+    why : (own : Packet) → packet_of octets ≡ Ok own → (full : Bool) → (at : Instant) → are_links_full at.world ≡ full
+        → refusal at.world event ≡ refused_if full refusals.Full
+    why own read full at is =
+        sends.refuses at.world ∙ (ap (refused_by (refused_if (are_links_full at.world) refusals.Full)) read
+        ∙ ap (λ (b : Bool). refused_if b refusals.Full) is)
 
     pub octets_full : (own : Packet) → packet_of octets ≡ Ok own → AreFull true → Meets event old old lines lines (Ok (Some refusals.Full))
     octets_full own read full = meets_refused event old lines refusals.Full (λ at ready is. why own read true at (full at ready is))
 
-    pub octets_sent : (own : Packet) → packet_of octets ≡ Ok own → AreFull false → (new : NetworkView) (new_lines : List ReportLine) (answer : Result (Unit {0}) NoMemory)
-        → Makes IsReady (sent site own.source own.group own.octets) old new lines new_lines answer → Meets event old new lines new_lines (met (of_memory answer))
+    pub octets_sent : (own : Packet) → packet_of octets ≡ Ok own → AreFull false
+        → (new : NetworkView) (new_lines : List ReportLine) (answer : Result (Unit {0}) NoMemory)
+        → Makes IsReady (sent site own.source own.group own.octets) old new lines new_lines answer
+        → Meets event old new lines new_lines (met (of_memory answer))
     octets_sent own read free new new_lines answer makes =
         makes_meet IsReady (sent site own.source own.group own.octets) event old new lines new_lines answer
         (λ at ready is. (

@@ -23,36 +23,46 @@ pub lines_behind : (first more : List Happened) → lines_in (first ++ more) ≡
 lines_behind first more = flat_map-append (λ (happened : Happened). happened.lines) first more
 
 -- lines behind lines
-pub two_told : (lines mid_lines new_lines : List ReportLine) (before behind : List Happened) → mid_lines ≡ lines ++ lines_in before → new_lines ≡ mid_lines ++ lines_in behind → new_lines ≡ lines ++ lines_in (before ++ behind)
+pub two_told : (lines mid_lines new_lines : List ReportLine) (before behind : List Happened) → mid_lines ≡ lines ++ lines_in before
+    → new_lines ≡ mid_lines ++ lines_in behind → new_lines ≡ lines ++ lines_in (before ++ behind)
 two_told lines mid_lines new_lines before behind one two =
     two ∙ (ap (λ (l : List ReportLine). l ++ lines_in behind) one ∙ (append_assoc lines (lines_in before) (lines_in behind)
     ∙ ap (λ (l : List ReportLine). lines ++ l) (sym (lines_behind before behind))))
 
 -- an outcome that is done, with another one behind
-pub then_done : (acts : List Happened) (world : World) (next : World → Outcome) (first : Outcome) → first ≡ Done acts world → (behind : List Happened) (new : World) → next world ≡ Done behind new
+pub then_done : (acts : List Happened) (world : World) (next : World → Outcome) (first : Outcome) → first ≡ Done acts world
+    → (behind : List Happened) (new : World) → next world ≡ Done behind new
     → and_then first next ≡ Done (acts ++ behind) new
 then_done acts world next first e behind new f =
-    ap (λ (o : Outcome). and_then o next) e ∙ ap (λ (o : Outcome). elim o [ Done more w ↦ Done (acts ++ more) w | Halted more n ↦ Halted (acts ++ more) n ]) f
+    ap (λ (o : Outcome). and_then o next) e ∙ ap
+    (λ (o : Outcome). elim o [ Done more w ↦ Done (acts ++ more) w | Halted more n ↦ Halted (acts ++ more) n ]) f
 
-pub then_halted : (acts : List Happened) (world : World) (next : World → Outcome) (first : Outcome) → first ≡ Done acts world → (behind : List Happened) (n : NodeId) → next world ≡ Halted behind n
+pub then_halted : (acts : List Happened) (world : World) (next : World → Outcome) (first : Outcome) → first ≡ Done acts world
+    → (behind : List Happened) (n : NodeId) → next world ≡ Halted behind n
     → and_then first next ≡ Halted (acts ++ behind) n
 then_halted acts world next first e behind n f =
-    ap (λ (o : Outcome). and_then o next) e ∙ ap (λ (o : Outcome). elim o [ Done more w ↦ Done (acts ++ more) w | Halted more m ↦ Halted (acts ++ more) m ]) f
+    ap (λ (o : Outcome). and_then o next) e ∙ ap
+    (λ (o : Outcome). elim o [ Done more w ↦ Done (acts ++ more) w | Halted more m ↦ Halted (acts ++ more) m ]) f
 
-pub halted_first : (acts : List Happened) (n : NodeId) (next : World → Outcome) (first : Outcome) → first ≡ Halted acts n → and_then first next ≡ Halted acts n
+pub halted_first : (acts : List Happened) (n : NodeId) (next : World → Outcome) (first : Outcome) → first ≡ Halted acts n
+    → and_then first next ≡ Halted acts n
 halted_first acts n next first e = ap (λ (o : Outcome). and_then o next) e
 
 -- ---- one act
 
-pub one_done : (world : World) (one : Act) (behind : Acted) → act world one ≡ Ok behind → row (one ∷ []) world ≡ Done (record { act = Some one; lines = behind.lines } ∷ []) behind.world
+pub one_done : (world : World) (one : Act) (behind : Acted) → act world one ≡ Ok behind
+    → row (one ∷ []) world ≡ Done (record { act = Some one; lines = behind.lines } ∷ []) behind.world
 one_done world one behind e =
-    ap (λ (r : Result Acted NodeId). and_then (elim r [ Ok new ↦ Done (record { act = Some one; lines = new.lines } ∷ []) new.world | Err node ↦ Halted [] node ]) (row [])) e
+    ap (λ (r : Result Acted NodeId). and_then (elim r
+    [ Ok new ↦ Done (record { act = Some one; lines = new.lines } ∷ []) new.world | Err node ↦ Halted [] node ]) (row [])) e
 
 one_lacks : (world : World) (one : Act) (n : NodeId) → act world one ≡ Err n → row (one ∷ []) world ≡ Halted [] n
 one_lacks world one n e =
-    ap (λ (r : Result Acted NodeId). and_then (elim r [ Ok new ↦ Done (record { act = Some one; lines = new.lines } ∷ []) new.world | Err node ↦ Halted [] node ]) (row [])) e
+    ap (λ (r : Result Acted NodeId). and_then (elim r
+    [ Ok new ↦ Done (record { act = Some one; lines = new.lines } ∷ []) new.world | Err node ↦ Halted [] node ]) (row [])) e
 
-pub made_did : (at : Instant) (moment : Moment) (one : Act) (lines new_lines : List ReportLine) (new : NetworkView) → Made at moment one lines new_lines new
+pub made_did : (at : Instant) (moment : Moment) (one : Act) (lines new_lines : List ReportLine) (new : NetworkView)
+    → Made at moment one lines new_lines new
     → Did at moment (row (one ∷ []) at.world) lines new_lines new
 made_did at moment one lines new_lines new made = record {
   acts = record { act = Some one; lines = made.behind.lines } ∷ [];
@@ -70,9 +80,12 @@ node_of : (n m : NodeId) → stopped (halts.NoLabel n) ≡ stopped (halts.NoLabe
 node_of n m e = ap (λ (r : Result (Unit {0}) Halt). elim r [ Ok done ↦ n | Err halt ↦ elim halt [ halts.NoLabel k ↦ k | halts.NoMemory ↦ n ] ]) e
 
 pub no_memory_lacks : (m : NodeId) → stopped halts.NoMemory ≡ stopped (halts.NoLabel m) → ⊥
-no_memory_lacks m e = (let t = ap {B = Bool} (λ (r : Result (Unit {0}) Halt). elim r [ Ok done ↦ true | Err halt ↦ elim halt [ halts.NoLabel k ↦ true | halts.NoMemory ↦ false ] ]) e in cc)
+no_memory_lacks m e =
+    (let t = ap {B = Bool} (λ (r : Result (Unit {0}) Halt). elim r
+    [ Ok done ↦ true | Err halt ↦ elim halt [ halts.NoLabel k ↦ true | halts.NoMemory ↦ false ] ]) e in cc)
 
-pub act_does : (Fits : Instant → Type 0) (moment : Moment → Moment) (one : Act) (n : NodeId) (old new : NetworkView) (lines new_lines : List ReportLine) (answer : Result (Unit {0}) NodeFault)
+pub act_does : (Fits : Instant → Type 0) (moment : Moment → Moment) (one : Act) (n : NodeId) (old new : NetworkView)
+    (lines new_lines : List ReportLine) (answer : Result (Unit {0}) NodeFault)
     → ActsAs Fits moment one n old new lines new_lines answer → Does Fits moment (row (one ∷ [])) old new lines new_lines (answer_at n answer)
 act_does Fits moment one n old new lines new_lines (Ok done) acts = record {
   done = λ at fits is. made_did at (moment at.moment) one lines new_lines new (acts.made at fits is);
@@ -82,17 +95,25 @@ act_does Fits moment one n old new lines new_lines (Err faults.NoLabel) acts = r
   done = tt;
   lacks = λ m e at fits is.
       let lacking = acts.lacks refl at fits is in
-      record { acts = []; is = subst (λ (k : NodeId). row (one ∷ []) at.world ≡ Halted [] k) (node_of n m e) (one_lacks at.world one n lacking.0); told = lacking.1 ∙ sym (append-nil lines) };
+      record {
+        acts = [];
+        is =
+            subst (λ (k : NodeId). row (one ∷ []) at.world ≡ Halted [] k) (node_of n m e) (one_lacks at.world one n lacking.0);
+        told =
+            lacking.1 ∙ sym (append-nil lines);
+      };
 }
 act_does Fits moment one n old new lines new_lines (Err faults.NoMemory) acts = record { done = tt; lacks = λ m e. absurd (no_memory_lacks m e) }
 
 -- ---- more behind
 
-module _ (F G : Instant → Type 0) (f g : Moment → Moment) (first next : World → Outcome) (old mid new : NetworkView) (lines mid_lines new_lines : List ReportLine) where
+module _ (F G : Instant → Type 0) (f g : Moment → Moment) (first next : World → Outcome) (old mid new : NetworkView)
+    (lines mid_lines new_lines : List ReportLine) where
   -- Where the first part is done, the second begins in a world with which its condition holds.
   abbrev pub Leads : Type 0
   Leads = (at : Instant) → F at → IsWorld at old → (acts : List Happened) (world : World) → first at.world ≡ Done acts world
-      → IsWorld (record { cores = at.cores; moment = f at.moment; world = world }) mid → G (record { cores = at.cores; moment = f at.moment; world = world })
+      → IsWorld (record { cores = at.cores; moment = f at.moment; world = world }) mid
+      → G (record { cores = at.cores; moment = f at.moment; world = world })
 
   -- the network of the middle is some world of that kind
   pub some_mid : Does F f first old mid lines mid_lines (Ok tt) → Leads → IsSome F old → IsSome G mid
@@ -106,7 +127,8 @@ module _ (F G : Instant → Type 0) (f g : Moment → Moment) (first next : Worl
   abbrev between : (at : Instant) → DidFirst at → Instant
   between at did = record { cores = at.cores; moment = f at.moment; world = did.world }
 
-  both_did : (at : Instant) (did : DidFirst at) → Did (between at did) (g (f at.moment)) (next did.world) mid_lines new_lines new → Did at (g (f at.moment)) (and_then (first at.world) next) lines new_lines new
+  both_did : (at : Instant) (did : DidFirst at) → Did (between at did) (g (f at.moment)) (next did.world) mid_lines new_lines new
+      → Did at (g (f at.moment)) (and_then (first at.world) next) lines new_lines new
   both_did at did more = record {
     acts = did.acts ++ more.acts;
     world = more.world;
@@ -115,27 +137,33 @@ module _ (F G : Instant → Type 0) (f g : Moment → Moment) (first next : Worl
     told = two_told lines mid_lines new_lines did.acts more.acts did.told more.told;
   }
 
-  second_lacked : (at : Instant) (n : NodeId) (did : DidFirst at) → Lacked (next did.world) n mid_lines new_lines → Lacked (and_then (first at.world) next) n lines new_lines
+  second_lacked : (at : Instant) (n : NodeId) (did : DidFirst at) → Lacked (next did.world) n mid_lines new_lines
+      → Lacked (and_then (first at.world) next) n lines new_lines
   second_lacked at n did more = record {
     acts = did.acts ++ more.acts;
     is = then_halted did.acts did.world next (first at.world) did.is more.acts n more.is;
     told = two_told lines mid_lines new_lines did.acts more.acts did.told more.told;
   }
 
-  pub then_does : Does F f first old mid lines mid_lines (Ok tt) → Leads → (result : Result (Unit {0}) Halt) → Does G g next mid new mid_lines new_lines result
+  pub then_does : Does F f first old mid lines mid_lines (Ok tt) → Leads → (result : Result (Unit {0}) Halt)
+      → Does G g next mid new mid_lines new_lines result
       → Does F (λ m. g (f m)) (λ world. and_then (first world) next) old new lines new_lines result
   then_does one leads result two = record {
     done = by result two.done;
-    lacks = λ n e at fits is. let did = one.done at fits is in second_lacked at n did (two.lacks n e (between at did) (leads at fits is did.acts did.world did.is did.stands) did.stands);
+    lacks = λ n e at fits is. let did = one.done at fits is in
+        second_lacked at n did (two.lacks n e (between at did) (leads at fits is did.acts did.world did.is did.stands) did.stands);
   }
     where
-      by : (r : Result (Unit {0}) Halt) → OnOk r ((at : Instant) → G at → IsWorld at mid → Did at (g at.moment) (next at.world) mid_lines new_lines new)
+      by : (r : Result (Unit {0}) Halt) → OnOk r ((at : Instant) → G at → IsWorld at mid
+          → Did at (g at.moment) (next at.world) mid_lines new_lines new)
           → OnOk r ((at : Instant) → F at → IsWorld at old → Did at (g (f at.moment)) (and_then (first at.world) next) lines new_lines new)
-      by (Ok done) made = λ at fits is. let did = one.done at fits is in both_did at did (made (between at did) (leads at fits is did.acts did.world did.is did.stands) did.stands)
+      by (Ok done) made = λ at fits is. let did = one.done at fits is in
+          both_did at did (made (between at did) (leads at fits is did.acts did.world did.is did.stands) did.stands)
       by (Err halt) made = tt
 
   -- Where the first part halts, so does the whole.
-  pub first_halts : (halt : Halt) → Does F f first old mid lines mid_lines (Err halt) → Does F (λ m. g (f m)) (λ world. and_then (first world) next) old mid lines mid_lines (Err halt)
+  pub first_halts : (halt : Halt) → Does F f first old mid lines mid_lines (Err halt)
+      → Does F (λ m. g (f m)) (λ world. and_then (first world) next) old mid lines mid_lines (Err halt)
   first_halts halt one = record {
     done = tt;
     lacks = λ n e at fits is.

@@ -36,7 +36,8 @@ module _ (world : World) (kind : Kind) (a b : NodeId) where
   move_apart count apart = ap (λ (t : Bool). refused_if t refusals.Empty) (or_right (waiting == 0) (not joined) (ap not apart))
 
   pub move_taken : (count : ℕ) → (waiting ≡ 0 → ⊥) → joined ≡ true → refusal world (events.Move kind a b count) ≡ None
-  move_taken count some whole = ap (λ (t : Bool). refused_if t refusals.Empty) (or_from (waiting == 0) (not joined) (ne_eqb waiting 0 some) (ap not whole))
+  move_taken count some whole =
+      ap (λ (t : Bool). refused_if t refusals.Empty) (or_from (waiting == 0) (not joined) (ne_eqb waiting 0 some) (ap not whole))
 
   pub lose_apart : joined ≡ false → refusal world (events.Lose kind a b) ≡ Some refusals.State
   lose_apart apart = ap (λ (t : Bool). refused_if (not t) refusals.State) apart
@@ -65,10 +66,12 @@ module _ (world : World) (kind : Kind) (a b : NodeId) where
 -- ---- what is done
 
 -- an event that is not refused does what is done to each network in which nothing is under way
-pub meets_by : (F : Instant → Type 0) (event : Event) (change : World → Outcome) (old new : NetworkView) (lines new_lines : List ReportLine) (answer : Result (Unit {0}) Halt)
+pub meets_by : (F : Instant → Type 0) (event : Event) (change : World → Outcome) (old new : NetworkView) (lines new_lines : List ReportLine)
+    (answer : Result (Unit {0}) Halt)
     → ((at : Instant) → IsReady at → IsWorld at old → refusal at.world event ≡ None)
     → ((at : Instant) → IsReady at → IsWorld at old → F at × (change at.world ≡ done at.world event))
     → Does F same_moment change old new lines new_lines answer → Meets event old new lines new_lines (met answer)
 meets_by F event change old new lines new_lines answer free same does =
     meets_done event old lines new new_lines answer free
-    (does_as F IsReady same_moment same_moment change (λ world. done world event) old new lines new_lines answer (λ at ready is. let own = same at ready is in (own.0, own.1, refl)) does)
+    (does_as F IsReady same_moment same_moment change (λ world. done world event) old new lines new_lines answer
+    (λ at ready is. let own = same at ready is in (own.0, own.1, refl)) does)

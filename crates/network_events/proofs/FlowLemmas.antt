@@ -37,24 +37,29 @@ use Rattle.network_acts.specs.Handling.{AreOfFlows, IsOfFlow}
 -- ---- datagrams stay
 
 -- acts bring no datagrams
-pub row_datagrams : (acts : List Act) (world new : World) (happened : List Happened) → row acts world ≡ Done happened new → new.datagrams ≡ world.datagrams
+pub row_datagrams : (acts : List Act) (world new : World) (happened : List Happened) → row acts world ≡ Done happened new
+    → new.datagrams ≡ world.datagrams
 row_datagrams acts world new happened e =
     let P : World → Type 0 = Sent world.datagrams in
-    subst (Comes P) e (row_keeps P acts (each_of (λ (one : Act). (old : World) → P old → kept.Gives P (act old one)) (λ one old p. given_from world.datagrams (act old one) (act_sent world.datagrams one old p)) acts) world refl)
+    subst (Comes P) e (row_keeps P acts (each_of (λ (one : Act). (old : World) → P old → kept.Gives P (act old one))
+    (λ one old p. given_from world.datagrams (act old one) (act_sent world.datagrams one old p)) acts) world refl)
   where
     given_from : (all : List Datagram) (o : Result Acted NodeId) → Gives (λ lines. ⊤) (Sent all) o → kept.Gives (Sent all) o
     given_from all (Err node) g = tt
     given_from all (Ok new) g = g.1
 
-pub row_flows : (acts : List Act) (world new : World) (happened : List Happened) → row acts world ≡ Done happened new → AreOfFlows world → AreOfFlows new
+pub row_flows : (acts : List Act) (world new : World) (happened : List Happened) → row acts world ≡ Done happened new → AreOfFlows world
+    → AreOfFlows new
 row_flows acts world new happened e flows = subst (AllByRecursion IsOfFlow) (sym (row_datagrams acts world new happened e)) flows
 
 -- ---- packets that are written
 
 -- the packet of a flow that an event names has a spelling
-may_be_sent : (source group : Addr) (payload : List ℕ) → IsUnicast source → IsGroup group → AreOfOneFamily source group → length payload ≤ payload_limit → MayBeSent source group payload
+may_be_sent : (source group : Addr) (payload : List ℕ) → IsUnicast source → IsGroup group → AreOfOneFamily source group
+    → length payload ≤ payload_limit → MayBeSent source group payload
 may_be_sent (V4 s) (V4 g) payload unicast multicast one few = (unicast.0, multicast.0, (multicast.1, multicast.2), multicast.3, omega (arith, few))
-may_be_sent (V6 s) (V6 g) payload unicast multicast one few = (unicast.0, multicast.0, multicast.1, (λ local. omega (arith, local, multicast.2)), omega (arith, few))
+may_be_sent (V6 s) (V6 g) payload unicast multicast one few =
+    (unicast.0, multicast.0, multicast.1, (λ local. omega (arith, local, multicast.2)), omega (arith, few))
 may_be_sent (V4 s) (V6 g) payload unicast multicast one few = absurd one
 may_be_sent (V6 s) (V4 g) payload unicast multicast one few = absurd one
 
@@ -62,7 +67,8 @@ may_be_sent (V6 s) (V4 g) payload unicast multicast one few = absurd one
 pub written_flow : (source group : Addr) (payload : List ℕ) → NamesFlow source group → length payload ≤ payload_limit
     → packet_of (written source group payload) ≡ Ok (record { source = source; group = group; octets = written source group payload })
 written_flow source group payload names few =
-    packet_again source group (written source group payload) (written_spelled source group payload (may_be_sent source group payload names.unicast names.multicast names.family few))
+    packet_again source group (written source group payload)
+    (written_spelled source group payload (may_be_sent source group payload names.unicast names.multicast names.family few))
 
 -- ---- packets that are read
 
@@ -92,7 +98,8 @@ module _ (octets : List ℕ) where
   unfolding six_of
   six_whole =
       let own : Packet = record { source = V6 (octets_in 16 8 octets); group = V6 (octets_in 16 24 octets); octets = octets } in
-      if_whole (nat_lt (length octets) 40) (Err (fault (length octets) reasons.Short)) (unless (six_fault octets) own) refl (unless_whole (six_fault octets) own refl)
+      if_whole (nat_lt (length octets) 40) (Err (fault (length octets) reasons.Short)) (unless (six_fault octets) own) refl
+      (unless_whole (six_fault octets) own refl)
 
   read_whole : IsWhole (packet_of octets)
   unfolding packet_of
@@ -101,14 +108,16 @@ module _ (octets : List ℕ) where
       let six : Result Packet (ℕ × PacketFault) = cond (slice_index octets 0 / 16 == 6) (six_of octets) last in
       let four : Result Packet (ℕ × PacketFault) = cond (slice_index octets 0 / 16 == 4) (four_of octets) six in
       if_whole (nat_lt (length octets) 20) (Err (fault (length octets) reasons.Short)) four refl
-      (if_whole (slice_index octets 0 / 16 == 4) (four_of octets) six four_whole (if_whole (slice_index octets 0 / 16 == 6) (six_of octets) last six_whole refl))
+      (if_whole (slice_index octets 0 / 16 == 4) (four_of octets) six four_whole
+      (if_whole (slice_index octets 0 / 16 == 6) (six_of octets) last six_whole refl))
 
   -- the octets of a packet that was read are those that were read
   pub whole : (packet : Packet) → packet_of octets ≡ Ok packet → packet.octets ≡ octets
   whole packet e = ap octets_of (sym e) ∙ read_whole
 
   -- so octets that are a packet are one of the flow that they tell
-  pub read_flow : (site : SiteId) → packet_fault octets ≡ None → IsOfFlow (record { site = site; source = source_in octets; group = group_in octets; octets = octets })
+  pub read_flow : (site : SiteId) → packet_fault octets ≡ None
+      → IsOfFlow (record { site = site; source = source_in octets; group = group_in octets; octets = octets })
   read_flow site none = by (packet_of octets) refl none
     where
       fault_in : Result Packet (ℕ × PacketFault) → Option Refusal
@@ -132,12 +141,16 @@ first_none : (first rest : Option Refusal) → option_or first rest ≡ None →
 first_none None rest h = refl
 first_none (Some reason) rest h = absurd (none-some reason (sym h))
 
-brought_flows : (world : World) (event : Event) → refusal world event ≡ None → IsEventOf (scenario_of world) event → AllByRecursion IsOfFlow (brought_by event)
+brought_flows : (world : World) (event : Event) → refusal world event ≡ None → IsEventOf (scenario_of world) event
+    → AllByRecursion IsOfFlow (brought_by event)
 brought_flows world (events.Send site source group payload) free is = (written_flow source group payload is.1 is.2, tt)
-brought_flows world (events.Packet site octets) free is = (read_flow octets site (first_none (packet_fault octets) (refused_if (are_links_full world) refusals.Full) free), tt)
+brought_flows world (events.Packet site octets) free is =
+    (read_flow octets site (first_none (packet_fault octets) (refused_if (are_links_full world) refusals.Full) free), tt)
 brought_flows world other free is = tt
 
 -- After an event that is not refused the datagrams are of their flows, where they were before.
-pub flows_behind : (world : World) (event : Event) (acts : List Happened) (new : World) → refusal world event ≡ None → done world event ≡ Done acts new → IsEventOf (scenario_of world) event → AreOfFlows world → AreOfFlows new
+pub flows_behind : (world : World) (event : Event) (acts : List Happened) (new : World) → refusal world event ≡ None
+    → done world event ≡ Done acts new → IsEventOf (scenario_of world) event → AreOfFlows world → AreOfFlows new
 flows_behind world event acts new free e is flows =
-    subst (AllByRecursion IsOfFlow) (sym (done_sends world event acts new e)) (each_append IsOfFlow world.datagrams (brought_by event) flows (brought_flows world event free is))
+    subst (AllByRecursion IsOfFlow) (sym (done_sends world event acts new e))
+    (each_append IsOfFlow world.datagrams (brought_by event) flows (brought_flows world event free is))

@@ -31,14 +31,17 @@ module _ (kind : Kind) (a b : NodeId) (network : NetworkView) (all : List Sessio
   abbrev found_acts : World → Outcome
   found_acts world = row (raises (sessions (scenario_of world)) kind a b) world
 
-  found_in : (found : Option Session) → find (is_session_of kind a b) all ≡ found → (at : Instant) → IsWorld at network → find (is_session_of kind a b) (sessions (scenario_of at.world)) ≡ found
+  found_in : (found : Option Session) → find (is_session_of kind a b) all ≡ found → (at : Instant) → IsWorld at network
+      → find (is_session_of kind a b) (sessions (scenario_of at.world)) ≡ found
   found_in found e at is = ap (λ (l : List Session). find (is_session_of kind a b) l) (ap sessions (sym is.scenario) ∙ sym are) ∙ e
 
   acts_as : (found : Option Session) → find (is_session_of kind a b) all ≡ found → (at : Instant) → IsWorld at network
       → found_acts at.world ≡ row (elim found [ None ↦ [] | Some session ↦ raise_acts session ]) at.world
-  acts_as found e at is = ap (λ (o : Option Session). row (elim o [ None ↦ [] | Some session ↦ raise_acts session ]) at.world) (found_in found e at is)
+  acts_as found e at is =
+      ap (λ (o : Option Session). row (elim o [ None ↦ [] | Some session ↦ raise_acts session ]) at.world) (found_in found e at is)
 
-  pub none_raised : find (is_session_of kind a b) all ≡ None → (lines : List ReportLine) → Does (IsRaisable kind a b) same_moment found_acts network network lines lines (Ok tt)
+  pub none_raised : find (is_session_of kind a b) all ≡ None → (lines : List ReportLine)
+      → Does (IsRaisable kind a b) same_moment found_acts network network lines lines (Ok tt)
   none_raised e lines = does_nothing (IsRaisable kind a b) found_acts network lines (λ at raisable is. acts_as None e at is)
 
   module _ (session : Session) (e : find (is_session_of kind a b) all ≡ Some session) where
@@ -49,19 +52,27 @@ module _ (kind : Kind) (a b : NodeId) (network : NetworkView) (all : List Sessio
         → Does (IsRaisable session.kind session.a session.b) same_moment (row (raise_acts session)) network new lines new_lines result
         → Does (IsRaisable kind a b) same_moment found_acts network new lines new_lines result
     one_raised new lines new_lines result raised =
-        does_as (IsRaisable session.kind session.a session.b) (IsRaisable kind a b) same_moment same_moment (row (raise_acts session)) found_acts network new lines new_lines result
-        (λ at raisable is. (found_raisable at kind a b raisable session (found_in (Some session) e at is), sym (acts_as (Some session) e at is), refl)) raised
+        does_as (IsRaisable session.kind session.a session.b) (IsRaisable kind a b) same_moment same_moment (row (raise_acts session)) found_acts
+        network new lines new_lines result
+        (λ at raisable is. (
+          found_raisable at kind a b raisable session (found_in (Some session) e at is),
+          sym (acts_as (Some session) e at is),
+          refl,
+        )) raised
 
 -- ---- a session that is healed
 
 module _ (session : Session) (network : NetworkView) where
   -- one that is joined is left as it is
-  pub healed_joined : ((at : Instant) → IsWorld at network → at.world.network.joined (direction session.kind session.a session.b) ≡ true) → (lines : List ReportLine)
+  pub healed_joined : ((at : Instant) → IsWorld at network → at.world.network.joined (direction session.kind session.a session.b) ≡ true)
+      → (lines : List ReportLine)
       → Does IsResting same_moment (healed session) network network lines lines (Ok tt)
   healed_joined joined lines =
       does_nothing IsResting (healed session) network lines
       (λ at resting is.
-      ap (λ (t : Bool). cond t (Done [] at.world) (row (notices at.world session session.a session.b ++ (notices at.world session session.b session.a ++ raise_acts session)) at.world)) (joined at is))
+      ap (λ (t : Bool). cond t (Done [] at.world) (row
+      (notices at.world session session.a session.b ++ (notices at.world session session.b session.a ++ raise_acts session)) at.world))
+      (joined at is))
 
   module _ (way : IsWay network.scenario (direction session.kind session.a session.b)) (at : Instant) (is : IsWorld at network) where
     ends_in : (session.a.0 < length (scenario_of at.world).nodes) × (session.b.0 < length (scenario_of at.world).nodes) × (session.a ≡ session.b → ⊥)
@@ -89,9 +100,11 @@ module _ (session : Session) (network : NetworkView) where
   }
 
 -- the session at a place is one of the scenario
-pub session_at : (old mid : NetworkView) (all : List Session) (place : ℕ) (d : Session) → mid.scenario ≡ old.scenario → all ≡ sessions old.scenario → place < length all
+pub session_at : (old mid : NetworkView) (all : List Session) (place : ℕ) (d : Session) → mid.scenario ≡ old.scenario → all ≡ sessions old.scenario
+    → place < length all
     → IsWay mid.scenario (direction (get_or all place d).kind (get_or all place d).a (get_or all place d).b)
 session_at old mid all place d same are below =
     let s : Session = get_or all place d in
     subst (λ (own : Scenario). IsWay own (direction s.kind s.a s.b)) (sym same)
-    (has_way old.scenario s.kind s.a s.b (session_has old.scenario s (subst (λ (l : List Session). Among s l) are (among_place all place s d below refl))))
+    (has_way old.scenario s.kind s.a s.b (session_has old.scenario s
+    (subst (λ (l : List Session). Among s l) are (among_place all place s d below refl))))

@@ -33,7 +33,13 @@ use Rattle.network_events.proofs.DoLemmas.{Leads}
 
 -- the sessions of a world as they stand
 abbrev read_off : World → SessionsStand
-read_off world = record { clock = clock_of world; joined = λ kind a b. world.network.joined (direction kind a b); end = λ kind n peer. end_of world.network.state n peer }
+read_off world =
+    record {
+      clock = clock_of world;
+      joined = λ kind a b. world.network.joined (direction kind a b);
+      end =
+          λ kind n peer. end_of world.network.state n peer;
+    }
 
 stands_so : (world : World) → WorldStands (scenario_of world) (read_off world) world
 stands_so world = record { nodes = record { place = refl; clock = refl; ends = λ n peer. refl }; joined = λ kind a b. refl }
@@ -45,7 +51,8 @@ joined_behind (RaiseFirst own u n) old kind a b = old kind a b || is_that own u 
 joined_behind (Restart m) old kind a b = old kind a b && not ((a.0 == m.0) || (b.0 == m.0))
 joined_behind other old kind a b = old kind a b
 
-stand_joined : (scenario : Scenario) (one : Act) (old : SessionsStand) (kind : Kind) (a b : NodeId) → (act_stand scenario one old).joined kind a b ≡ joined_behind one old.joined kind a b
+stand_joined : (scenario : Scenario) (one : Act) (old : SessionsStand) (kind : Kind) (a b : NodeId)
+    → (act_stand scenario one old).joined kind a b ≡ joined_behind one old.joined kind a b
 stand_joined scenario (Tick ticks) old kind a b = refl
 stand_joined scenario (Timers n) old kind a b = refl
 stand_joined scenario (Move own from to count) old kind a b = refl
@@ -65,14 +72,21 @@ stand_joined scenario (Reroute n) old kind a b = refl
 -- The scenario stays, and so many sessions are joined.
 pub record Follows (one : Act) (old new : World) : Type 0 where
   pub scenario : scenario_of new ≡ scenario_of old
-  pub joined : (kind : Kind) (a b : NodeId) → new.network.joined (direction kind a b) ≡ joined_behind one (λ own u n. old.network.joined (direction own u n)) kind a b
+  pub joined : (kind : Kind) (a b : NodeId) → new.network.joined (direction kind a b)
+      ≡ joined_behind one (λ own u n. old.network.joined (direction own u n)) kind a b
 
 pub act_follows : (world : World) (one : Act) → Gives (Follows one world) (act world one)
 act_follows world one = by (act world one) (act_gives (scenario_of world) (read_off world) world one (stands_so world))
   where
-    by : (o : Result Acted NodeId) → stand.Gives (WorldStands (scenario_of world) (act_stand (scenario_of world) one (read_off world))) o → Gives (Follows one world) o
+    by : (o : Result Acted NodeId) → stand.Gives (WorldStands (scenario_of world) (act_stand (scenario_of world) one (read_off world))) o
+        → Gives (Follows one world) o
     by (Err node) h = tt
-    by (Ok new) h = record { scenario = h.1.nodes.place; joined = λ kind a b. h.1.joined kind a b ∙ stand_joined (scenario_of world) one (read_off world) kind a b }
+    by (Ok new) h =
+        record {
+          scenario = h.1.nodes.place;
+          joined =
+              λ kind a b. h.1.joined kind a b ∙ stand_joined (scenario_of world) one (read_off world) kind a b;
+        }
 
 -- ---- sessions that are joined both ways
 
@@ -108,7 +122,8 @@ act_even scenario one world even = by (act world one) (act_follows world one)
     by (Err node) h = tt
     by (Ok new) h = record {
       own = h.scenario ∙ even.own;
-      alike = λ kind a b. h.joined kind a b ∙ (behind_even one (λ own u n. world.network.joined (direction own u n)) even.alike kind a b ∙ sym (h.joined kind b a));
+      alike = λ kind a b. h.joined kind a b ∙ (behind_even one (λ own u n. world.network.joined (direction own u n)) even.alike kind a b
+          ∙ sym (h.joined kind b a));
     }
 
 -- a change that keeps both
@@ -116,12 +131,15 @@ abbrev pub KeepsEven : (World → Outcome) → Type 0
 KeepsEven change = (scenario : Scenario) (world : World) → IsEven scenario world → Comes (IsEven scenario) (change world)
 
 pub row_even : (acts : List Act) → KeepsEven (row acts)
-row_even acts scenario world even = row_keeps (IsEven scenario) acts (each_of (λ one. (old : World) → IsEven scenario old → Gives (IsEven scenario) (act old one)) (act_even scenario) acts) world even
+row_even acts scenario world even =
+    row_keeps (IsEven scenario) acts (each_of (λ one. (old : World) → IsEven scenario old → Gives (IsEven scenario) (act old one)) (act_even scenario)
+    acts) world even
 
 pub turn_even : (over : Direction) → KeepsEven (turn over)
 turn_even over scenario world even = by (world.network.transit over)
   where
-    by : (transit : List ℕ) → Comes (IsEven scenario) (elim transit [ [] ↦ Done [] world | octet ∷ others ↦ row (Move over.kind over.from over.to (length (octet ∷ others)) ∷ []) world ])
+    by : (transit : List ℕ) → Comes (IsEven scenario)
+        (elim transit [ [] ↦ Done [] world | octet ∷ others ↦ row (Move over.kind over.from over.to (length (octet ∷ others)) ∷ []) world ])
     by [] = even
     by (octet ∷ others) = row_even (Move over.kind over.from over.to (length (octet ∷ others)) ∷ []) scenario world even
 
@@ -129,13 +147,16 @@ pub healed_even : (session : Session) → KeepsEven (healed session)
 healed_even session scenario world even = by (is_joined world session)
   where
     by : (joined : Bool)
-        → Comes (IsEven scenario) (cond joined (Done [] world) (row (notices world session session.a session.b ++ (notices world session session.b session.a ++ raise_acts session)) world))
+        → Comes (IsEven scenario) (cond joined (Done [] world)
+        (row (notices world session session.a session.b ++ (notices world session session.b session.a ++ raise_acts session)) world))
     by true = even
-    by false = row_even (notices world session session.a session.b ++ (notices world session session.b session.a ++ raise_acts session)) scenario world even
+    by false =
+        row_even (notices world session session.a session.b ++ (notices world session session.b session.a ++ raise_acts session)) scenario world even
 
 pub each_even : {A : Type 0} (turn : A → World → Outcome) → ((x : A) → KeepsEven (turn x)) → (all : List A) → KeepsEven (each turn all)
 each_even turn keeps all scenario world even =
-    each_keeps (IsEven scenario) turn all (each_of (λ x. (old : World) → IsEven scenario old → Comes (IsEven scenario) (turn x old)) (λ x. keeps x scenario) all) world even
+    each_keeps (IsEven scenario) turn all (each_of (λ x. (old : World) → IsEven scenario old → Comes (IsEven scenario) (turn x old))
+    (λ x. keeps x scenario) all) world even
 
 pub times_even : (round : World → Outcome) → KeepsEven round → (count : ℕ) → KeepsEven (times round count)
 times_even round keeps count scenario world even = times_keeps (IsEven scenario) round (keeps scenario) count world even
@@ -144,7 +165,8 @@ times_even round keeps count scenario world even = times_keeps (IsEven scenario)
 pub event_even : (event : Event) → KeepsEven (λ world. done world event)
 event_even (events.Cost a b cost) scenario world even = row_even (cost_acts (scenario_of world) a b cost) scenario world even
 event_even other scenario world even =
-    steady_event (IsEven scenario) (λ one steady old kept. act_even scenario one old kept) (λ old datagrams kept. record { own = kept.own; alike = kept.alike }) other tt world even
+    steady_event (IsEven scenario) (λ one steady old kept. act_even scenario one old kept)
+    (λ old datagrams kept. record { own = kept.own; alike = kept.alike }) other tt world even
 
 -- ---- networks
 
@@ -152,18 +174,24 @@ pub comes_done : (P : World → Type 0) (o : Outcome) (acts : List Happened) (wo
 comes_done P o acts world e comes = subst (Comes P) e comes
 
 module _ (first : World → Outcome) (keeps : KeepsEven first) (old mid : NetworkView) (lines mid_lines : List ReportLine) where
-  even_behind : (at : Instant) → IsResting at → (acts : List Happened) (world : World) → first at.world ≡ Done acts world → IsEven (scenario_of at.world) world
+  even_behind : (at : Instant) → IsResting at → (acts : List Happened) (world : World) → first at.world ≡ Done acts world
+      → IsEven (scenario_of at.world) world
   even_behind at resting acts world e =
-      comes_done (IsEven (scenario_of at.world)) (first at.world) acts world e (keeps (scenario_of at.world) at.world (record { own = refl; alike = resting.alike }))
+      comes_done (IsEven (scenario_of at.world)) (first at.world) acts world e
+      (keeps (scenario_of at.world) at.world (record { own = refl; alike = resting.alike }))
 
-  pub rests_on : (next : World → Outcome) (new : NetworkView) (new_lines : List ReportLine) → Leads IsResting IsResting same_moment same_moment first next old mid new lines mid_lines new_lines
+  pub rests_on : (next : World → Outcome) (new : NetworkView) (new_lines : List ReportLine)
+      → Leads IsResting IsResting same_moment same_moment first next old mid new lines mid_lines new_lines
   rests_on next new new_lines at resting is acts world e stands = record { rest = resting.rest; alike = (even_behind at resting acts world e).alike }
 
   module _ (does : Does IsResting same_moment first old mid lines mid_lines (Ok tt)) (some : IsSome IsResting old) where
     pub still_some : IsSome IsResting mid
     still_some =
-        let did = does.done some.0 some.1 some.2 in
-        (record { cores = some.0.cores; moment = some.0.moment; world = did.world }, record { rest = some.1.rest; alike = (even_behind some.0 some.1 did.acts did.world did.is).alike }, did.stands)
+        let did = does.done some.0 some.1 some.2 in (
+          record { cores = some.0.cores; moment = some.0.moment; world = did.world },
+          record { rest = some.1.rest; alike = (even_behind some.0 some.1 did.acts did.world did.is).alike },
+          did.stands,
+        )
 
     pub same_scenario : mid.scenario ≡ old.scenario
     same_scenario =

@@ -30,7 +30,8 @@ module _ (own now : WorldView) (same : own ≡ now) (n : NodeId) where
         toward = is.toward;
       }
 
-  pub core_lent : (labels : NodeData) → ((at : Instant) → IsWorld at own.network → IsCoreThere (standing_of at) n labels) → InEachRun now (IsCore n labels)
+  pub core_lent : (labels : NodeData) → ((at : Instant) → IsWorld at own.network → IsCoreThere (standing_of at) n labels)
+      → InEachRun now (IsCore n labels)
   core_lent labels there cores scenario events trace world behind =
       let is = there (between_events cores world) (subst (IsBehind cores scenario events trace world) (sym same) behind).stands in
       let scenario_is = scenario_behind cores scenario events trace world now behind in
@@ -52,10 +53,13 @@ pool_of view account cores scenario events trace world behind =
     record {
       copies = idle.stores.copies;
       buffers = λ from to place kept at.
-          let has = has_held world copies idle.stores links account idle.none from to place kept at in record { datagram = has.0; is = has.1; buffer = has.2 };
-      shared = λ from to other_from other_to place other_place kept other at there. two_copies copies from to other_from other_to place other_place kept other account at there;
+          let has = has_held world copies idle.stores links account idle.none from to place kept at in
+          record { datagram = has.0; is = has.1; buffer = has.2 };
+      shared = λ from to other_from other_to place other_place kept other at there. two_copies copies from to other_from other_to place other_place
+          kept other account at there;
       named = λ name live.
-          let is = is_named world copies idle.stores links account idle.none name live in record { from = is.0; to = is.1; place = is.2; kept = is.3; at = is.4; names = is.5 };
+          let is = is_named world copies idle.stores links account idle.none name live in
+          record { from = is.0; to = is.1; place = is.2; kept = is.3; at = is.4; names = is.5 };
     }
 
 pub pool_lent : (own now : WorldView) → own ≡ now → IsShared own.network.datagrams.copies → InEachRun now (λ scenario world. IsPool world now)
@@ -63,5 +67,7 @@ pool_lent own now same account = subst (λ (w : WorldView). InEachRun w (λ scen
 
 -- ---- datagrams
 
-pub accepted_lent : (own now : WorldView) (count : ℕ) → own ≡ now → ((at : Instant) → IsWorld at own.network → count ≡ length at.world.datagrams) → InEachRun now (λ scenario world. count ≡ length world.datagrams)
-accepted_lent own now count same counted cores scenario events trace world behind = counted (between_events cores world) (subst (IsBehind cores scenario events trace world) (sym same) behind).stands
+pub accepted_lent : (own now : WorldView) (count : ℕ) → own ≡ now → ((at : Instant) → IsWorld at own.network → count ≡ length at.world.datagrams)
+    → InEachRun now (λ scenario world. count ≡ length world.datagrams)
+accepted_lent own now count same counted cores scenario events trace world behind =
+    counted (between_events cores world) (subst (IsBehind cores scenario events trace world) (sym same) behind).stands

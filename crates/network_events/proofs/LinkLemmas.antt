@@ -29,27 +29,37 @@ other_way a b apart = false_from_ne_true (is_way a b) (λ t. apart (same_ends a 
 abbrev ways_of : List Link → List (NodeId × NodeId)
 ways_of links = flat_map (λ link. (link.a, link.b) ∷ (link.b, link.a) ∷ []) links
 
-apart_forth : (link : Link) (rest : List Link) → AllByRecursion (λ other. ¬ (JoinsSamePair link other)) rest → AllByRecursion (λ way. is_way (link.a, link.b) way ≡ false) (ways_of rest)
+apart_forth : (link : Link) (rest : List Link) → AllByRecursion (λ other. ¬ (JoinsSamePair link other)) rest
+    → AllByRecursion (λ way. is_way (link.a, link.b) way ≡ false) (ways_of rest)
 apart_forth link [] h = tt
-apart_forth link (other ∷ more) h =
-    (other_way (link.a, link.b) (other.a, other.b) (λ e. h.0 (inl e)), (other_way (link.a, link.b) (other.b, other.a) (λ e. h.0 (inr e)), apart_forth link more h.1))
+apart_forth link (other ∷ more) h = (
+  other_way (link.a, link.b) (other.a, other.b) (λ e. h.0 (inl e)),
+  (other_way (link.a, link.b) (other.b, other.a) (λ e. h.0 (inr e)), apart_forth link more h.1),
+)
 
-apart_back : (link : Link) (rest : List Link) → AllByRecursion (λ other. ¬ (JoinsSamePair link other)) rest → AllByRecursion (λ way. is_way (link.b, link.a) way ≡ false) (ways_of rest)
+apart_back : (link : Link) (rest : List Link) → AllByRecursion (λ other. ¬ (JoinsSamePair link other)) rest
+    → AllByRecursion (λ way. is_way (link.b, link.a) way ≡ false) (ways_of rest)
 apart_back link [] h = tt
-apart_back link (other ∷ more) h =
-    (other_way (link.b, link.a) (other.a, other.b) (λ e. h.0 (inr (e.1, e.0))), (other_way (link.b, link.a) (other.b, other.a) (λ e. h.0 (inl (e.1, e.0))), apart_back link more h.1))
+apart_back link (other ∷ more) h = (
+  other_way (link.b, link.a) (other.a, other.b) (λ e. h.0 (inr (e.1, e.0))),
+  (other_way (link.b, link.a) (other.b, other.a) (λ e. h.0 (inl (e.1, e.0))), apart_back link more h.1),
+)
 
 all_of : {X : Type 0} (P : X → Type 0) (xs : List X) → All P xs → AllByRecursion P xs
 all_of P [] h = tt
 all_of P (x ∷ xs) h = (All-head P x xs h, all_of P xs (All-tail P x xs h))
 
-ways_distinct : (nodes : ℕ) (links : List Link) → All (HasEnds nodes) links → AllPairs (λ own other. ¬ (JoinsSamePair own other)) links → IsDistinct is_way (ways_of links)
+ways_distinct : (nodes : ℕ) (links : List Link) → All (HasEnds nodes) links → AllPairs (λ own other. ¬ (JoinsSamePair own other)) links
+    → IsDistinct is_way (ways_of links)
 unfolding IsDistinct
 ways_distinct nodes [] ends once = tt
 ways_distinct nodes (link ∷ rest) ends once =
-    let others : AllByRecursion (λ other. ¬ (JoinsSamePair link other)) rest = all_of (λ other. ¬ (JoinsSamePair link other)) rest (λ k d lt. once 0 (suc k) d (omega arith) (omega (arith, lt))) in
+    let others : AllByRecursion (λ other. ¬ (JoinsSamePair link other)) rest =
+    all_of (λ other. ¬ (JoinsSamePair link other)) rest (λ k d lt. once 0 (suc k) d (omega arith) (omega (arith, lt))) in
     let two = (All-head (HasEnds nodes) link rest ends).two in
-    let tail = ways_distinct nodes rest (All-tail (HasEnds nodes) link rest ends) (λ i j d lt within. once (suc i) (suc j) d (omega (arith, lt)) (omega (arith, within))) in
+    let tail =
+    ways_distinct nodes rest (All-tail (HasEnds nodes) link rest ends)
+    (λ i j d lt within. once (suc i) (suc j) d (omega (arith, lt)) (omega (arith, within))) in
     ((other_way (link.a, link.b) (link.b, link.a) (λ e. two e.0), apart_forth link rest others), (apart_back link rest others, tail))
 
 -- ---- the copies are on links
@@ -75,7 +85,8 @@ no_way from to (way ∷ more) h =
     let rest = no_way from to more parts.1 in
     omega (arith, count-cons (floods.is_way from to) way more, none, rest)
 
-empty_way : (ways : List (NodeId × NodeId)) (count : ℕ) (from to : NodeId) (copies : List LinkCopy) → list_any (is_way (from, to)) ways ≡ false → AllByRecursion (SoundCopy ways count from to) copies → copies ≡ []
+empty_way : (ways : List (NodeId × NodeId)) (count : ℕ) (from to : NodeId) (copies : List LinkCopy) → list_any (is_way (from, to)) ways ≡ false
+    → AllByRecursion (SoundCopy ways count from to) copies → copies ≡ []
 empty_way ways count from to [] h sound = refl
 empty_way ways count from to (copy ∷ more) h sound = absurd (let one = sound.0.on_way in let none = no_way from to ways h in omega (arith, one, none))
 

@@ -41,7 +41,8 @@ not_both t = cc
 
 module _ (event : Event) (old : NetworkView) (lines : List ReportLine) where
   -- It is refused for that reason, and nothing changes.
-  pub meets_refused : (reason : Refusal) → ((at : Instant) → IsReady at → IsWorld at old → refusal at.world event ≡ Some reason) → Meets event old old lines lines (Ok (Some reason))
+  pub meets_refused : (reason : Refusal) → ((at : Instant) → IsReady at → IsWorld at old → refusal at.world event ≡ Some reason)
+      → Meets event old old lines lines (Ok (Some reason))
   meets_refused reason why = record {
     refused = λ other e. ((λ at ready is. why at ready is ∙ ap (λ (r : Refusal). Some r) (ap (reason_or reason) e)), refl, refl);
     made = λ e. absurd (not_both (ap is_some_reason e));
@@ -49,7 +50,8 @@ module _ (event : Event) (old : NetworkView) (lines : List ReportLine) where
   }
 
   -- It is not refused, and its acts are done.
-  pub meets_done : (new : NetworkView) (new_lines : List ReportLine) (answer : Result (Unit {0}) Halt) → ((at : Instant) → IsReady at → IsWorld at old → refusal at.world event ≡ None)
+  pub meets_done : (new : NetworkView) (new_lines : List ReportLine) (answer : Result (Unit {0}) Halt)
+      → ((at : Instant) → IsReady at → IsWorld at old → refusal at.world event ≡ None)
       → Does IsReady same_moment (λ world. done world event) old new lines new_lines answer → Meets event old new lines new_lines (met answer)
   meets_done new new_lines (Ok made) why does = record {
     refused = λ reason e. absurd (not_both (ap is_met e));

@@ -26,19 +26,24 @@ use Rattle.network_events.specs.Places.{among_from, has_vrf, vrfs_of}
 -- ---- the VRFs of a site
 
 -- A VRF is among those of the site's interfaces where the site has an interface in it.
-has_vrf-is : (site : SiteId) (vrf : VrfId) (ifaces : List Iface) → has_vrf (vrfs_of site ifaces) vrf ≡ list_any (λ iface. is_of_site site iface && is_of_vrf vrf iface) ifaces
+has_vrf-is : (site : SiteId) (vrf : VrfId) (ifaces : List Iface)
+    → has_vrf (vrfs_of site ifaces) vrf ≡ list_any (λ iface. is_of_site site iface && is_of_vrf vrf iface) ifaces
 has_vrf-is site vrf [] = refl
 has_vrf-is site vrf (iface ∷ more) = by (is_of_site site iface) refl (has_vrf-is site vrf more)
   where
-    by : (b : Bool) → is_of_site site iface ≡ b → has_vrf (vrfs_of site more) vrf ≡ list_any (λ other. is_of_site site other && is_of_vrf vrf other) more → has_vrf (vrfs_of site (iface ∷ more)) vrf ≡ list_any (λ other. is_of_site site other && is_of_vrf vrf other) (iface ∷ more)
+    by : (b : Bool) → is_of_site site iface ≡ b → has_vrf (vrfs_of site more) vrf
+        ≡ list_any (λ other. is_of_site site other && is_of_vrf vrf other) more
+        → has_vrf (vrfs_of site (iface ∷ more)) vrf ≡ list_any (λ other. is_of_site site other && is_of_vrf vrf other) (iface ∷ more)
     by true h behind = rw h (rw behind refl)
     by false h behind = rw h behind
 
 -- Those of the VRFs that are among those of the site's interfaces are the ones at which it is attached.
-pub among_from-entered : (scenario : Scenario) (site : SiteId) (number : ℕ) (vrfs : List Vrf) → among_from (vrfs_of site scenario.ifaces) number vrfs ≡ entered_from scenario site number vrfs
+pub among_from-entered : (scenario : Scenario) (site : SiteId) (number : ℕ) (vrfs : List Vrf)
+    → among_from (vrfs_of site scenario.ifaces) number vrfs ≡ entered_from scenario site number vrfs
 among_from-entered scenario site number [] = refl
 among_from-entered scenario site number (vrf ∷ more) =
-    λ i. cond (has_vrf-is site (record { 0 = number }) scenario.ifaces i) (record { 0 = number } ∷ among_from-entered scenario site (number + 1) more i) (among_from-entered scenario site (number + 1) more i)
+    λ i. cond (has_vrf-is site (record { 0 = number }) scenario.ifaces i)
+    (record { 0 = number } ∷ among_from-entered scenario site (number + 1) more i) (among_from-entered scenario site (number + 1) more i)
 
 -- ---- the edge of an interface, and of a VRF
 
@@ -75,18 +80,27 @@ module _ (at : Instant) (network : NetworkView) (same : network.scenario ≡ sce
   pub at_iface : (n : NodeId) (iface : IfaceId) → at.moment ≡ at_rest → edge_of network.scenario iface ≡ Some n → IsIfaceEdge n iface (standing_of at)
   at_iface n iface rest e =
       let edge : edge_of (scenario_of at.world) iface ≡ Some n = subst (λ (s : Scenario). edge_of s iface ≡ Some n) same e in
-      record { node = is_current n rest (subst (IsFoundNode (scenario_of at.world)) edge (edge_within (scenario_of at.world) sound_lines iface)); edge = edge }
+      record {
+        node =
+            is_current n rest (subst (IsFoundNode (scenario_of at.world)) edge (edge_within (scenario_of at.world) sound_lines iface));
+        edge = edge;
+      }
 
   pub at_vrf : (n : NodeId) (vrf : VrfId) → at.moment ≡ at_rest → edge_of_vrf network.scenario vrf ≡ Some n → IsVrfEdge n vrf (standing_of at)
   at_vrf n vrf rest e =
       let edge : edge_of_vrf (scenario_of at.world) vrf ≡ Some n = subst (λ (s : Scenario). edge_of_vrf s vrf ≡ Some n) same e in
-      record { node = is_current n rest (subst (IsFoundNode (scenario_of at.world)) edge (vrf_within (scenario_of at.world) sound_lines vrf)); edge = edge }
+      record {
+        node = is_current n rest (subst (IsFoundNode (scenario_of at.world)) edge (vrf_within (scenario_of at.world) sound_lines vrf));
+        edge =
+            edge;
+      }
 
   -- the same, with the VRF
   pub at_vrf_of : (n : NodeId) (vrf : VrfId) → at.moment ≡ at_rest → edge_of_vrf network.scenario vrf ≡ Some n → IsEdgeOf vrf n (standing_of at)
   at_vrf_of n vrf rest e =
       let edge = at_vrf n vrf rest e in by edge.node (slice_get (scenario_of at.world).vrfs vrf.0) refl edge.edge
     where
-      by : IsCurrent n (standing_of at) → (o : Option Vrf) → slice_get (scenario_of at.world).vrfs vrf.0 ≡ o → elim o [ None ↦ None | Some found ↦ Some found.edge ] ≡ Some n → IsEdgeOf vrf n (standing_of at)
+      by : IsCurrent n (standing_of at) → (o : Option Vrf) → slice_get (scenario_of at.world).vrfs vrf.0 ≡ o
+          → elim o [ None ↦ None | Some found ↦ Some found.edge ] ≡ Some n → IsEdgeOf vrf n (standing_of at)
       by current None stands h = absurd (none-some n h)
       by current (Some found) stands h = record { current = current; vrf = found; stands = stands; edge = same_Some found.edge n h }

@@ -33,12 +33,15 @@ pub then_then : (o : Outcome) (f g : World → Outcome) → and_then (and_then o
 then_then (Halted acts n) f g = refl
 then_then (Done acts world) f g = by (f world)
   where
-    last : (more : List Happened) (o : Outcome) → ◌≡◌ {A = Outcome} (elim o [ Done behind new ↦ Done ((acts ++ more) ++ behind) new | Halted behind n ↦ Halted ((acts ++ more) ++ behind) n ])
-        (elim (elim o as (λ _. Outcome) [ Done behind new ↦ Done (more ++ behind) new | Halted behind n ↦ Halted (more ++ behind) n ]) [ Done behind new ↦ Done (acts ++ behind) new | Halted behind n ↦ Halted (acts ++ behind) n ])
+    last : (more : List Happened) (o : Outcome) → ◌≡◌ {A = Outcome}
+        (elim o [ Done behind new ↦ Done ((acts ++ more) ++ behind) new | Halted behind n ↦ Halted ((acts ++ more) ++ behind) n ])
+        (elim (elim o as (λ _. Outcome) [ Done behind new ↦ Done (more ++ behind) new | Halted behind n ↦ Halted (more ++ behind) n ])
+        [ Done behind new ↦ Done (acts ++ behind) new | Halted behind n ↦ Halted (acts ++ behind) n ])
     last more (Done behind new) = ap (λ (l : List Happened). Done l new) (append_assoc acts more behind)
     last more (Halted behind n) = ap (λ (l : List Happened). Halted l n) (append_assoc acts more behind)
 
-    by : (o : Outcome) → ◌≡◌ {A = Outcome} (and_then (elim o [ Done behind new ↦ Done (acts ++ behind) new | Halted behind n ↦ Halted (acts ++ behind) n ]) g)
+    by : (o : Outcome) → ◌≡◌ {A = Outcome} (and_then
+        (elim o [ Done behind new ↦ Done (acts ++ behind) new | Halted behind n ↦ Halted (acts ++ behind) n ]) g)
         (elim (and_then o g) [ Done behind new ↦ Done (acts ++ behind) new | Halted behind n ↦ Halted (acts ++ behind) n ])
     by (Halted more n) = refl
     by (Done more new) = last more (g new)
@@ -47,14 +50,16 @@ then_then (Done acts world) f g = by (f world)
 
 pub row_append : (first more : List Act) (world : World) → row (first ++ more) world ≡ and_then (row first world) (row more)
 row_append [] more world = sym (none_first world (row more))
-row_append (one ∷ first) more world = (λ i. and_then (one_act world one) (λ next. row_append first more next i)) ∙ sym (then_then (one_act world one) (row first) (row more))
+row_append (one ∷ first) more world =
+    (λ i. and_then (one_act world one) (λ next. row_append first more next i)) ∙ sym (then_then (one_act world one) (row first) (row more))
 
 -- ---- turns
 
 module _ {A : Type 0} (turn : A → World → Outcome) where
   pub each_append : (first more : List A) (world : World) → each turn (first ++ more) world ≡ and_then (each turn first world) (each turn more)
   each_append [] more world = sym (none_first world (each turn more))
-  each_append (x ∷ first) more world = (λ i. and_then (turn x world) (λ next. each_append first more next i)) ∙ sym (then_then (turn x world) (each turn first) (each turn more))
+  each_append (x ∷ first) more world =
+      (λ i. and_then (turn x world) (λ next. each_append first more next i)) ∙ sym (then_then (turn x world) (each turn first) (each turn more))
 
   pub each_one : (x : A) (world : World) → each turn (x ∷ []) world ≡ turn x world
   each_one x world = none_behind (turn x world)
@@ -83,7 +88,8 @@ module _ (round : World → Outcome) where
   -- rounds that do nothing
   pub times_idle : (count : ℕ) (world : World) → round world ≡ Done [] world → times round count world ≡ Done [] world
   times_idle zero world idle = refl
-  times_idle (suc count) world idle = ap (λ (o : Outcome). and_then o (times round count)) idle ∙ (none_first world (times round count) ∙ times_idle count world idle)
+  times_idle (suc count) world idle =
+      ap (λ (o : Outcome). and_then o (times round count)) idle ∙ (none_first world (times round count) ∙ times_idle count world idle)
 
 -- ---- acts of all nodes
 
@@ -103,14 +109,17 @@ ids_append from (suc first) more =
     ∙ ap (λ n. record { 0 = from } ∷ (node_ids (from + 1) first ++ node_ids n more)) start)
 
 module _ (one : NodeId → Act) where
-  pub nodes_append : (first more : ℕ) (world : World) → row (map one (node_ids 0 (first + more))) world ≡ and_then (row (map one (node_ids 0 first)) world) (row (map one (node_ids (0 + first) more)))
+  pub nodes_append : (first more : ℕ) (world : World)
+      → row (map one (node_ids 0 (first + more))) world
+      ≡ and_then (row (map one (node_ids 0 first)) world) (row (map one (node_ids (0 + first) more)))
   nodes_append first more world =
       ap (λ (l : List NodeId). row (map one l) world) (ids_append 0 first more)
       ∙ (ap (λ (l : List Act). row l world) (map-append one (node_ids 0 first) (node_ids (0 + first) more))
       ∙ row_append (map one (node_ids 0 first)) (map one (node_ids (0 + first) more)) world)
 
   -- one node more
-  pub nodes_more : (count : ℕ) (world : World) → row (map one (node_ids 0 (count + 1))) world ≡ and_then (row (map one (node_ids 0 count)) world) (row (one (record { 0 = count }) ∷ []))
+  pub nodes_more : (count : ℕ) (world : World) → row (map one (node_ids 0 (count + 1))) world
+      ≡ and_then (row (map one (node_ids 0 count)) world) (row (one (record { 0 = count }) ∷ []))
   nodes_more count world =
       let same : 0 + count ≡ count = omega arith in
       nodes_append count 1 world ∙ ap (λ n. and_then (row (map one (node_ids 0 count)) world) (row (one (record { 0 = n }) ∷ []))) same
@@ -118,7 +127,8 @@ module _ (one : NodeId → Act) where
 -- ---- what is done to a network
 
 -- a change that is the same in each world that the network is and with which this holds
-pub does_as : (F G : Instant → Type 0) (f g : Moment → Moment) (change other : World → Outcome) (old new : NetworkView) (lines new_lines : List ReportLine) (result : Result (Unit {0}) Halt)
+pub does_as : (F G : Instant → Type 0) (f g : Moment → Moment) (change other : World → Outcome) (old new : NetworkView)
+    (lines new_lines : List ReportLine) (result : Result (Unit {0}) Halt)
     → ((at : Instant) → G at → IsWorld at old → F at × (change at.world ≡ other at.world) × (f at.moment ≡ g at.moment))
     → Does F f change old new lines new_lines result → Does G g other old new lines new_lines result
 does_as F G f g change other old new lines new_lines result h does = record {
@@ -144,13 +154,16 @@ does_as F G f g change other old new lines new_lines result h does = record {
     by (Err halt) made = tt
 
 -- the same, with the same condition and moment
-pub does_alike : (F : Instant → Type 0) (change other : World → Outcome) (old new : NetworkView) (lines new_lines : List ReportLine) (result : Result (Unit {0}) Halt)
-    → ((at : Instant) → F at → IsWorld at old → change at.world ≡ other at.world) → Does F same_moment change old new lines new_lines result → Does F same_moment other old new lines new_lines result
+pub does_alike : (F : Instant → Type 0) (change other : World → Outcome) (old new : NetworkView) (lines new_lines : List ReportLine)
+    (result : Result (Unit {0}) Halt)
+    → ((at : Instant) → F at → IsWorld at old → change at.world ≡ other at.world) → Does F same_moment change old new lines new_lines result
+    → Does F same_moment other old new lines new_lines result
 does_alike F change other old new lines new_lines result h does =
     does_as F F same_moment same_moment change other old new lines new_lines result (λ at fits is. (fits, h at fits is, refl)) does
 
 -- nothing is to be done
-pub does_nothing : (F : Instant → Type 0) (change : World → Outcome) (old : NetworkView) (lines : List ReportLine) → ((at : Instant) → F at → IsWorld at old → change at.world ≡ Done [] at.world)
+pub does_nothing : (F : Instant → Type 0) (change : World → Outcome) (old : NetworkView) (lines : List ReportLine)
+    → ((at : Instant) → F at → IsWorld at old → change at.world ≡ Done [] at.world)
     → Does F same_moment change old old lines lines (Ok tt)
 does_nothing F change old lines h = record {
   done = λ at fits is. record { acts = []; world = at.world; is = h at fits is; stands = is; told = sym (append-nil lines) };
@@ -158,21 +171,32 @@ does_nothing F change old lines h = record {
 }
 
 -- one act that has no lines
-pub passes_does : (F : Instant → Type 0) (f : Moment → Moment) (one : Act) (old new : NetworkView) (lines : List ReportLine) → ((at : Instant) → F at → IsWorld at old → Passes at (f at.moment) one new)
+pub passes_does : (F : Instant → Type 0) (f : Moment → Moment) (one : Act) (old new : NetworkView) (lines : List ReportLine)
+    → ((at : Instant) → F at → IsWorld at old → Passes at (f at.moment) one new)
     → Does F f (row (one ∷ [])) old new lines lines (Ok tt)
 passes_does F f one old new lines passes = record {
   done = λ at fits is.
       let made = passes at fits is in
-      made_did at (f at.moment) one lines lines new (record { behind = made.behind; is = made.is; stands = made.stands; told = sym (append-nil lines) ∙ ap (λ (l : List ReportLine). lines ++ l) made.told });
+      made_did at (f at.moment) one lines lines new
+      (record {
+        behind = made.behind;
+        is = made.is;
+        stands = made.stands;
+        told =
+            sym (append-nil lines) ∙ ap (λ (l : List ReportLine). lines ++ l) made.told;
+      });
   lacks = λ n e. absurd cc;
 }
 
 -- where a label is lacked, no moment is left
-pub halts_as : (F : Instant → Type 0) (f g : Moment → Moment) (change other : World → Outcome) (old new : NetworkView) (lines new_lines : List ReportLine) (halt : Halt)
-    → ((world : World) → change world ≡ other world) → Does F f change old new lines new_lines (Err halt) → Does F g other old new lines new_lines (Err halt)
+pub halts_as : (F : Instant → Type 0) (f g : Moment → Moment) (change other : World → Outcome) (old new : NetworkView)
+    (lines new_lines : List ReportLine) (halt : Halt)
+    → ((world : World) → change world ≡ other world) → Does F f change old new lines new_lines (Err halt)
+    → Does F g other old new lines new_lines (Err halt)
 halts_as F f g change other old new lines new_lines halt same does = record {
   done = tt;
-  lacks = λ n e at fits is. let lacked = does.lacks n e at fits is in record { acts = lacked.acts; is = sym (same at.world) ∙ lacked.is; told = lacked.told };
+  lacks = λ n e at fits is. let lacked = does.lacks n e at fits is in
+      record { acts = lacked.acts; is = sym (same at.world) ∙ lacked.is; told = lacked.told };
 }
 
 -- memory is wanted
@@ -182,27 +206,36 @@ wants_memory F f change old new lines new_lines = record { done = tt; lacks = λ
 
 -- ---- a part more
 
-module _ (F G : Instant → Type 0) (first next whole : World → Outcome) (old mid : NetworkView) (lines mid_lines : List ReportLine) (split : (world : World) → whole world ≡ and_then (first world) next) where
-  pub does_more : (new : NetworkView) (new_lines : List ReportLine) (result : Result (Unit {0}) Halt) → Does F same_moment first old mid lines mid_lines (Ok tt)
-      → Leads F G same_moment same_moment first next old mid new lines mid_lines new_lines → Does G same_moment next mid new mid_lines new_lines result → Does F same_moment whole old new lines new_lines result
+module _ (F G : Instant → Type 0) (first next whole : World → Outcome) (old mid : NetworkView) (lines mid_lines : List ReportLine)
+    (split : (world : World) → whole world ≡ and_then (first world) next) where
+  pub does_more : (new : NetworkView) (new_lines : List ReportLine) (result : Result (Unit {0}) Halt)
+      → Does F same_moment first old mid lines mid_lines (Ok tt)
+      → Leads F G same_moment same_moment first next old mid new lines mid_lines new_lines
+      → Does G same_moment next mid new mid_lines new_lines result → Does F same_moment whole old new lines new_lines result
   does_more new new_lines result one leads two =
-      does_as F F same_moment same_moment (λ world. and_then (first world) next) whole old new lines new_lines result (λ at fits is. (fits, sym (split at.world), refl))
+      does_as F F same_moment same_moment (λ world. and_then (first world) next) whole old new lines new_lines result
+      (λ at fits is. (fits, sym (split at.world), refl))
       (then_does F G same_moment same_moment first next old mid new lines mid_lines new_lines one leads result two)
 
-  pub halts_early : (halt : Halt) → Does F same_moment first old mid lines mid_lines (Err halt) → Does F same_moment whole old mid lines mid_lines (Err halt)
+  pub halts_early : (halt : Halt) → Does F same_moment first old mid lines mid_lines (Err halt)
+      → Does F same_moment whole old mid lines mid_lines (Err halt)
   halts_early halt one =
-      does_as F F same_moment same_moment (λ world. and_then (first world) next) whole old mid lines mid_lines (Err halt) (λ at fits is. (fits, sym (split at.world), refl))
+      does_as F F same_moment same_moment (λ world. and_then (first world) next) whole old mid lines mid_lines (Err halt)
+      (λ at fits is. (fits, sym (split at.world), refl))
       (first_halts F F same_moment same_moment first next old mid mid lines mid_lines mid_lines halt one)
 
   -- what is behind it does nothing
-  pub rest_idle : Does F same_moment first old mid lines mid_lines (Ok tt) → ((at : Instant) → F at → IsWorld at old → (world : World) → (acts : List Happened) → first at.world ≡ Done acts world
-      → IsWorld (record { cores = at.cores; moment = at.moment; world = world }) mid → next world ≡ Done [] world) → Does F same_moment whole old mid lines mid_lines (Ok tt)
+  pub rest_idle : Does F same_moment first old mid lines mid_lines (Ok tt)
+      → ((at : Instant) → F at → IsWorld at old → (world : World) → (acts : List Happened) → first at.world ≡ Done acts world
+      → IsWorld (record { cores = at.cores; moment = at.moment; world = world }) mid → next world ≡ Done [] world)
+      → Does F same_moment whole old mid lines mid_lines (Ok tt)
   rest_idle one idle = record {
     done = λ at fits is.
         let did = one.done at fits is in record {
           acts = did.acts ++ [];
           world = did.world;
-          is = split at.world ∙ then_done did.acts did.world next (first at.world) did.is [] did.world (idle at fits is did.world did.acts did.is did.stands);
+          is = split at.world ∙ then_done did.acts did.world next (first at.world) did.is [] did.world
+              (idle at fits is did.world did.acts did.is did.stands);
           stands = did.stands;
           told = did.told ∙ ap (λ (l : List Happened). lines ++ lines_in l) (sym (append-nil did.acts));
         };

@@ -5,7 +5,8 @@ use Rattle.network_defs.specs.Events.{Happened, Done}
 use Rattle.network_defs.specs.Run.{Runs, Traced, outcome, traced}
 use Rattle.network_defs.specs.World.{World}
 
-pub runs_more : (events : List Timed) (old : World) (number : ℕ) (trace : List Traced) (world : World) (timed : Timed) (acts : List Happened) (next : World) → Runs old number events trace world
+pub runs_more : (events : List Timed) (old : World) (number : ℕ) (trace : List Traced) (world : World) (timed : Timed) (acts : List Happened)
+    (next : World) → Runs old number events trace world
     → outcome world timed ≡ Done acts next → Runs old number (events ++ timed ∷ []) (trace ++ traced (number + length events) acts) next
 runs_more [] old number trace world timed acts next run e =
     let at : number + 0 ≡ number = omega arith in (
@@ -24,6 +25,7 @@ runs_more (first ∷ more) old number trace world timed acts next run e =
       run.2 ++ traced (number + 1 + length more) acts,
       run.3,
       ap (λ (t : List Traced). t ++ traced (number + length (first ∷ more)) acts) run.4
-          ∙ (append_assoc (traced number run.0) run.2 (traced (number + length (first ∷ more)) acts) ∙ ap (λ (k : ℕ). traced number run.0 ++ (run.2 ++ traced k acts)) count),
+          ∙ (append_assoc (traced number run.0) run.2 (traced (number + length (first ∷ more)) acts)
+          ∙ ap (λ (k : ℕ). traced number run.0 ++ (run.2 ++ traced k acts)) count),
       rest,
     )

@@ -52,14 +52,20 @@ rises_first number (suc count) (timed ∷ more) h = (h.0, rises_first timed.line
 
 -- ---- the clock
 
-one_more : (scenario : Scenario) (refused : List ℕ) (iface : IfaceId) (entry : JoinEntry) (old : Standing) (timed : Timed) → IsEventOf scenario timed.event
+one_more : (scenario : Scenario) (refused : List ℕ) (iface : IfaceId) (entry : JoinEntry) (old : Standing) (timed : Timed)
+    → IsEventOf scenario timed.event
     → (stands_after scenario refused iface entry old timed).clock ≤ old.clock + 1000000
 one_more scenario refused iface entry old timed is =
     let few = ticks_few scenario timed.event is in
-    cond_both (is_accepted refused timed) (record { clock = old.clock + ticks_of timed.event; expiry = expiry_by scenario iface entry old.clock timed.event old.expiry }) old
+    cond_both (is_accepted refused timed) (record {
+      clock = old.clock + ticks_of timed.event;
+      expiry =
+          expiry_by scenario iface entry old.clock timed.event old.expiry;
+    }) old
     (λ (s : Standing). s.clock ≤ old.clock + 1000000) (λ t. omega (arith, few)) (λ f. omega arith)
 
-ticks_by : (scenario : Scenario) (refused : List ℕ) (iface : IfaceId) (entry : JoinEntry) (all : List Timed) (old : Standing) → AllByRecursion (λ (timed : Timed). IsEventOf scenario timed.event) all
+ticks_by : (scenario : Scenario) (refused : List ℕ) (iface : IfaceId) (entry : JoinEntry) (all : List Timed) (old : Standing)
+    → AllByRecursion (λ (timed : Timed). IsEventOf scenario timed.event) all
     → (fold (stands_after scenario refused iface entry) old all).clock ≤ old.clock + length all * 1000000
 ticks_by scenario refused iface entry [] old is = omega arith
 ticks_by scenario refused iface entry (timed ∷ more) old is =
@@ -70,12 +76,14 @@ ticks_by scenario refused iface entry (timed ∷ more) old is =
 -- The clock after events is no more than they can make it.
 clock_few : (past : Past) (iface : IfaceId) (entry : JoinEntry) → AllByRecursion (λ (timed : Timed). IsEventOf past.scenario timed.event) past.events
     → (standing past iface entry).clock ≤ length past.events * 1000000
-clock_few past iface entry is = (let all = ticks_by past.scenario past.refused iface entry past.events (record { clock = 0; expiry = None }) is in omega (arith, all))
+clock_few past iface entry is =
+    (let all = ticks_by past.scenario past.refused iface entry past.events (record { clock = 0; expiry = None }) is in omega (arith, all))
 
 -- ---- the next event of a script
 
 module _ (cores : Cores) (script : Script) (rules : ScriptRules script) (count : ℕ) (trace : List Traced) (world : World) (view : WorldView)
-    (behind : IsBehind cores script.scenario (take count script.events) trace world view) (timed : Timed) (at : slice_get script.events count ≡ Some timed) where
+    (behind : IsBehind cores script.scenario (take count script.events) trace world view) (timed : Timed)
+    (at : slice_get script.events count ≡ Some timed) where
   abbrev first : List Timed
   first = take count script.events
 
@@ -90,7 +98,8 @@ module _ (cores : Cores) (script : Script) (rules : ScriptRules script) (count :
 
   -- it is one of the scenario
   pub next_event : IsEventOf view.network.scenario timed.event
-  next_event = subst (λ (s : Scenario). IsEventOf s timed.event) (sym (network_scenario cores script.scenario first trace world view behind)) own_event
+  next_event =
+      subst (λ (s : Scenario). IsEventOf s timed.event) (sym (network_scenario cores script.scenario first trace world view behind)) own_event
 
   clock_small : clock_of world ≤ length first * 1000000
   clock_small =
@@ -98,7 +107,8 @@ module _ (cores : Cores) (script : Script) (rules : ScriptRules script) (count :
       let iface : IfaceId = record { 0 = 0 } in
       let entry : JoinEntry = entries.Star (V4 []) in
       let e = entries_told cores script.scenario first trace world rules.scenario (rises_first 0 count script.events rules.lines) behind.run in
-      subst (λ (k : ℕ). k ≤ length first * 1000000) (e.clock iface entry) (clock_few past iface entry (all_take (λ (t : Timed). IsEventOf script.scenario t.event) count script.events rules.events))
+      subst (λ (k : ℕ). k ≤ length first * 1000000) (e.clock iface entry)
+      (clock_few past iface entry (all_take (λ (t : Timed). IsEventOf script.scenario t.event) count script.events rules.events))
 
   -- and the clock after it is small
   pub next_clock : view.network.plane.clock + ticks_of timed.event < 9223372036854775808
@@ -109,8 +119,10 @@ module _ (cores : Cores) (script : Script) (rules : ScriptRules script) (count :
       omega (arith, clock, clock_small, few_first, less, few, ticks)
 
   -- the network that is behind it too
-  pub behind_next : (acts : List Happened) (next : World) (now : WorldView) → IsBehind cores script.scenario (first ++ timed ∷ []) (trace ++ traced (length first) acts) next now
+  pub behind_next : (acts : List Happened) (next : World) (now : WorldView)
+      → IsBehind cores script.scenario (first ++ timed ∷ []) (trace ++ traced (length first) acts) next now
       → IsBehind cores script.scenario (take (count + 1) script.events) (trace ++ traced count acts) next now
   behind_next acts next now is =
-      subst (λ (l : List Timed). IsBehind cores script.scenario l (trace ++ traced count acts) next now) (sym (take_next script.events count timed at))
+      subst (λ (l : List Timed). IsBehind cores script.scenario l (trace ++ traced count acts) next now)
+      (sym (take_next script.events count timed at))
       (subst (λ (k : ℕ). IsBehind cores script.scenario (first ++ timed ∷ []) (trace ++ traced k acts) next now) few_first is)

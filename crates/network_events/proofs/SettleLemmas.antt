@@ -25,13 +25,15 @@ use Rattle.network_events.proofs.TurnLemmas.{moving_some, round_idle, turn_idle,
 
 -- ---- the turn of a direction
 
-module _ (over : Direction) (network : NetworkView) (count : ℕ) (counts : (at : Instant) → IsWorld at network → count ≡ length (at.world.network.transit over)) where
+module _ (over : Direction) (network : NetworkView) (count : ℕ)
+    (counts : (at : Instant) → IsWorld at network → count ≡ length (at.world.network.transit over)) where
   pub turn_passes : count ≡ 0 → (lines : List ReportLine) → Does IsResting same_moment (turn over) network network lines lines (Ok tt)
   turn_passes none lines = does_nothing IsResting (turn over) network lines (λ at resting is. turn_idle over at.world (sym (counts at is) ∙ none))
 
   module _ (some : count ≡ 0 → ⊥) (way : IsWay network.scenario over) where
     movable : (at : Instant) → IsResting at → IsWorld at network → IsMovable over (standing_of at)
-    movable at resting is = moving_some at network over resting is (subst (λ (s : Scenario). IsWay s over) is.scenario way) (λ none. some (counts at is ∙ none))
+    movable at resting is =
+        moving_some at network over resting is (subst (λ (s : Scenario). IsWay s over) is.scenario way) (λ none. some (counts at is ∙ none))
 
     pub some_movable : IsSome IsResting network → IsSome (OfPlane (IsMovable over)) network
     some_movable (at, resting, is) = (at, movable at resting is, is)
@@ -40,25 +42,30 @@ module _ (over : Direction) (network : NetworkView) (count : ℕ) (counts : (at 
         → ActsAs (OfPlane (IsMovable over)) same_moment (acts.Move over.kind over.from over.to count) over.to network new lines new_lines answer
         → Does IsResting same_moment (turn over) network new lines new_lines (answer_at over.to answer)
     turn_does new lines new_lines answer one =
-        does_as (OfPlane (IsMovable over)) IsResting same_moment same_moment (row (acts.Move over.kind over.from over.to count ∷ [])) (turn over) network new lines new_lines (answer_at over.to answer)
+        does_as (OfPlane (IsMovable over)) IsResting same_moment same_moment (row (acts.Move over.kind over.from over.to count ∷ [])) (turn over)
+        network new lines new_lines (answer_at over.to answer)
         (λ at resting is. (movable at resting is, turn_moves over at.world count (counts at is) some, refl))
         (act_does (OfPlane (IsMovable over)) same_moment (acts.Move over.kind over.from over.to count) over.to network new lines new_lines answer one)
 
 -- ---- the directions of a round
 
-pub way_at : (old mid : NetworkView) (ways : List Direction) (place : ℕ) (d : Direction) → mid.scenario ≡ old.scenario → ways ≡ directions old.scenario → place < length ways → IsWay mid.scenario (get_or ways place d)
+pub way_at : (old mid : NetworkView) (ways : List Direction) (place : ℕ) (d : Direction) → mid.scenario ≡ old.scenario
+    → ways ≡ directions old.scenario → place < length ways → IsWay mid.scenario (get_or ways place d)
 way_at old mid ways place d same are below =
-    subst (λ (s : Scenario). IsWay s (get_or ways place d)) (sym same) (subst (λ (l : List Direction). Among (get_or ways place d) l) are (among_place ways place (get_or ways place d) d below refl))
+    subst (λ (s : Scenario). IsWay s (get_or ways place d)) (sym same)
+    (subst (λ (l : List Direction). Among (get_or ways place d) l) are (among_place ways place (get_or ways place d) d below refl))
 
 -- ---- a round in which nothing is in transit
 
-pub idle_round : (old mid : NetworkView) (ways : List Direction) → mid.scenario ≡ old.scenario → ways ≡ directions old.scenario → ((at : Instant) → IsWorld at mid → octets_in_transit at.world ≡ 0)
+pub idle_round : (old mid : NetworkView) (ways : List Direction) → mid.scenario ≡ old.scenario → ways ≡ directions old.scenario
+    → ((at : Instant) → IsWorld at mid → octets_in_transit at.world ≡ 0)
     → (at : Instant) → IsWorld at mid → each turn ways at.world ≡ Done [] at.world
 idle_round old mid ways same are none at is = round_idle at.world mid.scenario ways (sym is.scenario) (are ∙ ap directions (sym same)) (none at is)
 
 -- ---- all of it
 
-module _ (network : NetworkView) (nodes : ℕ) (ways : List Direction) (nodes_are : nodes ≡ length network.scenario.nodes) (ways_are : ways ≡ directions network.scenario) where
+module _ (network : NetworkView) (nodes : ℕ) (ways : List Direction) (nodes_are : nodes ≡ length network.scenario.nodes)
+    (ways_are : ways ≡ directions network.scenario) where
   abbrev timer_row : World → Outcome
   timer_row = row (map (λ n. acts.Timers n) (node_ids 0 nodes))
 
@@ -72,12 +79,15 @@ module _ (network : NetworkView) (nodes : ℕ) (ways : List Direction) (nodes_ar
       (λ i. and_then (row (map (λ n. acts.Timers n) (node_ids 0 (count i))) at.world) (times (each turn (all i)) (count i + 3)))
 
   module _ (mid : NetworkView) (lines mid_lines : List ReportLine) where
-    pub timers_stop : (halt : Halt) → Does IsResting same_moment timer_row network mid lines mid_lines (Err halt) → Does IsResting same_moment settled network mid lines mid_lines (Err halt)
+    pub timers_stop : (halt : Halt) → Does IsResting same_moment timer_row network mid lines mid_lines (Err halt)
+        → Does IsResting same_moment settled network mid lines mid_lines (Err halt)
     timers_stop halt one =
-        does_alike IsResting (λ world. and_then (timer_row world) rounds) settled network mid lines mid_lines (Err halt) (λ at resting is. settles at is)
+        does_alike IsResting (λ world. and_then (timer_row world) rounds) settled network mid lines mid_lines (Err halt)
+        (λ at resting is. settles at is)
         (first_halts IsResting IsResting same_moment same_moment timer_row rounds network mid mid lines mid_lines mid_lines halt one)
 
-    pub rounds_follow : Does IsResting same_moment timer_row network mid lines mid_lines (Ok tt) → (new : NetworkView) (new_lines : List ReportLine) (result : Result (Unit {0}) Halt)
+    pub rounds_follow : Does IsResting same_moment timer_row network mid lines mid_lines (Ok tt)
+        → (new : NetworkView) (new_lines : List ReportLine) (result : Result (Unit {0}) Halt)
         → Does IsResting same_moment rounds mid new mid_lines new_lines result → Does IsResting same_moment settled network new lines new_lines result
     rounds_follow one new new_lines result two =
         does_alike IsResting (λ world. and_then (timer_row world) rounds) settled network new lines new_lines result (λ at resting is. settles at is)

@@ -31,7 +31,8 @@ use Rattle.network_events.proofs.RunLemmas.{runs_more}
 
 -- ---- from each run that the network is behind
 
-module _ (cores : Cores) (scenario : Scenario) (events : List Timed) (trace : List Traced) (world : World) (view : WorldView) (behind : IsBehind cores scenario events trace world view) where
+module _ (cores : Cores) (scenario : Scenario) (events : List Timed) (trace : List Traced) (world : World) (view : WorldView)
+    (behind : IsBehind cores scenario events trace world view) where
   abbrev own_scenario : view.network.scenario ≡ scenario
   own_scenario = network_scenario cores scenario events trace world view behind
 
@@ -45,21 +46,33 @@ module _ (cores : Cores) (scenario : Scenario) (events : List Timed) (trace : Li
     own_event : IsEventOf scenario timed.event
     own_event = subst (λ (s : Scenario). IsEventOf s timed.event) own_scenario is
 
-    run_more : (acts : List Happened) (next : World) → outcome world timed ≡ Done acts next → Runs (start scenario cores) 0 (events ++ timed ∷ []) (trace ++ traced (length events) acts) next
+    run_more : (acts : List Happened) (next : World) → outcome world timed ≡ Done acts next
+        → Runs (start scenario cores) 0 (events ++ timed ∷ []) (trace ++ traced (length events) acts) next
     run_more acts next e =
         let number : 0 + length events ≡ length events = omega arith in
-        subst (λ (k : ℕ). Runs (start scenario cores) 0 (events ++ timed ∷ []) (trace ++ traced k acts) next) number (runs_more events (start scenario cores) 0 trace world timed acts next behind.run e)
+        subst (λ (k : ℕ). Runs (start scenario cores) 0 (events ++ timed ∷ []) (trace ++ traced k acts) next) number
+        (runs_more events (start scenario cores) 0 trace world timed acts next behind.run e)
 
-    refused_outcome : (reason : Refusal) → refusal world timed.event ≡ Some reason → outcome world timed ≡ Done (record { act = None; lines = told.Refused timed.line reason ∷ [] } ∷ []) world
+    refused_outcome : (reason : Refusal) → refusal world timed.event ≡ Some reason
+        → outcome world timed ≡ Done (record { act = None; lines = told.Refused timed.line reason ∷ [] } ∷ []) world
     refused_outcome reason e =
-        ap (λ (o : Option Refusal). elim o [ None ↦ done world timed.event | Some r ↦ Done (record { act = None; lines = told.Refused timed.line r ∷ [] } ∷ []) world ]) e
+        ap (λ (o : Option Refusal). elim o [
+          | None ↦ done world timed.event
+          | Some r ↦
+              Done (record { act = None; lines = told.Refused timed.line r ∷ [] } ∷ []) world
+        ]) e
 
     done_outcome : refusal world timed.event ≡ None → outcome world timed ≡ done world timed.event
     done_outcome e =
-        ap (λ (o : Option Refusal). elim o [ None ↦ done world timed.event | Some r ↦ Done (record { act = None; lines = told.Refused timed.line r ∷ [] } ∷ []) world ]) e
+        ap (λ (o : Option Refusal). elim o [
+          | None ↦ done world timed.event
+          | Some r ↦
+              Done (record { act = None; lines = told.Refused timed.line r ∷ [] } ∷ []) world
+        ]) e
 
     -- the event is gone through, with these lines of its own
-    gone : (acts : List Happened) (next : World) → outcome world timed ≡ Done acts next → IsWorld (between_events cores next) new → (lines own new_lines : List ReportLine) → own ≡ lines_in acts → new_lines ≡ lines ++ own
+    gone : (acts : List Happened) (next : World) → outcome world timed ≡ Done acts next → IsWorld (between_events cores next) new
+        → (lines own new_lines : List ReportLine) → own ≡ lines_in acts → new_lines ≡ lines ++ own
         → halt ≡ None → Advances cores scenario events trace world timed lines new_lines now
     gone acts next is_done stands lines own new_lines own_lines appended going = record {
       acts = acts;
@@ -77,7 +90,8 @@ module _ (cores : Cores) (scenario : Scenario) (events : List Timed) (trace : Li
     }
 
     -- the event was met and told
-    pub advances : (lines mid own new_lines : List ReportLine) (answer : Result (Option Refusal) Halt) → Meets timed.event view.network new [] mid answer → IsTold timed.line answer mid own → new_lines ≡ lines ++ own
+    pub advances : (lines mid own new_lines : List ReportLine) (answer : Result (Option Refusal) Halt)
+        → Meets timed.event view.network new [] mid answer → IsTold timed.line answer mid own → new_lines ≡ lines ++ own
         → halt ≡ None → Advances cores scenario events trace world timed lines new_lines now
     advances lines mid own new_lines (Ok None) meets written appended going =
         let both = meets.made refl (between_events cores world) ready behind.stands in
@@ -86,16 +100,23 @@ module _ (cores : Cores) (scenario : Scenario) (events : List Timed) (trace : Li
     advances lines mid own new_lines (Ok (Some reason)) meets written appended going =
         let all = meets.refused reason refl in
         let why = all.0 (between_events cores world) ready behind.stands in
-        gone (record { act = None; lines = told.Refused timed.line reason ∷ [] } ∷ []) world (refused_outcome reason why) (subst (IsWorld (between_events cores world)) (sym all.1) behind.stands) lines own new_lines
+        gone (record { act = None; lines = told.Refused timed.line reason ∷ [] } ∷ []) world (refused_outcome reason why)
+        (subst (IsWorld (between_events cores world)) (sym all.1) behind.stands) lines own new_lines
         (written ∙ ap (λ (l : List ReportLine). l ++ told.Refused timed.line reason ∷ []) all.2) appended going
     advances lines mid own new_lines (Err h) meets written appended going = absurd written
 
     -- the event lacks a label
-    pub lacks_here : (n : NodeId) (lines mid own new_lines : List ReportLine) (answer : Result (Option Refusal) Halt) → Meets timed.event view.network new [] mid answer → answer ≡ Err (halts.NoLabel n) → own ≡ mid
+    pub lacks_here : (n : NodeId) (lines mid own new_lines : List ReportLine) (answer : Result (Option Refusal) Halt)
+        → Meets timed.event view.network new [] mid answer → answer ≡ Err (halts.NoLabel n) → own ≡ mid
         → new_lines ≡ lines ++ own → Lacks world timed n lines new_lines
     lacks_here n lines mid own new_lines answer meets e written appended =
         let both = meets.lacks n e (between_events cores world) ready behind.stands in
-        record { acts = both.1.acts; is = done_outcome both.0 ∙ both.1.is; told = appended ∙ ap (λ (l : List ReportLine). lines ++ l) (written ∙ both.1.told) }
+        record {
+          acts = both.1.acts;
+          is = done_outcome both.0 ∙ both.1.is;
+          told =
+              appended ∙ ap (λ (l : List ReportLine). lines ++ l) (written ∙ both.1.told);
+        }
 
 -- ---- what the event asks of the network
 
@@ -114,7 +135,8 @@ module _ (view : WorldView) (reached : IsReached view) where
   given_event event is octets = record { of_it = is; sound = sound_event view.network.scenario event own_rules is octets }
 
 -- a network in which nothing has happened has begun
-pub begun : (scenario : Scenario) (network : NetworkView) → Rules scenario → network.scenario ≡ scenario → ((cores : Cores) → AreCoresOf scenario cores → IsWorld (beginning scenario cores) network)
+pub begun : (scenario : Scenario) (network : NetworkView) → Rules scenario → network.scenario ≡ scenario
+    → ((cores : Cores) → AreCoresOf scenario cores → IsWorld (beginning scenario cores) network)
     → IsBegun scenario (record { network = network; halt = None })
 begun scenario network rules same first = record {
   scenario_is = same;
@@ -140,7 +162,8 @@ begun_reached scenario view begun own = record {
 }
 
 -- one that went through an event is behind it
-pub still_reached : (line : ℕ) (event : Event) (old new : WorldView) (lines new_lines : List ReportLine) (result : Result (Unit {0}) Halt) → ((h : Halt) → result ≡ Err h → ⊥) → Steps line event old new lines new_lines result
+pub still_reached : (line : ℕ) (event : Event) (old new : WorldView) (lines new_lines : List ReportLine) (result : Result (Unit {0}) Halt)
+    → ((h : Halt) → result ≡ Err h → ⊥) → Steps line event old new lines new_lines result
     → IsReached old → IsReached new
 still_reached line event old new lines new_lines (Err h) fine steps r = absurd (fine h refl)
 still_reached line event old new lines new_lines (Ok tt) fine steps r =
@@ -184,18 +207,23 @@ is_stopped (Err h) = true
 not_stopped : (h : Halt) → went_on ≡ stopped h → ⊥
 not_stopped h e = (let t = ap {B = Bool} is_stopped e in cc)
 
-module _ (line : ℕ) (event : Event) (old : WorldView) (going : old.halt ≡ None) (is : IsEventOf old.network.scenario event) (new : NetworkView) (lines mid own new_lines : List ReportLine)
+module _ (line : ℕ) (event : Event) (old : WorldView) (going : old.halt ≡ None) (is : IsEventOf old.network.scenario event) (new : NetworkView)
+    (lines mid own new_lines : List ReportLine)
     (answer : Result (Option Refusal) Halt) (meets : Meets event old.network new [] mid answer) where
   not_halted : (halt : Halt) → old.halt ≡ Some halt → ⊥
   not_halted halt e = none-some halt (sym going ∙ e)
 
-  lacking : (cores : Cores) (scenario : Scenario) (events : List Timed) (trace : List Traced) (world : World) → IsBehind cores scenario events trace world old → (n : NodeId)
-      → (halts.NoLabel n ≡ halts.NoMemory) ⊎ ((answer ≡ Err (halts.NoLabel n)) × (own ≡ mid)) → new_lines ≡ lines ++ own → Lacks world (at_line line event) n lines new_lines
+  lacking : (cores : Cores) (scenario : Scenario) (events : List Timed) (trace : List Traced) (world : World)
+      → IsBehind cores scenario events trace world old → (n : NodeId)
+      → (halts.NoLabel n ≡ halts.NoMemory) ⊎ ((answer ≡ Err (halts.NoLabel n)) × (own ≡ mid)) → new_lines ≡ lines ++ own
+      → Lacks world (at_line line event) n lines new_lines
   lacking cores scenario events trace world behind n (inl f) appended = absurd (label_or_memory n (sym f))
   lacking cores scenario events trace world behind n (inr both) appended =
-      lacks_here cores scenario events trace world old behind (at_line line event) is new None n lines mid own new_lines answer meets both.0 both.1 appended
+      lacks_here cores scenario events trace world old behind (at_line line event) is new None n lines mid own new_lines answer meets both.0 both.1
+      appended
 
-  pub step_halts : (h : Halt) (told result : Result (Unit {0}) Halt) → result ≡ Err h → Tells line answer mid own told → Appends told own lines new_lines result
+  pub step_halts : (h : Halt) (told result : Result (Unit {0}) Halt) → result ≡ Err h → Tells line answer mid own told
+      → Appends told own lines new_lines result
       → Steps line event old (record { network = new; halt = Some h }) lines new_lines (Err h)
   step_halts h told result e tells appends = record {
     made = tt;
@@ -209,14 +237,16 @@ module _ (line : ℕ) (event : Event) (old : WorldView) (going : old.halt ≡ No
     again = λ k f. absurd (not_halted k f);
   }
 
-  pub step_goes : (halt : Option Halt) → halt ≡ None → (told result : Result (Unit {0}) Halt) → ((h : Halt) → result ≡ Err h → ⊥) → Tells line answer mid own told → Appends told own lines new_lines result
+  pub step_goes : (halt : Option Halt) → halt ≡ None → (told result : Result (Unit {0}) Halt) → ((h : Halt) → result ≡ Err h → ⊥)
+      → Tells line answer mid own told → Appends told own lines new_lines result
       → Steps line event old (record { network = new; halt = halt }) lines new_lines result
   step_goes halt none told (Err h) fine tells appends = absurd (fine h refl)
   step_goes halt none told (Ok tt) fine tells appends =
       let whole = appends.all (λ memory. not_stopped halts.NoMemory memory) in
       record {
         made = λ cores scenario events trace world behind.
-            advances cores scenario events trace world old behind (at_line line event) is new halt lines mid own new_lines answer meets (tells.made (sym whole.0)) whole.1 none;
+            advances cores scenario events trace world old behind (at_line line event) is new halt lines mid own new_lines answer meets
+            (tells.made (sym whole.0)) whole.1 none;
         lacks = λ n f. absurd (not_stopped (halts.NoLabel n) f);
         wanting = λ f. absurd (not_stopped halts.NoMemory f);
         spent = λ k f. absurd (not_stopped k f);

@@ -48,45 +48,63 @@ targets_few : (vrf : Vrf) → FitsVrf vrf → length (target_comms vrf) ≤ 8
 targets_few vrf fits = omega (arith, length-map vrf.targets (λ (target : Target). target.0), fits.few)
 
 plain_fits : (place : EdgePlace) (vrf : Vrf) → IsHost (own_addr place) → FitsVrf vrf → FitsValue (plain_value place vrf)
-plain_fits place vrf host fits = record { next_hop = host; comms = targets_eight vrf fits; few = omega (arith, targets_few vrf fits); tunnel = no_tunnel }
+plain_fits place vrf host fits =
+    record { next_hop = host; comms = targets_eight vrf fits; few = omega (arith, targets_few vrf fits); tunnel = no_tunnel }
 
 tunnel_fits : (place : EdgePlace) (vrf : Vrf) (number : ℕ) → IsHost (own_addr place) → FitsVrf vrf → FitsValue (tunnel_value place vrf number)
-tunnel_fits place vrf number host fits = record { next_hop = host; comms = targets_eight vrf fits; few = omega (arith, targets_few vrf fits); tunnel = lsp_tunnel (own_addr place) number host }
+tunnel_fits place vrf number host fits =
+    record {
+      next_hop = host;
+      comms = targets_eight vrf fits;
+      few = omega (arith, targets_few vrf fits);
+      tunnel =
+          lsp_tunnel (own_addr place) number host;
+    }
 
 unicast_value_fits : (place : EdgePlace) (vrf : Vrf) → IsHost (own_addr place) → FitsVrf vrf → FitsValue (unicast_value place vrf)
 unicast_value_fits place vrf host fits =
     let more : List ExtComm = import_comm (own_import place vrf) ∷ source_as_comm place.scenario.system ∷ [] in
     record {
       next_hop = host;
-      comms = each_append IsComm (target_comms vrf) more (targets_eight vrf fits) (import_eight (own_import place vrf) host, (source_as_eight place.scenario.system, tt));
+      comms = each_append IsComm (target_comms vrf) more (targets_eight vrf fits)
+          (import_eight (own_import place vrf) host, (source_as_eight place.scenario.system, tt));
       few = omega (arith, length-append (target_comms vrf) more, targets_few vrf fits);
       tunnel = no_tunnel;
     }
 
 -- ---- joins
 
-join_value_fits : (place : EdgePlace) (import : Import) → IsHost (own_addr place) → IsHost import.addr → FitsValue (record { next_hop = own_addr place; comms = import_target import ∷ []; pmsi = None })
+join_value_fits : (place : EdgePlace) (import : Import) → IsHost (own_addr place) → IsHost import.addr
+    → FitsValue (record { next_hop = own_addr place; comms = import_target import ∷ []; pmsi = None })
 join_value_fits place import host from = record { next_hop = host; comms = (target_eight import from, tt); few = omega arith; tunnel = no_tunnel }
 
 if_found : (b : Bool) (entry : Key × Value) → FitsEntry entry → IfFound FitsEntry (cond b (Some entry) None)
 if_found true entry h = h
 if_found false entry h = tt
 
-join_one : (place : EdgePlace) (peer : NodeId) → IsHost (own_addr place) → (flow : VrfFlow) (found : Option Upstream) → IsFlow flow.source flow.group → SoundUpstream found → IfFound FitsEntry (join_route place peer (flow, found))
+join_one : (place : EdgePlace) (peer : NodeId) → IsHost (own_addr place) → (flow : VrfFlow) (found : Option Upstream) → IsFlow flow.source flow.group
+    → SoundUpstream found → IfFound FitsEntry (join_route place peer (flow, found))
 join_one place peer host flow None is up = tt
 join_one place peer host flow (Some (Site site)) is up = tt
 join_one place peer host flow (Some (Remote edge rd import source_as)) is up =
-    if_found (edge.0 == peer.0) (keys.Mcast (afi_of flow.source) (routes.SourceJoin rd source_as flow.source flow.group), record { next_hop = own_addr place; comms = import_target import ∷ []; pmsi = None })
+    if_found (edge.0 == peer.0) (
+      keys.Mcast (afi_of flow.source) (routes.SourceJoin rd source_as flow.source flow.group),
+      record { next_hop = own_addr place; comms = import_target import ∷ []; pmsi = None },
+    )
     (join_fits rd source_as flow.source flow.group up.0 up.3 is, join_value_fits place import host up.1)
 
 -- ---- the routes of a VRF
 
-module _ (place : EdgePlace) (control : Control) (scenario_is : SoundScenario place.scenario) (control_is : SoundControl control) (host : IsHost (own_addr place)) where
+module _ (place : EdgePlace) (control : Control) (scenario_is : SoundScenario place.scenario) (control_is : SoundControl control)
+    (host : IsHost (own_addr place)) where
   unicast_fit : (own : OwnVrf) → FitsVrf own.vrf → AllByRecursion FitsEntry (unicast_routes place own)
   unicast_fit own fits =
       let local : List Route = local_routes place.scenario own.id in
-      let each = each_weaker (λ (route : Route). FitsPrefix route.prefix) (λ (route : Route). Fits (Unicast own.vrf.rd route.prefix) (unicast_value place own.vrf))
-      (λ route p. (unicast_fits own.vrf.rd route.prefix fits.rd p.is p.octets, unicast_value_fits place own.vrf host fits)) local (local_fit place.scenario scenario_is own.id) in
+      let each =
+      each_weaker (λ (route : Route). FitsPrefix route.prefix)
+      (λ (route : Route). Fits (Unicast own.vrf.rd route.prefix) (unicast_value place own.vrf))
+      (λ route p. (unicast_fits own.vrf.rd route.prefix fits.rd p.is p.octets, unicast_value_fits place own.vrf host fits)) local
+      (local_fit place.scenario scenario_is own.id) in
       each_map FitsEntry (λ (route : Route). (Unicast own.vrf.rd route.prefix, unicast_value place own.vrf)) local each
 
   abbrev selective_entry : OwnVrf → VrfPattern × Selected → Key × Value
@@ -96,10 +114,14 @@ module _ (place : EdgePlace) (control : Control) (scenario_is : SoundScenario pl
   selective_fit own fits =
       let all : List (VrfPattern × Selected) = maps.entries control.selections in
       let of_vrf : VrfPattern × Selected → Bool = λ (entry : VrfPattern × Selected). entry.0.vrf.0 == own.id.0 in
-      let each : AllByRecursion (λ (entry : VrfPattern × Selected). FitsEntry (selective_entry own entry)) all = all_entries pattern_total (λ (key : VrfPattern) (selected : Selected). FitsEntry (selective_entry own (key, selected))) control.selections
-      (λ key selected h. (let is : SoundPattern key.pattern = control_is.selections key selected h in
-      (selective_fits own.vrf.rd key.pattern.source key.pattern.group (own_addr place) fits.rd is host, tunnel_fits place own.vrf (tunnel_number own.vrf selected.number) host fits))) in
-      each_map FitsEntry (selective_entry own) (filter of_vrf all) (each_filter (λ (entry : VrfPattern × Selected). FitsEntry (selective_entry own entry)) of_vrf all each)
+      let each : AllByRecursion (λ (entry : VrfPattern × Selected). FitsEntry (selective_entry own entry)) all =
+      all_entries pattern_total (λ (key : VrfPattern) (selected : Selected). FitsEntry (selective_entry own (key, selected))) control.selections
+      (λ key selected h. (let is : SoundPattern key.pattern = control_is.selections key selected h in (
+        selective_fits own.vrf.rd key.pattern.source key.pattern.group (own_addr place) fits.rd is host,
+        tunnel_fits place own.vrf (tunnel_number own.vrf selected.number) host fits,
+      ))) in
+      each_map FitsEntry (selective_entry own) (filter of_vrf all)
+      (each_filter (λ (entry : VrfPattern × Selected). FitsEntry (selective_entry own entry)) of_vrf all each)
 
   abbrev active_entry : OwnVrf → Note → Key × Value
   active_entry own note = (active_key own.vrf note.source note.group, plain_value place own.vrf)
@@ -107,10 +129,12 @@ module _ (place : EdgePlace) (control : Control) (scenario_is : SoundScenario pl
   active_fit : (own : OwnVrf) → FitsVrf own.vrf → AllByRecursion FitsEntry (active_routes place control own)
   active_fit own fits =
       let of_vrf : Note → Bool = λ (note : Note). is_iface_of place.scenario own.id note.iface in
-      let each : AllByRecursion (λ (note : Note). FitsEntry (active_entry own note)) (in_order control.notes) = each_in_order note_total (λ (note : Note). FitsEntry (active_entry own note)) control.notes
+      let each : AllByRecursion (λ (note : Note). FitsEntry (active_entry own note)) (in_order control.notes) =
+      each_in_order note_total (λ (note : Note). FitsEntry (active_entry own note)) control.notes
       (λ note h. (let is : IsFlow note.source note.group = control_is.notes note h in
       (active_fits own.vrf.rd note.source note.group fits.rd is, plain_fits place own.vrf host fits))) in
-      each_map FitsEntry (active_entry own) (notes_of place control own.id) (each_filter (λ (note : Note). FitsEntry (active_entry own note)) of_vrf (in_order control.notes) each)
+      each_map FitsEntry (active_entry own) (notes_of place control own.id)
+      (each_filter (λ (note : Note). FitsEntry (active_entry own note)) of_vrf (in_order control.notes) each)
 
   own_routes_fit : (own : OwnVrf) → FitsVrf own.vrf → AllByRecursion FitsEntry (routes_of place control own)
   own_routes_fit own fits = (
@@ -121,10 +145,13 @@ module _ (place : EdgePlace) (control : Control) (scenario_is : SoundScenario pl
 
   originated_fit : AllByRecursion FitsEntry (originated place control)
   originated_fit = each_flat FitsEntry (routes_of place control) (own_vrfs place)
-      (each_weaker (λ (own : OwnVrf). FitsVrf own.vrf) (λ (own : OwnVrf). AllByRecursion FitsEntry (routes_of place control own)) own_routes_fit (own_vrfs place) (own_fit place scenario_is))
+      (each_weaker (λ (own : OwnVrf). FitsVrf own.vrf) (λ (own : OwnVrf). AllByRecursion FitsEntry (routes_of place control own)) own_routes_fit
+      (own_vrfs place) (own_fit place scenario_is))
 
   joins_fit : (peer : NodeId) → AllByRecursion FitsEntry (join_routes place control peer)
-  joins_fit peer = each_found (λ entry. IfFound FitsEntry (join_route place peer entry)) FitsEntry (join_route place peer) (λ entry y own e. subst (IfFound FitsEntry) e own) (maps.entries control.flows)
+  joins_fit peer =
+      each_found (λ entry. IfFound FitsEntry (join_route place peer entry)) FitsEntry (join_route place peer)
+      (λ entry y own e. subst (IfFound FitsEntry) e own) (maps.entries control.flows)
       (all_entries flow_total (λ (flow : VrfFlow) (found : Option Upstream). IfFound FitsEntry (join_route place peer (flow, found))) control.flows
       (λ flow found h. (let is = control_is.flows flow found h in join_one place peer host flow found is.0 is.1)))
 
@@ -132,4 +159,5 @@ module _ (place : EdgePlace) (control : Control) (scenario_is : SoundScenario pl
   pub held_fits : (peer : NodeId) (key : Key) (value : Value) → maps.get (held_for place control peer) key ≡ Some value → Fits key value
   held_fits peer key value h =
       let list : List (Key × Value) = originated place control ++ join_routes place control peer in
-      found_is key_exact Fits key value list (each_append FitsEntry (originated place control) (join_routes place control peer) originated_fit (joins_fit peer)) (sym (maps.get-from_entries key_total list key) ∙ h)
+      found_is key_exact Fits key value list (each_append FitsEntry (originated place control) (join_routes place control peer) originated_fit
+      (joins_fit peer)) (sym (maps.get-from_entries key_total list key) ∙ h)

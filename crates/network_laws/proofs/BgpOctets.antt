@@ -60,24 +60,30 @@ pub comms_fit : (comms : List ExtComm) → AllByRecursion (λ (comm : ExtComm). 
 comms_fit [] h = no_octets
 comms_fit (comm ∷ comms) h = octets_append comm.0 (comms_octets comms) h.0.1 (comms_fit comms h.1)
 
-pub comms_length : (comms : List ExtComm) → AllByRecursion (λ (comm : ExtComm). AreEight comm.0) comms → length (comms_octets comms) ≡ 8 * length comms
+pub comms_length : (comms : List ExtComm) → AllByRecursion (λ (comm : ExtComm). AreEight comm.0) comms
+    → length (comms_octets comms) ≡ 8 * length comms
 comms_length [] h = refl
 comms_length (comm ∷ comms) h = omega (arith, length-append comm.0 (comms_octets comms), h.0.0, comms_length comms h.1)
 
 -- ---- attributes
 
-head_fits : (flags kind len : ℕ) (wide : Bool) → ltb 255 len ≡ wide → flags < 256 → bit_or flags 16 < 256 → kind < 256 → IsOctets (cond wide (bit_or flags 16 ∷ kind ∷ to_be_bytes w16 len) (flags ∷ kind ∷ len ∷ []))
-head_fits flags kind len true e f g k = octets_cons (bit_or flags 16) (kind ∷ to_be_bytes w16 len) g (octets_cons kind (to_be_bytes w16 len) k (octets_of_16 len))
+head_fits : (flags kind len : ℕ) (wide : Bool) → ltb 255 len ≡ wide → flags < 256 → bit_or flags 16 < 256 → kind < 256
+    → IsOctets (cond wide (bit_or flags 16 ∷ kind ∷ to_be_bytes w16 len) (flags ∷ kind ∷ len ∷ []))
+head_fits flags kind len true e f g k =
+    octets_cons (bit_or flags 16) (kind ∷ to_be_bytes w16 len) g (octets_cons kind (to_be_bytes w16 len) k (octets_of_16 len))
 head_fits flags kind len false e f g k =
     let le : len ≤ 255 = ltb-false _ _ e in
     octets_cons flags (kind ∷ len ∷ []) f (octets_cons kind (len ∷ []) k (one_octet len (omega (arith, le))))
 
-pub attribute_fits : (flags kind : ℕ) (value : List ℕ) → flags < 256 → bit_or flags 16 < 256 → kind < 256 → IsOctets value → IsOctets (attribute flags kind value)
-attribute_fits flags kind value f g k fits = octets_append (attribute_head flags kind (length value)) value (head_fits flags kind (length value) (ltb 255 (length value)) refl f g k) fits
+pub attribute_fits : (flags kind : ℕ) (value : List ℕ) → flags < 256 → bit_or flags 16 < 256 → kind < 256 → IsOctets value
+    → IsOctets (attribute flags kind value)
+attribute_fits flags kind value f g k fits =
+    octets_append (attribute_head flags kind (length value)) value (head_fits flags kind (length value) (ltb 255 (length value)) refl f g k) fits
 
 head_length : (flags kind len : ℕ) (wide : Bool) → length (cond wide (bit_or flags 16 ∷ kind ∷ to_be_bytes w16 len) (flags ∷ kind ∷ len ∷ [])) ≤ 4
 head_length flags kind len true = omega arith
 head_length flags kind len false = omega arith
 
 pub attribute_length : (flags kind : ℕ) (value : List ℕ) → length (attribute flags kind value) ≤ 4 + length value
-attribute_length flags kind value = omega (arith, length-append (attribute_head flags kind (length value)) value, head_length flags kind (length value) (ltb 255 (length value)))
+attribute_length flags kind value =
+    omega (arith, length-append (attribute_head flags kind (length value)) value, head_length flags kind (length value) (ltb 255 (length value)))

@@ -69,9 +69,12 @@ group_by (Some source) (Some group) h alike = subst (λ (afi : Afi). IsGroup afi
 
 -- ---- keys
 
-route_fits : (afi : Afi) (route : Route) → IsRoute afi route → spelling.kind route < 256 → IsOctets (fields route) → length (fields route) ≤ 46 → FitsKey (Mcast afi route)
+route_fits : (afi : Afi) (route : Route) → IsRoute afi route → spelling.kind route < 256 → IsOctets (fields route) → length (fields route) ≤ 46
+    → FitsKey (Mcast afi route)
 route_fits afi route is kind fits few =
-    let text : IsOctets (spelling.written route) = octets_cons (spelling.kind route) (length (fields route) ∷ fields route) kind (octets_cons (length (fields route)) (fields route) (omega (arith, few)) fits) in
+    let text : IsOctets (spelling.written route) =
+    octets_cons (spelling.kind route) (length (fields route) ∷ fields route) kind
+    (octets_cons (length (fields route)) (fields route) (omega (arith, few)) fits) in
     let size : length (spelling.written route) ≤ 48 = omega (arith, few) in
     record {
       writable = record { route = is; octets = refl };
@@ -88,13 +91,15 @@ intra_fits rd originator r o =
     (octets_append rd.0 (addr_octets originator) r.1 (host_octets originator o))
     (omega (arith, length-append rd.0 (addr_octets originator), r.0, host_length originator o))
 
-pub selective_fits : (rd : Rd) (source group : Option Addr) (originator : Addr) → AreEight rd.0 → SoundPattern (record { source = source; group = group }) → IsHost originator
+pub selective_fits : (rd : Rd) (source group : Option Addr) (originator : Addr) → AreEight rd.0
+    → SoundPattern (record { source = source; group = group }) → IsHost originator
     → FitsKey (Mcast (afi_by source group) (routes.Selective rd source group originator))
 selective_fits rd source group originator r (s, g, alike) o =
     let s_text : List ℕ = any_or_sized source in
     let g_text : List ℕ = any_or_sized group in
     let o_text : List ℕ = addr_octets originator in
-    route_fits (afi_by source group) (routes.Selective rd source group originator) (r.0, (source_by source group s, (group_by source group g alike, host_addr originator o))) (omega arith)
+    route_fits (afi_by source group) (routes.Selective rd source group originator)
+    (r.0, (source_by source group s, (group_by source group g alike, host_addr originator o))) (omega arith)
     (octets_append rd.0 (s_text ++ (g_text ++ o_text)) r.1
     (octets_append s_text (g_text ++ o_text) (word_fits source s)
     (octets_append g_text o_text (word_fits group (group_word group g)) (host_octets originator o))))
@@ -109,11 +114,20 @@ selective_fits rd source group originator r (s, g, alike) o =
       host_length originator o,
     ))
 
-pub active_fits : (rd : Rd) (source group : Addr) → AreEight rd.0 → IsFlow source group → FitsKey (Mcast (afi_of source) (routes.Active rd source group))
+pub active_fits : (rd : Rd) (source group : Addr) → AreEight rd.0 → IsFlow source group
+    → FitsKey (Mcast (afi_of source) (routes.Active rd source group))
 active_fits rd source group r flow =
     route_fits (afi_of source) (routes.Active rd source group) (r.0, (own_source source flow.0, flow_group source group flow)) (omega arith)
-    (octets_append rd.0 (sized source ++ sized group) r.1 (octets_append (sized source) (sized group) (sized_fits source flow.0) (sized_fits group flow.1.0)))
-    (omega (arith, length-append rd.0 (sized source ++ sized group), length-append (sized source) (sized group), r.0, sized_length source flow.0, sized_length group flow.1.0))
+    (octets_append rd.0 (sized source ++ sized group) r.1
+    (octets_append (sized source) (sized group) (sized_fits source flow.0) (sized_fits group flow.1.0)))
+    (omega (
+      arith,
+      length-append rd.0 (sized source ++ sized group),
+      length-append (sized source) (sized group),
+      r.0,
+      sized_length source flow.0,
+      sized_length group flow.1.0,
+    ))
 
 pub join_fits : (rd : Rd) (source_as : ℕ) (source group : Addr) → AreEight rd.0 → source_as < 65536 → IsFlow source group
     → FitsKey (Mcast (afi_of source) (routes.SourceJoin rd source_as source group))
@@ -121,9 +135,11 @@ join_fits rd source_as source group r a flow =
     let number : List ℕ = to_be_bytes w32 source_as in
     let below : source_as < 2 ^ 32 = omega (arith, a) in
     let size : length number ≡ 4 = refl in
-    route_fits (afi_of source) (routes.SourceJoin rd source_as source group) (r.0, (below, (own_source source flow.0, flow_group source group flow))) (omega arith)
+    route_fits (afi_of source) (routes.SourceJoin rd source_as source group) (r.0, (below, (own_source source flow.0, flow_group source group flow)))
+    (omega arith)
     (octets_append rd.0 (number ++ (sized source ++ sized group)) r.1
-    (octets_append number (sized source ++ sized group) (octets_of_32 source_as) (octets_append (sized source) (sized group) (sized_fits source flow.0) (sized_fits group flow.1.0))))
+    (octets_append number (sized source ++ sized group) (octets_of_32 source_as)
+    (octets_append (sized source) (sized group) (sized_fits source flow.0) (sized_fits group flow.1.0))))
     (omega (
       arith,
       length-append rd.0 (number ++ (sized source ++ sized group)),
@@ -145,26 +161,32 @@ vpn_length : (addr : Addr) → IsAddr addr → length (addr_octets addr) ≤ 16
 vpn_length (V4 octets) len = omega (arith, len)
 vpn_length (V6 octets) len = omega (arith, len)
 
-vpn_fits : (label : List ℕ) (rd : Rd) (addr : Addr) (bits : ℕ) → IsOctets label → AreEight rd.0 → bits ≤ 128 → IsOctets (addr_octets addr) → IsOctets (vpn_text label rd (record { addr = addr; bits = bits }))
+vpn_fits : (label : List ℕ) (rd : Rd) (addr : Addr) (bits : ℕ) → IsOctets label → AreEight rd.0 → bits ≤ 128 → IsOctets (addr_octets addr)
+    → IsOctets (vpn_text label rd (record { addr = addr; bits = bits }))
 vpn_fits label rd addr bits l r le fits =
     let front : List ℕ = take (octets_for bits) (addr_octets addr) in
     octets_cons (88 + bits) (label ++ (rd.0 ++ front)) (omega (arith, le))
     (octets_append label (rd.0 ++ front) l (octets_append rd.0 front r.1 (octets_before (octets_for bits) (addr_octets addr) fits)))
 
-vpn_few : (label : List ℕ) (rd : Rd) (addr : Addr) (bits : ℕ) → length label ≡ 3 → AreEight rd.0 → length (addr_octets addr) ≤ 16 → length (vpn_text label rd (record { addr = addr; bits = bits })) ≤ 48
+vpn_few : (label : List ℕ) (rd : Rd) (addr : Addr) (bits : ℕ) → length label ≡ 3 → AreEight rd.0 → length (addr_octets addr) ≤ 16
+    → length (vpn_text label rd (record { addr = addr; bits = bits })) ≤ 48
 vpn_few label rd addr bits l r few =
     let front : List ℕ = take (octets_for bits) (addr_octets addr) in
     omega (arith, length-append label (rd.0 ++ front), length-append rd.0 front, length-take (octets_for bits) (addr_octets addr), l, r.0, few)
 
-pub unicast_fits : (rd : Rd) (prefix : Prefix) → AreEight rd.0 → IsSitePrefix prefix → IsOctets (addr_octets prefix.addr) → FitsKey (Unicast rd prefix)
+pub unicast_fits : (rd : Rd) (prefix : Prefix) → AreEight rd.0 → IsSitePrefix prefix → IsOctets (addr_octets prefix.addr)
+    → FitsKey (Unicast rd prefix)
 unicast_fits rd prefix r is fits =
     let le : prefix.bits ≤ 128 = vpn_bits prefix.addr prefix.bits is.bits in
     let few = vpn_length prefix.addr is.addr in
     record {
       writable = record { rd_len = r.0; is_prefix = (is.addr, is.bits) };
       prefix = fits;
-      reach = vpn_fits advertised rd prefix.addr prefix.bits (octets_cons 0 (0 ∷ 0x31 ∷ []) (omega arith) (octets_cons 0 (0x31 ∷ []) (omega arith) (one_octet 0x31 (omega arith)))) r le fits;
+      reach = vpn_fits advertised rd prefix.addr prefix.bits
+          (octets_cons 0 (0 ∷ 0x31 ∷ []) (omega arith) (octets_cons 0 (0x31 ∷ []) (omega arith) (one_octet 0x31 (omega arith)))) r le fits;
       reach_few = vpn_few advertised rd prefix.addr prefix.bits refl r few;
-      unreach = vpn_fits withdrawn rd prefix.addr prefix.bits (octets_cons 0x80 (0 ∷ 0 ∷ []) (omega arith) (octets_cons 0 (0 ∷ []) (omega arith) (one_octet 0 (omega arith)))) r le fits;
+      unreach =
+          vpn_fits withdrawn rd prefix.addr prefix.bits
+          (octets_cons 0x80 (0 ∷ 0 ∷ []) (omega arith) (octets_cons 0 (0 ∷ []) (omega arith) (one_octet 0 (omega arith)))) r le fits;
       unreach_few = vpn_few withdrawn rd prefix.addr prefix.bits refl r few;
     }

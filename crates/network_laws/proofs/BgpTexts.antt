@@ -67,10 +67,13 @@ pair_length : (f : Family) → length (pair f) ≡ 3
 pair_length f = refl
 
 mapped_fits : IsOctets mapped_front
-mapped_fits = octets_append (replicate 10 0) (0xFF ∷ 0xFF ∷ []) (repeated_octets 10 0 (omega arith)) (octets_cons 0xFF (0xFF ∷ []) (omega arith) (one_octet 0xFF (omega arith)))
+mapped_fits =
+    octets_append (replicate 10 0) (0xFF ∷ 0xFF ∷ []) (repeated_octets 10 0 (omega arith))
+    (octets_cons 0xFF (0xFF ∷ []) (omega arith) (one_octet 0xFF (omega arith)))
 
 hop_fits : (f : Family) (addr : Addr) → IsHost addr → IsOctets (hop_of f addr)
-hop_fits (families.Mcast afi) addr h = octets_cons (length (addr_octets addr)) (addr_octets addr) (omega (arith, host_length addr h)) (host_octets addr h)
+hop_fits (families.Mcast afi) addr h =
+    octets_cons (length (addr_octets addr)) (addr_octets addr) (omega (arith, host_length addr h)) (host_octets addr h)
 hop_fits (families.Vpn Ipv4) addr h =
     octets_cons (8 + length (addr_octets addr)) (replicate 8 0 ++ addr_octets addr) (omega (arith, host_length addr h))
     (octets_append (replicate 8 0) (addr_octets addr) (repeated_octets 8 0 (omega arith)) (host_octets addr h))
@@ -82,7 +85,8 @@ hop_fits (families.Vpn Ipv6) (V6 octets) h = absurd h
 hop_length : (f : Family) (addr : Addr) → IsHost addr → length (hop_of f addr) ≤ 25
 hop_length (families.Mcast afi) addr h = omega (arith, host_length addr h)
 hop_length (families.Vpn Ipv4) addr h = omega (arith, host_length addr h, length-append (replicate 8 0) (addr_octets addr))
-hop_length (families.Vpn Ipv6) (V4 octets) h = omega (arith, h.0, length-append (replicate 8 0) (mapped_front ++ octets), length-append mapped_front octets)
+hop_length (families.Vpn Ipv6) (V4 octets) h =
+    omega (arith, h.0, length-append (replicate 8 0) (mapped_front ++ octets), length-append mapped_front octets)
 hop_length (families.Vpn Ipv6) (V6 octets) h = absurd h
 
 pub host_addr : (addr : Addr) → IsHost addr → IsAddr addr
@@ -99,8 +103,10 @@ are_comms (comm ∷ comms) h = (h.0.0, are_comms comms h.1)
 
 path_fits : IsOctets path_text
 path_fits =
-    octets_append (attribute 0x40 1 (0 ∷ [])) (attribute 0x40 2 [] ++ attribute 0x40 5 (to_be_bytes w32 100)) (attribute_fits 0x40 1 (0 ∷ []) (omega arith) (omega arith) (omega arith) (one_octet 0 (omega arith)))
-    (octets_append (attribute 0x40 2 []) (attribute 0x40 5 (to_be_bytes w32 100)) (attribute_fits 0x40 2 [] (omega arith) (omega arith) (omega arith) no_octets)
+    octets_append (attribute 0x40 1 (0 ∷ [])) (attribute 0x40 2 [] ++ attribute 0x40 5 (to_be_bytes w32 100))
+    (attribute_fits 0x40 1 (0 ∷ []) (omega arith) (omega arith) (omega arith) (one_octet 0 (omega arith)))
+    (octets_append (attribute 0x40 2 []) (attribute 0x40 5 (to_be_bytes w32 100))
+    (attribute_fits 0x40 2 [] (omega arith) (omega arith) (omega arith) no_octets)
     (attribute_fits 0x40 5 (to_be_bytes w32 100) (omega arith) (omega arith) (omega arith) (octets_of_32 100)))
 
 -- ---- attributes
@@ -118,18 +124,23 @@ module _ (key : Key) (value : Value) (k : FitsKey key) (v : FitsValue value) whe
   value_fits : IsOctets (reach_value advert)
   value_fits =
       octets_append (pair f) (hop_of f value.next_hop ++ (0 ∷ key_text advertised key)) (pair_fits f)
-      (octets_append (hop_of f value.next_hop) (0 ∷ key_text advertised key) (hop_fits f value.next_hop v.next_hop) (octets_cons 0 (key_text advertised key) (omega arith) k.reach))
+      (octets_append (hop_of f value.next_hop) (0 ∷ key_text advertised key) (hop_fits f value.next_hop v.next_hop)
+      (octets_cons 0 (key_text advertised key) (omega arith) k.reach))
 
   value_length : length (reach_value advert) ≤ 77
-  value_length = omega (arith, length-append (hop_of f value.next_hop) (0 ∷ key_text advertised key), hop_length f value.next_hop v.next_hop, k.reach_few)
+  value_length =
+      omega (arith, length-append (hop_of f value.next_hop) (0 ∷ key_text advertised key), hop_length f value.next_hop v.next_hop, k.reach_few)
 
   advert_fits : IsOctets (advert_text advert)
   advert_fits =
       let reach : List ℕ = attribute 0x80 14 (reach_value advert) in
       let comms : List ℕ = attribute 0xC0 16 (comms_octets value.comms) in
       octets_append path_text (reach ++ (comms ++ tunnel_text value.pmsi)) path_fits
-      (octets_append reach (comms ++ tunnel_text value.pmsi) (attribute_fits 0x80 14 (reach_value advert) (omega arith) (omega arith) (omega arith) value_fits)
-      (octets_append comms (tunnel_text value.pmsi) (attribute_fits 0xC0 16 (comms_octets value.comms) (omega arith) (omega arith) (omega arith) (comms_fit value.comms v.comms)) v.tunnel.octets))
+      (octets_append reach (comms ++ tunnel_text value.pmsi)
+      (attribute_fits 0x80 14 (reach_value advert) (omega arith) (omega arith) (omega arith) value_fits)
+      (octets_append comms (tunnel_text value.pmsi)
+      (attribute_fits 0xC0 16 (comms_octets value.comms) (omega arith) (omega arith) (omega arith) (comms_fit value.comms v.comms))
+      v.tunnel.octets))
 
   advert_length : length (advert_text advert) ≤ 1000
   advert_length =
@@ -152,7 +163,14 @@ module _ (key : Key) (value : Value) (k : FitsKey key) (v : FitsValue value) whe
   reach_put =
       let change : updates.Change = as_update (Reach key value) in
       let few : length (written change) ≤ 4096 = message_few (advert_text advert) advert_length in
-      let writable : IsWritable change = record { key = k.writable; next_hop = host_hop f value.next_hop v.next_hop; comms = are_comms value.comms v.comms; tunnel = v.tunnel.spelled } in
+      let writable : IsWritable change =
+      record {
+        key = k.writable;
+        next_hop = host_hop f value.next_hop v.next_hop;
+        comms = are_comms value.comms v.comms;
+        tunnel =
+            v.tunnel.spelled;
+      } in
       ((messages.Update (update_of change) ∷ [], refl, written_spells change writable k.prefix few), message_octets (advert_text advert) advert_fits)
 
 -- what withdraws it
@@ -163,5 +181,7 @@ unreach_put key k =
     let value : List ℕ = pair (family_of key) ++ text in
     let fits : IsOctets value = octets_append (pair (family_of key)) text (pair_fits (family_of key)) k.unreach in
     let size : length (attribute 0x80 15 value) ≤ 1000 = omega (arith, attribute_length 0x80 15 value, k.unreach_few) in
-    let few : length (written change) ≤ 4096 = message_few (attribute 0x80 15 value) size in
-    ((messages.Update (update_of change) ∷ [], refl, written_spells change k.writable k.prefix few), message_octets (attribute 0x80 15 value) (attribute_fits 0x80 15 value (omega arith) (omega arith) (omega arith) fits))
+    let few : length (written change) ≤ 4096 = message_few (attribute 0x80 15 value) size in (
+      (messages.Update (update_of change) ∷ [], refl, written_spells change k.writable k.prefix few),
+      message_octets (attribute 0x80 15 value) (attribute_fits 0x80 15 value (omega arith) (omega arith) (omega arith) fits),
+    )

@@ -24,15 +24,20 @@ SoundAt at expiry = SoundEntry at.entry
 -- ---- messages
 
 named_by_group : (iface : IfaceId) (group : Group) → SoundGroup group →
-    AllByRecursion (λ (at : IfaceEntry). SoundEntry at.entry) (map (λ source. record { iface = iface; entry = entry_of group.group source }) (group.joins ++ group.prunes))
+    AllByRecursion (λ (at : IfaceEntry). SoundEntry at.entry)
+    (map (λ source. record { iface = iface; entry = entry_of group.group source }) (group.joins ++ group.prunes))
 named_by_group iface group sound =
-    each_map (λ (at : IfaceEntry). SoundEntry at.entry) (λ (source : JpSource). record { iface = iface; entry = entry_of group.group source }) (group.joins ++ group.prunes)
+    each_map (λ (at : IfaceEntry). SoundEntry at.entry) (λ (source : JpSource). record { iface = iface; entry = entry_of group.group source })
+    (group.joins ++ group.prunes)
     (each_append (λ (source : JpSource). SoundEntry (entry_of group.group source)) group.joins group.prunes sound.joins sound.prunes)
 
-named_sound : (iface : IfaceId) (message : JoinPrune) → SoundMessage message → AllByRecursion (λ (at : IfaceEntry). SoundEntry at.entry) (named_in iface message)
+named_sound : (iface : IfaceId) (message : JoinPrune) → SoundMessage message
+    → AllByRecursion (λ (at : IfaceEntry). SoundEntry at.entry) (named_in iface message)
 named_sound iface message sound =
-    each_flat (λ (at : IfaceEntry). SoundEntry at.entry) (λ group. map (λ source. record { iface = iface; entry = entry_of group.group source }) (group.joins ++ group.prunes)) message.groups
-    (each_weaker SoundGroup (λ group. AllByRecursion (λ (at : IfaceEntry). SoundEntry at.entry) (map (λ source. record { iface = iface; entry = entry_of group.group source }) (group.joins ++ group.prunes)))
+    each_flat (λ (at : IfaceEntry). SoundEntry at.entry)
+    (λ group. map (λ source. record { iface = iface; entry = entry_of group.group source }) (group.joins ++ group.prunes)) message.groups
+    (each_weaker SoundGroup (λ group. AllByRecursion (λ (at : IfaceEntry). SoundEntry at.entry)
+    (map (λ source. record { iface = iface; entry = entry_of group.group source }) (group.joins ++ group.prunes)))
     (named_by_group iface) message.groups sound)
 
 with_expiries_sound : (expiry : IfaceEntry → Option Expiry) (list : List IfaceEntry) → AllByRecursion (λ at. SoundEntry at.entry) list →
@@ -40,12 +45,14 @@ with_expiries_sound : (expiry : IfaceEntry → Option Expiry) (list : List Iface
 with_expiries_sound expiry [] h = tt
 with_expiries_sound expiry (at ∷ more) h =
     let rest = with_expiries_sound expiry more h.1 in
-    elim (expiry at) as (λ (o : Option Expiry). AllByRecursion (λ e. SoundAt e.0 e.1) (elim o [ None ↦ with_expiries expiry more | Some found ↦ (at, found) ∷ with_expiries expiry more ])) [
+    elim (expiry at) as (λ (o : Option Expiry). AllByRecursion (λ e. SoundAt e.0 e.1)
+    (elim o [ None ↦ with_expiries expiry more | Some found ↦ (at, found) ∷ with_expiries expiry more ])) [
       | None ↦ rest
       | Some found ↦ (h.0, rest)
     ]
 
-pub applied_sound : (old : Entries) (iface : IfaceId) (message : JoinPrune) (now : ℕ) → Each SoundAt old → SoundMessage message → Each SoundAt (applied old iface message now)
+pub applied_sound : (old : Entries) (iface : IfaceId) (message : JoinPrune) (now : ℕ) → Each SoundAt old → SoundMessage message
+    → Each SoundAt (applied old iface message now)
 applied_sound old iface message now sound heard =
     made_meets entry_cmp_total entry_cmp_exact SoundAt (with_expiries (expiry_then old iface message now) (maps.keys old ++ named_in iface message))
     (with_expiries_sound (expiry_then old iface message now) (maps.keys old ++ named_in iface message)
@@ -60,4 +67,5 @@ passed true o expiry e = e
 passed false o expiry e = absurd cc
 
 pub kept_sound : (old : Entries) (now : ℕ) → Each SoundAt old → Each SoundAt (kept_at old now)
-kept_sound old now sound at expiry e = sound at expiry (passed (counts now (maps.get old at)) (maps.get old at) expiry (sym (get-kept old now at) ∙ e))
+kept_sound old now sound at expiry e =
+    sound at expiry (passed (counts now (maps.get old at)) (maps.get old at) expiry (sym (get-kept old now at) ∙ e))

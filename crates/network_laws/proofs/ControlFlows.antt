@@ -70,14 +70,18 @@ tested false x y e = absurd cc
 
 import_sound : (comm : ExtComm) (import : Import) → AreEight comm.0 → import_in comm ≡ Some import → IsHost import.addr × (import.number < 65536)
 import_sound comm import eight e =
-    let same = tested (pointwise nat_eq (take 2 comm.0) (0x01 ∷ 0x0B ∷ [])) (record { addr = V4 (take 4 (drop 2 comm.0)); number = from_be_bytes w16 (drop 6 comm.0) }) import e in
+    let same =
+    tested (pointwise nat_eq (take 2 comm.0) (0x01 ∷ 0x0B ∷ []))
+    (record { addr = V4 (take 4 (drop 2 comm.0)); number = from_be_bytes w16 (drop 6 comm.0) }) import e in
     let len : length (take 4 (drop 2 comm.0)) ≡ 4 = omega (arith, length-take 4 (drop 2 comm.0), length-drop 2 comm.0, eight.0) in
     subst (λ (own : Import). IsHost own.addr × (own.number < 65536)) same
     ((len, octets_before 4 (drop 2 comm.0) (octets_behind 2 comm.0 eight.1)), wide16.below (drop 6 comm.0) (octets_behind 6 comm.0 eight.1))
 
 source_as_sound : (comm : ExtComm) (source_as : ℕ) → AreEight comm.0 → source_as_in comm ≡ Some source_as → source_as < 65536
 source_as_sound comm source_as eight e =
-    let same = tested (pointwise nat_eq (take 2 comm.0) (0x00 ∷ 0x09 ∷ []) && pointwise nat_eq (drop 4 comm.0) (0 ∷ 0 ∷ 0 ∷ 0 ∷ [])) (from_be_bytes w16 (take 2 (drop 2 comm.0))) source_as e in
+    let same =
+    tested (pointwise nat_eq (take 2 comm.0) (0x00 ∷ 0x09 ∷ []) && pointwise nat_eq (drop 4 comm.0) (0 ∷ 0 ∷ 0 ∷ 0 ∷ []))
+    (from_be_bytes w16 (take 2 (drop 2 comm.0))) source_as e in
     subst (λ (n : ℕ). n < 65536) same (wide16.below (take 2 (drop 2 comm.0)) (octets_before 2 (drop 2 comm.0) (octets_behind 2 comm.0 eight.1)))
 
 abbrev SoundBy : JoinBy → Type 0
@@ -88,9 +92,12 @@ join_sound peer value by sound e =
     let one = bound (only_one (found_in import_in value.comms)) _ by e in
     let two = bound (only_one (found_in source_as_in value.comms)) _ by one.2 in
     let same = tested (same_addr one.0.addr peer && same_addr value.next_hop peer) (record { import = one.0; source_as = two.0 }) by two.2 in
-    let imports = each_found (λ (comm : ExtComm). AreEight comm.0) (λ (import : Import). IsHost import.addr × (import.number < 65536)) import_in import_sound value.comms sound.comms in
+    let imports =
+    each_found (λ (comm : ExtComm). AreEight comm.0) (λ (import : Import). IsHost import.addr × (import.number < 65536)) import_in import_sound
+    value.comms sound.comms in
     let numbers = each_found (λ (comm : ExtComm). AreEight comm.0) (λ (n : ℕ). n < 65536) source_as_in source_as_sound value.comms sound.comms in
-    let import = only_meets (λ (import : Import). IsHost import.addr × (import.number < 65536)) (found_in import_in value.comms) one.0 imports one.1 in
+    let import =
+    only_meets (λ (import : Import). IsHost import.addr × (import.number < 65536)) (found_in import_in value.comms) one.0 imports one.1 in
     let number = only_meets (λ (n : ℕ). n < 65536) (found_in source_as_in value.comms) two.0 numbers two.1 in
     subst SoundBy same (import.0, import.1, number)
 
@@ -101,7 +108,8 @@ taken_from_sound control peer sound = by_found (maps.get control.peers peer) ref
     by_found None e = λ key route f. let bad : None ≡ Some route = sym (maps.get-empty key_cmp key) ∙ f in absurd cc
     by_found (Some taken) e = sound peer taken e
 
-bind_meets : {A B : Type 0} (P : Option B → Type 0) → P None → (o : Option A) (next : A → Option B) → ((a : A) → o ≡ Some a → P (next a)) → P (o >>? next)
+bind_meets : {A B : Type 0} (P : Option B → Type 0) → P None → (o : Option A) (next : A → Option B) → ((a : A) → o ≡ Some a → P (next a))
+    → P (o >>? next)
 bind_meets P none None next h = none
 bind_meets P none (Some a) next h = h a refl
 
@@ -114,16 +122,19 @@ by_origin : (control : Control) (prefix : Prefix) (origin : Origin) → Each Sou
 ])
 by_origin control prefix (origins.Local site) sound = tt
 by_origin control prefix (origins.Remote edge address rd) sound =
-    bind_meets SoundUpstream tt (maps.get (taken_from control edge) (Unicast rd prefix)) (λ taken. join_by address taken.value >>? λ by. Some (Remote edge rd by.import by.source_as))
+    bind_meets SoundUpstream tt (maps.get (taken_from control edge) (Unicast rd prefix))
+    (λ taken. join_by address taken.value >>? λ by. Some (Remote edge rd by.import by.source_as))
     (λ taken e.
     let route = taken_from_sound control edge sound (Unicast rd prefix) taken e in
     bind_meets SoundUpstream tt (join_by address taken.value) (λ by. Some (Remote edge rd by.import by.source_as))
     (λ by f. let met = join_sound address taken.value by route.1 f in (route.0, met.0, met.1, met.2)))
 
 -- The upstream of a source and group is that of a route that was taken.
-pub upstream_sound : (place : EdgePlace) (control : Control) (own : OwnVrf) (source group : Addr) → Each SoundPeer control.peers → SoundUpstream (upstream_for place control own source group)
+pub upstream_sound : (place : EdgePlace) (control : Control) (own : OwnVrf) (source group : Addr) → Each SoundPeer control.peers
+    → SoundUpstream (upstream_for place control own source group)
 upstream_sound place control own source group sound =
-    bind_meets SoundUpstream tt (best_route (costs_of place own (known_routes place control own) source group) (known_routes place control own) source) (upstream_by place control)
+    bind_meets SoundUpstream tt (best_route (costs_of place own (known_routes place control own) source group) (known_routes place control own)
+    source) (upstream_by place control)
     (λ route e. by_origin control route.prefix route.origin sound)
 
 -- ---- flows
@@ -132,7 +143,8 @@ upstream_sound place control own source group sound =
 abbrev SoundFlowRoute : FlowRoute → Type 0
 SoundFlowRoute flow = IsFlow flow.source flow.group
 
-routed : (afi : Afi) (source group : Addr) → IsSource afi source → IsGroup afi group → IsOctets (addr_octets source) → IsOctets (addr_octets group) → IsFlow source group
+routed : (afi : Afi) (source group : Addr) → IsSource afi source → IsGroup afi group → IsOctets (addr_octets source) → IsOctets (addr_octets group)
+    → IsFlow source group
 routed Ipv4 (V4 s) (V4 g) a b o p = ((a, o), ((b.0, p), b.1), refl)
 routed Ipv4 (V6 s) group a b o p = absurd a
 routed Ipv4 (V4 s) (V6 g) a b o p = absurd b.0
@@ -153,7 +165,8 @@ active_sound (Mcast afi (routes.Active rd source group)) flow h e =
     let same : record { source = source; group = group } ≡ flow = cc in
     subst SoundFlowRoute same (routed afi source group h.0 h.1 h.2 h.3)
 
-imported_sound : (own : OwnVrf) (entry : Key × TakenRoute) (flow : FlowRoute) → SoundRoute entry.0 entry.1 → imported_active own.vrf entry ≡ Some flow → SoundFlowRoute flow
+imported_sound : (own : OwnVrf) (entry : Key × TakenRoute) (flow : FlowRoute) → SoundRoute entry.0 entry.1 → imported_active own.vrf entry ≡ Some flow
+    → SoundFlowRoute flow
 imported_sound own entry flow h e =
     let one = bound (active_of entry.0) (λ found. only_if (is_admitted own.vrf entry.1.value.comms) found) flow e in
     subst SoundFlowRoute (tested (is_admitted own.vrf entry.1.value.comms) one.0 flow one.2) (active_sound entry.0 one.0 h.0 one.1)
@@ -167,12 +180,14 @@ by_entry own (entries.Star group) flow h e = absurd cc
 by_entry own (entries.Rpt source group) flow h e = absurd cc
 by_entry own (entries.Source source group) flow h e = subst SoundFlowRoute (tested own (record { source = source; group = group }) flow e) h
 
-joined_sound : (place : EdgePlace) (own : OwnVrf) (at : IfaceEntry) (flow : FlowRoute) → SoundEntry at.entry → joined_by place own at ≡ Some flow → SoundFlowRoute flow
+joined_sound : (place : EdgePlace) (own : OwnVrf) (at : IfaceEntry) (flow : FlowRoute) → SoundEntry at.entry → joined_by place own at ≡ Some flow
+    → SoundFlowRoute flow
 joined_sound place own at = by_entry (is_iface_of place.scenario own.id at.iface) at.entry
 
 peer_sound : (own : OwnVrf) (peer : NodeId × Taken) → SoundTaken peer.1 → AllByRecursion SoundFlowRoute (active_from own peer)
 peer_sound own peer sound =
-    each_found (λ entry. SoundRoute entry.0 entry.1) SoundFlowRoute (imported_active own.vrf) (imported_sound own) (maps.entries peer.1) (all_entries key_total SoundRoute peer.1 sound)
+    each_found (λ entry. SoundRoute entry.0 entry.1) SoundFlowRoute (imported_active own.vrf) (imported_sound own) (maps.entries peer.1)
+    (all_entries key_total SoundRoute peer.1 sound)
 
 -- The entries, the notes and the tables of the peers are sound.
 pub record SoundSources (control : Control) : Type 0 where
@@ -180,31 +195,40 @@ pub record SoundSources (control : Control) : Type 0 where
   pub notes : (note : Note) → sets.contains control.notes note ≡ true → SoundNote note
   pub peers : Each SoundPeer control.peers
 
-active_flows_sound : (place : EdgePlace) (control : Control) (own : OwnVrf) → SoundSources control → AllByRecursion SoundFlowRoute (active_flows place control own)
+active_flows_sound : (place : EdgePlace) (control : Control) (own : OwnVrf) → SoundSources control
+    → AllByRecursion SoundFlowRoute (active_flows place control own)
 active_flows_sound place control own sound =
     each_append SoundFlowRoute (map noted_flow (notes_of place control own.id)) (flat_map (active_from own) (maps.entries control.peers))
     (each_map SoundFlowRoute noted_flow (notes_of place control own.id)
-    (each_weaker (λ note. SoundNote note × (is_iface_of place.scenario own.id note.iface ≡ true)) (λ note. SoundFlowRoute (noted_flow note)) (λ note h. h.0) (notes_of place control own.id)
-    (each_filtered SoundNote (λ note. is_iface_of place.scenario own.id note.iface) (in_order control.notes) (each_in_order note_total SoundNote control.notes sound.notes))))
+    (each_weaker (λ note. SoundNote note × (is_iface_of place.scenario own.id note.iface ≡ true)) (λ note. SoundFlowRoute (noted_flow note))
+    (λ note h. h.0) (notes_of place control own.id)
+    (each_filtered SoundNote (λ note. is_iface_of place.scenario own.id note.iface) (in_order control.notes)
+    (each_in_order note_total SoundNote control.notes sound.notes))))
     (each_flat SoundFlowRoute (active_from own) (maps.entries control.peers)
-    (each_weaker (λ peer. SoundPeer peer.0 peer.1) (λ peer. AllByRecursion SoundFlowRoute (active_from own peer)) (peer_sound own) (maps.entries control.peers)
+    (each_weaker (λ peer. SoundPeer peer.0 peer.1) (λ peer. AllByRecursion SoundFlowRoute (active_from own peer)) (peer_sound own)
+    (maps.entries control.peers)
     (all_entries node_cmp_total SoundPeer control.peers sound.peers)))
 
-possible_sound : (place : EdgePlace) (control : Control) (own : OwnVrf) → SoundSources control → AllByRecursion SoundFlowRoute (possible_flows place control own)
+possible_sound : (place : EdgePlace) (control : Control) (own : OwnVrf) → SoundSources control
+    → AllByRecursion SoundFlowRoute (possible_flows place control own)
 possible_sound place control own sound =
     each_append SoundFlowRoute (found_in (joined_by place own) (maps.keys control.entries)) (active_flows place control own)
     (each_found (λ at. SoundEntry at.entry) SoundFlowRoute (joined_by place own) (joined_sound place own) (maps.keys control.entries)
-    (each_map (λ (at : IfaceEntry). SoundEntry at.entry) (λ e. e.0) (maps.entries control.entries) (all_entries entry_cmp_total SoundAt control.entries sound.entries)))
+    (each_map (λ (at : IfaceEntry). SoundEntry at.entry) (λ e. e.0) (maps.entries control.entries)
+    (all_entries entry_cmp_total SoundAt control.entries sound.entries)))
     (active_flows_sound place control own sound)
 
 -- what a flow meets, with its upstream
 abbrev pub SoundFlow : VrfFlow → Option Upstream → Type 0
 SoundFlow flow found = IsFlow flow.source flow.group × SoundUpstream found
 
-vrf_flows_sound : (place : EdgePlace) (now : ℕ) (control : Control) (own : OwnVrf) → SoundSources control → AllEntries SoundFlow (vrf_flows place now control own)
+vrf_flows_sound : (place : EdgePlace) (now : ℕ) (control : Control) (own : OwnVrf) → SoundSources control
+    → AllEntries SoundFlow (vrf_flows place now control own)
 vrf_flows_sound place now control own sound =
-    each_map (λ entry. SoundFlow entry.0 entry.1) (with_upstream place control own) (filter (is_flow place now control own) (possible_flows place control own))
-    (each_weaker (λ flow. SoundFlowRoute flow × (is_flow place now control own flow ≡ true)) (λ flow. IsFlow flow.source flow.group × SoundUpstream (upstream_for place control own flow.source flow.group))
+    each_map (λ entry. SoundFlow entry.0 entry.1) (with_upstream place control own)
+    (filter (is_flow place now control own) (possible_flows place control own))
+    (each_weaker (λ flow. SoundFlowRoute flow × (is_flow place now control own flow ≡ true))
+    (λ flow. IsFlow flow.source flow.group × SoundUpstream (upstream_for place control own flow.source flow.group))
     (λ flow h. (h.0, upstream_sound place control own flow.source flow.group sound.peers))
     (filter (is_flow place now control own) (possible_flows place control own))
     (each_filtered SoundFlowRoute (is_flow place now control own) (possible_flows place control own) (possible_sound place control own sound)))

@@ -21,7 +21,14 @@ sources_of control h = record { entries = h.entries; notes = h.notes; peers = h.
 
 pub refreshed_sound : (place : EdgePlace) (now : ℕ) (control : Control) → SoundControl control → SoundControl (refreshed place now control)
 refreshed_sound place now control h =
-    record { entries = h.entries; notes = h.notes; selections = h.selections; flows = flows_are_sound place now control (sources_of control h); peers = h.peers }
+    record {
+      entries = h.entries;
+      notes = h.notes;
+      selections = h.selections;
+      flows =
+          flows_are_sound place now control (sources_of control h);
+      peers = h.peers;
+    }
 
 -- the flows become those that some interface asks for at the clock, or stay as they were
 stepped_sound : (place : EdgePlace) (now : ℕ) (own : Control) (vrf : Bool) → SoundControl own → SoundControl (cond vrf (refreshed place now own) own)
@@ -29,17 +36,21 @@ stepped_sound place now own true h = refreshed_sound place now own h
 stepped_sound place now own false h = h
 
 -- A call of the node itself, with sound values.
-pub control_stays_sound : (place : EdgePlace) (now : ℕ) (old : Control) (call : steps.Call) → SoundScenario place.scenario → SoundControl old → IsSoundCall call →
+pub control_stays_sound : (place : EdgePlace) (now : ℕ) (old : Control) (call : steps.Call) → SoundScenario place.scenario → SoundControl old
+    → IsSoundCall call →
     SoundControl (control_step place now old call)
-control_stays_sound place now old call scenario h heard = stepped_sound place now (effect place now old call) (is_vrf_step call) (effect_sound place now old call h heard)
+control_stays_sound place now old call scenario h heard =
+    stepped_sound place now (effect place now old call) (is_vrf_step call) (effect_sound place now old call h heard)
 
 -- A message of a peer that is spelled in octets.
-pub update_stays_sound : (place : EdgePlace) (now : ℕ) (old : Control) (peer : NodeId) (message : Message) (text : List ℕ) → SoundScenario place.scenario → SoundControl old →
+pub update_stays_sound : (place : EdgePlace) (now : ℕ) (old : Control) (peer : NodeId) (message : Message) (text : List ℕ)
+    → SoundScenario place.scenario → SoundControl old →
     SpellsMessage (message ∷ []) text → IsOctets text → SoundControl (control_step place now old (steps.Update peer message))
 update_stays_sound place now old peer message text scenario h spelled fits =
     refreshed_sound place now (with_update now peer message old) (updated_sound now peer message old h (changes_sound message text spelled fits))
 
 -- A label message changes no more than the flows.
-pub label_stays_sound : (place : EdgePlace) (now : ℕ) (old : Control) (neighbour : NodeId) (message : LabelMessage) → SoundScenario place.scenario → SoundControl old →
+pub label_stays_sound : (place : EdgePlace) (now : ℕ) (old : Control) (neighbour : NodeId) (message : LabelMessage) → SoundScenario place.scenario
+    → SoundControl old →
     SoundControl (control_step place now old (steps.Label neighbour message))
 label_stays_sound place now old neighbour message scenario h = refreshed_sound place now old h

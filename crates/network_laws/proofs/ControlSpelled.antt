@@ -44,10 +44,13 @@ address_octets : (addr : Addr) → IsOctets (nlri.sized addr) → IsOctets (addr
 address_octets (V4 octets) fits = behind_one 32 octets fits
 address_octets (V6 octets) fits = behind_one 128 octets fits
 
-active_octets : (rd : List ℕ) (source group : Addr) (kind len : ℕ) → IsOctets (kind ∷ (len ∷ (rd ++ (nlri.sized source ++ nlri.sized group)))) → IsOctets (addr_octets source) × IsOctets (addr_octets group)
+active_octets : (rd : List ℕ) (source group : Addr) (kind len : ℕ) → IsOctets (kind ∷ (len ∷ (rd ++ (nlri.sized source ++ nlri.sized group))))
+    → IsOctets (addr_octets source) × IsOctets (addr_octets group)
 active_octets rd source group kind len fits =
-    let both = IsOctets-behind rd (nlri.sized source ++ nlri.sized group) (λ i. fits (suc (suc i))) in
-    (address_octets source (IsOctets-before (nlri.sized source) (nlri.sized group) both), address_octets group (IsOctets-behind (nlri.sized source) (nlri.sized group) both))
+    let both = IsOctets-behind rd (nlri.sized source ++ nlri.sized group) (λ i. fits (suc (suc i))) in (
+      address_octets source (IsOctets-before (nlri.sized source) (nlri.sized group) both),
+      address_octets group (IsOctets-behind (nlri.sized source) (nlri.sized group) both),
+    )
 
 route_sound : (afi : Afi) (route : Route) (text : List ℕ) → nlri.Spells afi route text → IsOctets text → SoundKey (Mcast afi route)
 route_sound afi (routes.Intra rd originator) text s fits = tt
@@ -62,11 +65,15 @@ route_sound afi (routes.Active rd source group) text s fits =
     (s.route.1.0, s.route.1.1, octets.0, octets.1)
 
 unicast_sound : (afi : Afi) (rd : Rd) (prefix : Prefix) (text : List ℕ) → SpellsVpn afi rd prefix text → IsOctets text → AreEight rd.0
-unicast_sound afi rd prefix text s fits =
-    (s.rd_len, IsOctets-before rd.0 s.octets (IsOctets-behind s.label (rd.0 ++ s.octets) (behind_one (88 + prefix.bits) (s.label ++ (rd.0 ++ s.octets)) (subst IsOctets s.parts fits))))
+unicast_sound afi rd prefix text s fits = (
+  s.rd_len,
+  IsOctets-before rd.0 s.octets (IsOctets-behind s.label (rd.0 ++ s.octets)
+      (behind_one (88 + prefix.bits) (s.label ++ (rd.0 ++ s.octets)) (subst IsOctets s.parts fits))),
+)
 
 key_sound : (family : Family) (key : Key) (text : List ℕ) → SpellsKey family key text → IsOctets text → SoundKey key
-key_sound (families.Mcast afi) (Mcast own route) text s fits = subst (λ (a : Afi). SoundKey (Mcast a route)) (sym s.0) (route_sound afi route text s.1 fits)
+key_sound (families.Mcast afi) (Mcast own route) text s fits =
+    subst (λ (a : Afi). SoundKey (Mcast a route)) (sym s.0) (route_sound afi route text s.1 fits)
 key_sound (families.Vpn afi) (Unicast rd prefix) text s fits = unicast_sound afi rd prefix text s fits
 key_sound (families.Mcast afi) (Unicast rd prefix) text s fits = absurd s
 key_sound (families.Vpn afi) (Mcast own route) text s fits = absurd s
@@ -74,22 +81,29 @@ key_sound (families.Vpn afi) (Mcast own route) text s fits = absurd s
 unit_sound : (family : Family) (keys : List Key) (text : List ℕ) → SpellsUnit family keys text → IsOctets text → AllByRecursion SoundKey keys
 unit_sound family keys text s fits = subst (AllByRecursion SoundKey) (sym s.1) (key_sound family s.0 text s.2 fits, tt)
 
-units_sound : (family : Family) (units : List (Spelled Key)) → AreUnits (SpellsUnit family) units → IsOctets (octets_of units) → AllByRecursion (λ unit. AllByRecursion SoundKey unit.messages) units
+units_sound : (family : Family) (units : List (Spelled Key)) → AreUnits (SpellsUnit family) units → IsOctets (octets_of units)
+    → AllByRecursion (λ unit. AllByRecursion SoundKey unit.messages) units
 units_sound family [] s fits = tt
-units_sound family (unit ∷ units) s fits =
-    (unit_sound family unit.messages unit.octets s.0 (IsOctets-before unit.octets (octets_of units) fits), units_sound family units s.1 (IsOctets-behind unit.octets (octets_of units) fits))
+units_sound family (unit ∷ units) s fits = (
+  unit_sound family unit.messages unit.octets s.0 (IsOctets-before unit.octets (octets_of units) fits),
+  units_sound family units s.1 (IsOctets-behind unit.octets (octets_of units) fits),
+)
 
-keys_sound : (family : Family) (keys : List Key) (octets rest : List ℕ) → AreKeys family keys octets rest → IsOctets octets → AllByRecursion SoundKey keys
+keys_sound : (family : Family) (keys : List Key) (octets rest : List ℕ) → AreKeys family keys octets rest → IsOctets octets
+    → AllByRecursion SoundKey keys
 keys_sound family keys octets rest s fits =
     subst (AllByRecursion SoundKey) (sym s.carried)
-    (each_flat SoundKey (λ (unit : Spelled Key). unit.messages) s.units (units_sound family s.units s.each (IsOctets-before (octets_of s.units) rest (subst IsOctets s.parts fits))))
+    (each_flat SoundKey (λ (unit : Spelled Key). unit.messages) s.units
+    (units_sound family s.units s.each (IsOctets-before (octets_of s.units) rest (subst IsOctets s.parts fits))))
 
 -- ---- communities and tunnels
 
 comms_sound : (comms : List ExtComm) → AreComms comms → IsOctets (flat_map (λ comm. comm.0) comms) → AllByRecursion (λ comm. AreEight comm.0) comms
 comms_sound [] s fits = tt
-comms_sound (comm ∷ comms) s fits =
-    ((s.0, IsOctets-before comm.0 (flat_map (λ other. other.0) comms) fits), comms_sound comms s.1 (IsOctets-behind comm.0 (flat_map (λ other. other.0) comms) fits))
+comms_sound (comm ∷ comms) s fits = (
+  (s.0, IsOctets-before comm.0 (flat_map (λ other. other.0) comms) fits),
+  comms_sound comms s.1 (IsOctets-behind comm.0 (flat_map (λ other. other.0) comms) fits),
+)
 
 -- the tunnel, where it is an LSP, is a FEC that has a spelling
 abbrev pub SoundTunnel : Option Pmsi → Type 0
@@ -111,7 +125,8 @@ by_tunnel (tunnels.Other kind ident) h fits fec e = absurd cc
 by_tunnel (tunnels.Mldp own) h fits fec e = subst IsSoundFec (passes (is_p2mp own.kind && is_lsp_opaque own.opaque) own fec e) (h.1, fits)
 
 tunnel_sound : (pmsi : Pmsi) (text : List ℕ) → pmsis.Spells pmsi text → IsOctets text → SoundTunnel (Some pmsi)
-tunnel_sound pmsi text s fits = by_tunnel pmsi.tunnel s.tunnel (IsOctets-behind (pmsis.header s.flags pmsi s.low) (pmsis.identifier pmsi.tunnel) (subst IsOctets s.octets fits))
+tunnel_sound pmsi text s fits =
+    by_tunnel pmsi.tunnel s.tunnel (IsOctets-behind (pmsis.header s.flags pmsi s.low) (pmsis.identifier pmsi.tunnel) (subst IsOctets s.octets fits))
 
 -- ---- attributes
 
@@ -137,14 +152,18 @@ value_sound (Passed kind) value s fits = tt
 
 attribute_sound : (attribute : Attribute) (text : List ℕ) → SpellsAttribute attribute text → IsOctets text → SoundAttribute attribute
 attribute_sound attribute text s fits =
-    value_sound attribute s.value s.means (IsOctets-behind (len_field s.flags (length s.value)) s.value (λ i. (subst IsOctets s.parts fits) (suc (suc i))))
+    value_sound attribute s.value s.means (IsOctets-behind (len_field s.flags (length s.value)) s.value
+    (λ i. (subst IsOctets s.parts fits) (suc (suc i))))
 
-pub attributes_sound : (before : List Attribute) (octets : List ℕ) (attributes : List Attribute) (rest : List ℕ) → ArePartsAfter SpellsAttribute IsNew before octets attributes rest → IsOctets octets →
+pub attributes_sound : (before : List Attribute) (octets : List ℕ) (attributes : List Attribute) (rest : List ℕ)
+    → ArePartsAfter SpellsAttribute IsNew before octets attributes rest → IsOctets octets →
     AllByRecursion SoundAttribute attributes
 attributes_sound before octets [] rest s fits = tt
 attributes_sound before octets (attribute ∷ attributes) rest s fits =
-    let whole = subst IsOctets s.4 fits in
-    (attribute_sound attribute s.0 s.2 (IsOctets-before s.0 s.1 whole), attributes_sound (before ++ attribute ∷ []) s.1 attributes rest s.5 (IsOctets-behind s.0 s.1 whole))
+    let whole = subst IsOctets s.4 fits in (
+      attribute_sound attribute s.0 s.2 (IsOctets-before s.0 s.1 whole),
+      attributes_sound (before ++ attribute ∷ []) s.1 attributes rest s.5 (IsOctets-behind s.0 s.1 whole),
+    )
 
 -- ---- what attributes say together
 
@@ -155,11 +174,13 @@ comms_in_sound (Unreach keys) h = tt
 comms_in_sound (Tunnelled pmsi) h = tt
 comms_in_sound (Passed kind) h = tt
 
-each_comms : (attributes : List Attribute) → AllByRecursion SoundAttribute attributes → AllByRecursion (λ attribute. AllByRecursion (λ (comm : ExtComm). AreEight comm.0) (comms_in attribute)) attributes
+each_comms : (attributes : List Attribute) → AllByRecursion SoundAttribute attributes
+    → AllByRecursion (λ attribute. AllByRecursion (λ (comm : ExtComm). AreEight comm.0) (comms_in attribute)) attributes
 each_comms [] h = tt
 each_comms (attribute ∷ attributes) h = (comms_in_sound attribute h.0, each_comms attributes h.1)
 
-pub comms_of_sound : (attributes : List Attribute) → AllByRecursion SoundAttribute attributes → AllByRecursion (λ comm. AreEight comm.0) (comms_of attributes)
+pub comms_of_sound : (attributes : List Attribute) → AllByRecursion SoundAttribute attributes
+    → AllByRecursion (λ comm. AreEight comm.0) (comms_of attributes)
 comms_of_sound attributes h = each_flat (λ (comm : ExtComm). AreEight comm.0) comms_in attributes (each_comms attributes h)
 
 pub pmsi_of_sound : (attributes : List Attribute) → AllByRecursion SoundAttribute attributes → SoundTunnel (pmsi_of attributes)

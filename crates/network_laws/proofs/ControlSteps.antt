@@ -31,12 +31,29 @@ SoundSelection key selected = SoundPattern key.pattern
 -- ---- records of which one part changes
 
 with_notes : (old : Control) (note : Note) → SoundControl old → SoundNote note → SoundControl (record old { notes = sets.insert old.notes note })
-with_notes old note h new = record { entries = h.entries; notes = each_inserted note_total note_exact SoundNote old.notes note new h.notes; selections = h.selections; flows = h.flows; peers = h.peers }
+with_notes old note h new =
+    record {
+      entries = h.entries;
+      notes = each_inserted note_total note_exact SoundNote old.notes note new h.notes;
+      selections = h.selections;
+      flows =
+          h.flows;
+      peers = h.peers;
+    }
 
 without_note : (old : Control) (note : Note) → SoundControl old → SoundControl (record old { notes = sets.remove old.notes note })
-without_note old note h = record { entries = h.entries; notes = λ q e. h.notes q (still note_total old.notes note q e); selections = h.selections; flows = h.flows; peers = h.peers }
+without_note old note h =
+    record {
+      entries = h.entries;
+      notes = λ q e. h.notes q (still note_total old.notes note q e);
+      selections = h.selections;
+      flows = h.flows;
+      peers =
+          h.peers;
+    }
 
-with_selections : (old : Control) (selections : FinMap pattern_cmp Selected) → SoundControl old → Each SoundSelection selections → SoundControl (record old { selections = selections })
+with_selections : (old : Control) (selections : FinMap pattern_cmp Selected) → SoundControl old → Each SoundSelection selections
+    → SoundControl (record old { selections = selections })
 with_selections old selections h new = record { entries = h.entries; notes = h.notes; selections = new; flows = h.flows; peers = h.peers }
 
 with_peers : (old : Control) (peers : FinMap node_cmp Taken) → SoundControl old → Each SoundPeer peers → SoundControl (record old { peers = peers })
@@ -44,7 +61,8 @@ with_peers old peers h new = record { entries = h.entries; notes = h.notes; sele
 
 -- ---- messages of a peer
 
-pub updated_sound : (now : ℕ) (peer : NodeId) (message : Message) (old : Control) → SoundControl old → AllByRecursion SoundChange (changes_of message) → SoundControl (with_update now peer message old)
+pub updated_sound : (now : ℕ) (peer : NodeId) (message : Message) (old : Control) → SoundControl old → AllByRecursion SoundChange (changes_of message)
+    → SoundControl (with_update now peer message old)
 updated_sound now peer message old h new = by_found (maps.get old.peers peer) refl
   where
     by_found : (o : Option Taken) → maps.get old.peers peer ≡ o → SoundControl (elim o [
@@ -55,14 +73,16 @@ updated_sound now peer message old h new = by_found (maps.get old.peers peer) re
     by_found (Some taken) e =
         let behind : Taken = fold (taken_change now) taken (changes_of message) in
         with_peers old (maps.insert old.peers peer behind) h
-        (put_meets node_cmp_total node_cmp_exact SoundPeer old.peers peer behind h.peers (all_changes_sound now taken (changes_of message) (h.peers peer taken e) new))
+        (put_meets node_cmp_total node_cmp_exact SoundPeer old.peers peer behind h.peers
+        (all_changes_sound now taken (changes_of message) (h.peers peer taken e) new))
 
 nothing_taken : SoundTaken maps.empty
 nothing_taken key route e = let bad : None ≡ Some route = sym (maps.get-empty key_cmp key) ∙ e in absurd cc
 
 -- ---- timers
 
-selections_run_sound : (delay now : ℕ) (old : FinMap pattern_cmp Selected) → Each SoundSelection old → Each SoundSelection (selections_run delay now old)
+selections_run_sound : (delay now : ℕ) (old : FinMap pattern_cmp Selected) → Each SoundSelection old
+    → Each SoundSelection (selections_run delay now old)
 selections_run_sound delay now old h =
     made_meets pattern_total pattern_exact SoundSelection (map (λ entry. (entry.0, selection_run delay now entry.1)) (maps.entries old))
     (each_map (λ entry. SoundSelection entry.0 entry.1) (λ entry. (entry.0, selection_run delay now entry.1)) (maps.entries old)
@@ -93,22 +113,37 @@ timed_sound place now old h = record {
 -- ---- calls
 
 -- What a call of the node itself changes is sound.
-pub effect_sound : (place : EdgePlace) (now : ℕ) (old : Control) (call : steps.Call) → SoundControl old → IsSoundCall call → SoundControl (effect place now old call)
+pub effect_sound : (place : EdgePlace) (now : ℕ) (old : Control) (call : steps.Call) → SoundControl old → IsSoundCall call
+    → SoundControl (effect place now old call)
 effect_sound place now old (steps.Update peer message) h heard = absurd heard
 effect_sound place now old (steps.Label neighbour message) h heard = absurd heard
 effect_sound place now old (steps.Pim iface message) h heard =
-    record { entries = applied_sound old.entries iface message now h.entries heard; notes = h.notes; selections = h.selections; flows = h.flows; peers = h.peers }
-effect_sound place now old (steps.Active iface source group) h heard = with_notes old (record { iface = iface; source = source; group = group }) h heard
+    record {
+      entries = applied_sound old.entries iface message now h.entries heard;
+      notes = h.notes;
+      selections = h.selections;
+      flows =
+          h.flows;
+      peers = h.peers;
+    }
+effect_sound place now old (steps.Active iface source group) h heard =
+    with_notes old (record { iface = iface; source = source; group = group }) h heard
 effect_sound place now old (steps.Idle iface source group) h heard = without_note old (record { iface = iface; source = source; group = group }) h
 effect_sound place now old (steps.Select vrf pattern) h heard =
     with_selections old (with_selection now vrf pattern old.selections) h
     (put_meets pattern_total pattern_exact SoundSelection old.selections (record { vrf = vrf; pattern = pattern })
-    (record { number = free_number (λ number. list_any (is_used vrf number) (maps.entries old.selections)) (maps.len old.selections) 1; since = now; run = false }) h.selections heard)
+    (record {
+      number = free_number (λ number. list_any (is_used vrf number) (maps.entries old.selections)) (maps.len old.selections) 1;
+      since =
+          now;
+      run = false;
+    }) h.selections heard)
 effect_sound place now old (steps.Unselect vrf pattern) h heard =
     with_selections old (maps.remove old.selections (record { vrf = vrf; pattern = pattern })) h
     (cut_meets pattern_total pattern_exact SoundSelection old.selections (record { vrf = vrf; pattern = pattern }) h.selections)
 effect_sound place now old (steps.Raised kinds.Bgp peer) h heard =
-    with_peers old (maps.insert old.peers peer maps.empty) h (put_meets node_cmp_total node_cmp_exact SoundPeer old.peers peer maps.empty h.peers nothing_taken)
+    with_peers old (maps.insert old.peers peer maps.empty) h
+    (put_meets node_cmp_total node_cmp_exact SoundPeer old.peers peer maps.empty h.peers nothing_taken)
 effect_sound place now old (steps.Raised kinds.Ldp peer) h heard = h
 effect_sound place now old (steps.Noticed kinds.Bgp peer) h heard =
     with_peers old (maps.remove old.peers peer) h (cut_meets node_cmp_total node_cmp_exact SoundPeer old.peers peer h.peers)

@@ -39,11 +39,13 @@ abbrev pub SoundChange : Change → Type 0
 SoundChange (changes.Reach advert) = SoundAdvert advert
 SoundChange (changes.Unreach key) = Unit {0}
 
-adverts_sound : (comms : List ExtComm) (pmsi : Option Pmsi) (attribute : Attribute) → AllByRecursion (λ comm. AreEight comm.0) comms → SoundTunnel pmsi → SoundAttribute attribute →
+adverts_sound : (comms : List ExtComm) (pmsi : Option Pmsi) (attribute : Attribute) → AllByRecursion (λ comm. AreEight comm.0) comms
+    → SoundTunnel pmsi → SoundAttribute attribute →
     AllByRecursion SoundAdvert (attributes.adverts_in comms pmsi attribute)
 adverts_sound comms pmsi (Reach (Some reachable)) eight tunnel h =
     each_map SoundAdvert (λ key. record { key = key; next_hop = reachable.next_hop; comms = comms; pmsi = pmsi }) reachable.keys
-    (each_weaker SoundKey (λ key. SoundAdvert (record { key = key; next_hop = reachable.next_hop; comms = comms; pmsi = pmsi })) (λ key k. (k, record { comms = eight; tunnel = tunnel })) reachable.keys h)
+    (each_weaker SoundKey (λ key. SoundAdvert (record { key = key; next_hop = reachable.next_hop; comms = comms; pmsi = pmsi }))
+    (λ key k. (k, record { comms = eight; tunnel = tunnel })) reachable.keys h)
 adverts_sound comms pmsi (Reach None) eight tunnel h = tt
 adverts_sound comms pmsi (Unreach keys) eight tunnel h = tt
 adverts_sound comms pmsi (Communities other) eight tunnel h = tt
@@ -53,7 +55,8 @@ adverts_sound comms pmsi (Passed kind) eight tunnel h = tt
 reach_sound : (list : List Attribute) → AllByRecursion SoundAttribute list → AllByRecursion SoundAdvert (attributes.update_of list).reach
 reach_sound list h =
     each_flat SoundAdvert (attributes.adverts_in (attributes.comms_of list) (attributes.pmsi_of list)) list
-    (each_weaker SoundAttribute (λ attribute. AllByRecursion SoundAdvert (attributes.adverts_in (attributes.comms_of list) (attributes.pmsi_of list) attribute))
+    (each_weaker SoundAttribute (λ attribute. AllByRecursion SoundAdvert
+    (attributes.adverts_in (attributes.comms_of list) (attributes.pmsi_of list) attribute))
     (λ attribute. adverts_sound (attributes.comms_of list) (attributes.pmsi_of list) attribute (comms_of_sound list h) (pmsi_of_sound list h)) list h)
 
 update_sound : (update : Update) → AllByRecursion SoundAdvert update.reach → AllByRecursion SoundChange (changes_of (messages.Update update))
@@ -62,21 +65,25 @@ update_sound update h =
     (each_map SoundChange (λ (key : Key). changes.Unreach key) update.unreach (each_of (λ (key : Key). Unit {0}) (λ key. tt) update.unreach))
     (each_map SoundChange (λ (advert : Advert). changes.Reach advert) update.reach h)
 
-body_sound : (update : Update) (body : List ℕ) → SpellsBody update body → IsOctets body → AllByRecursion SoundChange (changes_of (messages.Update update))
+body_sound : (update : Update) (body : List ℕ) → SpellsBody update body → IsOctets body
+    → AllByRecursion SoundChange (changes_of (messages.Update update))
 body_sound update body s fits =
     let whole = subst IsOctets s.parts fits in
-    let lens = IsOctets-behind (to_be_bytes w16 (length s.withdrawn)) (s.withdrawn ++ (to_be_bytes w16 (length s.list) ++ (s.list ++ s.rest))) whole in
+    let lens =
+    IsOctets-behind (to_be_bytes w16 (length s.withdrawn)) (s.withdrawn ++ (to_be_bytes w16 (length s.list) ++ (s.list ++ s.rest))) whole in
     let len = IsOctets-behind s.withdrawn (to_be_bytes w16 (length s.list) ++ (s.list ++ s.rest)) lens in
     let list = IsOctets-before s.list s.rest (IsOctets-behind (to_be_bytes w16 (length s.list)) (s.list ++ s.rest) len) in
     let sound = attributes_sound [] s.list s.spelled.0 [] s.spelled.1 list in
     update_sound update (subst (λ (own : Update). AllByRecursion SoundAdvert own.reach) (sym s.spelled.2) (reach_sound s.spelled.0 sound))
 
-means_sound : (message : Message) (kind : ℕ) (body : List ℕ) → Means message kind body → IsOctets body → AllByRecursion SoundChange (changes_of message)
+means_sound : (message : Message) (kind : ℕ) (body : List ℕ) → Means message kind body → IsOctets body
+    → AllByRecursion SoundChange (changes_of message)
 means_sound (messages.Update update) kind body means fits = body_sound update body means.1 fits
 means_sound (messages.Other number) kind body means fits = tt
 
 -- The changes of a message that is spelled in octets are sound.
-pub changes_sound : (message : Message) (text : List ℕ) → SpellsMessage (message ∷ []) text → IsOctets text → AllByRecursion SoundChange (changes_of message)
+pub changes_sound : (message : Message) (text : List ℕ) → SpellsMessage (message ∷ []) text → IsOctets text
+    → AllByRecursion SoundChange (changes_of message)
 changes_sound message text s fits =
     let same : message ≡ s.message = first message s.message s.one in
     subst (λ (own : Message). AllByRecursion SoundChange (changes_of own)) (sym same)
@@ -87,7 +94,8 @@ changes_sound message text s fits =
 
 -- ---- tables
 
-learned_sound : (now : ℕ) (value : Value) (o : Option TakenRoute) → SoundValue value → ((route : TakenRoute) → o ≡ Some route → SoundValue route.value) → SoundValue (learned now value o).value
+learned_sound : (now : ℕ) (value : Value) (o : Option TakenRoute) → SoundValue value
+    → ((route : TakenRoute) → o ≡ Some route → SoundValue route.value) → SoundValue (learned now value o).value
 learned_sound now value None new old = new
 learned_sound now value (Some route) new old = either (same_value route.value value)
   where
@@ -102,6 +110,8 @@ taken_change_sound now taken (changes.Reach advert) old new =
     (new.0, learned_sound now value (maps.get taken advert.key) new.1 (λ route e. (old advert.key route e).1))
 taken_change_sound now taken (changes.Unreach key) old new = cut_meets key_total key_exact SoundRoute taken key old
 
-pub all_changes_sound : (now : ℕ) (taken : Taken) (list : List Change) → SoundTaken taken → AllByRecursion SoundChange list → SoundTaken (fold (taken_change now) taken list)
+pub all_changes_sound : (now : ℕ) (taken : Taken) (list : List Change) → SoundTaken taken → AllByRecursion SoundChange list
+    → SoundTaken (fold (taken_change now) taken list)
 all_changes_sound now taken [] old new = old
-all_changes_sound now taken (change ∷ list) old new = all_changes_sound now (taken_change now taken change) list (taken_change_sound now taken change old new.0) new.1
+all_changes_sound now taken (change ∷ list) old new =
+    all_changes_sound now (taken_change now taken change) list (taken_change_sound now taken change old new.0) new.1

@@ -99,15 +99,18 @@ module _ (costs : Costs) where
   earlier_net puts (Some new) h = h
 
   then_net : (o : Option (Behind (OctetNetwork Nodes))) (next : OctetNetwork Nodes → Option (Behind (OctetNetwork Nodes))) → NetHas o
-      → ((network : OctetNetwork Nodes) → HasCosts network.state → NetHas (next network)) → NetHas (o >>? λ new. with_earlier new.puts (next new.network))
+      → ((network : OctetNetwork Nodes) → HasCosts network.state → NetHas (next network))
+      → NetHas (o >>? λ new. with_earlier new.puts (next new.network))
   then_net None next h k = tt
   then_net (Some new) next h k = earlier_net new.puts (next new.network) (k new.network h)
 
-  taken_net : (over : Direction) (messages : List SessionMessage) (old : OctetNetwork Nodes) → HasCosts old.state → NetHas (all_taken system old over messages)
+  taken_net : (over : Direction) (messages : List SessionMessage) (old : OctetNetwork Nodes) → HasCosts old.state
+      → NetHas (all_taken system old over messages)
   taken_net over [] old h = h
   taken_net over (message ∷ more) old h =
       then_net (with_step old (system.taken over message old.state)) (λ network. all_taken system network over more)
-      (step_net old (system.taken over message old.state) (called_has old.state over.to (old.state.node over.to) (call_of over.from message) h)) (λ network k. taken_net over more network k)
+      (step_net old (system.taken over message old.state) (called_has old.state over.to (old.state.node over.to) (call_of over.from message) h))
+      (λ network k. taken_net over more network k)
 
   moved_net : (over : Direction) (count : ℕ) (old : OctetNetwork Nodes) → HasCosts old.state → NetHas (moved system old over count)
   moved_net over count old h =
@@ -120,26 +123,32 @@ module _ (costs : Costs) where
 
   act_net : (one : OctetAct NodeCall) → IsSteadyOctetAct one → (old : OctetNetwork Nodes) → HasCosts old.state → NetHas (octet_act system old one)
   act_net (octets.Move over count) is old h =
-      elim (old.joined over) as (λ b. NetHas (cond b (moved system old over count) (Some (record { network = old; puts = [] })))) [ true ↦ moved_net over count old h | false ↦ h ]
+      elim (old.joined over) as (λ b. NetHas (cond b (moved system old over count) (Some (record { network = old; puts = [] }))))
+      [ true ↦ moved_net over count old h | false ↦ h ]
   act_net (octets.Call call) is old h = step_net old (nodes_called call old.state) (system_has call is old.state h)
   act_net (octets.Lose hit) is old h = h
   act_net (octets.Forget hit) is old h = h
   act_net (octets.Join hit) is old h = h
 
-  pub run_net : (acts : List (OctetAct NodeCall)) → AllByRecursion IsSteadyOctetAct acts → (old : OctetNetwork Nodes) → HasCosts old.state → NetHas (octet_run system old acts)
+  pub run_net : (acts : List (OctetAct NodeCall)) → AllByRecursion IsSteadyOctetAct acts → (old : OctetNetwork Nodes) → HasCosts old.state
+      → NetHas (octet_run system old acts)
   run_net [] is old h = h
-  run_net (one ∷ more) is old h = then_net (octet_act system old one) (λ network. octet_run system network more) (act_net one is.0 old h) (λ network k. run_net more is.1 network k)
+  run_net (one ∷ more) is old h =
+      then_net (octet_act system old one) (λ network. octet_run system network more) (act_net one is.0 old h)
+      (λ network k. run_net more is.1 network k)
 
   -- ---- acts
 
   abbrev pub WorldCosts : World → Type 0
   WorldCosts world = HasCosts world.network.state
 
-  with_net : (world : World) (before : List ReportLine) (found : Option (Behind (OctetNetwork Nodes))) (node : NodeId) → NetHas found → Gives WorldCosts (with_network world before found node)
+  with_net : (world : World) (before : List ReportLine) (found : Option (Behind (OctetNetwork Nodes))) (node : NodeId) → NetHas found
+      → Gives WorldCosts (with_network world before found node)
   with_net world before None node h = tt
   with_net world before (Some new) node h = h
 
-  at_net : (world : World) (node : NodeId) (before : List ReportLine) (acts : List (OctetAct NodeCall)) → AllByRecursion IsSteadyOctetAct acts → WorldCosts world → Gives WorldCosts (at_node world node before acts)
+  at_net : (world : World) (node : NodeId) (before : List ReportLine) (acts : List (OctetAct NodeCall)) → AllByRecursion IsSteadyOctetAct acts
+      → WorldCosts world → Gives WorldCosts (at_node world node before acts)
   at_net world node before acts is h = with_net world before (octet_run system world.network acts) node (run_net acts is world.network h)
 
   aged_net : (found : Result Acted NodeId) → Gives WorldCosts found → Gives WorldCosts (with_aged found)
@@ -148,15 +157,20 @@ module _ (costs : Costs) where
 
   pub act_costs : (one : Act) → IsSteady one → (world : World) → WorldCosts world → Gives WorldCosts (act world one)
   act_costs (Tick ticks) is world h =
-      aged_net (at_node world (record { 0 = 0 }) [] (octets.Call (Elapse ticks) ∷ [])) (at_net world (record { 0 = 0 }) [] (octets.Call (Elapse ticks) ∷ []) (tt, tt) h)
+      aged_net (at_node world (record { 0 = 0 }) [] (octets.Call (Elapse ticks) ∷ []))
+      (at_net world (record { 0 = 0 }) [] (octets.Call (Elapse ticks) ∷ []) (tt, tt) h)
   act_costs (Timers n) is world h = at_net world n [] (octets.Call (Own n steps.Timers) ∷ []) (tt, tt) h
   act_costs (Move kind from to count) is world h =
-      at_net world to (lines.Take kind from to (take count (world.network.transit (direction kind from to))) ∷ []) (octets.Move (direction kind from to) count ∷ []) (tt, tt) h
+      at_net world to (lines.Take kind from to (take count (world.network.transit (direction kind from to))) ∷ [])
+      (octets.Move (direction kind from to) count ∷ []) (tt, tt) h
   act_costs (Lose kind a b) is world h = at_net world a [] (octets.Lose (is_of_session kind a b) ∷ []) (tt, tt) h
-  act_costs (Notice kind a b) is world h = at_net world a [] (octets.Forget (is_from_peer kind a b) ∷ octets.Call (Own a (steps.Noticed kind b)) ∷ []) (tt, (tt, tt)) h
-  act_costs (RaiseFirst kind a b) is world h = at_net world a [] (octets.Join (is_of_session kind a b) ∷ octets.Call (Own a (steps.Raised kind b)) ∷ []) (tt, (tt, tt)) h
+  act_costs (Notice kind a b) is world h =
+      at_net world a [] (octets.Forget (is_from_peer kind a b) ∷ octets.Call (Own a (steps.Noticed kind b)) ∷ []) (tt, (tt, tt)) h
+  act_costs (RaiseFirst kind a b) is world h =
+      at_net world a [] (octets.Join (is_of_session kind a b) ∷ octets.Call (Own a (steps.Raised kind b)) ∷ []) (tt, (tt, tt)) h
   act_costs (RaiseSecond kind a b) is world h = at_net world b [] (octets.Call (Own b (steps.Raised kind a)) ∷ []) (tt, tt) h
-  act_costs (Restart n) is world h = at_net world n [] (octets.Lose (is_at n) ∷ octets.Forget (leads_to n) ∷ octets.Call (Reset n) ∷ []) (tt, (tt, (tt, tt))) h
+  act_costs (Restart n) is world h =
+      at_net world n [] (octets.Lose (is_at n) ∷ octets.Forget (leads_to n) ∷ octets.Call (Reset n) ∷ []) (tt, (tt, (tt, tt))) h
   act_costs (At n call) is world h = at_net world n [] (octets.Call (Own n call) ∷ []) (tt, tt) h
   act_costs (Enter vrf) is world h = enter_keeps (λ network. HasCosts network.state) world vrf h
   act_costs (Land from to place) is world h = land_keeps (λ network. HasCosts network.state) world from to place h

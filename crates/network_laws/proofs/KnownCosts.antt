@@ -42,18 +42,21 @@ use Rattle.network_laws.proofs.SteadyEvents.{IsNoCost, steady_event}
 abbrev follows : NodeId → Costs → Costs
 follows at old = record old { known = λ n. if n.0 == at.0 then old.links else old.known n }
 
-price_costs : (costs : Costs) (a b : NodeId) (cost : ℕ) (world : World) → WorldCosts costs world → Gives (WorldCosts (record costs { links = with_cost a b cost costs.links })) (act world (SetCost a b cost))
+price_costs : (costs : Costs) (a b : NodeId) (cost : ℕ) (world : World) → WorldCosts costs world
+    → Gives (WorldCosts (record costs { links = with_cost a b cost costs.links })) (act world (SetCost a b cost))
 price_costs costs a b cost world h = λ i. record { cores = (h i).cores; links = with_cost a b cost (h i).links; known = (h i).known }
 
 follow_costs : (costs : Costs) (n : NodeId) (world : World) → WorldCosts costs world → Gives (WorldCosts (follows n costs)) (act world (Reroute n))
 follow_costs costs n world h =
-    by (node_called (following nodes n) n (nodes.node n) steps.Rerouted) (called_has (follows n costs) (following nodes n) n (nodes.node n) steps.Rerouted (λ i. follows n (h i)))
+    by (node_called (following nodes n) n (nodes.node n) steps.Rerouted)
+    (called_has (follows n costs) (following nodes n) n (nodes.node n) steps.Rerouted (λ i. follows n (h i)))
   where
     nodes : Nodes
     nodes = world.network.state
 
     by : (o : Option (Stepped Nodes)) → StepHas (follows n costs) o
-        → Gives (WorldCosts (follows n costs)) (with_network world [] (with_step world.network o >>? λ next. with_earlier next.puts (Some (record { network = next.network; puts = [] }))) n)
+        → Gives (WorldCosts (follows n costs)) (with_network world []
+        (with_step world.network o >>? λ next. with_earlier next.puts (Some (record { network = next.network; puts = [] }))) n)
     by None k = tt
     by (Some new) k = k
 
@@ -61,11 +64,13 @@ all_follow : List NodeId → Costs → Costs
 all_follow [] costs = costs
 all_follow (n ∷ more) costs = all_follow more (follows n costs)
 
-row_follows : (ns : List NodeId) (costs : Costs) (world : World) → WorldCosts costs world → Comes (WorldCosts (all_follow ns costs)) (row (map (λ n. Reroute n) ns) world)
+row_follows : (ns : List NodeId) (costs : Costs) (world : World) → WorldCosts costs world
+    → Comes (WorldCosts (all_follow ns costs)) (row (map (λ n. Reroute n) ns) world)
 unfolding all_follow
 row_follows [] costs world h = h
 row_follows (n ∷ more) costs world h =
-    then_comes (WorldCosts (follows n costs)) (WorldCosts (all_follow more (follows n costs))) (one_act world (Reroute n)) (row (map (λ m. Reroute m) more))
+    then_comes (WorldCosts (follows n costs)) (WorldCosts (all_follow more (follows n costs))) (one_act world (Reroute n))
+    (row (map (λ m. Reroute m) more))
     (one_comes (WorldCosts (follows n costs)) world (Reroute n) (follow_costs costs n world h)) (λ next k. row_follows more (follows n costs) next k)
 
 -- what nodes that follow leave
@@ -85,7 +90,8 @@ followed number (suc count) old =
     record {
       cores = x.cores;
       links = x.links;
-      below = λ n lt. x.below n (omega (arith, lt)) ∙ cond-false (n.0 == number) old.links (old.known n) (ne_eqb n.0 number (λ e. omega (arith, e, lt)));
+      below = λ n lt. x.below n (omega (arith, lt))
+          ∙ cond-false (n.0 == number) old.links (old.known n) (ne_eqb n.0 number (λ e. omega (arith, e, lt)));
       within = λ n le lt. elim (cases_eq n.0 number) [
         | inl e ↦ x.below n (omega (arith, e)) ∙ cond-true (n.0 == number) old.links (old.known n) (eq-eqb n.0 number e)
         | inr ne ↦ x.within n (after n.0 number le ne) (omega (arith, lt))
@@ -103,7 +109,8 @@ pub record Know (scenario : Scenario) (cores : Cores) (world : World) : Type 0 w
   pub cores_are : world.network.state.cores ≡ cores
   pub present : (n : NodeId) → n.0 < length scenario.nodes → world.network.state.known n ≡ world.network.state.links
 
-know_by : (scenario : Scenario) (cores : Cores) (costs : Costs) (world : World) → scenario_of world ≡ scenario → WorldCosts costs world → costs.cores ≡ cores → ((n : NodeId) → n.0 < length scenario.nodes → costs.known n ≡ costs.links) → Know scenario cores world
+know_by : (scenario : Scenario) (cores : Cores) (costs : Costs) (world : World) → scenario_of world ≡ scenario → WorldCosts costs world
+    → costs.cores ≡ cores → ((n : NodeId) → n.0 < length scenario.nodes → costs.known n ≡ costs.links) → Know scenario cores world
 know_by scenario cores costs world same h e k = record {
   same = same;
   cores_are = ap (λ (c : Costs). c.cores) h ∙ e;
@@ -112,7 +119,8 @@ know_by scenario cores costs world same h e k = record {
 
 -- what is known behind an outcome
 abbrev KnownBehind : Scenario → Cores → World → Type 0
-KnownBehind scenario cores next = (costs : Costs) × WorldCosts costs next × (costs.cores ≡ cores) × ((n : NodeId) → n.0 < length scenario.nodes → costs.known n ≡ costs.links)
+KnownBehind scenario cores next =
+    (costs : Costs) × WorldCosts costs next × (costs.cores ≡ cores) × ((n : NodeId) → n.0 < length scenario.nodes → costs.known n ≡ costs.links)
 
 cost_known : (scenario : Scenario) (cores : Cores) (world : World) (a b : NodeId) (cost : ℕ) → Know scenario cores world
     → Comes (KnownBehind scenario cores) (row (cost_acts (scenario_of world) a b cost) world)
@@ -129,43 +137,53 @@ cost_known scenario cores world a b cost know =
     (then_comes (WorldCosts priced) (WorldCosts last) (one_act world (SetCost a b cost)) (row (map (λ n. Reroute n) ns))
     (one_comes (WorldCosts priced) world (SetCost a b cost) (price_costs old a b cost world refl)) (λ next h. row_follows ns priced next h))
 
-steady_known : (scenario : Scenario) (cores : Cores) (event : Event) → IsNoCost event → (world : World) → Know scenario cores world → Comes (KnownBehind scenario cores) (done world event)
+steady_known : (scenario : Scenario) (cores : Cores) (event : Event) → IsNoCost event → (world : World) → Know scenario cores world
+    → Comes (KnownBehind scenario cores) (done world event)
 steady_known scenario cores event is world know =
     let old : Costs = costs_of world.network.state in
     comes_as (WorldCosts old) (KnownBehind scenario cores) (done world event) (λ next h. (old, h, know.cores_are, know.present))
     (steady_event (WorldCosts old) (act_costs old) (λ one datagrams h. h) event is world refl)
 
-event_known : (scenario : Scenario) (cores : Cores) (event : Event) (world : World) → Know scenario cores world → Comes (KnownBehind scenario cores) (done world event)
+event_known : (scenario : Scenario) (cores : Cores) (event : Event) (world : World) → Know scenario cores world
+    → Comes (KnownBehind scenario cores) (done world event)
 event_known scenario cores (events.Cost a b cost) world know = cost_known scenario cores world a b cost know
 event_known scenario cores other world know = steady_known scenario cores other tt world know
 
-outcome_known : (scenario : Scenario) (cores : Cores) (old : World) → Know scenario cores old → (timed : Timed) (acts : List Happened) (next : World) → outcome old timed ≡ Done acts next → scenario_of next ≡ scenario → Know scenario cores next
+outcome_known : (scenario : Scenario) (cores : Cores) (old : World) → Know scenario cores old → (timed : Timed) (acts : List Happened) (next : World)
+    → outcome old timed ≡ Done acts next → scenario_of next ≡ scenario → Know scenario cores next
 outcome_known scenario cores old know timed acts next e same =
     let x : KnownBehind scenario cores next = subst (Comes (KnownBehind scenario cores)) e (by (refusal old timed.event)) in
     know_by scenario cores x.0 next same x.1 x.2 x.3
   where
-    by : (o : Option Refusal) → Comes (KnownBehind scenario cores) (elim o [ None ↦ done old timed.event | Some reason ↦ Done (record { act = None; lines = lines.Refused timed.line reason ∷ [] } ∷ []) old ])
+    by : (o : Option Refusal) → Comes (KnownBehind scenario cores)
+        (elim o [ None ↦ done old timed.event | Some reason ↦ Done (record { act = None; lines = lines.Refused timed.line reason ∷ [] } ∷ []) old ])
     by None = event_known scenario cores timed.event old know
     by (Some reason) = (costs_of old.network.state, refl, know.cores_are, know.present)
 
 -- ---- runs
 
-pub runs_known : (scenario : Scenario) (cores : Cores) (all : List Timed) → AllByRecursion (λ timed. IsSoundEvent scenario timed.event) all → (old : World) (number : ℕ) (trace : List Traced) (new : World)
+pub runs_known : (scenario : Scenario) (cores : Cores) (all : List Timed) → AllByRecursion (λ timed. IsSoundEvent scenario timed.event) all
+    → (old : World) (number : ℕ) (trace : List Traced) (new : World)
     → WorldStays scenario old → Know scenario cores old → Runs old number all trace new → Know scenario cores new
 runs_known scenario cores [] sound old number trace new s know run = subst (Know scenario cores) (sym run.1) know
 runs_known scenario cores (timed ∷ more) sound old number trace new s know run =
     let next = turned_stays scenario old s timed sound.0 run.0 run.1 run.3 in
-    runs_known scenario cores more sound.1 run.1 (number + 1) run.2 new next (outcome_known scenario cores old know timed run.0 run.1 run.3 next.0.same) run.5
+    runs_known scenario cores more sound.1 run.1 (number + 1) run.2 new next
+    (outcome_known scenario cores old know timed run.0 run.1 run.3 next.0.same) run.5
 
-pub run_known : (script : Script) (cores : Cores) (all : List Timed) (trace : List Traced) (new : World) → SoundRun cores script all trace new → KnowCosts script.scenario cores new.network.state
+pub run_known : (script : Script) (cores : Cores) (all : List Timed) (trace : List Traced) (new : World) → SoundRun cores script all trace new
+    → KnowCosts script.scenario cores new.network.state
 run_known script cores all trace new run =
     let scenario = script.scenario in
     let stays = run_stays scenario cores all trace new run.scenario run.sound_events run.run in
-    let know = runs_known scenario cores all run.sound_events (start scenario cores) 0 trace new (start_stays scenario cores run.scenario) (record { same = refl; cores_are = refl; present = λ n lt. refl }) run.run in
+    let know =
+    runs_known scenario cores all run.sound_events (start scenario cores) 0 trace new (start_stays scenario cores run.scenario)
+    (record { same = refl; cores_are = refl; present = λ n lt. refl }) run.run in
     record {
       cores_are = know.cores_are;
       links = stays.0.links;
       present = know.present;
-      core = λ n. subst (λ (own : Cores). IsCoreOf (length scenario.nodes) (new.network.state.known n) (own (new.network.state.known n))) (sym know.cores_are)
+      core = λ n. subst (λ (own : Cores). IsCoreOf (length scenario.nodes) (new.network.state.known n) (own (new.network.state.known n)))
+          (sym know.cores_are)
           (run.of_scenario.core (new.network.state.known n) (stays.0.known n));
     }

@@ -36,8 +36,10 @@ released_sound from fec until (uses.Leaving own upstream) s = by (same_fec own f
 freed_sound : (node : NodeId) (usage : LabelUse) → SoundUse usage → SoundUse (freed node usage)
 freed_sound node uses.Free s = s
 freed_sound node (uses.Resting moment) s = s
-freed_sound node (uses.Mapped own upstream) s = elim (upstream.0 == node.0) as (λ t. SoundUse (cond t uses.Free (uses.Mapped own upstream))) [ true ↦ tt | false ↦ s ]
-freed_sound node (uses.Leaving own upstream) s = elim (upstream.0 == node.0) as (λ t. SoundUse (cond t uses.Free (uses.Leaving own upstream))) [ true ↦ tt | false ↦ s ]
+freed_sound node (uses.Mapped own upstream) s =
+    elim (upstream.0 == node.0) as (λ t. SoundUse (cond t uses.Free (uses.Mapped own upstream))) [ true ↦ tt | false ↦ s ]
+freed_sound node (uses.Leaving own upstream) s =
+    elim (upstream.0 == node.0) as (λ t. SoundUse (cond t uses.Free (uses.Leaving own upstream))) [ true ↦ tt | false ↦ s ]
 
 woken_sound : (now : ℕ) (usage : LabelUse) → SoundUse usage → SoundUse (woken now usage)
 woken_sound now uses.Free s = s
@@ -45,10 +47,12 @@ woken_sound now (uses.Mapped own upstream) s = s
 woken_sound now (uses.Leaving own upstream) s = s
 woken_sound now (uses.Resting until) s = elim (nat_le until now) as (λ t. SoundUse (cond t uses.Free (uses.Resting until))) [ true ↦ tt | false ↦ tt ]
 
-uses_changed : (change : LabelUse → LabelUse) → ((usage : LabelUse) → SoundUse usage → SoundUse (change usage)) → (labels : List LabelUse) → AreSoundUses labels → AreSoundUses (map change labels)
+uses_changed : (change : LabelUse → LabelUse) → ((usage : LabelUse) → SoundUse usage → SoundUse (change usage)) → (labels : List LabelUse)
+    → AreSoundUses labels → AreSoundUses (map change labels)
 uses_changed change keeps labels s = (subst (λ n. n ≤ 65536) (sym (length_map change labels)) s.0, each_changed SoundUse change keeps labels s.1)
 
-release_part : (part : LabelData) (label : ℕ) (from : NodeId) (fec : Fec) (until : ℕ) → SoundPart part → (o : Option LabelUse) → use_of part label ≡ o → SoundPart (elim o [ None ↦ part | Some usage ↦ with_use part label (released from fec until usage) ])
+release_part : (part : LabelData) (label : ℕ) (from : NodeId) (fec : Fec) (until : ℕ) → SoundPart part → (o : Option LabelUse) → use_of part label ≡ o
+    → SoundPart (elim o [ None ↦ part | Some usage ↦ with_use part label (released from fec until usage) ])
 release_part part label from fec until s None e = s
 release_part part label from fec until s (Some usage) e =
     let x = used_some part.labels label usage e in
@@ -71,9 +75,12 @@ trees_sound part s =
     let leaves : List Fec = in_order part.leaves in
     let mapped : List Fec = mapped_trees part.labels in
     let all : AllByRecursion IsSoundFec (branches ++ (leaves ++ mapped)) =
-    each_append IsSoundFec branches (leaves ++ mapped) (each_map IsSoundFec (λ (branch : Branch). branch.fec) (in_order part.branches) (each_in_order branch_cmp_total (λ (branch : Branch). IsSoundFec branch.fec) part.branches s.branches))
+    each_append IsSoundFec branches (leaves ++ mapped)
+    (each_map IsSoundFec (λ (branch : Branch). branch.fec) (in_order part.branches)
+    (each_in_order branch_cmp_total (λ (branch : Branch). IsSoundFec branch.fec) part.branches s.branches))
     (each_append IsSoundFec leaves mapped (each_in_order fec_cmp_total IsSoundFec part.leaves s.leaves) (mapped_sound part.labels s.uses)) in
-    each_in_order fec_cmp_total IsSoundFec (sets.from_list (branches ++ (leaves ++ mapped))) (each_member fec_cmp_total fec_cmp_exact IsSoundFec (branches ++ (leaves ++ mapped)) all)
+    each_in_order fec_cmp_total IsSoundFec (sets.from_list (branches ++ (leaves ++ mapped)))
+    (each_member fec_cmp_total fec_cmp_exact IsSoundFec (branches ++ (leaves ++ mapped)) all)
 
 twice_sound : (fecs : List Fec) → AllByRecursion IsSoundFec fecs → AllByRecursion IsSoundFec (twice fecs)
 twice_sound [] s = tt
@@ -85,7 +92,8 @@ twice_sound (fec ∷ more) s = (s.0, (s.0, twice_sound more s.1))
 abbrev IsSoundEffect : Stepped × List Fec → Type 0
 IsSoundEffect own = IsSoundStep own.0.part own.0.puts × AllByRecursion IsSoundFec own.1
 
-mapping_part : (part : LabelData) (branch : Branch) → IsSoundFec branch.fec → SoundPart part → (t : Bool) → SoundPart (cond t (record part { branches = sets.insert part.branches branch }) part)
+mapping_part : (part : LabelData) (branch : Branch) → IsSoundFec branch.fec → SoundPart part → (t : Bool)
+    → SoundPart (cond t (record part { branches = sets.insert part.branches branch }) part)
 mapping_part part branch sound s false = s
 mapping_part part branch sound s true =
     record {
@@ -108,28 +116,62 @@ lost_part part peer s =
     }
 
 timed_part : (place : Place) (now : ℕ) (part : LabelData) → SoundPart part → SoundPart (timed place now part)
-timed_part place now part s = (let new = uses_changed (woken now) (woken_sound now) part.labels (s.few, s.uses) in record { few = new.0; uses = new.1; branches = s.branches; leaves = s.leaves; waiting = s.waiting })
+timed_part place now part s =
+    (let new = uses_changed (woken now) (woken_sound now) part.labels (s.few, s.uses) in
+    record { few = new.0; uses = new.1; branches = s.branches; leaves = s.leaves; waiting = s.waiting })
 
-effect_sound : (place : Place) (now : ℕ) (part : LabelData) (call : Call) → SoundPart part → IsSoundLabelCall call → IsSoundEffect (effect place now part call)
-effect_sound place now part (Taken from (messages.Mapping fec label)) s c = ((mapping_part part (branch_to from fec label) c.0 s (place.is_tree fec), tt), (c.0, tt))
+effect_sound : (place : Place) (now : ℕ) (part : LabelData) (call : Call) → SoundPart part → IsSoundLabelCall call
+    → IsSoundEffect (effect place now part call)
+effect_sound place now part (Taken from (messages.Mapping fec label)) s c =
+    ((mapping_part part (branch_to from fec label) c.0 s (place.is_tree fec), tt), (c.0, tt))
 effect_sound place now part (Taken from (messages.Withdraw fec label)) s c = (
   (
-    record { few = s.few; uses = s.uses; branches = λ branch h. s.branches branch (still branch_cmp_total part.branches (branch_to from fec label) branch h); leaves = s.leaves; waiting = s.waiting },
+    record {
+      few = s.few;
+      uses = s.uses;
+      branches =
+          λ branch h. s.branches branch (still branch_cmp_total part.branches (branch_to from fec label) branch h);
+      leaves = s.leaves;
+      waiting =
+          s.waiting;
+    },
     (release_sound from fec label c.0 c.1, tt),
   ),
   (c.0, tt),
 )
-effect_sound place now part (Taken from (messages.Release fec label)) s c = ((release_part part label from fec (now + place.life + 1) s (use_of part label) refl, tt), tt)
+effect_sound place now part (Taken from (messages.Release fec label)) s c =
+    ((release_part part label from fec (now + place.life + 1) s (use_of part label) refl, tt), tt)
 effect_sound place now part (Taken from (messages.Ignored kind)) s c = ((s, tt), tt)
 effect_sound place now part (Want fec) s c = (
-  (record { few = s.few; uses = s.uses; branches = s.branches; leaves = each_inserted fec_cmp_total fec_cmp_exact IsSoundFec part.leaves fec c s.leaves; waiting = s.waiting }, tt),
+  (
+    record {
+      few = s.few;
+      uses = s.uses;
+      branches = s.branches;
+      leaves =
+          each_inserted fec_cmp_total fec_cmp_exact IsSoundFec part.leaves fec c s.leaves;
+      waiting = s.waiting;
+    },
+    tt,
+  ),
   (c, tt),
 )
 effect_sound place now part (Unwant fec) s c = (
-  (record { few = s.few; uses = s.uses; branches = s.branches; leaves = λ q h. s.leaves q (still fec_cmp_total part.leaves fec q h); waiting = s.waiting }, tt),
+  (
+    record {
+      few = s.few;
+      uses = s.uses;
+      branches = s.branches;
+      leaves = λ q h. s.leaves q (still fec_cmp_total part.leaves fec q h);
+      waiting =
+          s.waiting;
+    },
+    tt,
+  ),
   (c, tt),
 )
-effect_sound place now part (Raised peer) s c = ((record { few = s.few; uses = s.uses; branches = s.branches; leaves = s.leaves; waiting = s.waiting }, tt), tt)
+effect_sound place now part (Raised peer) s c =
+    ((record { few = s.few; uses = s.uses; branches = s.branches; leaves = s.leaves; waiting = s.waiting }, tt), tt)
 effect_sound place now part (Noticed peer) s c = ((lost_part part peer s, tt), trees_sound part s)
 effect_sound place now part Timers s c = ((timed_part place now part s, tt), each_in_order fec_cmp_total IsSoundFec part.waiting s.waiting)
 effect_sound place now part Rerouted s c = ((s, tt), twice_sound (trees part) (trees_sound part s))
@@ -140,7 +182,8 @@ counted_sound : (old : Stepped) → IsSoundStep old.part old.puts → IsSoundSte
 counted_sound old s = (record { few = s.0.few; uses = s.0.uses; branches = s.0.branches; leaves = s.0.leaves; waiting = s.0.waiting }, s.1)
 
 -- A label step at a sound call keeps the label part sound, and puts what is sound.
-pub step_sound : (place : Place) (now : ℕ) (part : LabelData) (call : Call) (new : Stepped) → SoundPart part → IsSoundLabelCall call → label_step place now part call ≡ Some new → IsSoundStep new.part new.puts
+pub step_sound : (place : Place) (now : ℕ) (part : LabelData) (call : Call) (new : Stepped) → SoundPart part → IsSoundLabelCall call
+    → label_step place now part call ≡ Some new → IsSoundStep new.part new.puts
 step_sound place now part call new s c e =
     let own = effect place now part call in
     let x = map_some counted (settle_all place own.1 own.0) new e in

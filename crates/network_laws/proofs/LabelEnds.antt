@@ -45,17 +45,24 @@ none_cut false o e = e
 still_none : (node : NodeId) → maps.remove (maps.empty {X = End} {R = node_cmp}) node ≡ maps.empty
 still_none node =
     maps.same_map node_cmp_total node_cmp_exact (maps.remove maps.empty node) maps.empty (λ q.
-    maps.get-remove node_cmp_total (maps.empty {X = End}) node q ∙ none_cut (eq_by_cmp node_cmp q node) (maps.get (maps.empty {X = End} {R = node_cmp}) q) (no_end q) ∙ sym (no_end q))
+    maps.get-remove node_cmp_total (maps.empty {X = End}) node q
+    ∙ none_cut (eq_by_cmp node_cmp q node) (maps.get (maps.empty {X = End} {R = node_cmp}) q) (no_end q) ∙ sym (no_end q))
 
 -- ---- puts
 
 none_put : (ends : FinMap node_cmp End) (puts : List labels.Put) → ends ≡ maps.empty → numbered ends puts ≡ []
 none_put ends [] e = refl
 none_put ends (put ∷ more) e =
-    ap (λ (o : Option End). elim o [ None ↦ numbered ends more | Some end ↦ record { id = end.next; put = put } ∷ numbered (maps.insert ends put.to (told end)) more ]) (ap (λ (m : FinMap node_cmp End). maps.get m put.to) e ∙ no_end put.to)
+    ap (λ (o : Option End). elim o [
+      | None ↦ numbered ends more
+      | Some end ↦
+          record { id = end.next; put = put } ∷ numbered (maps.insert ends put.to (told end)) more
+    ])
+    (ap (λ (m : FinMap node_cmp End). maps.get m put.to) e ∙ no_end put.to)
     ∙ none_put ends more e
 
-pub no_ends_no_puts : (n : NodeId) (addr : Addr) (place : Place) (now : ℕ) (step : LabelStep) → (effect place now step.old step.call).0.part.ends ≡ maps.empty → label_puts n addr place now step ≡ []
+pub no_ends_no_puts : (n : NodeId) (addr : Addr) (place : Place) (now : ℕ) (step : LabelStep)
+    → (effect place now step.old step.call).0.part.ends ≡ maps.empty → label_puts n addr place now step ≡ []
 no_ends_no_puts n addr place now step e = ap (map (label_put n addr)) (none_put (effect place now step.old step.call).0.part.ends step.new.puts e)
 
 -- ---- steps
@@ -63,25 +70,32 @@ no_ends_no_puts n addr place now step e = ap (map (label_put n addr)) (none_put 
 ends_behind : (ends : FinMap node_cmp End) (puts : List labels.Put) → ends ≡ maps.empty → ends_after ends puts ≡ maps.empty
 ends_behind ends [] e = e
 ends_behind ends (put ∷ more) e =
-    ap (λ (o : Option End). elim o [ None ↦ ends_after ends more | Some end ↦ ends_after (maps.insert ends put.to (told end)) more ]) (ap (λ (m : FinMap node_cmp End). maps.get m put.to) e ∙ no_end put.to)
+    ap (λ (o : Option End). elim o [ None ↦ ends_after ends more | Some end ↦ ends_after (maps.insert ends put.to (told end)) more ])
+    (ap (λ (m : FinMap node_cmp End). maps.get m put.to) e ∙ no_end put.to)
     ∙ ends_behind ends more e
 
-mapping_ends : (part : LabelData) (branch : Branch) (t : Bool) → HasNoEnds part → HasNoEnds (cond t (record part { branches = sets.insert part.branches branch }) part)
+mapping_ends : (part : LabelData) (branch : Branch) (t : Bool) → HasNoEnds part
+    → HasNoEnds (cond t (record part { branches = sets.insert part.branches branch }) part)
 mapping_ends part branch true e = e
 mapping_ends part branch false e = e
 
-release_ends : (part : LabelData) (label : ℕ) (change : LabelUse → LabelUse) (o : Option LabelUse) → HasNoEnds part → HasNoEnds (elim o [ None ↦ part | Some usage ↦ with_use part label (change usage) ])
+release_ends : (part : LabelData) (label : ℕ) (change : LabelUse → LabelUse) (o : Option LabelUse) → HasNoEnds part
+    → HasNoEnds (elim o [ None ↦ part | Some usage ↦ with_use part label (change usage) ])
 release_ends part label change None e = e
 release_ends part label change (Some usage) e = e
 
 none_run : (life now : ℕ) → holds_run life now maps.empty ≡ maps.empty
-none_run life now = ap (λ (all : List (NodeId × End)). maps.from_entries {R = node_cmp} (map (λ (entry : NodeId × End). (entry.0, hold_run life now entry.1)) all)) (no_entries node_cmp End)
+none_run life now =
+    ap (λ (all : List (NodeId × End)). maps.from_entries {R = node_cmp} (map (λ (entry : NodeId × End). (entry.0, hold_run life now entry.1)) all))
+    (no_entries node_cmp End)
 
 -- behind the call's own effect
-pub own_ends_stay_empty : (place : Place) (now : ℕ) (part : LabelData) (call : Call) → IsNoRaise call → part.ends ≡ maps.empty → (effect place now part call).0.part.ends ≡ maps.empty
+pub own_ends_stay_empty : (place : Place) (now : ℕ) (part : LabelData) (call : Call) → IsNoRaise call → part.ends ≡ maps.empty
+    → (effect place now part call).0.part.ends ≡ maps.empty
 own_ends_stay_empty place now part (Taken from (messages.Mapping fec label)) c e = mapping_ends part (branch_to from fec label) (place.is_tree fec) e
 own_ends_stay_empty place now part (Taken from (messages.Withdraw fec label)) c e = e
-own_ends_stay_empty place now part (Taken from (messages.Release fec label)) c e = release_ends part label (released from fec (now + place.life + 1)) (use_of part label) e
+own_ends_stay_empty place now part (Taken from (messages.Release fec label)) c e =
+    release_ends part label (released from fec (now + place.life + 1)) (use_of part label) e
 own_ends_stay_empty place now part (Taken from (messages.Ignored kind)) c e = e
 own_ends_stay_empty place now part (Want fec) c e = e
 own_ends_stay_empty place now part (Unwant fec) c e = e
@@ -102,11 +116,14 @@ settle_ends : (place : Place) (fecs : List Fec) (old new : Stepped) → settle_a
 settle_ends place [] old new e h = subst (λ (s : Stepped). HasNoEnds s.part) (same_Some old new e) h
 settle_ends place (fec ∷ more) old new e h =
     let put = put_by fec (change_of place old.part fec) in
-    let x = bind_some (changed old.part fec (change_of place old.part fec)) (λ next. settle_all place more (record { part = next; puts = old.puts ++ put })) new e in
+    let x = bind_some (changed old.part fec (change_of place old.part fec))
+    (λ next. settle_all place more (record { part = next; puts = old.puts ++ put })) new e in
     settle_ends place more (record { part = x.0; puts = old.puts ++ put }) new x.2 (turn_ends old.part fec (change_of place old.part fec) x.0 x.1 h)
 
-pub ends_stay_empty : (place : Place) (now : ℕ) (part : LabelData) (call : Call) (new : Stepped) → IsNoRaise call → part.ends ≡ maps.empty → label_step place now part call ≡ Some new → new.part.ends ≡ maps.empty
+pub ends_stay_empty : (place : Place) (now : ℕ) (part : LabelData) (call : Call) (new : Stepped) → IsNoRaise call → part.ends ≡ maps.empty
+    → label_step place now part call ≡ Some new → new.part.ends ≡ maps.empty
 ends_stay_empty place now part call new c h e =
     let own = effect place now part call in
     let x = map_some counted (settle_all place own.1 own.0) new e in
-    subst (λ (s : Stepped). HasNoEnds s.part) x.2 (ends_behind x.0.part.ends x.0.puts (settle_ends place own.1 own.0 x.0 x.1 (own_ends_stay_empty place now part call c h)))
+    subst (λ (s : Stepped). HasNoEnds s.part) x.2
+    (ends_behind x.0.part.ends x.0.puts (settle_ends place own.1 own.0 x.0 x.1 (own_ends_stay_empty place now part call c h)))

@@ -27,7 +27,9 @@ below_none Greater v o h e = absurd h
 -- a key below all others is not among them
 missed : {K X : Type 0} (R : K → K → Ordering) (q : K) (es : List (K × X)) → T (below_all R q es) → find R q es ≡ None
 missed R q [] h = refl
-missed R q (e ∷ es) h = below_none (R q e.0) e.1 (find R q es) (front_of (is_lt (R q e.0)) (below_all R q es) h) (missed R q es (back_of (is_lt (R q e.0)) (below_all R q es) h))
+missed R q (e ∷ es) h =
+    below_none (R q e.0) e.1 (find R q es) (front_of (is_lt (R q e.0)) (below_all R q es) h)
+    (missed R q es (back_of (is_lt (R q e.0)) (below_all R q es) h))
 
 module _ {K X : Type 0} {R : K → K → Ordering} (total : IsTotalOrder R) where
   tied_alike : (q x : K) → eq_by_cmp R q x ≡ true → (es : List (K × X)) → find R q es ≡ find R x es
@@ -49,7 +51,8 @@ module _ {K X : Type 0} {R : K → K → Ordering} (total : IsTotalOrder R) wher
   each_found P [] rises each = tt
   each_found P (e ∷ es) rises each = (
     each e (cond-true (eq_by_cmp R e.0 e.0) (Some e.1) (find R e.0 es) (ap is_eq (tied_itself total e.0))),
-    each_found P es (back_of (below_all R e.0 es) (is_sorted R es) rises) (λ f is. each f (behind e es f.0 f.1 (front_of (below_all R e.0 es) (is_sorted R es) rises) is)),
+    each_found P es (back_of (below_all R e.0 es) (is_sorted R es) rises)
+        (λ f is. each f (behind e es f.0 f.1 (front_of (below_all R e.0 es) (is_sorted R es) rises) is)),
   )
 
   pub each_entry : (P : K × X → Type 0) (m : FinMap R X) → ((k : K) (v : X) → maps.get m k ≡ Some v → P (k, v)) → AllByRecursion P (maps.entries m)

@@ -51,10 +51,12 @@ fresh_part_is_sound count few =
 
 -- ---- one step
 
-pub part_stays_sound : (place : Place) (now : ℕ) (part : LabelData) (call : Call) (new : Stepped) → SoundPart part → IsSoundLabelCall call → label_step place now part call ≡ Some new → SoundPart new.part
+pub part_stays_sound : (place : Place) (now : ℕ) (part : LabelData) (call : Call) (new : Stepped) → SoundPart part → IsSoundLabelCall call
+    → label_step place now part call ≡ Some new → SoundPart new.part
 part_stays_sound place now part call new s c e = (step_sound place now part call new s c e).0
 
-pub puts_are_sound : (place : Place) (now : ℕ) (part : LabelData) (call : Call) (new : Stepped) → SoundPart part → IsSoundLabelCall call → label_step place now part call ≡ Some new → AllByRecursion IsSoundPut new.puts
+pub puts_are_sound : (place : Place) (now : ℕ) (part : LabelData) (call : Call) (new : Stepped) → SoundPart part → IsSoundLabelCall call
+    → label_step place now part call ≡ Some new → AllByRecursion IsSoundPut new.puts
 puts_are_sound place now part call new s c e = (step_sound place now part call new s c e).1
 
 -- ---- octets
@@ -64,26 +66,39 @@ abbrev pub IsRouterAddr : Addr → Type 0
 IsRouterAddr addr = (length (addr_octets addr) ≡ 4) × IsOctets (addr_octets addr)
 
 -- that of a node of the scenario
-pub node_addr_is_router : (scenario : Scenario) (n : NodeId) → SoundScenario scenario → n.0 < length scenario.nodes → IsRouterAddr (addr_of scenario n)
-node_addr_is_router scenario n s within = (let host = addr_host scenario s n within in (host_length (addr_of scenario n) host, host_octets (addr_of scenario n) host))
+pub node_addr_is_router : (scenario : Scenario) (n : NodeId) → SoundScenario scenario → n.0 < length scenario.nodes
+    → IsRouterAddr (addr_of scenario n)
+node_addr_is_router scenario n s within =
+    (let host = addr_host scenario s n within in (host_length (addr_of scenario n) host, host_octets (addr_of scenario n) host))
 
 -- what is put is spelled
 abbrev pub IsSpelledPut : Put → Type 0
 IsSpelledPut put = IsPut put.over.kind put.unit.messages put.unit.octets
 
-put_spelled : (n : NodeId) (addr : Addr) (id : ℕ) (put : labels.Put) → IsRouterAddr addr → IsSoundPut put → IsSpelledPut (label_put n addr (record { id = id; put = put }))
-put_spelled n addr id put router sound = ((put.message ∷ [], refl, pdu_spelled addr id put.message sound.0 router.0), pdu_octets addr id put.message router.1 sound.1)
+put_spelled : (n : NodeId) (addr : Addr) (id : ℕ) (put : labels.Put) → IsRouterAddr addr → IsSoundPut put
+    → IsSpelledPut (label_put n addr (record { id = id; put = put }))
+put_spelled n addr id put router sound =
+    ((put.message ∷ [], refl, pdu_spelled addr id put.message sound.0 router.0), pdu_octets addr id put.message router.1 sound.1)
 
-numbered_spelled : (n : NodeId) (addr : Addr) (ends : FinMap node_cmp End) (puts : List labels.Put) → IsRouterAddr addr → AllByRecursion IsSoundPut puts → AllByRecursion IsSpelledPut (map (label_put n addr) (numbered ends puts))
+numbered_spelled : (n : NodeId) (addr : Addr) (ends : FinMap node_cmp End) (puts : List labels.Put) → IsRouterAddr addr
+    → AllByRecursion IsSoundPut puts → AllByRecursion IsSpelledPut (map (label_put n addr) (numbered ends puts))
 numbered_spelled n addr ends [] router sound = tt
 numbered_spelled n addr ends (put ∷ more) router sound =
-    elim (maps.get ends put.to) as (λ (o : Option End). AllByRecursion IsSpelledPut (map (label_put n addr) (elim o [ None ↦ numbered ends more | Some end ↦ record { id = end.next; put = put } ∷ numbered (maps.insert ends put.to (told end)) more ]))) [
+    elim (maps.get ends put.to) as (λ (o : Option End). AllByRecursion IsSpelledPut
+    (map (label_put n addr) (elim o [
+      | None ↦ numbered ends more
+      | Some end ↦
+          record { id = end.next; put = put } ∷ numbered (maps.insert ends put.to (told end)) more
+    ]))) [
       | None ↦ numbered_spelled n addr ends more router sound.1
       | Some end ↦ (put_spelled n addr end.next put router sound.0, numbered_spelled n addr (maps.insert ends put.to (told end)) more router sound.1)
     ]
 
-pub label_puts_are_put : (n : NodeId) (addr : Addr) (place : Place) (now : ℕ) (step : LabelStep) → IsRouterAddr addr → AllByRecursion IsSoundPut step.new.puts → AllByRecursion (λ (put : Put). IsPut put.over.kind put.unit.messages put.unit.octets) (label_puts n addr place now step)
-label_puts_are_put n addr place now step router sound = numbered_spelled n addr (effect place now step.old step.call).0.part.ends step.new.puts router sound
+pub label_puts_are_put : (n : NodeId) (addr : Addr) (place : Place) (now : ℕ) (step : LabelStep) → IsRouterAddr addr
+    → AllByRecursion IsSoundPut step.new.puts → AllByRecursion (λ (put : Put). IsPut put.over.kind put.unit.messages put.unit.octets)
+    (label_puts n addr place now step)
+label_puts_are_put n addr place now step router sound =
+    numbered_spelled n addr (effect place now step.old step.call).0.part.ends step.new.puts router sound
 
 -- ---- a row of steps
 
@@ -91,18 +106,27 @@ label_puts_are_put n addr place now step router sound = numbered_spelled n addr 
 abbrev pub PutsSound : LabelStep → Type 0
 PutsSound step = AllByRecursion IsSoundPut step.new.puts
 
-pub row_stays_sound : (place : EdgePlace) (now : ℕ) (part : LabelData) (calls : List Call) (row : List LabelStep) → SoundPart part → AllByRecursion IsSoundLabelCall calls → label_row place now part calls ≡ Some row
+pub row_stays_sound : (place : EdgePlace) (now : ℕ) (part : LabelData) (calls : List Call) (row : List LabelStep) → SoundPart part
+    → AllByRecursion IsSoundLabelCall calls → label_row place now part calls ≡ Some row
     → SoundPart (part_after part row) × AllByRecursion PutsSound row
-row_stays_sound place now part [] row s c e = subst (λ (steps : List LabelStep). SoundPart (part_after part steps) × AllByRecursion PutsSound steps) (same_Some [] row e) (s, tt)
+row_stays_sound place now part [] row s c e =
+    subst (λ (steps : List LabelStep). SoundPart (part_after part steps) × AllByRecursion PutsSound steps) (same_Some [] row e) (s, tt)
 row_stays_sound place now part (call ∷ more) row s c e =
     let own = label_place place.scenario place.core place.me in
-    let first = bind_some (label_step own now part call) (λ new. label_row place now new.part more >>? λ behind. Some (record { old = part; call = call; new = new } ∷ behind)) row e in
-    let rest = bind_some (label_row place now first.0.part more) (λ behind. Some (record { old = part; call = call; new = first.0 } ∷ behind)) row first.2 in
+    let first =
+    bind_some (label_step own now part call) (λ new. label_row place now new.part more >>? λ behind. Some
+    (record { old = part; call = call; new = new } ∷ behind)) row e in
+    let rest =
+    bind_some (label_row place now first.0.part more) (λ behind. Some (record { old = part; call = call; new = first.0 } ∷ behind)) row first.2 in
     let now_sound = step_sound own now part call first.0 s c.0 first.1 in
     let then_sound = row_stays_sound place now first.0.part more rest.0 now_sound.0 c.1 rest.1 in
-    subst (λ (steps : List LabelStep). SoundPart (part_after part steps) × AllByRecursion PutsSound steps) (same_Some (record { old = part; call = call; new = first.0 } ∷ rest.0) row rest.2) (then_sound.0, (now_sound.1, then_sound.1))
+    subst (λ (steps : List LabelStep). SoundPart (part_after part steps) × AllByRecursion PutsSound steps)
+    (same_Some (record { old = part; call = call; new = first.0 } ∷ rest.0) row rest.2) (then_sound.0, (now_sound.1, then_sound.1))
 
 -- what a row of such steps puts is spelled
-pub row_puts_are_put : (n : NodeId) (addr : Addr) (place : Place) (now : ℕ) (row : List LabelStep) → IsRouterAddr addr → AllByRecursion PutsSound row → AllByRecursion IsSpelledPut (flat_map (label_puts n addr place now) row)
+pub row_puts_are_put : (n : NodeId) (addr : Addr) (place : Place) (now : ℕ) (row : List LabelStep) → IsRouterAddr addr → AllByRecursion PutsSound row
+    → AllByRecursion IsSpelledPut (flat_map (label_puts n addr place now) row)
 row_puts_are_put n addr place now row router sound =
-    each_flat IsSpelledPut (label_puts n addr place now) row (each_weaker PutsSound (λ step. AllByRecursion IsSpelledPut (label_puts n addr place now step)) (λ step own. label_puts_are_put n addr place now step router own) row sound)
+    each_flat IsSpelledPut (label_puts n addr place now) row
+    (each_weaker PutsSound (λ step. AllByRecursion IsSpelledPut (label_puts n addr place now step))
+    (λ step own. label_puts_are_put n addr place now step router own) row sound)

@@ -44,7 +44,9 @@ tlv_octets : (kind : ℕ) (value : List ℕ) → IsOctets value → IsOctets (tl
 tlv_octets kind value p = octets_behind16 (0 * 2 ^ 14 + kind) (to_be_bytes w16 (length value) ++ value) (octets_behind16 (length value) value p)
 
 tlvs_octets : (fec : Fec) (label : ℕ) → IsOctets (fecs.written fec) → IsOctets (written_tlvs fec label)
-tlvs_octets fec label p = octets_append (tlv 0 256 (fecs.written fec)) (tlv 0 512 (to_be_bytes w32 label)) (tlv_octets 256 (fecs.written fec) p) (tlv_octets 512 (to_be_bytes w32 label) (octets_of_32 label))
+tlvs_octets fec label p =
+    octets_append (tlv 0 256 (fecs.written fec)) (tlv 0 512 (to_be_bytes w32 label)) (tlv_octets 256 (fecs.written fec) p)
+    (tlv_octets 512 (to_be_bytes w32 label) (octets_of_32 label))
 
 message_octets : (id : ℕ) (message : LabelMessage) → IsOctets (written_body message) → IsOctets (written_message id message)
 message_octets id message p =
@@ -53,20 +55,26 @@ message_octets id message p =
     (octets_behind16 (4 + length body) (to_be_bytes w32 id ++ body) (octets_append (to_be_bytes w32 id) body (octets_of_32 id) p))
 
 -- what is written of a message is octets
-pub pdu_octets : (addr : Addr) (id : ℕ) (message : LabelMessage) → IsOctets (addr_octets addr) → IsOctets (written_body message) → IsOctets (written addr id message)
+pub pdu_octets : (addr : Addr) (id : ℕ) (message : LabelMessage) → IsOctets (addr_octets addr) → IsOctets (written_body message)
+    → IsOctets (written addr id message)
 pdu_octets addr id message own p =
     let text : List ℕ = written_message id message in
     let ident : List ℕ = addr_octets addr ++ 0 ∷ 0 ∷ [] in
-    let ident_fits : IsOctets ident = octets_append (addr_octets addr) (0 ∷ 0 ∷ []) own (octets_cons 0 (0 ∷ []) (omega arith) (octets_cons 0 [] (omega arith) no_octets)) in
-    octets_behind16 1 (to_be_bytes w16 (6 + length text) ++ (ident ++ text)) (octets_behind16 (6 + length text) (ident ++ text) (octets_append ident text ident_fits (message_octets id message p)))
+    let ident_fits : IsOctets ident =
+    octets_append (addr_octets addr) (0 ∷ 0 ∷ []) own (octets_cons 0 (0 ∷ []) (omega arith) (octets_cons 0 [] (omega arith) no_octets)) in
+    octets_behind16 1 (to_be_bytes w16 (6 + length text) ++ (ident ++ text))
+    (octets_behind16 (6 + length text) (ident ++ text) (octets_append ident text ident_fits (message_octets id message p)))
 
 -- ---- puts
 
-pub mapping_sound : (to : _) (fec : Fec) (label : ℕ) → IsSoundFec fec → IsLabel label → IsSoundPut (record { to = to; message = messages.Mapping fec label })
+pub mapping_sound : (to : _) (fec : Fec) (label : ℕ) → IsSoundFec fec → IsLabel label
+    → IsSoundPut (record { to = to; message = messages.Mapping fec label })
 mapping_sound to fec label sound own = ((sound.0, own), tlvs_octets fec label sound.1)
 
-pub withdraw_sound : (to : _) (fec : Fec) (label : ℕ) → IsSoundFec fec → IsLabel label → IsSoundPut (record { to = to; message = messages.Withdraw fec label })
+pub withdraw_sound : (to : _) (fec : Fec) (label : ℕ) → IsSoundFec fec → IsLabel label
+    → IsSoundPut (record { to = to; message = messages.Withdraw fec label })
 withdraw_sound to fec label sound own = ((sound.0, own), tlvs_octets fec label sound.1)
 
-pub release_sound : (to : _) (fec : Fec) (label : ℕ) → IsSoundFec fec → IsLabel label → IsSoundPut (record { to = to; message = messages.Release fec label })
+pub release_sound : (to : _) (fec : Fec) (label : ℕ) → IsSoundFec fec → IsLabel label
+    → IsSoundPut (record { to = to; message = messages.Release fec label })
 release_sound to fec label sound own = ((sound.0, own), tlvs_octets fec label sound.1)

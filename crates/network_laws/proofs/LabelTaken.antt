@@ -25,10 +25,12 @@ use Rattle.network_laws.proofs.LabelSound.{IsSoundLabelMessage}
 
 -- behind two numbers of two octets
 behind_two : (a b : ℕ) (rest text : List ℕ) → text ≡ to_be_bytes w16 a ++ (to_be_bytes w16 b ++ rest) → IsOctets text → IsOctets rest
-behind_two a b rest text parts fits = IsOctets-behind (to_be_bytes w16 b) rest (IsOctets-behind (to_be_bytes w16 a) (to_be_bytes w16 b ++ rest) (subst IsOctets parts fits))
+behind_two a b rest text parts fits =
+    IsOctets-behind (to_be_bytes w16 b) rest (IsOctets-behind (to_be_bytes w16 a) (to_be_bytes w16 b ++ rest) (subst IsOctets parts fits))
 
 -- the octets of parts are octets
-part_octets : {M : Type 0} (Spells : M → List ℕ → Type 0) (Fits : List M → M → Type 0) (before : List M) (octets : List ℕ) (ms : List M) → ArePartsAfter Spells Fits before octets ms [] → IsOctets octets
+part_octets : {M : Type 0} (Spells : M → List ℕ → Type 0) (Fits : List M → M → Type 0) (before : List M) (octets : List ℕ) (ms : List M)
+    → ArePartsAfter Spells Fits before octets ms [] → IsOctets octets
     → AllByRecursion (λ m. (text : List ℕ) × Spells m text × IsOctets text) ms
 part_octets Spells Fits before octets [] are fits = tt
 part_octets Spells Fits before octets (m ∷ ms) (text, after, spells, new, parts, more) fits =
@@ -70,11 +72,14 @@ unit_sound ms text s fits =
 units_sound : (units : List (Spelled LabelMessage)) → AreUnits SpellsMessage units → IsOctets (octets_of units) → AreSoundMessages (messages_of units)
 units_sound [] each fits = tt
 units_sound (unit ∷ more) each fits =
-    each_append IsSoundLabelMessage unit.messages (messages_of more) (unit_sound unit.messages unit.octets each.0 (IsOctets-before unit.octets (octets_of more) fits)) (units_sound more each.1 (IsOctets-behind unit.octets (octets_of more) fits))
+    each_append IsSoundLabelMessage unit.messages (messages_of more)
+    (unit_sound unit.messages unit.octets each.0 (IsOctets-before unit.octets (octets_of more) fits))
+    (units_sound more each.1 (IsOctets-behind unit.octets (octets_of more) fits))
 
 -- ---- a PDU
 
-pub taken_message_is_sound : (plain : List LabelMessage) (text : List ℕ) → SpellsPdu plain text → IsOctets text → AllByRecursion IsSoundLabelMessage plain
+pub taken_message_is_sound : (plain : List LabelMessage) (text : List ℕ) → SpellsPdu plain text → IsOctets text
+    → AllByRecursion IsSoundLabelMessage plain
 taken_message_is_sound plain text s fits =
     let inner : IsOctets s.body = IsOctets-behind s.ident s.body (behind_two 1 (6 + length s.body) (s.ident ++ s.body) text s.parts fits) in
     let all : IsOctets (octets_of s.messages.units) = IsOctets-before (octets_of s.messages.units) [] (subst IsOctets s.messages.parts inner) in
@@ -91,7 +96,8 @@ unit_messages : (kind : Kind) (ms : List SessionMessage) (text : List ℕ) → I
 unit_messages kinds.Bgp ms text ((plain, same, spells), fits) =
     let as_message : Message → SessionMessage = λ message. Bgp message in
     let one : updates.SpellsMessage (spells.message ∷ []) text = subst (λ (list : List Message). updates.SpellsMessage list text) spells.one spells in
-    let each : AllByRecursion (λ message. IsSoundMessage (as_message message)) plain = subst (AllByRecursion (λ message. IsSoundMessage (as_message message))) (sym spells.one) ((text, one, fits), tt) in
+    let each : AllByRecursion (λ message. IsSoundMessage (as_message message)) plain =
+    subst (AllByRecursion (λ message. IsSoundMessage (as_message message))) (sym spells.one) ((text, one, fits), tt) in
     subst (AllByRecursion IsSoundMessage) (sym same) (each_map IsSoundMessage as_message plain each)
 unit_messages kinds.Ldp ms text ((plain, same, spells), fits) =
     let as_message : LabelMessage → SessionMessage = λ message. Label message in
@@ -99,4 +105,6 @@ unit_messages kinds.Ldp ms text ((plain, same, spells), fits) =
 
 -- one of the messages of a unit
 pub carried_is_sound : (kind : Kind) (message : SessionMessage) → IsCarried kind message → IsSoundMessage message
-carried_is_sound kind message carried = each_inner IsSoundMessage carried.before message carried.behind (unit_messages kind (carried.before ++ message ∷ carried.behind) carried.text carried.put)
+carried_is_sound kind message carried =
+    each_inner IsSoundMessage carried.before message carried.behind
+    (unit_messages kind (carried.before ++ message ∷ carried.behind) carried.text carried.put)

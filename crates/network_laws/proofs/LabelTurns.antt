@@ -41,7 +41,8 @@ uses_set labels k usage sound own = (
   each_set SoundUse labels k usage sound.1 own,
 )
 
-turn_labels : (place : Place) (old : LabelData) (fec : Fec) (new : LabelData) (more : List Put) → IsSoundFec fec → AreSoundUses old.labels → Turn place old fec new more → AreSoundUses new.labels × AllByRecursion IsSoundPut more
+turn_labels : (place : Place) (old : LabelData) (fec : Fec) (new : LabelData) (more : List Put) → IsSoundFec fec → AreSoundUses old.labels
+    → Turn place old fec new more → AreSoundUses new.labels × AllByRecursion IsSoundPut more
 turn_labels place old fec new more sound few t = elim t.how [
   | inl q ↦ (subst AreSoundUses (sym q.labels) few, subst (AllByRecursion IsSoundPut) (sym q.silent) tt)
   | inr (inl m) ↦ (
@@ -50,7 +51,8 @@ turn_labels place old fec new more sound few t = elim t.how [
   )
   | inr (inr w) ↦ (
     subst AreSoundUses (sym w.labels) (uses_set old.labels (w.label - 16) (uses.Leaving fec w.to) few sound),
-    subst (AllByRecursion IsSoundPut) (sym w.put) (withdraw_sound w.to fec w.label sound (label_is old w.label (uses.Mapped fec w.to) few.0 w.was), tt),
+    subst (AllByRecursion IsSoundPut) (sym w.put)
+        (withdraw_sound w.to fec w.label sound (label_is old w.label (uses.Mapped fec w.to) few.0 w.was), tt),
   )
 ]
 
@@ -59,12 +61,16 @@ turn_labels place old fec new more sound few t = elim t.how [
 abbrev AreSoundWaiting : LabelData → Type 0
 AreSoundWaiting part = (fec : Fec) → sets.contains part.waiting fec ≡ true → IsSoundFec fec
 
-turn_waiting : (part : LabelData) (fec : Fec) (change : Change) (new : LabelData) → IsSoundFec fec → AreSoundWaiting part → changed part fec change ≡ Some new → AreSoundWaiting new
+turn_waiting : (part : LabelData) (fec : Fec) (change : Change) (new : LabelData) → IsSoundFec fec → AreSoundWaiting part
+    → changed part fec change ≡ Some new → AreSoundWaiting new
 turn_waiting part fec changes.Keep new sound each e = subst AreSoundWaiting (same_Some part new e) each
-turn_waiting part fec (changes.Map upstream label) new sound each e = subst AreSoundWaiting (same_Some _ new e) (λ q h. each q (still fec_cmp_total part.waiting fec q h))
+turn_waiting part fec (changes.Map upstream label) new sound each e =
+    subst AreSoundWaiting (same_Some _ new e) (λ q h. each q (still fec_cmp_total part.waiting fec q h))
 turn_waiting part fec (changes.Withdraw upstream label) new sound each e = subst AreSoundWaiting (same_Some _ new e) each
-turn_waiting part fec changes.Wait new sound each e = subst AreSoundWaiting (same_Some _ new e) (each_inserted fec_cmp_total fec_cmp_exact IsSoundFec part.waiting fec sound each)
-turn_waiting part fec changes.Cancel new sound each e = subst AreSoundWaiting (same_Some _ new e) (λ q h. each q (still fec_cmp_total part.waiting fec q h))
+turn_waiting part fec changes.Wait new sound each e =
+    subst AreSoundWaiting (same_Some _ new e) (each_inserted fec_cmp_total fec_cmp_exact IsSoundFec part.waiting fec sound each)
+turn_waiting part fec changes.Cancel new sound each e =
+    subst AreSoundWaiting (same_Some _ new e) (λ q h. each q (still fec_cmp_total part.waiting fec q h))
 turn_waiting part fec changes.NoLabel new sound each e = absurd (none-some new e)
 
 -- ---- a row of turns
@@ -73,7 +79,8 @@ turn_waiting part fec changes.NoLabel new sound each e = absurd (none-some new e
 abbrev pub IsSoundStep : LabelData → List Put → Type 0
 IsSoundStep part puts = SoundPart part × AllByRecursion IsSoundPut puts
 
-turn_sound : (place : Place) (old : LabelData) (puts : List Put) (fec : Fec) (new : LabelData) → IsSoundFec fec → changed old fec (change_of place old fec) ≡ Some new → IsSoundStep old puts
+turn_sound : (place : Place) (old : LabelData) (puts : List Put) (fec : Fec) (new : LabelData) → IsSoundFec fec
+    → changed old fec (change_of place old fec) ≡ Some new → IsSoundStep old puts
     → IsSoundStep new (puts ++ put_by fec (change_of place old fec))
 turn_sound place old puts fec new sound e s =
     let change : Change = change_of place old fec in
@@ -89,9 +96,11 @@ turn_sound place old puts fec new sound e s =
       each_append IsSoundPut puts (put_by fec change) s.1 own.1,
     )
 
-pub settle_sound : (place : Place) (fecs : List Fec) (old new : Stepped) → AllByRecursion IsSoundFec fecs → IsSoundStep old.part old.puts → settle_all place fecs old ≡ Some new → IsSoundStep new.part new.puts
+pub settle_sound : (place : Place) (fecs : List Fec) (old new : Stepped) → AllByRecursion IsSoundFec fecs → IsSoundStep old.part old.puts
+    → settle_all place fecs old ≡ Some new → IsSoundStep new.part new.puts
 settle_sound place [] old new sound s e = subst (λ (x : Stepped). IsSoundStep x.part x.puts) (same_Some old new e) s
 settle_sound place (fec ∷ more) old new sound s e =
     let put = put_by fec (change_of place old.part fec) in
-    let x = bind_some (changed old.part fec (change_of place old.part fec)) (λ next. settle_all place more (record { part = next; puts = old.puts ++ put })) new e in
+    let x = bind_some (changed old.part fec (change_of place old.part fec))
+    (λ next. settle_all place more (record { part = next; puts = old.puts ++ put })) new e in
     settle_sound place more (record { part = x.0; puts = old.puts ++ put }) new sound.1 (turn_sound place old.part old.puts fec x.0 sound.0 x.1 s) x.2

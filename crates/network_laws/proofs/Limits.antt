@@ -85,8 +85,10 @@ module _ {K X : Type 0} {R : K → K → Ordering} (total : IsTotalOrder R) wher
   none_few : (m : FinMap R X) (es : List (K × X)) → maps.entries m ≡ es → ((q : K) → maps.contains_key m q ≡ true → ⊥) → length es ≤ 0
   none_few m [] e none = omega arith
   none_few m (x ∷ es) e none =
-      let own : list_any (eq_by_cmp R x.0) (map (λ (own : K × X). own.0) (x ∷ es)) ≡ true = ap (λ (r : Ordering). is_eq r || list_any (eq_by_cmp R x.0) (map (λ (own : K × X). own.0) es)) (tied_itself total x.0) in
-      absurd (none x.0 (maps.contains_key-keys m x.0 ∙ ap (λ (xs : List (K × X)). list_any (eq_by_cmp R x.0) (map (λ (own : K × X). own.0) xs)) e ∙ own))
+      let own : list_any (eq_by_cmp R x.0) (map (λ (own : K × X). own.0) (x ∷ es)) ≡ true =
+      ap (λ (r : Ordering). is_eq r || list_any (eq_by_cmp R x.0) (map (λ (own : K × X). own.0) es)) (tied_itself total x.0) in
+      absurd (none x.0 (maps.contains_key-keys m x.0 ∙ ap (λ (xs : List (K × X)). list_any (eq_by_cmp R x.0) (map (λ (own : K × X). own.0) xs)) e
+      ∙ own))
 
   -- a map whose keys are among the listed is no longer than the list
   keys_few : (ks : List K) (m : FinMap R X) → ((q : K) → maps.contains_key m q ≡ true → list_any (eq_by_cmp R q) ks ≡ true) → maps.len m ≤ length ks
@@ -98,7 +100,8 @@ module _ {K X : Type 0} {R : K → K → Ordering} (total : IsTotalOrder R) wher
       let rest = keys_few ks (maps.remove m k) (λ q is.
       let x = without (eq_by_cmp R q k) (maps.get m q) (sym (ap is_some (maps.get-remove total m k q)) ∙ is) in
       with_key (eq_by_cmp R q k) (list_any (eq_by_cmp R q) ks) (maps.contains_key m q) (among q) x.0 x.1) in
-      let le : cond (maps.contains_key m k) (maps.len m - 1) (maps.len m) ≤ length ks = (let same = maps.len-remove total m k in omega (arith, rest, same)) in
+      let le : cond (maps.contains_key m k) (maps.len m - 1) (maps.len m) ≤ length ks =
+      (let same = maps.len-remove total m k in omega (arith, rest, same)) in
       let few = taken_one (maps.contains_key m k) (maps.len m) (length ks) le in
       omega (arith, few)
 
@@ -110,9 +113,11 @@ mapped_length : {A B : Type 0} (f : A → B) (xs : List A) → length (map f xs)
 mapped_length f [] = refl
 mapped_length f (x ∷ xs) = (let e = mapped_length f xs in omega (arith, e))
 
-retained_few : {K X : Type 0} {R : K → K → Ordering} → IsTotalOrder R → (m : FinMap R X) (p : K → Bool) → ((q x : K) → R q x ≡ Equal → p x ≡ p q) → maps.len (maps.retain_keys m p) ≤ maps.len m
+retained_few : {K X : Type 0} {R : K → K → Ordering} → IsTotalOrder R → (m : FinMap R X) (p : K → Bool) → ((q x : K) → R q x ≡ Equal → p x ≡ p q)
+    → maps.len (maps.retain_keys m p) ≤ maps.len m
 retained_few {K} {X} {R} total m p alike =
-    let le = keys_few total (maps.keys m) (maps.retain_keys m p) (λ q is. sym (maps.contains_key-keys m q) ∙ kept_some (p q) (maps.get m q) (sym (ap is_some (maps.get-retain_keys m p q (alike q))) ∙ is)) in
+    let le = keys_few total (maps.keys m) (maps.retain_keys m p)
+    (λ q is. sym (maps.contains_key-keys m q) ∙ kept_some (p q) (maps.get m q) (sym (ap is_some (maps.get-retain_keys m p q (alike q))) ∙ is)) in
     let same = mapped_length (λ (e : K × X). e.0) (maps.entries m) in
     let own = maps.len-entries m in
     omega (arith, le, same, own)
@@ -167,7 +172,8 @@ updated_same now peer message old w = by (maps.get old.peers peer)
     by None = w
     by (Some taken) = record { entries = w.entries; notes = w.notes; selections = w.selections }
 
-effect_within : (place : EdgePlace) (now : ℕ) (old : Control) (call : steps.Call) → HasRoom now old call → IsWithin old → IsWithin (effect place now old call)
+effect_within : (place : EdgePlace) (now : ℕ) (old : Control) (call : steps.Call) → HasRoom now old call → IsWithin old
+    → IsWithin (effect place now old call)
 effect_within place now old (steps.Update peer message) room w = updated_same now peer message old w
 effect_within place now old (steps.Label neighbour message) room w = w
 effect_within place now old (steps.Pim iface message) room w = record { entries = room; notes = w.notes; selections = w.selections }
@@ -179,7 +185,12 @@ effect_within place now old (steps.Idle iface source group) room w =
     let note : Note = record { iface = iface; source = source; group = group } in
     let few = w.notes in
     let le = removed_few (sets.contains old.notes note) (sets.len old.notes) in
-    record { entries = w.entries; notes = (let e = sets.len-remove note_total old.notes note in omega (arith, e, le, few)); selections = w.selections }
+    record {
+      entries = w.entries;
+      notes = (let e = sets.len-remove note_total old.notes note in omega (arith, e, le, few));
+      selections =
+          w.selections;
+    }
 effect_within place now old (steps.Select vrf pattern) room w =
     record { entries = w.entries; notes = w.notes; selections = selected }
   where
@@ -202,15 +213,19 @@ effect_within place now old (steps.Noticed kinds.Ldp peer) room w = w
 effect_within place now old steps.Timers room w =
     let few = w.entries in
     let more = w.selections in
-    let kept = retained_few entry_cmp_total old.entries (λ at. counts now (maps.get old.entries at)) (λ q x t. ap (counts now) (maps.get_tied entry_cmp_total old.entries q x t)) in
+    let kept =
+    retained_few entry_cmp_total old.entries (λ at. counts now (maps.get old.entries at))
+    (λ q x t. ap (counts now) (maps.get_tied entry_cmp_total old.entries q x t)) in
     let run = run_few place.scenario.delay now old.selections in
     record { entries = omega (arith, few, kept); notes = w.notes; selections = omega (arith, more, run) }
 effect_within place now old steps.Rerouted room w = w
 
-control_within : (place : EdgePlace) (now : ℕ) (old : Control) (call : steps.Call) → HasRoom now old call → IsWithin old → IsWithin (control_step place now old call)
+control_within : (place : EdgePlace) (now : ℕ) (old : Control) (call : steps.Call) → HasRoom now old call → IsWithin old
+    → IsWithin (control_step place now old call)
 control_within place now old call room w = by (is_vrf_step call) (effect_within place now old call room w)
   where
-    by : (t : Bool) → IsWithin (effect place now old call) → IsWithin (cond t (refreshed place now (effect place now old call)) (effect place now old call))
+    by : (t : Bool) → IsWithin (effect place now old call)
+        → IsWithin (cond t (refreshed place now (effect place now old call)) (effect place now old call))
     by true own = record { entries = own.entries; notes = own.notes; selections = own.selections }
     by false own = own
 
@@ -230,14 +245,17 @@ abbrev StepWithin : Option (Stepped Nodes) → Type 0
 StepWithin None = ⊤
 StepWithin (Some new) = NodesWithin new.state
 
-changed_within : (nodes : Nodes) (at : NodeId) (new : NodeState) → NodesWithin nodes → IsWithin (control_of new) → NodesWithin (with_node nodes at new)
+changed_within : (nodes : Nodes) (at : NodeId) (new : NodeState) → NodesWithin nodes → IsWithin (control_of new)
+    → NodesWithin (with_node nodes at new)
 changed_within nodes at new all own n = elim (n.0 == at.0) as (λ t. IsWithin (control_of (cond t new (nodes.node n)))) [ true ↦ own | false ↦ all n ]
 
-bound_within : {A : Type 0} (o : Option A) (next : A → Option (Stepped Nodes)) → ((x : A) → o ≡ Some x → StepWithin (next x)) → StepWithin (o >>? next)
+bound_within : {A : Type 0} (o : Option A) (next : A → Option (Stepped Nodes)) → ((x : A) → o ≡ Some x → StepWithin (next x))
+    → StepWithin (o >>? next)
 bound_within None next h = tt
 bound_within (Some x) next h = h x refl
 
-edge_within : (nodes : Nodes) (n : NodeId) (edge : EdgeData) (call : steps.Call) → NodesWithin nodes → IsWithin edge.control → HasRoom nodes.clock edge.control call → StepWithin (edge_stepped nodes n edge call)
+edge_within : (nodes : Nodes) (n : NodeId) (edge : EdgeData) (call : steps.Call) → NodesWithin nodes → IsWithin edge.control
+    → HasRoom nodes.clock edge.control call → StepWithin (edge_stepped nodes n edge call)
 edge_within nodes n edge call all own room = by (steps.label_row place nodes.clock edge.part calls)
   where
     place : EdgePlace
@@ -251,26 +269,45 @@ edge_within nodes n edge call all own room = by (steps.label_row place nodes.clo
 
     stepped : Option (List steps.LabelStep) → Option (Stepped Nodes)
     stepped o =
-        let rows : Option steps.EdgeStepped = (o >>? λ row. Some (record { edge = record { control = control; part = steps.part_after edge.part row; raised = steps.raised_after nodes.clock edge.raised call }; row = row })) in
+        let rows : Option steps.EdgeStepped =
+        (o >>? λ row. Some (record {
+          edge = record {
+            control = control;
+            part = steps.part_after edge.part row;
+            raised =
+                steps.raised_after nodes.clock edge.raised call;
+          };
+          row = row;
+        })) in
         rows >>? λ new.
         Some (record {
           state = with_node nodes n (Edge new.edge);
-          puts = bgp_puts place edge.control new.edge.control ++ flat_map (label_puts n (addr_of nodes.scenario n) (label_place_of nodes n) nodes.clock) new.row;
+          puts = bgp_puts place edge.control new.edge.control
+              ++ flat_map (label_puts n (addr_of nodes.scenario n) (label_place_of nodes n) nodes.clock) new.row;
         })
 
     by : (o : Option (List steps.LabelStep)) → StepWithin (stepped o)
     by None = tt
-    by (Some row) = changed_within nodes n (Edge (record { control = control; part = steps.part_after edge.part row; raised = steps.raised_after nodes.clock edge.raised call })) all (control_within place nodes.clock edge.control call room own)
+    by (Some row) =
+        changed_within nodes n (Edge (record {
+          control = control;
+          part = steps.part_after edge.part row;
+          raised =
+              steps.raised_after nodes.clock edge.raised call;
+        })) all (control_within place nodes.clock edge.control call room own)
 
 core_within : (nodes : Nodes) (n : NodeId) (part : LabelData) (o : Option labels.Call) → NodesWithin nodes → StepWithin (core_called nodes n part o)
 core_within nodes n part None all = all
-core_within nodes n part (Some call) all = bound_within (label_step (label_place_of nodes n) nodes.clock part call) _ (λ new e. changed_within nodes n (CoreNode new.part) all no_control_within)
+core_within nodes n part (Some call) all =
+    bound_within (label_step (label_place_of nodes n) nodes.clock part call) _
+    (λ new e. changed_within nodes n (CoreNode new.part) all no_control_within)
 
 -- the call has room at the node
 abbrev pub RoomAt : ℕ → NodeState → steps.Call → Type 0
 RoomAt now node call = HasRoom now (control_of node) call
 
-called_within : (nodes : Nodes) (n : NodeId) (node : NodeState) (call : steps.Call) → NodesWithin nodes → IsWithin (control_of node) → RoomAt nodes.clock node call → StepWithin (node_called nodes n node call)
+called_within : (nodes : Nodes) (n : NodeId) (node : NodeState) (call : steps.Call) → NodesWithin nodes → IsWithin (control_of node)
+    → RoomAt nodes.clock node call → StepWithin (node_called nodes n node call)
 called_within nodes n (Edge edge) call all own room = edge_within nodes n edge call all own room
 called_within nodes n (CoreNode part) call all own room = core_within nodes n part (steps.own_label_call call) all
 
@@ -312,16 +349,19 @@ earlier_net puts None h = tt
 earlier_net puts (Some new) h = h
 
 then_net : (o : Option (Behind (OctetNetwork Nodes))) (next : OctetNetwork Nodes → Option (Behind (OctetNetwork Nodes))) → NetWithin o
-    → ((network : OctetNetwork Nodes) → NodesWithin network.state → NetWithin (next network)) → NetWithin (o >>? λ new. with_earlier new.puts (next new.network))
+    → ((network : OctetNetwork Nodes) → NodesWithin network.state → NetWithin (next network))
+    → NetWithin (o >>? λ new. with_earlier new.puts (next new.network))
 then_net None next h k = tt
 then_net (Some new) next h k = earlier_net new.puts (next new.network) (k new.network h)
 
-taken_net : (over : Direction) (messages : List SessionMessage) (old : OctetNetwork Nodes) → NodesWithin old.state → NetWithin (all_taken system old over messages)
+taken_net : (over : Direction) (messages : List SessionMessage) (old : OctetNetwork Nodes) → NodesWithin old.state
+    → NetWithin (all_taken system old over messages)
 taken_net over [] old all = all
 taken_net over (message ∷ more) old all =
     let node = old.state.node over.to in
     then_net (with_step old (system.taken over message old.state)) (λ network. all_taken system network over more)
-    (step_net old (system.taken over message old.state) (called_within old.state over.to node (call_of over.from message) all (all over.to) (message_room old.state.clock node over.from message)))
+    (step_net old (system.taken over message old.state)
+    (called_within old.state over.to node (call_of over.from message) all (all over.to) (message_room old.state.clock node over.from message)))
     (λ network k. taken_net over more network k)
 
 -- an act whose call has room in whatever network it is made
@@ -336,23 +376,29 @@ act_net (octets.Move over count) is old all =
       transit = λ other. cond (same_direction other over) (drop count (old.transit over)) (old.transit other);
       stream = λ other. cond (same_direction other over) (record new { waiting = [] }) (old.stream other);
     } in
-    elim (old.joined over) as (λ b. NetWithin (cond b (moved system old over count) (Some (record { network = old; puts = [] })))) [ true ↦ taken_net over new.waiting left all | false ↦ all ]
+    elim (old.joined over) as (λ b. NetWithin (cond b (moved system old over count) (Some (record { network = old; puts = [] }))))
+    [ true ↦ taken_net over new.waiting left all | false ↦ all ]
 act_net (octets.Call call) is old all = step_net old (nodes_called call old.state) (system_within call old.state (is old.state) all)
 act_net (octets.Lose hit) is old all = all
 act_net (octets.Forget hit) is old all = all
 act_net (octets.Join hit) is old all = all
 
-run_net : (acts : List (OctetAct NodeCall)) → AllByRecursion IsRoomy acts → (old : OctetNetwork Nodes) → NodesWithin old.state → NetWithin (octet_run system old acts)
+run_net : (acts : List (OctetAct NodeCall)) → AllByRecursion IsRoomy acts → (old : OctetNetwork Nodes) → NodesWithin old.state
+    → NetWithin (octet_run system old acts)
 run_net [] is old all = all
-run_net (one ∷ more) is old all = then_net (octet_act system old one) (λ network. octet_run system network more) (act_net one is.0 old all) (λ network k. run_net more is.1 network k)
+run_net (one ∷ more) is old all =
+    then_net (octet_act system old one) (λ network. octet_run system network more) (act_net one is.0 old all)
+    (λ network k. run_net more is.1 network k)
 
 -- ---- acts
 
-with_net : (world : World) (before : List ReportLine) (found : Option (Behind (OctetNetwork Nodes))) (node : NodeId) → NetWithin found → Gives AreWithin (with_network world before found node)
+with_net : (world : World) (before : List ReportLine) (found : Option (Behind (OctetNetwork Nodes))) (node : NodeId) → NetWithin found
+    → Gives AreWithin (with_network world before found node)
 with_net world before None node h = tt
 with_net world before (Some new) node h = h
 
-at_net : (world : World) (node : NodeId) (before : List ReportLine) (acts : List (OctetAct NodeCall)) → AllByRecursion IsRoomy acts → AreWithin world → Gives AreWithin (at_node world node before acts)
+at_net : (world : World) (node : NodeId) (before : List ReportLine) (acts : List (OctetAct NodeCall)) → AllByRecursion IsRoomy acts → AreWithin world
+    → Gives AreWithin (at_node world node before acts)
 at_net world node before acts is all = with_net world before (octet_run system world.network acts) node (run_net acts is world.network all)
 
 aged_net : (found : Result Acted NodeId) → Gives AreWithin found → Gives AreWithin (with_aged found)
@@ -361,15 +407,20 @@ aged_net (Ok new) h = h
 
 pub act_within : (one : Act) → IsPlain one → (world : World) → AreWithin world → Gives AreWithin (act world one)
 act_within (Tick ticks) is world all =
-    aged_net (at_node world (record { 0 = 0 }) [] (octets.Call (Elapse ticks) ∷ [])) (at_net world (record { 0 = 0 }) [] (octets.Call (Elapse ticks) ∷ []) ((λ nodes. tt), tt) all)
+    aged_net (at_node world (record { 0 = 0 }) [] (octets.Call (Elapse ticks) ∷ []))
+    (at_net world (record { 0 = 0 }) [] (octets.Call (Elapse ticks) ∷ []) ((λ nodes. tt), tt) all)
 act_within (Timers n) is world all = at_net world n [] (octets.Call (Own n steps.Timers) ∷ []) ((λ nodes. tt), tt) all
 act_within (Move kind from to count) is world all =
-    at_net world to (lines.Take kind from to (take count (world.network.transit (direction kind from to))) ∷ []) (octets.Move (direction kind from to) count ∷ []) (tt, tt) all
+    at_net world to (lines.Take kind from to (take count (world.network.transit (direction kind from to))) ∷ [])
+    (octets.Move (direction kind from to) count ∷ []) (tt, tt) all
 act_within (Lose kind a b) is world all = at_net world a [] (octets.Lose (is_of_session kind a b) ∷ []) (tt, tt) all
-act_within (Notice kind a b) is world all = at_net world a [] (octets.Forget (is_from_peer kind a b) ∷ octets.Call (Own a (steps.Noticed kind b)) ∷ []) (tt, ((λ nodes. tt), tt)) all
-act_within (RaiseFirst kind a b) is world all = at_net world a [] (octets.Join (is_of_session kind a b) ∷ octets.Call (Own a (steps.Raised kind b)) ∷ []) (tt, ((λ nodes. tt), tt)) all
+act_within (Notice kind a b) is world all =
+    at_net world a [] (octets.Forget (is_from_peer kind a b) ∷ octets.Call (Own a (steps.Noticed kind b)) ∷ []) (tt, ((λ nodes. tt), tt)) all
+act_within (RaiseFirst kind a b) is world all =
+    at_net world a [] (octets.Join (is_of_session kind a b) ∷ octets.Call (Own a (steps.Raised kind b)) ∷ []) (tt, ((λ nodes. tt), tt)) all
 act_within (RaiseSecond kind a b) is world all = at_net world b [] (octets.Call (Own b (steps.Raised kind a)) ∷ []) ((λ nodes. tt), tt) all
-act_within (Restart n) is world all = at_net world n [] (octets.Lose (is_at n) ∷ octets.Forget (leads_to n) ∷ octets.Call (Reset n) ∷ []) (tt, (tt, ((λ nodes. tt), tt))) all
+act_within (Restart n) is world all =
+    at_net world n [] (octets.Lose (is_at n) ∷ octets.Forget (leads_to n) ∷ octets.Call (Reset n) ∷ []) (tt, (tt, ((λ nodes. tt), tt))) all
 act_within (Enter vrf) is world all = enter_keeps (λ network. NodesWithin network.state) world vrf all
 act_within (Land from to place) is world all = land_keeps (λ network. NodesWithin network.state) world from to place all
 act_within (Drop from to place) is world all = all
@@ -386,11 +437,13 @@ pub follow_within : (n : NodeId) (world : World) → AreWithin world → Gives A
 follow_within n world all = at_net world n [] (octets.Call (Follow n) ∷ []) ((λ nodes. tt), tt) all
 
 -- a call of customers for which there is room
-pub at_within : (n : NodeId) (call : steps.Call) (world : World) → RoomAt (clock_of world) (world.network.state.node n) call → AreWithin world → Gives AreWithin (act world (At n call))
+pub at_within : (n : NodeId) (call : steps.Call) (world : World) → RoomAt (clock_of world) (world.network.state.node n) call → AreWithin world
+    → Gives AreWithin (act world (At n call))
 at_within n call world room all =
     with_net world [] (octet_run system world.network (octets.Call (Own n call) ∷ [])) n
     (then_net (octet_act system world.network (octets.Call (Own n call))) (λ network. octet_run system network [])
-    (step_net world.network (nodes_called (Own n call) world.network.state) (system_within (Own n call) world.network.state room all)) (λ network k. k))
+    (step_net world.network (nodes_called (Own n call) world.network.state) (system_within (Own n call) world.network.state room all))
+    (λ network k. k))
 
 -- ---- refusals
 
@@ -408,10 +461,14 @@ passed_if true reason other e = absurd (none-some reason (sym e))
 
 -- ---- events of customers
 
-at_comes : (n : NodeId) (call : steps.Call) (world : World) → RoomAt (clock_of world) (world.network.state.node n) call → AreWithin world → Comes AreWithin (row (At n call ∷ []) world)
-at_comes n call world room all = then_comes AreWithin AreWithin (one_act world (At n call)) (row []) (one_comes AreWithin world (At n call) (at_within n call world room all)) (λ next k. k)
+at_comes : (n : NodeId) (call : steps.Call) (world : World) → RoomAt (clock_of world) (world.network.state.node n) call → AreWithin world
+    → Comes AreWithin (row (At n call ∷ []) world)
+at_comes n call world room all =
+    then_comes AreWithin AreWithin (one_act world (At n call)) (row []) (one_comes AreWithin world (At n call) (at_within n call world room all))
+    (λ next k. k)
 
-edge_comes : (o : Option NodeId) (call : steps.Call) (world : World) → HasRoom (clock_of world) (control_at world o) call → AreWithin world → Comes AreWithin (at_edge o call world)
+edge_comes : (o : Option NodeId) (call : steps.Call) (world : World) → HasRoom (clock_of world) (control_at world o) call → AreWithin world
+    → Comes AreWithin (at_edge o call world)
 edge_comes None call world room all = all
 edge_comes (Some n) call world room all = at_comes n call world room all
 
@@ -420,9 +477,12 @@ message_comes world None free all = all
 message_comes world (Some given) free all =
     let edge = edge_of (scenario_of world) given.iface in
     let many = are_too_many (applied (control_at world edge).entries given.iface given.message (clock_of world)) in
-    let after_ours = passed_if (not (is_ours (scenario_of world) given)) refusals.Ours (if are_sessions_full world then Some refusals.Full else refused_if many refusals.Full) free in
+    let after_ours =
+    passed_if (not (is_ours (scenario_of world) given)) refusals.Ours
+    (if are_sessions_full world then Some refusals.Full else refused_if many refusals.Full) free in
     let few = refused_not many refusals.Full (passed_if (are_sessions_full world) refusals.Full (refused_if many refusals.Full) after_ours) in
-    edge_comes edge (steps.Pim given.iface given.message) world (ltb-false entry_limit (maps.len (applied (control_at world edge).entries given.iface given.message (clock_of world))) few) all
+    edge_comes edge (steps.Pim given.iface given.message) world
+    (ltb-false entry_limit (maps.len (applied (control_at world edge).entries given.iface given.message (clock_of world))) few) all
 
 noted_room : (t u : Bool) (n : ℕ) → nat_le note_limit n ≡ u → (not t && u) ≡ false → (t ≡ true) ⊎ (n < note_limit)
 noted_room true u n is e = inl refl
@@ -436,21 +496,26 @@ note_comes world note free all =
     let notes = (control_at world edge).notes in
     let full = refused_not (are_sessions_full world || (not (sets.contains notes note) && nat_le note_limit (sets.len notes))) refusals.Full free in
     let parts = or_parts (are_sessions_full world) (not (sets.contains notes note) && nat_le note_limit (sets.len notes)) full in
-    edge_comes edge (steps.Active note.iface note.source note.group) world (noted_room (sets.contains notes note) (nat_le note_limit (sets.len notes)) (sets.len notes) refl parts.1) all
+    edge_comes edge (steps.Active note.iface note.source note.group) world
+    (noted_room (sets.contains notes note) (nat_le note_limit (sets.len notes)) (sets.len notes) refl parts.1) all
 
 select_comes : (world : World) (vrf : VrfId) (pattern : Pattern) → refusal world (events.Select vrf pattern) ≡ None → AreWithin world
     → Comes AreWithin (at_edge (edge_of_vrf (scenario_of world) vrf) (steps.Select vrf pattern) world)
 select_comes world vrf pattern free all =
     let full = are_sessions_full world || nat_le selection_limit (selections_at world vrf) in
     let later = (first_not (refused_if (is_selected world vrf pattern) refusals.State) (refused_if full refusals.Full) free).1 in
-    let few = leb-false selection_limit (selections_at world vrf) (or_parts (are_sessions_full world) (nat_le selection_limit (selections_at world vrf)) (refused_not full refusals.Full later)).1 in
+    let few =
+    leb-false selection_limit (selections_at world vrf)
+    (or_parts (are_sessions_full world) (nat_le selection_limit (selections_at world vrf)) (refused_not full refusals.Full later)).1 in
     edge_comes (edge_of_vrf (scenario_of world) vrf) (steps.Select vrf pattern) world few all
 
 -- ---- events
 
 row_within : (ns : List NodeId) (world : World) → AreWithin world → Comes AreWithin (row (map (λ n. Reroute n) ns) world)
 row_within [] world all = all
-row_within (n ∷ more) world all = then_comes AreWithin AreWithin (one_act world (Reroute n)) (row (map (λ m. Reroute m) more)) (one_comes AreWithin world (Reroute n) (follow_within n world all)) (λ next k. row_within more next k)
+row_within (n ∷ more) world all =
+    then_comes AreWithin AreWithin (one_act world (Reroute n)) (row (map (λ m. Reroute m) more))
+    (one_comes AreWithin world (Reroute n) (follow_within n world all)) (λ next k. row_within more next k)
 
 cost_comes : (world : World) (a b : NodeId) (cost : ℕ) → AreWithin world → Comes AreWithin (row (cost_acts (scenario_of world) a b cost) world)
 cost_comes world a b cost all =
@@ -464,24 +529,34 @@ done_within : (world : World) (event : Event) → refusal world event ≡ None �
 done_within world (events.Join iface entry) free all = message_comes world (message_of (scenario_of world) (events.Join iface entry)) free all
 done_within world (events.Prune iface entry) free all = message_comes world (message_of (scenario_of world) (events.Prune iface entry)) free all
 done_within world (events.Pim iface bytes) free all =
-    message_comes world (message_of (scenario_of world) (events.Pim iface bytes)) (first_not (octets_refusal bytes) (message_refusal world (message_of (scenario_of world) (events.Pim iface bytes))) free).1 all
+    message_comes world (message_of (scenario_of world) (events.Pim iface bytes))
+    (first_not (octets_refusal bytes) (message_refusal world (message_of (scenario_of world) (events.Pim iface bytes))) free).1 all
 done_within world (events.Active iface source group) free all = note_comes world (record { iface = iface; source = source; group = group }) free all
-done_within world (events.Idle iface source group) free all = edge_comes (edge_of (scenario_of world) iface) (steps.Idle iface source group) world tt all
+done_within world (events.Idle iface source group) free all =
+    edge_comes (edge_of (scenario_of world) iface) (steps.Idle iface source group) world tt all
 done_within world (events.Select vrf pattern) free all = select_comes world vrf pattern free all
 done_within world (events.Unselect vrf pattern) free all = edge_comes (edge_of_vrf (scenario_of world) vrf) (steps.Unselect vrf pattern) world tt all
 done_within world (events.Cost a b cost) free all = cost_comes world a b cost all
 done_within world other free all = routine other tt world all
 
-turned_within : (old : World) → AreWithin old → (timed : Timed) (acts : List Happened) (next : World) → outcome old timed ≡ Done acts next → AreWithin next
+turned_within : (old : World) → AreWithin old → (timed : Timed) (acts : List Happened) (next : World) → outcome old timed ≡ Done acts next
+    → AreWithin next
 turned_within old all timed acts next e = subst (Comes AreWithin) e (by (refusal old timed.event) refl)
   where
-    by : (o : Option Refusal) → refusal old timed.event ≡ o → Comes AreWithin (elim o [ None ↦ done old timed.event | Some reason ↦ Done (record { act = None; lines = lines.Refused timed.line reason ∷ [] } ∷ []) old ])
+    by : (o : Option Refusal) → refusal old timed.event ≡ o
+        → Comes AreWithin (elim o [
+          | None ↦ done old timed.event
+          | Some reason ↦
+              Done (record { act = None; lines = lines.Refused timed.line reason ∷ [] } ∷ []) old
+        ])
     by None free = done_within old timed.event free all
     by (Some reason) is = all
 
-pub runs_within : (all : List Timed) (old : World) (number : ℕ) (trace : List Traced) (new : World) → AreWithin old → Runs old number all trace new → AreWithin new
+pub runs_within : (all : List Timed) (old : World) (number : ℕ) (trace : List Traced) (new : World) → AreWithin old → Runs old number all trace new
+    → AreWithin new
 runs_within [] old number trace new k run = subst AreWithin (sym run.1) k
-runs_within (timed ∷ more) old number trace new k run = runs_within more run.1 (number + 1) run.2 new (turned_within old k timed run.0 run.1 run.3) run.5
+runs_within (timed ∷ more) old number trace new k run =
+    runs_within more run.1 (number + 1) run.2 new (turned_within old k timed run.0 run.1 run.3) run.5
 
 pub start_within : (scenario : Scenario) (cores : Cores) → AreWithin (start scenario cores)
 start_within scenario cores n = fresh_within scenario n

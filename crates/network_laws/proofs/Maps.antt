@@ -54,30 +54,36 @@ module _ {K V : Type 0} {R : K → K → Ordering} where
   found_is exact P k v [] a h = absurd cc
   found_is exact P k v (e ∷ es) a h =
       elim (eq_by_cmp R k e.0) as (λ b. eq_by_cmp R k e.0 ≡ b → cond b (Some e.1) (find R k es) ≡ Some v → P k v) [
-        | true ↦ λ tied same. (let value : e.1 ≡ v = cc in subst (P k) value (subst (λ x. P x e.1) (sym (exact k e.0 ((Equal-is (R k e.0)).0 tied))) a.0))
+        | true ↦ λ tied same. (let value : e.1 ≡ v = cc in
+            subst (P k) value (subst (λ x. P x e.1) (sym (exact k e.0 ((Equal-is (R k e.0)).0 tied))) a.0))
         | false ↦ λ tied rest. found_is exact P k v es a.1 rest
       ] refl h
 
-  found_behind : IsTotalOrder R → (e : K × V) (es : List (K × V)) → T (is_sorted R (e ∷ es)) → (k : K) (v : V) → find R k es ≡ Some v → (b : Bool) → eq_by_cmp R k e.0 ≡ b → cond b (Some e.1) (find R k es) ≡ Some v
+  found_behind : IsTotalOrder R → (e : K × V) (es : List (K × V)) → T (is_sorted R (e ∷ es)) → (k : K) (v : V) → find R k es ≡ Some v → (b : Bool)
+      → eq_by_cmp R k e.0 ≡ b → cond b (Some e.1) (find R k es) ≡ Some v
   found_behind total e es sorted k v h true tied =
       let none = none_below R e.0 es (first (below_all R e.0 es) (is_sorted R es) sorted) in
       let same = find_tied R total k e.0 ((Equal-is (R k e.0)).0 tied) es in
       absurd (let bad : Some v ≡ None = sym h ∙ sym same ∙ none in cc)
   found_behind total e es sorted k v h false tied = h
 
-  each_sorted : IsTotalOrder R → (P : K → V → Type 0) (es : List (K × V)) → T (is_sorted R es) → ((k : K) (v : V) → find R k es ≡ Some v → P k v) → AllEntries P es
+  each_sorted : IsTotalOrder R → (P : K → V → Type 0) (es : List (K × V)) → T (is_sorted R es) → ((k : K) (v : V) → find R k es ≡ Some v → P k v)
+      → AllEntries P es
   each_sorted total P [] sorted f = tt
   each_sorted total P (e ∷ es) sorted f = (
     f e.0 e.1 (ap (λ (b : Bool). cond b (Some e.1) (find R e.0 es)) (ap is_eq (tied_itself total e.0))),
-    each_sorted total P es (second (below_all R e.0 es) (is_sorted R es) sorted) (λ k v h. f k v (found_behind total e es sorted k v h (eq_by_cmp R k e.0) refl)),
+    each_sorted total P es (second (below_all R e.0 es) (is_sorted R es) sorted)
+        (λ k v h. f k v (found_behind total e es sorted k v h (eq_by_cmp R k e.0) refl)),
   )
 
   -- what holds of each key with its value holds of each entry
-  pub all_entries : IsTotalOrder R → (P : K → V → Type 0) (m : FinMap R V) → ((k : K) (v : V) → maps.get m k ≡ Some v → P k v) → AllEntries P (maps.entries m)
+  pub all_entries : IsTotalOrder R → (P : K → V → Type 0) (m : FinMap R V) → ((k : K) (v : V) → maps.get m k ≡ Some v → P k v)
+      → AllEntries P (maps.entries m)
   all_entries total P m f = each_sorted total P (maps.entries m) (maps.entries_sorted m) (λ k v h. f k v (maps.get-entries m k ∙ h))
 
   -- what is kept was there
-  pub kept_is : IsAntisymmetric R → (m : FinMap R V) (p : K → Bool) (k : K) (v : V) → maps.get (maps.retain_keys m p) k ≡ Some v → maps.get m k ≡ Some v
+  pub kept_is : IsAntisymmetric R → (m : FinMap R V) (p : K → Bool) (k : K) (v : V) → maps.get (maps.retain_keys m p) k ≡ Some v
+      → maps.get m k ≡ Some v
   kept_is exact m p k v h = passed (p k) (maps.get m k) (sym (maps.get-retain_keys m p k (λ x e. ap p (sym (exact k x e)))) ∙ h)
     where
       passed : (b : Bool) (o : Option V) → cond b o None ≡ Some v → o ≡ Some v
@@ -117,7 +123,8 @@ module _ {K : Type 0} {R : K → K → Ordering} (total : IsTotalOrder R) where
     each_member P xs p k e = among P xs p k (sym (sets.contains-from_list total xs k) ∙ e)
 
     -- what holds of a new member and of the others
-    pub each_inserted : (P : K → Type 0) (s : FinSet R) (k : K) → P k → ((q : K) → sets.contains s q ≡ true → P q) → (q : K) → sets.contains (sets.insert s k) q ≡ true → P q
+    pub each_inserted : (P : K → Type 0) (s : FinSet R) (k : K) → P k → ((q : K) → sets.contains s q ≡ true → P q) → (q : K)
+        → sets.contains (sets.insert s k) q ≡ true → P q
     each_inserted P s k here each q e = elim (or_cases (eq_by_cmp R q k) (sets.contains s q) (sym (sets.contains-insert total s k q) ∙ e)) [
       | inl same ↦ subst P (sym (tied q k same)) here
       | inr old ↦ each q old

@@ -34,7 +34,8 @@ use Rattle.network_laws.proofs.LabelTaken.{IsSoundMessage}
 
 -- It keeps the control of an edge sound, and takes no label message but a sound one.
 pub record IsGoodCall (call : steps.Call) : Type 0 where
-  pub control : (place : EdgePlace) (now : _) (old : Control) → SoundScenario place.scenario → SoundControl old → SoundControl (control_step place now old call)
+  pub control : (place : EdgePlace) (now : _) (old : Control) → SoundScenario place.scenario → SoundControl old
+      → SoundControl (control_step place now old call)
   pub takes : TakesSound call
 
 own_takes : (call : steps.Call) → IsSoundCall call → TakesSound call
@@ -58,8 +59,10 @@ pub rerouted_is_good : IsGoodCall steps.Rerouted
 rerouted_is_good = record { control = λ place now old scenario h. refreshed_sound place now old h; takes = tt }
 
 pub taking_is_good : (from : NodeId) (message : SessionMessage) → IsSoundMessage message → IsGoodCall (call_of from message)
-taking_is_good from (Bgp message) s = record { control = λ place now old scenario h. update_stays_sound place now old from message s.0 scenario h s.1 s.2; takes = tt }
-taking_is_good from (Label message) s = record { control = λ place now old scenario h. label_stays_sound place now old from message scenario h; takes = s }
+taking_is_good from (Bgp message) s =
+    record { control = λ place now old scenario h. update_stays_sound place now old from message s.0 scenario h s.1 s.2; takes = tt }
+taking_is_good from (Label message) s =
+    record { control = λ place now old scenario h. label_stays_sound place now old from message scenario h; takes = s }
 
 pub taking_raises_none : (from : NodeId) (message : SessionMessage) → RaisesNone (call_of from message)
 taking_raises_none from (Bgp message) = tt
@@ -79,19 +82,30 @@ no_control_is_sound = record {
 pub fresh_is_sound : (scenario : Scenario) (n : NodeId) → SoundScenario scenario → SoundNode (fresh_node scenario n)
 fresh_is_sound scenario n s =
     let part = fresh_part_is_sound scenario.labels s.rules.settings.labels.1 in
-    elim (is_edge scenario n) as (λ b. SoundNode (cond b (Edge (edges.fresh scenario.labels)) (CoreNode (labels.fresh scenario.labels)))) [ true ↦ (no_control_is_sound, part) | false ↦ part ]
+    elim (is_edge scenario n) as (λ b. SoundNode (cond b (Edge (edges.fresh scenario.labels)) (CoreNode (labels.fresh scenario.labels))))
+    [ true ↦ (no_control_is_sound, part) | false ↦ part ]
 
 pub fresh_is_bare : (scenario : Scenario) (n : NodeId) → length scenario.nodes ≤ n.0 → IsBare (fresh_node scenario n)
 fresh_is_bare scenario n past = elim (slice_get_cases scenario.nodes n.0).1 [
   | inl there ↦ absurd (omega (arith, past, there.1))
   | inr none ↦
-      subst (λ (o : Option Node). IsBare (cond (elim o [ None ↦ false | Some node ↦ node.edge ]) (Edge (edges.fresh scenario.labels)) (CoreNode (labels.fresh scenario.labels)))) (sym none.1) (λ i. maps.empty)
+      subst (λ (o : Option Node). IsBare (cond (elim o [ None ↦ false | Some node ↦ node.edge ]) (Edge (edges.fresh scenario.labels))
+      (CoreNode (labels.fresh scenario.labels)))) (sym none.1) (λ i. maps.empty)
 ]
 
 pub start_sound : (scenario : Scenario) (cores : Cores) → SoundScenario scenario → Sound scenario (start_nodes scenario cores)
 start_sound scenario cores s =
-    let itself : AreRepriced scenario.links scenario.links = repriced_itself scenario.links (recursion_from_All HasCost scenario.links s.rules.core.topology.costs) in
-    record { same = λ i. scenario; lines = s; links = itself; known = λ n. itself; node = λ n. fresh_is_sound scenario n s; outside = λ n past. fresh_is_bare scenario n past }
+    let itself : AreRepriced scenario.links scenario.links =
+    repriced_itself scenario.links (recursion_from_All HasCost scenario.links s.rules.core.topology.costs) in
+    record {
+      same = λ i. scenario;
+      lines = s;
+      links = itself;
+      known = λ n. itself;
+      node = λ n. fresh_is_sound scenario n s;
+      outside =
+          λ n past. fresh_is_bare scenario n past;
+    }
 
 -- ---- one node becomes another
 
@@ -99,12 +113,15 @@ changed_at : (P : NodeState → Type 0) (b : Bool) (new old : NodeState) → (b 
 changed_at P true new old p q = p (λ i. true)
 changed_at P false new old p q = q
 
-pub changed_node : (scenario : Scenario) (nodes : Nodes) (n : NodeId) (new : NodeState) → Sound scenario nodes → SoundNode new → (length scenario.nodes ≤ n.0 → IsBare new) → Sound scenario (with_node nodes n new)
+pub changed_node : (scenario : Scenario) (nodes : Nodes) (n : NodeId) (new : NodeState) → Sound scenario nodes → SoundNode new
+    → (length scenario.nodes ≤ n.0 → IsBare new) → Sound scenario (with_node nodes n new)
 changed_node scenario nodes n new s sound bare = record {
   same = s.same;
   lines = s.lines;
   links = s.links;
   known = s.known;
   node = λ m. changed_at SoundNode (m.0 == n.0) new (nodes.node m) (λ e. sound) (s.node m);
-  outside = λ m past. changed_at IsBare (m.0 == n.0) new (nodes.node m) (λ e. bare (let same = eqb-true m.0 n.0 e in subst (λ k. length scenario.nodes ≤ k) same past)) (s.outside m past);
+  outside =
+      λ m past. changed_at IsBare (m.0 == n.0) new (nodes.node m)
+      (λ e. bare (let same = eqb-true m.0 n.0 e in subst (λ k. length scenario.nodes ≤ k) same past)) (s.outside m past);
 }

@@ -49,9 +49,12 @@ module _ (scenario : Scenario) (nodes : Nodes) (s : Sound scenario nodes) where
   -- ---- an edge
 
   abbrev edge_calls : NodeId → EdgeData → steps.Call → List labels.Call
-  edge_calls n edge call = one_call (own_label_call call) ++ changed_leaves (leaves (place_of nodes n) edge.control) (leaves (place_of nodes n) (control_step (place_of nodes n) nodes.clock edge.control call))
+  edge_calls n edge call =
+      one_call (own_label_call call) ++ changed_leaves (leaves (place_of nodes n) edge.control)
+      (leaves (place_of nodes n) (control_step (place_of nodes n) nodes.clock edge.control call))
 
-  edge_keeps : (n : NodeId) (edge : EdgeData) (call : steps.Call) → n.0 < length scenario.nodes → SoundNode (Edge edge) → IsGoodCall call → Keeps (Sound scenario) (edge_stepped nodes n edge call)
+  edge_keeps : (n : NodeId) (edge : EdgeData) (call : steps.Call) → n.0 < length scenario.nodes → SoundNode (Edge edge) → IsGoodCall call
+      → Keeps (Sound scenario) (edge_stepped nodes n edge call)
   edge_keeps n edge call lt sound good = by (label_row place nodes.clock edge.part calls) refl
     where
       place : EdgePlace
@@ -73,16 +76,30 @@ module _ (scenario : Scenario) (nodes : Nodes) (s : Sound scenario nodes) where
       }
 
       behind_row : List LabelStep → EdgeStepped
-      behind_row row = record { edge = record { control = control; part = part_after edge.part row; raised = raised_after nodes.clock edge.raised call }; row = row }
+      behind_row row =
+          record {
+            edge = record { control = control; part = part_after edge.part row; raised = raised_after nodes.clock edge.raised call };
+            row =
+                row;
+          }
 
-      by : (o : Option (List LabelStep)) → label_row place nodes.clock edge.part calls ≡ o → Keeps (Sound scenario) ((o >>? λ row. Some (behind_row row)) >>? λ new. Some (stepped new))
+      by : (o : Option (List LabelStep)) → label_row place nodes.clock edge.part calls ≡ o
+          → Keeps (Sound scenario) ((o >>? λ row. Some (behind_row row)) >>? λ new. Some (stepped new))
       by None e = tt
       by (Some row) e =
-          let behind = row_stays_sound place nodes.clock edge.part calls row sound.1 (edge_calls_are_sound place edge.control control call sound.0 control_is good.takes) e in (
-            each_append IsSpelledPut (bgp_puts place edge.control control) (flat_map (label_puts n (addr_of nodes.scenario n) (own_place n) nodes.clock) row)
+          let behind =
+          row_stays_sound place nodes.clock edge.part calls row sound.1
+          (edge_calls_are_sound place edge.control control call sound.0 control_is good.takes) e in (
+            each_append IsSpelledPut (bgp_puts place edge.control control)
+                (flat_map (label_puts n (addr_of nodes.scenario n) (own_place n) nodes.clock) row)
                 (bgp_puts_are_put place edge.control control its_lines sound.0 control_is (is_within n lt))
                 (row_puts_are_put n (addr_of nodes.scenario n) (own_place n) nodes.clock row (router n lt) behind.1),
-            changed_node scenario nodes n (Edge (record { control = control; part = part_after edge.part row; raised = raised_after nodes.clock edge.raised call })) s (control_is, behind.0) (λ past. absurd (omega (arith, lt, past))),
+            changed_node scenario nodes n (Edge (record {
+              control = control;
+              part = part_after edge.part row;
+              raised =
+                  raised_after nodes.clock edge.raised call;
+            })) s (control_is, behind.0) (λ past. absurd (omega (arith, lt, past))),
           )
 
   -- ---- a core node
@@ -91,18 +108,24 @@ module _ (scenario : Scenario) (nodes : Nodes) (s : Sound scenario nodes) where
   abbrev IsPlaced : NodeId → LabelData → labels.Call → Type 0
   IsPlaced n part call = (n.0 < length scenario.nodes) ⊎ ((part.ends ≡ maps.empty) × IsNoRaise call)
 
-  core_puts : (n : NodeId) (part : LabelData) (call : labels.Call) (new : settling.Stepped) → SoundPart part → IsSoundLabelCall call → IsPlaced n part call → label_step (own_place n) nodes.clock part call ≡ Some new
-      → AllByRecursion IsSpelledPut (label_puts n (addr_of nodes.scenario n) (own_place n) nodes.clock (record { old = part; call = call; new = new }))
+  core_puts : (n : NodeId) (part : LabelData) (call : labels.Call) (new : settling.Stepped) → SoundPart part → IsSoundLabelCall call
+      → IsPlaced n part call → label_step (own_place n) nodes.clock part call ≡ Some new
+      → AllByRecursion IsSpelledPut (label_puts n (addr_of nodes.scenario n) (own_place n) nodes.clock
+      (record { old = part; call = call; new = new }))
   core_puts n part call new sound heard (inl lt) e =
-      label_puts_are_put n (addr_of nodes.scenario n) (own_place n) nodes.clock (record { old = part; call = call; new = new }) (router n lt) (puts_are_sound (own_place n) nodes.clock part call new sound heard e)
+      label_puts_are_put n (addr_of nodes.scenario n) (own_place n) nodes.clock (record { old = part; call = call; new = new }) (router n lt)
+      (puts_are_sound (own_place n) nodes.clock part call new sound heard e)
   core_puts n part call new sound heard (inr bare) e =
-      subst (AllByRecursion IsSpelledPut) (sym (no_ends_no_puts n (addr_of nodes.scenario n) (own_place n) nodes.clock (record { old = part; call = call; new = new }) (own_ends_stay_empty (own_place n) nodes.clock part call bare.1 bare.0))) tt
+      subst (AllByRecursion IsSpelledPut) (sym (no_ends_no_puts n (addr_of nodes.scenario n) (own_place n) nodes.clock
+      (record { old = part; call = call; new = new }) (own_ends_stay_empty (own_place n) nodes.clock part call bare.1 bare.0))) tt
 
-  core_bare : (n : NodeId) (part : LabelData) (call : labels.Call) (new : settling.Stepped) → IsPlaced n part call → label_step (own_place n) nodes.clock part call ≡ Some new → length scenario.nodes ≤ n.0 → new.part.ends ≡ maps.empty
+  core_bare : (n : NodeId) (part : LabelData) (call : labels.Call) (new : settling.Stepped) → IsPlaced n part call
+      → label_step (own_place n) nodes.clock part call ≡ Some new → length scenario.nodes ≤ n.0 → new.part.ends ≡ maps.empty
   core_bare n part call new (inl lt) e past = absurd (omega (arith, lt, past))
   core_bare n part call new (inr bare) e past = ends_stay_empty (own_place n) nodes.clock part call new bare.1 bare.0 e
 
-  core_keeps : (n : NodeId) (part : LabelData) (call : labels.Call) → SoundPart part → IsSoundLabelCall call → IsPlaced n part call → Keeps (Sound scenario) (core_stepped nodes n part call)
+  core_keeps : (n : NodeId) (part : LabelData) (call : labels.Call) → SoundPart part → IsSoundLabelCall call → IsPlaced n part call
+      → Keeps (Sound scenario) (core_stepped nodes n part call)
   core_keeps n part call sound heard placed = by (label_step (own_place n) nodes.clock part call) refl
     where
       stepped : settling.Stepped → Stepped Nodes
@@ -111,14 +134,22 @@ module _ (scenario : Scenario) (nodes : Nodes) (s : Sound scenario nodes) where
         puts = label_puts n (addr_of nodes.scenario n) (own_place n) nodes.clock (record { old = part; call = call; new = new });
       }
 
-      by : (o : Option settling.Stepped) → label_step (own_place n) nodes.clock part call ≡ o → Keeps (Sound scenario) (o >>? λ new. Some (stepped new))
+      by : (o : Option settling.Stepped) → label_step (own_place n) nodes.clock part call ≡ o
+          → Keeps (Sound scenario) (o >>? λ new. Some (stepped new))
       by None e = tt
-      by (Some new) e = (core_puts n part call new sound heard placed e, changed_node scenario nodes n (CoreNode new.part) s (part_stays_sound (own_place n) nodes.clock part call new sound heard e) (core_bare n part call new placed e))
+      by (Some new) e = (
+        core_puts n part call new sound heard placed e,
+        changed_node scenario nodes n (CoreNode new.part) s (part_stays_sound (own_place n) nodes.clock part call new sound heard e)
+            (core_bare n part call new placed e),
+      )
 
-  core_call_keeps : (n : NodeId) (part : LabelData) (call : steps.Call) → SoundPart part → IsGoodCall call → (n.0 < length scenario.nodes) ⊎ ((part.ends ≡ maps.empty) × RaisesNone call) → Keeps (Sound scenario) (core_called nodes n part (own_label_call call))
+  core_call_keeps : (n : NodeId) (part : LabelData) (call : steps.Call) → SoundPart part → IsGoodCall call
+      → (n.0 < length scenario.nodes) ⊎ ((part.ends ≡ maps.empty) × RaisesNone call)
+      → Keeps (Sound scenario) (core_called nodes n part (own_label_call call))
   core_call_keeps n part call sound good placed = by (own_label_call call) refl
     where
-      place_by : (own : labels.Call) → own_label_call call ≡ Some own → (n.0 < length scenario.nodes) ⊎ ((part.ends ≡ maps.empty) × RaisesNone call) → IsPlaced n part own
+      place_by : (own : labels.Call) → own_label_call call ≡ Some own → (n.0 < length scenario.nodes) ⊎ ((part.ends ≡ maps.empty) × RaisesNone call)
+          → IsPlaced n part own
       place_by own e (inl lt) = inl lt
       place_by own e (inr bare) = inr (bare.0, own_call_raises_none call own bare.1 e)
 
@@ -128,11 +159,13 @@ module _ (scenario : Scenario) (nodes : Nodes) (s : Sound scenario nodes) where
 
   -- ---- nodes
 
-  node_keeps : (n : NodeId) (state : NodeState) (call : steps.Call) → n.0 < length scenario.nodes → SoundNode state → IsGoodCall call → Keeps (Sound scenario) (node_called nodes n state call)
+  node_keeps : (n : NodeId) (state : NodeState) (call : steps.Call) → n.0 < length scenario.nodes → SoundNode state → IsGoodCall call
+      → Keeps (Sound scenario) (node_called nodes n state call)
   node_keeps n (Edge edge) call lt sound good = edge_keeps n edge call lt sound good
   node_keeps n (CoreNode part) call lt sound good = core_call_keeps n part call sound good (inl lt)
 
-  bare_keeps : (n : NodeId) (state : NodeState) (call : steps.Call) → IsBare state → RaisesNone call → SoundNode state → IsGoodCall call → Keeps (Sound scenario) (node_called nodes n state call)
+  bare_keeps : (n : NodeId) (state : NodeState) (call : steps.Call) → IsBare state → RaisesNone call → SoundNode state → IsGoodCall call
+      → Keeps (Sound scenario) (node_called nodes n state call)
   bare_keeps n (Edge edge) call bare none sound good = absurd bare
   bare_keeps n (CoreNode part) call bare none sound good = core_call_keeps n part call sound good (inr (bare, none))
 
@@ -154,9 +187,11 @@ followed scenario nodes n s = record {
   outside = s.outside;
 }
 
-pub call_keeps : (scenario : Scenario) (nodes : Nodes) → Sound scenario nodes → (call : NodeCall) → IsSoundNodeCall scenario call → Keeps (Sound scenario) (nodes_called call nodes)
+pub call_keeps : (scenario : Scenario) (nodes : Nodes) → Sound scenario nodes → (call : NodeCall) → IsSoundNodeCall scenario call
+    → Keeps (Sound scenario) (nodes_called call nodes)
 call_keeps scenario nodes s (Own n call) sound = node_keeps scenario nodes s n (nodes.node n) call sound.0 (s.node n) (own_is_good call sound.1)
-call_keeps scenario nodes s (Elapse ticks) sound = (tt, record { same = s.same; lines = s.lines; links = s.links; known = s.known; node = s.node; outside = s.outside })
+call_keeps scenario nodes s (Elapse ticks) sound =
+    (tt, record { same = s.same; lines = s.lines; links = s.links; known = s.known; node = s.node; outside = s.outside })
 call_keeps scenario nodes s (Reset n) sound = (
   tt,
   changed_node scenario nodes n (fresh_node nodes.scenario n) s (fresh_is_sound nodes.scenario n (its_lines scenario nodes s))
@@ -178,6 +213,7 @@ call_keeps scenario nodes s (Follow n) sound =
 
 pub honest_nodes : (scenario : Scenario) → IsHonestWhile (sound_system scenario) (Sound scenario)
 honest_nodes scenario = record {
-  taken = λ direction message nodes s carried. any_keeps scenario nodes s direction.to (call_of direction.from message) (taking_raises_none direction.from message) (taking_is_good direction.from message (carried_is_sound direction.kind message carried));
+  taken = λ direction message nodes s carried. any_keeps scenario nodes s direction.to (call_of direction.from message)
+      (taking_raises_none direction.from message) (taking_is_good direction.from message (carried_is_sound direction.kind message carried));
   called = λ call nodes s. call_keeps scenario nodes s call.call call.sound;
 }

@@ -47,10 +47,12 @@ named_again own (entries.Star group) sound = sound
 named_again own (entries.Source source group) sound = sound
 named_again own (entries.Rpt source group) sound = sound
 
-pub join_is_sound : (scenario : Scenario) (iface : IfaceId) (entry : JoinEntry) → SoundEntry entry → SoundMessage (join_of (own_addr scenario iface) entry)
+pub join_is_sound : (scenario : Scenario) (iface : IfaceId) (entry : JoinEntry) → SoundEntry entry
+    → SoundMessage (join_of (own_addr scenario iface) entry)
 join_is_sound scenario iface entry sound = (record { joins = (named_again (own_addr scenario iface) entry sound, tt); prunes = tt }, tt)
 
-pub prune_is_sound : (scenario : Scenario) (iface : IfaceId) (entry : JoinEntry) → SoundEntry entry → SoundMessage (prune_of (own_addr scenario iface) entry)
+pub prune_is_sound : (scenario : Scenario) (iface : IfaceId) (entry : JoinEntry) → SoundEntry entry
+    → SoundMessage (prune_of (own_addr scenario iface) entry)
 prune_is_sound scenario iface entry sound = (record { joins = tt; prunes = (named_again (own_addr scenario iface) entry sound, tt) }, tt)
 
 -- ---- messages that octets spell
@@ -75,11 +77,15 @@ one_family (V6 own) (V6 a) (V4 b) p q = absurd q
 one_family (V6 own) (V4 a) b p q = absurd p
 
 -- the address behind its family, encoding, flags and mask length
-masked_octets : (own : Addr) (flags : ℕ) (addr : Addr) (rest : List ℕ) → IsOctets (masked (family_of own) flags addr ++ rest) → IsOctets (addr_octets addr)
-masked_octets own flags addr rest fits = IsOctets-behind (family_octet (family_of own) ∷ 0 ∷ flags ∷ mask_len (family_of own) ∷ []) (addr_octets addr) (IsOctets-before (masked (family_of own) flags addr) rest fits)
+masked_octets : (own : Addr) (flags : ℕ) (addr : Addr) (rest : List ℕ) → IsOctets (masked (family_of own) flags addr ++ rest)
+    → IsOctets (addr_octets addr)
+masked_octets own flags addr rest fits =
+    IsOctets-behind (family_octet (family_of own) ∷ 0 ∷ flags ∷ mask_len (family_of own) ∷ []) (addr_octets addr)
+    (IsOctets-before (masked (family_of own) flags addr) rest fits)
 
 -- What octets that spell elements end to end make of each.
-all_spelled : {A : Type 0} (S : A → List ℕ → Type 0) (P : A → Type 0) → ((x : A) (text : List ℕ) → S x text → IsOctets text → P x) → (all : List A) (text : List ℕ) → AreAll S all text → IsOctets text → AllByRecursion P all
+all_spelled : {A : Type 0} (S : A → List ℕ → Type 0) (P : A → Type 0) → ((x : A) (text : List ℕ) → S x text → IsOctets text → P x)
+    → (all : List A) (text : List ℕ) → AreAll S all text → IsOctets text → AllByRecursion P all
 all_spelled S P meets [] text are fits = tt
 all_spelled S P meets (x ∷ more) text (first, others, spells, rest, parts) fits =
     let both : IsOctets (first ++ others) = subst IsOctets parts fits in
@@ -90,10 +96,15 @@ abbrev IsSpelled : Addr → JpSource → Type 0
 IsSpelled own source = IsOf (family_of own) source.addr × IsOctets (addr_octets source.addr)
 
 source_spelled : (own : Addr) (source : JpSource) (text : List ℕ) → SpellsSource (family_of own) source text → IsOctets text → IsSpelled own source
-source_spelled own source text s fits = (s.addr, IsOctets-behind (family_octet (family_of own) ∷ 0 ∷ s.flags ∷ mask_len (family_of own) ∷ []) (addr_octets source.addr) (subst IsOctets s.octets fits))
+source_spelled own source text s fits = (
+  s.addr,
+  IsOctets-behind (family_octet (family_of own) ∷ 0 ∷ s.flags ∷ mask_len (family_of own) ∷ []) (addr_octets source.addr)
+      (subst IsOctets s.octets fits),
+)
 
 -- the entry that a source and a group of that family name
-named_entry : (own : Addr) (kind : SourceKind) (addr group : Addr) → IsOf (family_of own) addr → IsOctets (addr_octets addr) → IsOf (family_of own) group → IsGroupAddr group → SoundEntry (entry_by kind group addr)
+named_entry : (own : Addr) (kind : SourceKind) (addr group : Addr) → IsOf (family_of own) addr → IsOctets (addr_octets addr)
+    → IsOf (family_of own) group → IsGroupAddr group → SoundEntry (entry_by kind group addr)
 named_entry own kinds.Star addr group is fits of_group sound = sound
 named_entry own kinds.Sg addr group is fits of_group sound = ((spelled_addr own addr is, fits), sound, one_family own addr group is of_group)
 named_entry own kinds.Rpt addr group is fits of_group sound = ((spelled_addr own addr is, fits), sound, one_family own addr group is of_group)
@@ -102,32 +113,44 @@ group_spelled : (own : Addr) (group : Group) (text : List ℕ) → SpellsGroup (
 group_spelled own group text s fits =
     let joined = to_be_bytes w16 (length group.joins) in
     let pruned = to_be_bytes w16 (length group.prunes) in
-    let whole : IsOctets (masked (family_of own) s.flags group.group ++ (joined ++ (pruned ++ (s.joins ++ s.prunes)))) = subst IsOctets s.octets fits in
-    let behind : IsOctets (joined ++ (pruned ++ (s.joins ++ s.prunes))) = IsOctets-behind (masked (family_of own) s.flags group.group) (joined ++ (pruned ++ (s.joins ++ s.prunes))) whole in
-    let both : IsOctets (s.joins ++ s.prunes) = IsOctets-behind pruned (s.joins ++ s.prunes) (IsOctets-behind joined (pruned ++ (s.joins ++ s.prunes)) behind) in
+    let whole : IsOctets (masked (family_of own) s.flags group.group ++ (joined ++ (pruned ++ (s.joins ++ s.prunes)))) =
+    subst IsOctets s.octets fits in
+    let behind : IsOctets (joined ++ (pruned ++ (s.joins ++ s.prunes))) =
+    IsOctets-behind (masked (family_of own) s.flags group.group) (joined ++ (pruned ++ (s.joins ++ s.prunes))) whole in
+    let both : IsOctets (s.joins ++ s.prunes) =
+    IsOctets-behind pruned (s.joins ++ s.prunes) (IsOctets-behind joined (pruned ++ (s.joins ++ s.prunes)) behind) in
     let is = s.is.multicast in
     let octets = masked_octets own s.flags group.group (joined ++ (pruned ++ (s.joins ++ s.prunes))) whole in
     let sound : IsGroupAddr group.group = ((spelled_addr own group.group is.0, octets), spelled_multicast group.group is.1) in
-    let named : (source : JpSource) → IsSpelled own source → SoundEntry (entry_of group.group source) = λ source spelled. named_entry own source.kind source.addr group.group spelled.0 spelled.1 is.0 sound in
-    let meets : (source : JpSource) (front : List ℕ) → SpellsSource (family_of own) source front → IsOctets front → SoundEntry (entry_of group.group source) = λ source front spells octets. named source (source_spelled own source front spells octets) in
+    let named : (source : JpSource) → IsSpelled own source → SoundEntry (entry_of group.group source) =
+    λ source spelled. named_entry own source.kind source.addr group.group spelled.0 spelled.1 is.0 sound in
+    let meets : (source : JpSource) (front : List ℕ) → SpellsSource (family_of own) source front → IsOctets front
+    → SoundEntry (entry_of group.group source) = λ source front spells octets. named source (source_spelled own source front spells octets) in
     record {
-      joins = all_spelled (SpellsSource (family_of own)) (λ source. SoundEntry (entry_of group.group source)) meets group.joins s.joins s.joined (IsOctets-before s.joins s.prunes both);
-      prunes = all_spelled (SpellsSource (family_of own)) (λ source. SoundEntry (entry_of group.group source)) meets group.prunes s.prunes s.pruned (IsOctets-behind s.joins s.prunes both);
+      joins = all_spelled (SpellsSource (family_of own)) (λ source. SoundEntry (entry_of group.group source)) meets group.joins s.joins s.joined
+          (IsOctets-before s.joins s.prunes both);
+      prunes = all_spelled (SpellsSource (family_of own)) (λ source. SoundEntry (entry_of group.group source)) meets group.prunes s.prunes s.pruned
+          (IsOctets-behind s.joins s.prunes both);
     }
 
 fields_spelled : (message : JoinPrune) (text : List ℕ) → SpellsFields message text → IsOctets text → SoundMessage message
 fields_spelled message text s fits =
     let held = to_be_bytes w16 message.holdtime in
     let whole : IsOctets (unicast message.neighbour ++ (s.reserved ∷ length message.groups ∷ (held ++ s.groups))) = subst IsOctets s.octets fits in
-    let behind : IsOctets (held ++ s.groups) = IsOctets-behind (s.reserved ∷ length message.groups ∷ []) (held ++ s.groups) (IsOctets-behind (unicast message.neighbour) (s.reserved ∷ length message.groups ∷ (held ++ s.groups)) whole) in
-    all_spelled (SpellsGroup (family_of message.neighbour)) SoundGroup (group_spelled message.neighbour) message.groups s.groups s.each (IsOctets-behind held s.groups behind)
+    let behind : IsOctets (held ++ s.groups) =
+    IsOctets-behind (s.reserved ∷ length message.groups ∷ []) (held ++ s.groups)
+    (IsOctets-behind (unicast message.neighbour) (s.reserved ∷ length message.groups ∷ (held ++ s.groups)) whole) in
+    all_spelled (SpellsGroup (family_of message.neighbour)) SoundGroup (group_spelled message.neighbour) message.groups s.groups s.each
+    (IsOctets-behind held s.groups behind)
 
 message_spelled : (message : JoinPrune) (text : List ℕ) → Spells message text → IsOctets text → SoundMessage message
-message_spelled message text s fits = fields_spelled message s.fields s.spelled (IsOctets-behind (0x23 ∷ s.reserved ∷ to_be_bytes w16 _) s.fields (subst IsOctets s.octets fits))
+message_spelled message text s fits =
+    fields_spelled message s.fields s.spelled (IsOctets-behind (0x23 ∷ s.reserved ∷ to_be_bytes w16 _) s.fields (subst IsOctets s.octets fits))
 
 pub read_is_sound : (iface : IfaceId) (octets : List ℕ) → IsOctets octets → IsSoundGiven (read_at iface octets)
 read_is_sound iface octets fits = by (decoded octets) refl
   where
-    by : (read : Result JoinPrune (ℕ × PimFault)) → decoded octets ≡ read → IsSoundGiven (elim read [ Ok message ↦ Some (record { iface = iface; message = message }) | Err fault ↦ None ])
+    by : (read : Result JoinPrune (ℕ × PimFault)) → decoded octets ≡ read
+        → IsSoundGiven (elim read [ Ok message ↦ Some (record { iface = iface; message = message }) | Err fault ↦ None ])
     by (Ok message) e = message_spelled message octets (is_spelled (Ok message) octets fits e) fits
     by (Err fault) e = tt

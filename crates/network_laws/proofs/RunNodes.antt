@@ -28,20 +28,24 @@ IsNode scenario n = n.0 < length scenario.nodes
 abbrev pub HasNodes : Scenario → Session → Type 0
 HasNodes scenario session = IsNode scenario session.a × IsNode scenario session.b
 
-edges_within : (number : ℕ) (nodes : List Node) (count : ℕ) → number + length nodes ≤ count → AllByRecursion (λ (n : NodeId). n.0 < count) (edges_from number nodes)
+edges_within : (number : ℕ) (nodes : List Node) (count : ℕ) → number + length nodes ≤ count
+    → AllByRecursion (λ (n : NodeId). n.0 < count) (edges_from number nodes)
 edges_within number [] count le = tt
 edges_within number (node ∷ more) count le =
     let rest = edges_within (number + 1) more count (omega (arith, le)) in
-    elim node.edge as (λ b. AllByRecursion (λ (n : NodeId). n.0 < count) (cond b (record { 0 = number } ∷ edges_from (number + 1) more) (edges_from (number + 1) more))) [
+    elim node.edge as (λ b. AllByRecursion (λ (n : NodeId). n.0 < count)
+    (cond b (record { 0 = number } ∷ edges_from (number + 1) more) (edges_from (number + 1) more))) [
       | true ↦ (omega (arith, le), rest)
       | false ↦ rest
     ]
 
-pairs_within : (scenario : Scenario) (all : List NodeId) → AllByRecursion (IsNode scenario) all → AllByRecursion (HasNodes scenario) (bgp_sessions all)
+pairs_within : (scenario : Scenario) (all : List NodeId) → AllByRecursion (IsNode scenario) all
+    → AllByRecursion (HasNodes scenario) (bgp_sessions all)
 pairs_within scenario [] within = tt
 pairs_within scenario (a ∷ later) within =
     each_append (HasNodes scenario) (map (bgp_session a) later) (bgp_sessions later)
-    (each_map (HasNodes scenario) (bgp_session a) later (each_weaker (IsNode scenario) (λ b. HasNodes scenario (bgp_session a b)) (λ b is. (within.0, is)) later within.1))
+    (each_map (HasNodes scenario) (bgp_session a) later
+    (each_weaker (IsNode scenario) (λ b. HasNodes scenario (bgp_session a b)) (λ b is. (within.0, is)) later within.1))
     (pairs_within scenario later within.1)
 
 pub sessions_within : (scenario : Scenario) → SoundScenario scenario → AllByRecursion (HasNodes scenario) (sessions scenario)
@@ -49,7 +53,8 @@ sessions_within scenario sound =
     each_append (HasNodes scenario) (bgp_sessions (edges scenario)) (map ldp_session scenario.links)
     (pairs_within scenario (edges scenario) (edges_within 0 scenario.nodes (length scenario.nodes) (omega arith)))
     (each_map (HasNodes scenario) ldp_session scenario.links
-    (each_weaker (HasEnds (length scenario.nodes)) (λ link. HasNodes scenario (ldp_session link)) (λ link ends. (ends.a, ends.b)) scenario.links (recursion_from_All (HasEnds (length scenario.nodes)) scenario.links sound.rules.core.topology.ends)))
+    (each_weaker (HasEnds (length scenario.nodes)) (λ link. HasNodes scenario (ldp_session link)) (λ link ends. (ends.a, ends.b)) scenario.links
+    (recursion_from_All (HasEnds (length scenario.nodes)) scenario.links sound.rules.core.topology.ends)))
 
 pub nodes_within : (number count all : ℕ) → number + count ≤ all → AllByRecursion (λ (n : NodeId). n.0 < all) (node_ids number count)
 nodes_within number zero all le = tt
@@ -60,8 +65,10 @@ abbrev pub IsFoundNode : Scenario → Option NodeId → Type 0
 IsFoundNode scenario None = Unit {0}
 IsFoundNode scenario (Some n) = IsNode scenario n
 
-vrf_edge_within : (scenario : Scenario) → SoundScenario scenario → (v : ℕ) (vrf : Vrf) → slice_get scenario.vrfs v ≡ Some vrf → IsNode scenario vrf.edge
-vrf_edge_within scenario sound v vrf e = (let edge = (vrf_rules_at scenario sound.rules v vrf e).edge in slice_get_within scenario.nodes vrf.edge.0 edge.node edge.at)
+vrf_edge_within : (scenario : Scenario) → SoundScenario scenario → (v : ℕ) (vrf : Vrf) → slice_get scenario.vrfs v ≡ Some vrf
+    → IsNode scenario vrf.edge
+vrf_edge_within scenario sound v vrf e =
+    (let edge = (vrf_rules_at scenario sound.rules v vrf e).edge in slice_get_within scenario.nodes vrf.edge.0 edge.node edge.at)
 
 pub edge_within : (scenario : Scenario) → SoundScenario scenario → (iface : IfaceId) → IsFoundNode scenario (edge_of scenario iface)
 edge_within scenario sound iface = by (slice_get scenario.ifaces iface.0)
@@ -70,7 +77,8 @@ edge_within scenario sound iface = by (slice_get scenario.ifaces iface.0)
     of_vrf v None e = tt
     of_vrf v (Some vrf) e = vrf_edge_within scenario sound v vrf e
 
-    by : (o : Option Iface) → IsFoundNode scenario (elim o [ None ↦ None | Some found ↦ option_map (λ (vrf : Vrf). vrf.edge) (slice_get scenario.vrfs found.vrf.0) ])
+    by : (o : Option Iface) → IsFoundNode scenario
+        (elim o [ None ↦ None | Some found ↦ option_map (λ (vrf : Vrf). vrf.edge) (slice_get scenario.vrfs found.vrf.0) ])
     by None = tt
     by (Some found) = of_vrf found.vrf.0 (slice_get scenario.vrfs found.vrf.0) refl
 

@@ -66,7 +66,8 @@ raises_plain all kind a b = by (find (is_session_of kind a b) all)
     by (Some session) = (tt, (tt, tt))
 
 notices_plain : (world : World) (session : Session) (n peer : NodeId) → ArePlain (notices world session n peer)
-notices_plain world session n peer = elim (is_up world session.kind n peer) as (λ t. ArePlain (cond t (Notice session.kind n peer ∷ []) [])) [ true ↦ (tt, tt) | false ↦ tt ]
+notices_plain world session n peer =
+    elim (is_up world session.kind n peer) as (λ t. ArePlain (cond t (Notice session.kind n peer ∷ []) [])) [ true ↦ (tt, tt) | false ↦ tt ]
 
 copies_plain : (one : Act) → IsPlain one → (count : ℕ) → ArePlain (replicate count one)
 copies_plain one is zero = tt
@@ -74,14 +75,17 @@ copies_plain one is (suc count) = (is, copies_plain one is count)
 
 -- ---- events
 
-module _ (P : World → Type 0) (keeps : (one : Act) → IsPlain one → (world : World) → P world → Gives P (act world one)) (sends : (world : World) (datagrams : List Datagram) → P world → P (record world { datagrams = datagrams })) where
+module _ (P : World → Type 0) (keeps : (one : Act) → IsPlain one → (world : World) → P world → Gives P (act world one))
+    (sends : (world : World) (datagrams : List Datagram) → P world → P (record world { datagrams = datagrams })) where
   plain_row : (acts : List Act) → ArePlain acts → (world : World) → P world → Comes P (row acts world)
-  plain_row acts are world p = row_keeps P acts (each_weaker IsPlain (λ one. (old : World) → P old → Gives P (act old one)) (λ one is. keeps one is) acts are) world p
+  plain_row acts are world p =
+      row_keeps P acts (each_weaker IsPlain (λ one. (old : World) → P old → Gives P (act old one)) (λ one is. keeps one is) acts are) world p
 
   turn_keeps : (over : Direction) (world : World) → P world → Comes P (turn over world)
   turn_keeps over world p = by (world.network.transit over)
     where
-      by : (transit : List ℕ) → Comes P (elim transit [ [] ↦ Done [] world | octet ∷ others ↦ row (Move over.kind over.from over.to (length (octet ∷ others)) ∷ []) world ])
+      by : (transit : List ℕ) → Comes P (elim transit
+          [ [] ↦ Done [] world | octet ∷ others ↦ row (Move over.kind over.from over.to (length (octet ∷ others)) ∷ []) world ])
       by [] = p
       by (octet ∷ others) = plain_row (Move over.kind over.from over.to (length (octet ∷ others)) ∷ []) (tt, tt) world p
 
@@ -90,7 +94,10 @@ module _ (P : World → Type 0) (keeps : (one : Act) → IsPlain one → (world 
       let scenario = scenario_of world in
       then_comes P P (row (map (λ n. Timers n) (all_nodes scenario)) world) (times (each turn (directions scenario)) (length scenario.nodes + 3))
       (plain_row (map (λ n. Timers n) (all_nodes scenario)) (all_are (λ n. Timers n) (λ n. tt) (all_nodes scenario)) world p)
-      (λ next q. times_keeps P (each turn (directions scenario)) (λ one o. each_keeps P turn (directions scenario) (each_of (λ over. (old : World) → P old → Comes P (turn over old)) turn_keeps (directions scenario)) one o) (length scenario.nodes + 3) next q)
+      (λ next q. times_keeps P (each turn (directions scenario))
+      (λ one o. each_keeps P turn (directions scenario)
+      (each_of (λ over. (old : World) → P old → Comes P (turn over old)) turn_keeps (directions scenario)) one o) (length scenario.nodes + 3) next
+      q)
 
   healed_keeps : (session : Session) (world : World) → P world → Comes P (healed session world)
   healed_keeps session world p = by (is_joined world session)
@@ -100,8 +107,10 @@ module _ (P : World → Type 0) (keeps : (one : Act) → IsPlain one → (world 
 
       are : ArePlain acts
       are =
-          each_append IsPlain (notices world session session.a session.b) (notices world session session.b session.a ++ raise_acts session) (notices_plain world session session.a session.b)
-          (each_append IsPlain (notices world session session.b session.a) (raise_acts session) (notices_plain world session session.b session.a) (tt, (tt, tt)))
+          each_append IsPlain (notices world session session.a session.b) (notices world session session.b session.a ++ raise_acts session)
+          (notices_plain world session session.a session.b)
+          (each_append IsPlain (notices world session session.b session.a) (raise_acts session) (notices_plain world session session.b session.a)
+          (tt, (tt, tt)))
 
       by : (joined : Bool) → Comes P (cond joined (Done [] world) (row acts world))
       by true = p
@@ -110,13 +119,15 @@ module _ (P : World → Type 0) (keeps : (one : Act) → IsPlain one → (world 
   sent_keeps : (site : SiteId) (source group : Addr) (octets : List ℕ) (world : World) → P world → Comes P (sent site source group octets world)
   sent_keeps site source group octets world p =
       let all : List Datagram = world.datagrams ++ record { site = site; source = source; group = group; octets = octets } ∷ [] in
-      plain_row (map (λ vrf. Enter vrf) (entered (scenario_of world) site)) (all_are (λ vrf. Enter vrf) (λ vrf. tt) (entered (scenario_of world) site)) (record world { datagrams = all }) (sends world all p)
+      plain_row (map (λ vrf. Enter vrf) (entered (scenario_of world) site))
+      (all_are (λ vrf. Enter vrf) (λ vrf. tt) (entered (scenario_of world) site)) (record world { datagrams = all }) (sends world all p)
 
   drain_keeps : (world : World) → P world → Comes P (drain_round world)
   drain_keeps world p =
       let ways = link_ways (scenario_of world) in
       plain_row (flat_map (landings world) ways)
-      (each_flat IsPlain (landings world) ways (each_of (λ way. ArePlain (landings world way)) (λ way. copies_plain (Land way.0 way.1 1) tt (length (world.copies way.0 way.1))) ways)) world p
+      (each_flat IsPlain (landings world) ways (each_of (λ way. ArePlain (landings world way))
+      (λ way. copies_plain (Land way.0 way.1 1) tt (length (world.copies way.0 way.1))) ways)) world p
 
   pub routine_event : (event : Event) → IsRoutine event → (world : World) → P world → Comes P (done world event)
   routine_event (events.Tick count) is world p = plain_row (Tick count ∷ []) (tt, tt) world p
@@ -125,12 +136,15 @@ module _ (P : World → Type 0) (keeps : (one : Act) → IsPlain one → (world 
   routine_event (events.Move kind from to count) is world p = plain_row (Move kind from to count ∷ []) (tt, tt) world p
   routine_event (events.Lose kind a b) is world p = plain_row (Lose kind a b ∷ []) (tt, tt) world p
   routine_event (events.Notice kind a b) is world p = plain_row (Notice kind a b ∷ []) (tt, tt) world p
-  routine_event (events.Raise kind a b) is world p = plain_row (raises (sessions (scenario_of world)) kind a b) (raises_plain (sessions (scenario_of world)) kind a b) world p
+  routine_event (events.Raise kind a b) is world p =
+      plain_row (raises (sessions (scenario_of world)) kind a b) (raises_plain (sessions (scenario_of world)) kind a b) world p
   routine_event (events.Send site source group payload) is world p = sent_keeps site source group (packet source group payload) world p
   routine_event (events.Packet site octets) is world p = sent_keeps site (source_in octets) (group_in octets) octets world p
   routine_event (events.Hop from to place) is world p = plain_row (Land from to place ∷ []) (tt, tt) world p
   routine_event (events.DropCopy from to place) is world p = plain_row (Drop from to place ∷ []) (tt, tt) world p
-  routine_event events.Heal is world p = each_keeps P healed (sessions (scenario_of world)) (each_of (λ session. (old : World) → P old → Comes P (healed session old)) healed_keeps (sessions (scenario_of world))) world p
+  routine_event events.Heal is world p =
+      each_keeps P healed (sessions (scenario_of world))
+      (each_of (λ session. (old : World) → P old → Comes P (healed session old)) healed_keeps (sessions (scenario_of world))) world p
   routine_event events.Settle is world p = settled_keeps world p
   routine_event events.Drain is world p = times_keeps P drain_round drain_keeps 255 world p
   routine_event events.State is world p = plain_row (Tell ∷ []) (tt, tt) world p
@@ -161,7 +175,8 @@ plain_steady (Land from to place) is = tt
 plain_steady (Drop from to place) is = tt
 plain_steady Tell is = tt
 
-module _ (P : World → Type 0) (keeps : (one : Act) → IsSteady one → (world : World) → P world → Gives P (act world one)) (sends : (world : World) (datagrams : List Datagram) → P world → P (record world { datagrams = datagrams })) where
+module _ (P : World → Type 0) (keeps : (one : Act) → IsSteady one → (world : World) → P world → Gives P (act world one))
+    (sends : (world : World) (datagrams : List Datagram) → P world → P (record world { datagrams = datagrams })) where
   edge_keeps : (o : Option NodeId) (call : steps.Call) (world : World) → P world → Comes P (at_edge o call world)
   edge_keeps None call world p = p
   edge_keeps (Some n) call world p = row_keeps P (At n call ∷ []) (keeps (At n call) tt, tt) world p
@@ -177,7 +192,8 @@ module _ (P : World → Type 0) (keeps : (one : Act) → IsSteady one → (world
   steady_event (events.Join iface entry) is world p = message_keeps (message_of (scenario_of world) (events.Join iface entry)) world p
   steady_event (events.Prune iface entry) is world p = message_keeps (message_of (scenario_of world) (events.Prune iface entry)) world p
   steady_event (events.Pim iface octets) is world p = message_keeps (message_of (scenario_of world) (events.Pim iface octets)) world p
-  steady_event (events.Active iface source group) is world p = edge_keeps (edge_of (scenario_of world) iface) (steps.Active iface source group) world p
+  steady_event (events.Active iface source group) is world p =
+      edge_keeps (edge_of (scenario_of world) iface) (steps.Active iface source group) world p
   steady_event (events.Idle iface source group) is world p = edge_keeps (edge_of (scenario_of world) iface) (steps.Idle iface source group) world p
   steady_event (events.Select vrf pattern) is world p = edge_keeps (edge_of_vrf (scenario_of world) vrf) (steps.Select vrf pattern) world p
   steady_event (events.Unselect vrf pattern) is world p = edge_keeps (edge_of_vrf (scenario_of world) vrf) (steps.Unselect vrf pattern) world p

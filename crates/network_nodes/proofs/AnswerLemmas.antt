@@ -49,7 +49,8 @@ module _ (core : Topology) (now : ℕ) (step : EdgeStep) (old new : EdgeView) (r
       → own_step (core_at network n) state ≡ step (place_of network n) network.clock state
   there network n stands state = λ i. step (homes.place_of (stands.placed.0 i) (core_at network n)) (sym stands.clock i) state
 
-  pub edge_made : (whole : NodeStep) → ((network : Nodes) (n : NodeId) (state : EdgeState) → whole network n (any.Edge state) ≡ of_edge step network n (any.Edge state))
+  pub edge_made : (whole : NodeStep) → ((network : Nodes) (n : NodeId) (state : EdgeState)
+      → whole network n (any.Edge state) ≡ of_edge step network n (any.Edge state))
       → edges.Makes core own_step old new → (network : Nodes) (n : NodeId) → Stands network n core now (nodes.Edge old) → (state : AnyNode)
       → IsNode state (nodes.Edge old) → IsNode (whole network n state) (nodes.Edge new)
   edge_made whole same made network n stands (any.Edge state) is =
@@ -57,7 +58,8 @@ module _ (core : Topology) (now : ℕ) (step : EdgeStep) (old new : EdgeView) (r
       (subst (λ (s : EdgeState). IsIn s new) (there network n stands state) (made (core_at network n) stands.known state is))
   edge_made whole same made network n stands (any.CoreNode state) is = absurd is
 
-  edge_lacks : (whole : NodeStep) → ((network : Nodes) (n : NodeId) (state : EdgeState) → whole network n (any.Edge state) ≡ of_edge step network n (any.Edge state))
+  edge_lacks : (whole : NodeStep) → ((network : Nodes) (n : NodeId) (state : EdgeState)
+      → whole network n (any.Edge state) ≡ of_edge step network n (any.Edge state))
       → edges.Lacks core own_step old → (network : Nodes) (n : NodeId) → Stands network n core now (nodes.Edge old) → (state : AnyNode)
       → IsNode state (nodes.Edge old) → spent_of (whole network n state) ≡ Some LacksLabel
   edge_lacks whole same lacks network n stands (any.Edge state) is =
@@ -102,28 +104,31 @@ of_core step network n (any.Edge state) = any.Edge state
 of_core step network n (any.CoreNode state) = any.CoreNode (step (node_place network.scenario n) (core_at network n) network.clock state)
 
 module _ (core : Topology) (now : ℕ) (step : CoreStep) (whole : NodeStep) (old new : CoreView)
-    (same : (network : Nodes) (n : NodeId) (state : CoreState) → whole network n (any.CoreNode state) ≡ of_core step network n (any.CoreNode state)) where
-  abbrev core_step : Core → CoreState → CoreState
-  core_step own state = step old.labels.place own now state
+    (same : (network : Nodes) (n : NodeId) (state : CoreState) → whole network n (any.CoreNode state) ≡ of_core step network n (any.CoreNode state))
+  where
+    abbrev core_step : Core → CoreState → CoreState
+    core_step own state = step old.labels.place own now state
 
-  core_there : (network : Nodes) (n : NodeId) → Stands network n core now (nodes.CoreNode old) → (state : CoreState)
-      → core_step (core_at network n) state ≡ step (node_place network.scenario n) (core_at network n) network.clock state
-  core_there network n stands state = λ i. step (stands.placed.0 i) (core_at network n) (sym stands.clock i) state
+    core_there : (network : Nodes) (n : NodeId) → Stands network n core now (nodes.CoreNode old) → (state : CoreState)
+        → core_step (core_at network n) state ≡ step (node_place network.scenario n) (core_at network n) network.clock state
+    core_there network n stands state = λ i. step (stands.placed.0 i) (core_at network n) (sym stands.clock i) state
 
-  pub core_made : cores.Makes core core_step old new → (network : Nodes) (n : NodeId) → Stands network n core now (nodes.CoreNode old) → (state : AnyNode)
-      → IsNode state (nodes.CoreNode old) → IsNode (whole network n state) (nodes.CoreNode new)
-  core_made made network n stands (any.Edge state) is = absurd is
-  core_made made network n stands (any.CoreNode state) is =
-      subst (λ (s : AnyNode). IsNode s (nodes.CoreNode new)) (sym (same network n state))
-      (made (core_at network n) stands.known ∙ (ap (core_step (core_at network n)) is ∙ core_there network n stands state))
+    pub core_made : cores.Makes core core_step old new → (network : Nodes) (n : NodeId) → Stands network n core now (nodes.CoreNode old)
+        → (state : AnyNode)
+        → IsNode state (nodes.CoreNode old) → IsNode (whole network n state) (nodes.CoreNode new)
+    core_made made network n stands (any.Edge state) is = absurd is
+    core_made made network n stands (any.CoreNode state) is =
+        subst (λ (s : AnyNode). IsNode s (nodes.CoreNode new)) (sym (same network n state))
+        (made (core_at network n) stands.known ∙ (ap (core_step (core_at network n)) is ∙ core_there network n stands state))
 
-  pub core_lacks : ((own : Core) → IsCoreOf core.nodes core.links own → (core_step own (state_of old)).node.spent ≡ Some LacksLabel)
-      → (network : Nodes) (n : NodeId) → Stands network n core now (nodes.CoreNode old) → (state : AnyNode) → IsNode state (nodes.CoreNode old)
-      → spent_of (whole network n state) ≡ Some LacksLabel
-  core_lacks lacks network n stands (any.Edge state) is = absurd is
-  core_lacks lacks network n stands (any.CoreNode state) is =
-      ap spent_of (same network n state)
-      ∙ (ap (λ (s : CoreState). s.node.spent) (sym (ap (core_step (core_at network n)) is ∙ core_there network n stands state)) ∙ lacks (core_at network n) stands.known)
+    pub core_lacks : ((own : Core) → IsCoreOf core.nodes core.links own → (core_step own (state_of old)).node.spent ≡ Some LacksLabel)
+        → (network : Nodes) (n : NodeId) → Stands network n core now (nodes.CoreNode old) → (state : AnyNode) → IsNode state (nodes.CoreNode old)
+        → spent_of (whole network n state) ≡ Some LacksLabel
+    core_lacks lacks network n stands (any.Edge state) is = absurd is
+    core_lacks lacks network n stands (any.CoreNode state) is =
+        ap spent_of (same network n state)
+        ∙ (ap (λ (s : CoreState). s.node.spent) (sym (ap (core_step (core_at network n)) is ∙ core_there network n stands state))
+        ∙ lacks (core_at network n) stands.known)
 
 fault_told : (spent : Spent) → fault_as (cores.fault_of spent) ≡ fault_of spent
 fault_told LacksLabel = refl
@@ -148,7 +153,10 @@ pub core_answers : (core : Topology) (now : ℕ) (step : CoreStep) (whole : Node
     → Answers core now whole (nodes.CoreNode old) (nodes.CoreNode new) (told_as result)
 core_answers core now step whole old new (Ok done) same row = record {
   placed = λ scenario n at. (row.place ∙ at.0, at.1);
-  before = λ spent e. (ap told_as (row.before spent e).0 ∙ ap (λ (f : EdgeFault). Err f) (fault_told spent), ap (λ (v : CoreView). nodes.CoreNode v) (row.before spent e).1);
+  before = λ spent e. (
+    ap told_as (row.before spent e).0 ∙ ap (λ (f : EdgeFault). Err f) (fault_told spent),
+    ap (λ (v : CoreView). nodes.CoreNode v) (row.before spent e).1,
+  );
   unspent = row.unspent;
   made = core_made core now step whole old new same row.made;
   goes_on = row.goes_on;
@@ -158,7 +166,10 @@ core_answers core now step whole old new (Ok done) same row = record {
 }
 core_answers core now step whole old new (Err fault) same row = record {
   placed = λ scenario n at. (row.place ∙ at.0, at.1);
-  before = λ spent e. (ap told_as (row.before spent e).0 ∙ ap (λ (f : EdgeFault). Err f) (fault_told spent), ap (λ (v : CoreView). nodes.CoreNode v) (row.before spent e).1);
+  before = λ spent e. (
+    ap told_as (row.before spent e).0 ∙ ap (λ (f : EdgeFault). Err f) (fault_told spent),
+    ap (λ (v : CoreView). nodes.CoreNode v) (row.before spent e).1,
+  );
   unspent = tt;
   made = tt;
   goes_on = tt;

@@ -58,19 +58,22 @@ router_at : (scenario : Scenario) (n : NodeId) → Rules scenario → n.0 < leng
 router_at scenario n rules within = elim (slice_get_cases scenario.nodes n.0).1 [
   | inl there ↦
       (let node = there.0 in
-      let is = subst (λ (x : Node). IsIpv4 x.addr) there.3 (All-get_or (λ (x : Node). IsIpv4 x.addr) scenario.nodes n.0 node within rules.core.ipv4) in
+      let is = subst (λ (x : Node). IsIpv4 x.addr) there.3 (All-get_or (λ (x : Node). IsIpv4 x.addr) scenario.nodes n.0 node within rules.core.ipv4)
+      in
       subst (λ (o : Option Node). IsRouter (addr_or o)) (sym there.2) (four node.addr is))
   | inr past ↦ absurd (omega (arith, past.0, within))
 ]
 
 -- a node of a scenario that meets its rules stands as a label node does
-pub stands : (scenario : Scenario) (n : NodeId) (addrs : List Addr) → Rules scenario → n.0 < length scenario.nodes → addrs ≡ map (λ node. node.addr) scenario.nodes
+pub stands : (scenario : Scenario) (n : NodeId) (addrs : List Addr) → Rules scenario → n.0 < length scenario.nodes
+    → addrs ≡ map (λ node. node.addr) scenario.nodes
     → IsPlace (record { me = n; addrs = addrs; life = scenario.life })
-stands scenario n addrs rules within are = subst (λ (own : List Addr). IsPlace (record { me = n; addrs = own; life = scenario.life })) (sym are) (record {
-  within = subst (λ (count : ℕ). n.0 < count) (sym (as_many scenario.nodes)) within;
-  router = subst IsRouter (one_addr scenario n) (router_at scenario n rules within);
-  short = rules.settings.life.1;
-})
+stands scenario n addrs rules within are =
+    subst (λ (own : List Addr). IsPlace (record { me = n; addrs = own; life = scenario.life })) (sym are) (record {
+      within = subst (λ (count : ℕ). n.0 < count) (sym (as_many scenario.nodes)) within;
+      router = subst IsRouter (one_addr scenario n) (router_at scenario n rules within);
+      short = rules.settings.life.1;
+    })
 
 -- ---- what is handed out
 
@@ -104,14 +107,17 @@ due_of network n (world.CoreNode part) = labels.due (label_place_of network n) n
 
 pub edge_due : (edge : EdgeView) (now count : ℕ) (network : Nodes) (n : NodeId)
     → ((walks : Core) → count ≡ min (edges.due (homes.place_of (states.home_of edge) walks) now (data_of edge)) most)
-    → IsPlacedAt network.scenario n (nodes.Edge edge) → network.node n ≡ data_in (nodes.Edge edge) → network.clock ≡ now → count ≡ min (node_due network n) most
+    → IsPlacedAt network.scenario n (nodes.Edge edge) → network.node n ≡ data_in (nodes.Edge edge) → network.clock ≡ now
+    → count ≡ min (node_due network n) most
 edge_due edge now count network n counted placed is clock =
     counted (core_at network n)
-    ∙ ((λ i. min (edges.due (homes.place_of (placed.0 i) (core_at network n)) (sym clock i) (data_of edge)) most) ∙ sym (ap (λ (s : NodeState). min (due_of network n s) most) is))
+    ∙ ((λ i. min (edges.due (homes.place_of (placed.0 i) (core_at network n)) (sym clock i) (data_of edge)) most)
+    ∙ sym (ap (λ (s : NodeState). min (due_of network n s) most) is))
 
 pub core_due : (core : CoreView) (now count : ℕ) (network : Nodes) (n : NodeId)
     → ((walks : Core) → count ≡ labels.due (place_in core.labels.place walks) now core.labels.node.part) → count ≤ most
-    → IsPlacedAt network.scenario n (nodes.CoreNode core) → network.node n ≡ data_in (nodes.CoreNode core) → network.clock ≡ now → count ≡ min (node_due network n) most
+    → IsPlacedAt network.scenario n (nodes.CoreNode core) → network.node n ≡ data_in (nodes.CoreNode core) → network.clock ≡ now
+    → count ≡ min (node_due network n) most
 core_due core now count network n counted few placed is clock =
     few_stay count few ∙ ap (λ (c : ℕ). min c most) there
   where
@@ -132,7 +138,8 @@ fate_by part None = discarded
 fate_by part (Some fec) = record { outs = []; branches = branches_of part fec }
 
 -- what becomes at a core node of a copy whose label is one of the tree
-pub core_arrives : (part : LabelData) (from : NodeId) (label : ℕ) (fec : Fec) (fate : Fate) → tree_of from (use_of part label) ≡ Some fec → fate.outs ≡ []
+pub core_arrives : (part : LabelData) (from : NodeId) (label : ℕ) (fec : Fec) (fate : Fate) → tree_of from (use_of part label) ≡ Some fec
+    → fate.outs ≡ []
     → fate.branches ≡ branches_of part fec → IsFate (core_fate part from label) fate
 core_arrives part from label fec fate tree outs branches =
     subst (λ (o : Option Fec). IsFate (fate_by part o) fate) (sym tree) (record { outs = outs; branches = branches })

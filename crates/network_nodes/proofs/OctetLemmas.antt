@@ -26,24 +26,28 @@ edge_took kind from octets place clock state = took place clock (session_with ki
 abbrev core_takes : NodeId → List ℕ → CoreStep
 core_takes from octets place known clock state = core_took place known clock from octets state
 
-pub edge_octets : (core : Topology) (now : ℕ) (kind : Kind) (from : NodeId) (octets : List ℕ) (old new : EdgeView) (result : Result (Unit {0}) EdgeFault)
+pub edge_octets : (core : Topology) (now : ℕ) (kind : Kind) (from : NodeId) (octets : List ℕ) (old new : EdgeView)
+    (result : Result (Unit {0}) EdgeFault)
     → edges.AnswersOctets core now (session_with kind from) octets old new result
     → AnswersOctets core now kind from octets (nodes.Edge old) (nodes.Edge new) result
 edge_octets core now kind from octets old new result row = record {
   answers = edge_answers core now (edge_took kind from octets) (taking kind from octets) old new result (λ network n state. refl) row.answers;
   sound = row.sound;
-  taken = λ fault e none goes. edge_made core now (edge_took kind from octets) old new result (taking kind from octets) (λ network n state. refl) (row.taken fault e none goes);
+  taken = λ fault e none goes. edge_made core now (edge_took kind from octets) old new result (taking kind from octets) (λ network n state. refl)
+      (row.taken fault e none goes);
   only = row.only;
 }
 
-told_among : (fault : CoreFault) → Among fault (core_faults.NoLabel ∷ core_faults.NoMemory ∷ []) → Among (fault_as fault) (faults.NoLabel ∷ faults.NoMemory ∷ [])
+told_among : (fault : CoreFault) → Among fault (core_faults.NoLabel ∷ core_faults.NoMemory ∷ [])
+    → Among (fault_as fault) (faults.NoLabel ∷ faults.NoMemory ∷ [])
 told_among core_faults.NoLabel h = inl refl
 told_among core_faults.NoMemory h = inr (inl refl)
 told_among (core_faults.Session peer place reason) (inl e) = absurd cc
 told_among (core_faults.Session peer place reason) (inr (inl e)) = absurd cc
 told_among (core_faults.Session peer place reason) (inr (inr none)) = absurd none
 
-told_only : (from : NodeId) (new : CoreView) (fault : CoreFault) → Among fault (core_faults.NoLabel ∷ core_faults.NoMemory ∷ []) ⊎ cores.IsSessionFault from new fault
+told_only : (from : NodeId) (new : CoreView) (fault : CoreFault)
+    → Among fault (core_faults.NoLabel ∷ core_faults.NoMemory ∷ []) ⊎ cores.IsSessionFault from new fault
     → Among (fault_as fault) (faults.NoLabel ∷ faults.NoMemory ∷ []) ⊎ IsSessionFault kinds.Ldp from (nodes.CoreNode new) (fault_as fault)
 told_only from new fault (inl among) = inl (told_among fault among)
 told_only from new fault (inr (place, reason, is, told)) = inr (place, reason, ap fault_as is, told)
@@ -63,7 +67,8 @@ core_octets core now from octets old new (Ok done) row = record {
 core_octets core now from octets old new (Err fault) row = record {
   answers = core_answers core now (core_takes from octets) (taking kinds.Ldp from octets) old new (Err fault) (λ network n state. refl) row.answers;
   sound = tt;
-  taken = λ other e none goes. core_made core now (core_takes from octets) (taking kinds.Ldp from octets) old new (λ network n state. refl) (row.taken fault refl none goes);
+  taken = λ other e none goes. core_made core now (core_takes from octets) (taking kinds.Ldp from octets) old new (λ network n state. refl)
+      (row.taken fault refl none goes);
   only = λ other e. subst (λ (f : EdgeFault). Among f (faults.NoLabel ∷ faults.NoMemory ∷ []) ⊎ IsSessionFault kinds.Ldp from (nodes.CoreNode new) f)
       (one_fault (fault_as fault) other e) (told_only from new fault (row.only fault refl));
 }

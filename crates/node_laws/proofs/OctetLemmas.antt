@@ -49,7 +49,8 @@ if_none false other = refl
 pub waiting_then : (waiting : FinMap peer_cmp (List ℕ)) (session other : PeerSession) (octets : List ℕ)
     → waiting_at (maps.insert waiting session octets) other ≡ cond (eq_by_cmp peer_cmp other session) octets (waiting_at waiting other)
 waiting_then waiting session other octets =
-    ap octets_or (maps.get-insert peer_total waiting session octets other) ∙ if_some (eq_by_cmp peer_cmp other session) octets (maps.get waiting other)
+    ap octets_or (maps.get-insert peer_total waiting session octets other)
+    ∙ if_some (eq_by_cmp peer_cmp other session) octets (maps.get waiting other)
 
 own_then : (own : FinMap node_cmp (List ℕ)) (node other : NodeId) (octets : List ℕ)
     → waiting_for (maps.insert own node octets) other ≡ cond (eq_by_cmp node_cmp other node) octets (waiting_for own other)
@@ -71,13 +72,15 @@ own_less own node other =
 pub lost_waits : (waiting : FinMap peer_cmp (List ℕ)) (own : FinMap node_cmp (List ℕ)) (peer : NodeId) → AreLabelOctets waiting own
     → AreLabelOctets (maps.remove waiting (label_session peer)) (maps.remove own peer)
 lost_waits waiting own peer same other =
-    waiting_less waiting (label_session peer) (label_session other) ∙ (λ i. cond (same_tie other peer i) [] (same other i)) ∙ sym (own_less own peer other)
+    waiting_less waiting (label_session peer) (label_session other) ∙ (λ i. cond (same_tie other peer i) [] (same other i))
+    ∙ sym (own_less own peer other)
 
 -- ---- messages one after another
 
 module _ (me : NodeId) (addr : Addr) where
   one_more : (waiting : FinMap peer_cmp (List ℕ)) (own : FinMap node_cmp (List ℕ)) (to : NodeId) (octets : List ℕ) → AreLabelOctets waiting own
-      → AreLabelOctets (maps.insert waiting (label_session to) (waiting_at waiting (label_session to) ++ octets)) (maps.insert own to (waiting_for own to ++ octets))
+      → AreLabelOctets (maps.insert waiting (label_session to) (waiting_at waiting (label_session to) ++ octets))
+      (maps.insert own to (waiting_for own to ++ octets))
   one_more waiting own to octets same peer =
       waiting_then waiting (label_session to) (label_session peer) (waiting_at waiting (label_session to) ++ octets)
       ∙ (λ i. cond (same_tie peer to i) (same to i ++ octets) (same peer i))
@@ -92,7 +95,8 @@ module _ (me : NodeId) (addr : Addr) where
       (maps.insert own numbered.put.to (waiting_for own numbered.put.to ++ octets)) (one_more waiting own numbered.put.to octets same)
 
   pub others_stay : (puts : List Numbered) (waiting : FinMap peer_cmp (List ℕ)) (peer : NodeId)
-      → waiting_at (with_puts (map (label_put me addr) puts) waiting) (record { kind = kinds.Bgp; peer = peer }) ≡ waiting_at waiting (record { kind = kinds.Bgp; peer = peer })
+      → waiting_at (with_puts (map (label_put me addr) puts) waiting) (record { kind = kinds.Bgp; peer = peer })
+      ≡ waiting_at waiting (record { kind = kinds.Bgp; peer = peer })
   others_stay [] waiting peer = refl
   others_stay (numbered ∷ more) waiting peer =
       let octets : List ℕ = waiting_at waiting (label_session numbered.put.to) ++ pdus.written addr numbered.id numbered.put.message in

@@ -26,64 +26,85 @@ use Rattle.node_laws.proofs.PeerLemmas.{step_waits}
 use Rattle.node_laws.proofs.RowLemmas.{lacks_behind, part_behind}
 
 module _ (place : EdgePlace) (now : ℕ) (call : Call) (state : EdgeState) where
-  step_control : (new : EdgeStepped) → edge_step place now state.edge call ≡ Some new → new.edge.control ≡ control_step place now state.edge.control call
+  step_control : (new : EdgeStepped) → edge_step place now state.edge call ≡ Some new
+      → new.edge.control ≡ control_step place now state.edge.control call
   step_control new h =
-      let made = bind_some (label_row place now state.edge.part (label_calls place now state.edge.control call)) (λ row. Some (made_by place now call state row)) new h in
+      let made =
+      bind_some (label_row place now state.edge.part (label_calls place now state.edge.control call))
+      (λ row. Some (made_by place now call state row)) new h in
       ap (λ (x : EdgeStepped). x.edge.control) (sym (same_Some (made_by place now call state made.0) new made.2))
 
   -- when the ends of BGP sessions came up is told by the step
-  pub raises_made : state.spent ≡ None → (called place now state call).spent ≡ None → (called place now state call).edge.raised ≡ raised_after now state.edge.raised call
+  pub raises_made : state.spent ≡ None → (called place now state call).spent ≡ None
+      → (called place now state call).edge.raised ≡ raised_after now state.edge.raised call
   raises_made unspent still = by (edge_step place now state.edge call) refl
     where
-      by : (o : Option EdgeStepped) → edge_step place now state.edge call ≡ o → (called place now state call).edge.raised ≡ raised_after now state.edge.raised call
+      by : (o : Option EdgeStepped) → edge_step place now state.edge call ≡ o
+          → (called place now state call).edge.raised ≡ raised_after now state.edge.raised call
       by None e = absurd (none-some LacksLabel (sym still ∙ ap (λ (x : EdgeState). x.spent) (edge_called place now call state None unspent e)))
       by (Some new) e =
-          let made = bind_some (label_row place now state.edge.part (label_calls place now state.edge.control call)) (λ row. Some (made_by place now call state row)) new e in
+          let made =
+          bind_some (label_row place now state.edge.part (label_calls place now state.edge.control call))
+          (λ row. Some (made_by place now call state row)) new e in
           ap (λ (x : EdgeState). x.edge.raised) (edge_after place now call state new unspent e)
           ∙ ap (λ (x : EdgeStepped). x.edge.raised) (sym (same_Some (made_by place now call state made.0) new made.2))
 
   module _ (control : Control) (node : LabelNode) (waiting : NodeId → List ℕ) (has : HasParts place state control node waiting) where
     calls_are : (c : Control) → state.edge.control ≡ c
-        → all_called (node_place place.scenario place.me) place.core now node (label_calls place now state.edge.control call) ≡ all_called (node_place place.scenario place.me) place.core now node (label_calls place now c call)
+        → all_called (node_place place.scenario place.me) place.core now node (label_calls place now state.edge.control call)
+        ≡ all_called (node_place place.scenario place.me) place.core now node (label_calls place now c call)
     calls_are c e = ap (λ (x : Control). all_called (node_place place.scenario place.me) place.core now node (label_calls place now x call)) e
 
     behind_is : (new : EdgeStepped) → edge_step place now state.edge call ≡ Some new
-        → IsLabelNode (called place now state call) (all_called (node_place place.scenario place.me) place.core now node (label_calls place now control call))
+        → IsLabelNode (called place now state call)
+        (all_called (node_place place.scenario place.me) place.core now node (label_calls place now control call))
     behind_is new h =
-        subst (λ (n : LabelNode). IsLabelNode (called place now state call) n) (calls_are control has.keeps) (node_behind place now call state node new has.label has.unspent h)
+        subst (λ (n : LabelNode). IsLabelNode (called place now state call) n) (calls_are control has.keeps)
+        (node_behind place now call state node new has.label has.unspent h)
 
-    pub parts_lack : (all_called (node_place place.scenario place.me) place.core now node (label_calls place now control call)).spent ≡ Some LacksLabel → (called place now state call).spent ≡ Some LacksLabel
+    pub parts_lack : (all_called (node_place place.scenario place.me) place.core now node (label_calls place now control call)).spent
+        ≡ Some LacksLabel → (called place now state call).spent ≡ Some LacksLabel
     parts_lack h = by (edge_step place now state.edge call) refl
       where
         by : (o : Option EdgeStepped) → edge_step place now state.edge call ≡ o → (called place now state call).spent ≡ Some LacksLabel
         by None e = (both_lack place now call state node has.label has.unspent e).0
         by (Some new) e = sym (behind_is new e).spent ∙ h
 
-    module _ (new_control : Control) (new_node : LabelNode) (new_waiting : NodeId → List ℕ) (stepped : new_control ≡ control_step place now control call)
-        (made : new_node ≡ all_called (node_place place.scenario place.me) place.core now node (label_calls place now control call)) (unspent : new_node.spent ≡ None)
-        (puts : (peer : NodeId) → Among peer (edges place.scenario) → peer ≢ place.me → new_waiting peer ≡ kept_for call peer (waiting peer) ++ update_octets (put_to place control new_control peer)) where
+    module _ (new_control : Control) (new_node : LabelNode) (new_waiting : NodeId → List ℕ)
+        (stepped : new_control ≡ control_step place now control call)
+        (made : new_node ≡ all_called (node_place place.scenario place.me) place.core now node (label_calls place now control call))
+        (unspent : new_node.spent ≡ None)
+        (puts : (peer : NodeId) → Among peer (edges place.scenario) → peer ≢ place.me
+        → new_waiting peer ≡ kept_for call peer (waiting peer) ++ update_octets (put_to place control new_control peer)) where
       control_behind : (new : EdgeStepped) → edge_step place now state.edge call ≡ Some new → (called place now state call).edge.control ≡ new_control
       control_behind new h =
           ap (λ (x : EdgeState). x.edge.control) (edge_after place now call state new has.unspent h)
           ∙ (step_control new h ∙ (ap (λ (c : Control). control_step place now c call) has.keeps ∙ sym stepped))
 
-      waits_behind : (new : EdgeStepped) → edge_step place now state.edge call ≡ Some new → (peer : NodeId) → Among peer (edges place.scenario) → peer ≢ place.me
+      waits_behind : (new : EdgeStepped) → edge_step place now state.edge call ≡ Some new → (peer : NodeId) → Among peer (edges place.scenario)
+          → peer ≢ place.me
           → waiting_at (called place now state call).waiting (bgp_session peer) ≡ new_waiting peer
       waits_behind new h peer among other =
-          let same : new.edge.control ≡ new_control = step_control new h ∙ (ap (λ (c : Control). control_step place now c call) has.keeps ∙ sym stepped) in
+          let same : new.edge.control ≡ new_control =
+          step_control new h ∙ (ap (λ (c : Control). control_step place now c call) has.keeps ∙ sym stepped) in
           step_waits place now call state new peer has.unspent h among
-          ∙ ((λ i. kept_for call peer (has.peers peer among other i) ++ update_octets (put_to place (has.keeps i) (same i) peer)) ∙ sym (puts peer among other))
+          ∙ ((λ i. kept_for call peer (has.peers peer among other i) ++ update_octets (put_to place (has.keeps i) (same i) peer))
+          ∙ sym (puts peer among other))
 
       pub parts_made : HasParts place (called place now state call) new_control new_node new_waiting
       parts_made = by (edge_step place now state.edge call) refl
         where
           lacking : edge_step place now state.edge call ≡ None → new_node.spent ≡ Some LacksLabel
-          lacking e = ap (λ (n : LabelNode). n.spent) (made ∙ sym (calls_are control has.keeps)) ∙ (both_lack place now call state node has.label has.unspent e).1
+          lacking e =
+              ap (λ (n : LabelNode). n.spent) (made ∙ sym (calls_are control has.keeps))
+              ∙ (both_lack place now call state node has.label has.unspent e).1
 
-          by : (o : Option EdgeStepped) → edge_step place now state.edge call ≡ o → HasParts place (called place now state call) new_control new_node new_waiting
+          by : (o : Option EdgeStepped) → edge_step place now state.edge call ≡ o
+              → HasParts place (called place now state call) new_control new_node new_waiting
           by None e = absurd (none-some LacksLabel (sym unspent ∙ lacking e))
           by (Some new) e =
-              let label : IsLabelNode (called place now state call) new_node = subst (λ (n : LabelNode). IsLabelNode (called place now state call) n) (sym made) (behind_is new e) in
+              let label : IsLabelNode (called place now state call) new_node =
+              subst (λ (n : LabelNode). IsLabelNode (called place now state call) n) (sym made) (behind_is new e) in
               record {
                 unspent = sym label.spent ∙ unspent;
                 keeps = control_behind new e;
@@ -93,7 +114,8 @@ module _ (place : EdgePlace) (now : ℕ) (call : Call) (state : EdgeState) where
 
 -- ---- leaves
 
-pub leaves_made : (place : EdgePlace) (now : ℕ) (call : Call) (control : Control) (node new_node : LabelNode) → node.spent ≡ None → node.part.leaves ≡ leaves place control
+pub leaves_made : (place : EdgePlace) (now : ℕ) (call : Call) (control : Control) (node new_node : LabelNode) → node.spent ≡ None
+    → node.part.leaves ≡ leaves place control
     → new_node ≡ all_called (node_place place.scenario place.me) place.core now node (label_calls place now control call) → new_node.spent ≡ None
     → new_node.part.leaves ≡ leaves place (control_step place now control call)
 leaves_made place now call control node new_node e same made unspent = by (label_row place now node.part calls) refl
@@ -104,11 +126,22 @@ leaves_made place now call control node new_node e same made unspent = by (label
     «data» : EdgeData
     «data» = record { control = control; part = node.part; raised = maps.empty }
 
-    by : (o : Option (List LabelStep)) → label_row place now node.part calls ≡ o → new_node.part.leaves ≡ leaves place (control_step place now control call)
+    by : (o : Option (List LabelStep)) → label_row place now node.part calls ≡ o
+        → new_node.part.leaves ≡ leaves place (control_step place now control call)
     by None h = absurd (none-some LacksLabel (sym unspent ∙ (ap (λ (n : LabelNode). n.spent) made ∙ lacks_behind place now node calls e h)))
     by (Some row) h =
-        let stepped : EdgeStepped = record { edge = record { control = control_step place now control call; part = part_after node.part row; raised = raised_after now maps.empty call }; row = row } in
+        let stepped : EdgeStepped =
+        record {
+          edge =
+              record { control = control_step place now control call; part = part_after node.part row; raised = raised_after now maps.empty call };
+          row = row;
+        } in
         let step : edge_step place now «data» call ≡ Some stepped =
-        ap (λ (o : Option (List LabelStep)). o >>? λ (row : List LabelStep). Some (record { edge = record { control = control_step place now control call; part = part_after node.part row; raised = raised_after now maps.empty call }; row = row })) h in
+        ap (λ (o : Option (List LabelStep)). o >>? λ (row : List LabelStep). Some
+        (record {
+          edge =
+              record { control = control_step place now control call; part = part_after node.part row; raised = raised_after now maps.empty call };
+          row = row;
+        })) h in
         let part : new_node.part ≡ part_after node.part row = ap (λ (n : LabelNode). n.part) made ∙ (part_behind place now node calls row e h).part in
         ap (λ (p : LabelData). p.leaves) part ∙ leaves_follow place now «data» call stepped same step

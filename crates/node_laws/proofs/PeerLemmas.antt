@@ -50,7 +50,9 @@ module _ (me : NodeId) where
       let old : List ℕ = waiting_at waiting (bgp_session to) in
       let octets : List ℕ = (update_unit change).octets in
       own_waits to more (maps.insert waiting (bgp_session to) (old ++ octets))
-      ∙ ap (λ (l : List ℕ). l ++ update_octets more) (waiting_then waiting (bgp_session to) (bgp_session to) (old ++ octets) ∙ ap (λ (b : Bool). cond b (old ++ octets) old) (bgp_tie to to ∙ eq-eqb to.0 to.0 refl))
+      ∙ ap (λ (l : List ℕ). l ++ update_octets more)
+      (waiting_then waiting (bgp_session to) (bgp_session to) (old ++ octets)
+      ∙ ap (λ (b : Bool). cond b (old ++ octets) old) (bgp_tie to to ∙ eq-eqb to.0 to.0 refl))
       ∙ append_assoc old octets (update_octets more)
 
   other_stays : (to peer : NodeId) → (peer.0 == to.0) ≡ false → (changes : List (Change Key Value)) (waiting : FinMap peer_cmp (List ℕ))
@@ -59,15 +61,18 @@ module _ (me : NodeId) where
   other_stays to peer e (change ∷ more) waiting =
       let octets : List ℕ = waiting_at waiting (bgp_session to) ++ (update_unit change).octets in
       other_stays to peer e more (maps.insert waiting (bgp_session to) octets)
-      ∙ waiting_then waiting (bgp_session to) (bgp_session peer) octets ∙ ap (λ (b : Bool). cond b octets (waiting_at waiting (bgp_session peer))) (bgp_tie peer to ∙ e)
+      ∙ waiting_then waiting (bgp_session to) (bgp_session peer) octets
+      ∙ ap (λ (b : Bool). cond b octets (waiting_at waiting (bgp_session peer))) (bgp_tie peer to ∙ e)
 
 -- ---- changes to each of the edges
 
 from_number : (peer : NodeId) (number : ℕ) (nodes : List Node) → Among peer (edges_from number nodes) → number ≤ peer.0
 from_number peer number [] among = absurd among
 from_number peer number (node ∷ more) among =
-    let later : Among peer (edges_from (number + 1) more) → number ≤ peer.0 = λ a. (let le = from_number peer (number + 1) more a in omega (arith, le)) in
-    elim node.edge as (λ b. Among peer (cond b (record { 0 = number } ∷ edges_from (number + 1) more) (edges_from (number + 1) more)) → number ≤ peer.0) [
+    let later : Among peer (edges_from (number + 1) more) → number ≤ peer.0 =
+    λ a. (let le = from_number peer (number + 1) more a in omega (arith, le)) in
+    elim node.edge as (λ b. Among peer (cond b (record { 0 = number } ∷ edges_from (number + 1) more) (edges_from (number + 1) more))
+    → number ≤ peer.0) [
       | true ↦ λ a. elim a [ inl e ↦ (let same = ap (λ (n : NodeId). n.0) e in omega (arith, same)) | inr a ↦ later a ]
       | false ↦ later
     ] among
@@ -77,8 +82,10 @@ module _ (me : NodeId) (told : NodeId → List (Change Key Value)) where
   to_all peers = flat_map (λ to. map (bgp_put me to) (told to)) peers
 
   one_more : (to peer : NodeId) (more : List NodeId) (waiting : FinMap peer_cmp (List ℕ))
-      → waiting_at (with_puts (to_all (to ∷ more)) waiting) (bgp_session peer) ≡ waiting_at (with_puts (to_all more) (with_puts (map (bgp_put me to) (told to)) waiting)) (bgp_session peer)
-  one_more to peer more waiting = ap (λ (w : FinMap peer_cmp (List ℕ)). waiting_at w (bgp_session peer)) (puts_again (map (bgp_put me to) (told to)) (to_all more) waiting)
+      → waiting_at (with_puts (to_all (to ∷ more)) waiting) (bgp_session peer)
+      ≡ waiting_at (with_puts (to_all more) (with_puts (map (bgp_put me to) (told to)) waiting)) (bgp_session peer)
+  one_more to peer more waiting =
+      ap (λ (w : FinMap peer_cmp (List ℕ)). waiting_at w (bgp_session peer)) (puts_again (map (bgp_put me to) (told to)) (to_all more) waiting)
 
   none_waits : (peer : NodeId) (peers : List NodeId) → (Among peer peers → ⊥) → (waiting : FinMap peer_cmp (List ℕ))
       → waiting_at (with_puts (to_all peers) waiting) (bgp_session peer) ≡ waiting_at waiting (bgp_session peer)
@@ -90,7 +97,9 @@ module _ (me : NodeId) (told : NodeId → List (Change Key Value)) where
 
   -- the changes to the peer wait for it behind what waits already
   abbrev Waits : NodeId → List NodeId → Type 0
-  Waits peer peers = (waiting : FinMap peer_cmp (List ℕ)) → waiting_at (with_puts (to_all peers) waiting) (bgp_session peer) ≡ waiting_at waiting (bgp_session peer) ++ update_octets (told peer)
+  Waits peer peers =
+      (waiting : FinMap peer_cmp (List ℕ)) → waiting_at (with_puts (to_all peers) waiting) (bgp_session peer) ≡ waiting_at waiting (bgp_session peer)
+      ++ update_octets (told peer)
 
   first_waits : (peer : NodeId) (more : List NodeId) → (Among peer more → ⊥) → Waits peer (peer ∷ more)
   first_waits peer more none waiting =
@@ -123,7 +132,8 @@ module _ (me : NodeId) (told : NodeId → List (Change Key Value)) where
 
 module _ (place : EdgePlace) (old new : Control) where
   pub peers_wait : (waiting : FinMap peer_cmp (List ℕ)) (peer : NodeId) → Among peer (edges place.scenario)
-      → waiting_at (with_puts (bgp_puts place old new) waiting) (bgp_session peer) ≡ waiting_at waiting (bgp_session peer) ++ update_octets (put_to place old new peer)
+      → waiting_at (with_puts (bgp_puts place old new) waiting) (bgp_session peer) ≡ waiting_at waiting (bgp_session peer)
+      ++ update_octets (put_to place old new peer)
   peers_wait waiting peer among = edge_waits place.me (put_to place old new) peer 0 place.scenario.nodes among waiting
 
   pub others_wait : (waiting : FinMap peer_cmp (List ℕ)) (peer : NodeId) → (Among peer (edges place.scenario) → ⊥)
@@ -136,7 +146,8 @@ module _ (place : EdgePlace) (old new : Control) where
 
 -- ---- a step
 
-kept : (call : Call) (old : EdgeState) (peer : NodeId) → waiting_at (prepared call old).waiting (bgp_session peer) ≡ kept_for call peer (waiting_at old.waiting (bgp_session peer))
+kept : (call : Call) (old : EdgeState) (peer : NodeId)
+    → waiting_at (prepared call old).waiting (bgp_session peer) ≡ kept_for call peer (waiting_at old.waiting (bgp_session peer))
 kept (Update from message) old peer = refl
 kept (Label neighbour message) old peer = refl
 kept (Pim iface message) old peer = refl
@@ -158,17 +169,22 @@ row_stays me addr place now [] waiting peer = refl
 row_stays me addr place now (step ∷ more) waiting peer =
     let puts : List Put = label_puts me addr place now step in
     ap (λ (w : FinMap peer_cmp (List ℕ)). waiting_at w (bgp_session peer)) (puts_again puts (flat_map (label_puts me addr place now) more) waiting)
-    ∙ row_stays me addr place now more (with_puts puts waiting) peer ∙ others_stay me addr (step_puts place now step.old step.call step.new.puts) waiting peer
+    ∙ row_stays me addr place now more (with_puts puts waiting) peer
+    ∙ others_stay me addr (step_puts place now step.old step.call step.new.puts) waiting peer
 
-module _ (place : EdgePlace) (now : ℕ) (call : Call) (old : EdgeState) (new : EdgeStepped) (peer : NodeId) (e : old.spent ≡ None) (h : edge_step place now old.edge call ≡ Some new) where
+module _ (place : EdgePlace) (now : ℕ) (call : Call) (old : EdgeState) (new : EdgeStepped) (peer : NodeId) (e : old.spent ≡ None)
+    (h : edge_step place now old.edge call ≡ Some new) where
   -- what its label steps put does not wait for a BGP peer
-  bgp_alone : waiting_at (called place now old call).waiting (bgp_session peer) ≡ waiting_at (with_puts (bgp_puts place old.edge.control new.edge.control) (prepared call old).waiting) (bgp_session peer)
+  bgp_alone : waiting_at (called place now old call).waiting (bgp_session peer)
+      ≡ waiting_at (with_puts (bgp_puts place old.edge.control new.edge.control) (prepared call old).waiting) (bgp_session peer)
   bgp_alone =
       let bgp : List Put = bgp_puts place old.edge.control new.edge.control in
-      let told : List Put = flat_map (label_puts place.me (addr_of place.scenario place.me) (label_place place.scenario place.core place.me) now) new.row in
+      let told : List Put =
+      flat_map (label_puts place.me (addr_of place.scenario place.me) (label_place place.scenario place.core place.me) now) new.row in
       ap (λ (x : EdgeState). waiting_at x.waiting (bgp_session peer)) (edge_after place now call old new e h)
       ∙ ap (λ (w : FinMap peer_cmp (List ℕ)). waiting_at w (bgp_session peer)) (puts_again bgp told (prepared call old).waiting)
-      ∙ row_stays place.me (addr_of place.scenario place.me) (label_place place.scenario place.core place.me) now new.row (with_puts bgp (prepared call old).waiting) peer
+      ∙ row_stays place.me (addr_of place.scenario place.me) (label_place place.scenario place.core place.me) now new.row
+      (with_puts bgp (prepared call old).waiting) peer
 
   pub step_waits : Among peer (edges place.scenario)
       → waiting_at (called place now old call).waiting (bgp_session peer)
@@ -178,5 +194,6 @@ module _ (place : EdgePlace) (now : ℕ) (call : Call) (old : EdgeState) (new : 
       ∙ peers_wait place old.edge.control new.edge.control (prepared call old).waiting peer among
       ∙ ap (λ (l : List ℕ). l ++ update_octets (put_to place old.edge.control new.edge.control peer)) (kept call old peer)
 
-  pub step_leaves : (Among peer (edges place.scenario) → ⊥) → waiting_at (called place now old call).waiting (bgp_session peer) ≡ kept_for call peer (waiting_at old.waiting (bgp_session peer))
+  pub step_leaves : (Among peer (edges place.scenario) → ⊥)
+      → waiting_at (called place now old call).waiting (bgp_session peer) ≡ kept_for call peer (waiting_at old.waiting (bgp_session peer))
   step_leaves none = bgp_alone ∙ others_wait place old.edge.control new.edge.control (prepared call old).waiting peer none ∙ kept call old peer

@@ -16,11 +16,13 @@ use Rattle.node_laws.specs.Places.{node_place}
 abbrev addr_at : Node → Addr
 addr_at node = node.addr
 
-any_mapped : (addr : Addr) (nodes : List Node) → list_any (λ own. same_addr own addr) (map addr_at nodes) ≡ list_any (λ node. same_addr node.addr addr) nodes
+any_mapped : (addr : Addr) (nodes : List Node)
+    → list_any (λ own. same_addr own addr) (map addr_at nodes) ≡ list_any (λ node. same_addr node.addr addr) nodes
 any_mapped addr [] = refl
 any_mapped addr (node ∷ more) = ap (λ (b : Bool). same_addr node.addr addr || b) (any_mapped addr more)
 
-index_mapped : (addr : Addr) (nodes : List Node) → position_or_len (λ own. same_addr own addr) (map addr_at nodes) ≡ position_or_len (λ node. same_addr node.addr addr) nodes
+index_mapped : (addr : Addr) (nodes : List Node)
+    → position_or_len (λ own. same_addr own addr) (map addr_at nodes) ≡ position_or_len (λ node. same_addr node.addr addr) nodes
 index_mapped addr [] = refl
 index_mapped addr (node ∷ more) = ap (λ (n : ℕ). cond (not (same_addr node.addr addr)) (1 + n) 0) (index_mapped addr more)
 
@@ -28,7 +30,8 @@ length_mapped : (nodes : List Node) → length (map addr_at nodes) ≡ length no
 length_mapped [] = refl
 length_mapped (node ∷ more) = ap suc (length_mapped more)
 
-position_mapped : (addr : Addr) (nodes : List Node) → position (λ own. same_addr own addr) (map addr_at nodes) ≡ position (λ node. same_addr node.addr addr) nodes
+position_mapped : (addr : Addr) (nodes : List Node)
+    → position (λ own. same_addr own addr) (map addr_at nodes) ≡ position (λ node. same_addr node.addr addr) nodes
 position_mapped addr nodes = λ i. cond (nat_lt (index_mapped addr nodes i) (length_mapped nodes i)) (Some (index_mapped addr nodes i)) None
 
 abbrev addr_or : Option Addr → Addr

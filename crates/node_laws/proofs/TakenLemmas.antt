@@ -22,12 +22,14 @@ behind_streams : (place : EdgePlace) (now : ℕ) (old : EdgeState) (new : Option
 behind_streams place now old None = refl
 behind_streams place now old (Some new) = refl
 
-pub unspent_streams : (place : EdgePlace) (now : ℕ) (call : Call) (old : EdgeState) → old.spent ≡ None → (called place now old call).streams ≡ (prepared call old).streams
+pub unspent_streams : (place : EdgePlace) (now : ℕ) (call : Call) (old : EdgeState) → old.spent ≡ None
+    → (called place now old call).streams ≡ (prepared call old).streams
 unspent_streams place now call old e =
     ap (λ (x : EdgeState). x.streams) (edge_called place now call old (edge_step place now old.edge call) e refl)
     ∙ behind_streams place now (prepared call old) (edge_step place now old.edge call)
 
-pub spent_stays : (place : EdgePlace) (now : ℕ) (call : Call) (old : EdgeState) (cause : Spent) → old.spent ≡ Some cause → called place now old call ≡ old
+pub spent_stays : (place : EdgePlace) (now : ℕ) (call : Call) (old : EdgeState) (cause : Spent) → old.spent ≡ Some cause
+    → called place now old call ≡ old
 spent_stays place now call old cause e = λ i. called_unless (e i) place now old call
 
 -- ---- octets that are handed out
@@ -40,7 +42,9 @@ one_kind kinds.Ldp kinds.Ldp e = refl
 
 one_session : (a b : PeerSession) → eq_by_cmp peer_cmp a b ≡ true → a ≡ b
 one_session a b h =
-    let keys = slice_cmp-IsAntisymmetric nat_cmp-IsAntisymmetric (kind_number a.kind ∷ a.peer.0 ∷ []) (kind_number b.kind ∷ b.peer.0 ∷ []) ((Equal-is (peer_cmp a b)).0 h) in
+    let keys =
+    slice_cmp-IsAntisymmetric nat_cmp-IsAntisymmetric (kind_number a.kind ∷ a.peer.0 ∷ []) (kind_number b.kind ∷ b.peer.0 ∷ [])
+    ((Equal-is (peer_cmp a b)).0 h) in
     let number : kind_number a.kind ≡ kind_number b.kind = cc in
     let peer : a.peer.0 ≡ b.peer.0 = cc in
     let kind = one_kind a.kind b.kind number in
@@ -51,7 +55,8 @@ none_left session old =
     waiting_less old.waiting session session
     ∙ ap (λ (b : Bool). cond b [] (waiting_at old.waiting session)) ((eq_by_cmp_equiv peer_total).refl session)
 
-pub others_left : (session other : PeerSession) (old : EdgeState) → other ≢ session → waiting_at (handed_out session old).waiting other ≡ waiting_at old.waiting other
+pub others_left : (session other : PeerSession) (old : EdgeState) → other ≢ session
+    → waiting_at (handed_out session old).waiting other ≡ waiting_at old.waiting other
 others_left session other old unequal = waiting_less old.waiting session other ∙ by (eq_by_cmp peer_cmp other session) refl
   where
     by : (b : Bool) → eq_by_cmp peer_cmp other session ≡ b → cond b [] (waiting_at old.waiting other) ≡ waiting_at old.waiting other
@@ -74,7 +79,8 @@ pub message_called : (place : EdgePlace) (now : ℕ) (from : NodeId) (message : 
     → stepped place now old (call_of from message) ≡ called place now old (call_of from message)
 message_called place now from message old = by old.spent refl
   where
-    by : (spent : Option Spent) → old.spent ≡ spent → stepped_unless spent place now old (call_of from message) ≡ called_unless spent place now old (call_of from message)
+    by : (spent : Option Spent) → old.spent ≡ spent
+        → stepped_unless spent place now old (call_of from message) ≡ called_unless spent place now old (call_of from message)
     by None e =
         (λ i. stepped_unless (sym e i) place now old (call_of from message))
         ∙ ap (λ (x : EdgeState). stepped place now x (call_of from message)) (sym (unprepared from message old))

@@ -50,10 +50,14 @@ pub record Known (scenario : Scenario) (cores : Cores) (world : World) : Type 0 
   pub links : OnLinks world.network
   pub zeros : Zeros world
 
-known_costs : (scenario : Scenario) (cores : Cores) (nodes : Nodes) → nodes.scenario ≡ scenario → KnowCosts scenario cores nodes → KnowCosts nodes.scenario nodes.cores nodes
-known_costs scenario cores nodes same k = subst (λ (s : Scenario). KnowCosts s nodes.cores nodes) (sym same) (record { cores_are = refl; links = k.links; present = k.present; core = k.core })
+known_costs : (scenario : Scenario) (cores : Cores) (nodes : Nodes) → nodes.scenario ≡ scenario → KnowCosts scenario cores nodes
+    → KnowCosts nodes.scenario nodes.cores nodes
+known_costs scenario cores nodes same k =
+    subst (λ (s : Scenario). KnowCosts s nodes.cores nodes) (sym same)
+    (record { cores_are = refl; links = k.links; present = k.present; core = k.core })
 
-pub known_of : (cores : Cores) (script : Script) (events : List Timed) (trace : List Traced) (world : World) → CalmRun cores script events trace world → Known script.scenario cores world
+pub known_of : (cores : Cores) (script : Script) (events : List Timed) (trace : List Traced) (world : World) → CalmRun cores script events trace world
+    → Known script.scenario cores world
 known_of cores script events trace world c =
     let f = run_facts script.scenario cores events trace world c.sound.run in
     record {
@@ -67,38 +71,53 @@ known_of cores script events trace world c =
       zeros = zeros_of world c.zeros;
     }
 
-leafless : (scenario : Scenario) (cores : Cores) (world : World) → Known scenario cores world → (n : NodeId) → length (scenario_of world).nodes ≤ n.0 → (fec : Fec) → sets.contains (part_of (world.network.state.node n)).leaves fec ≡ false
+leafless : (scenario : Scenario) (cores : Cores) (world : World) → Known scenario cores world → (n : NodeId) → length (scenario_of world).nodes ≤ n.0
+    → (fec : Fec) → sets.contains (part_of (world.network.state.node n)).leaves fec ≡ false
 leafless scenario cores world k n out fec =
     by (world.network.state.node n) (k.step.2.base.sound.outside n (subst (λ (s : Scenario). length s.nodes ≤ n.0) k.facts.same out)) (k.facts.node n)
   where
-    by : (state : NodeState) → IsBare state → NodeFact (place_of world.network.state n) world.network.state.clock state → sets.contains (part_of state).leaves fec ≡ false
+    by : (state : NodeState) → IsBare state → NodeFact (place_of world.network.state n) world.network.state.clock state
+        → sets.contains (part_of state).leaves fec ≡ false
     by (Edge edge) bare fact = absurd bare
     by (CoreNode part) bare fact = fact fec
 
 -- the labels of a tree of a node are calm
-pub labels_calm : (scenario : Scenario) (cores : Cores) (world : World) → Known scenario cores world → (root : NodeId) → root.0 < length (scenario_of world).nodes → (fec : Fec) → fec.root ≡ addr_of (scenario_of world) root → CalmLabels world.network fec root
+pub labels_calm : (scenario : Scenario) (cores : Cores) (world : World) → Known scenario cores world → (root : NodeId)
+    → root.0 < length (scenario_of world).nodes → (fec : Fec) → fec.root ≡ addr_of (scenario_of world) root → CalmLabels world.network fec root
 labels_calm scenario cores world k root within fec rooted =
-    calm_labels world k.rules k.costs (world.datagrams ++ []) k.step.0 k.step.1 (k.step.2.kept []) k.rests k.links k.zeros (leafless scenario cores world k) root within fec rooted
+    calm_labels world k.rules k.costs (world.datagrams ++ []) k.step.0 k.step.1 (k.step.2.kept []) k.rests k.links k.zeros
+    (leafless scenario cores world k) root within fec rooted
 
 -- a tunnel on which a datagram goes is a tree
-sent_root : (world : World) (datagram : Datagram) (own : OwnVrf) (state : NodeState) (fec : Fec) → sends_on world.network datagram own state ≡ Some fec → fec.root ≡ addr_of (scenario_of world) own.vrf.edge
+sent_root : (world : World) (datagram : Datagram) (own : OwnVrf) (state : NodeState) (fec : Fec)
+    → sends_on world.network datagram own state ≡ Some fec → fec.root ≡ addr_of (scenario_of world) own.vrf.edge
 sent_root world datagram own (CoreNode part) fec e = absurd (none-some fec e)
 sent_root world datagram own (Edge edge) fec e =
-    by (is_from_site datagram.site (upstream_for (place_of world.network.state own.vrf.edge) edge.control own datagram.source datagram.group) && is_joined_in (place_of world.network.state own.vrf.edge) edge.control own datagram.source datagram.group) e
+    by (is_from_site datagram.site (upstream_for (place_of world.network.state own.vrf.edge) edge.control own datagram.source datagram.group)
+    && is_joined_in (place_of world.network.state own.vrf.edge) edge.control own datagram.source datagram.group) e
   where
     tunnel : Fec
     tunnel = transmit_tunnel (place_of world.network.state own.vrf.edge) edge.control own datagram.source datagram.group
 
-    by : (b : Bool) → cond b (Some (transmit_tunnel (place_of world.network.state own.vrf.edge) edge.control own datagram.source datagram.group)) None ≡ Some fec → fec.root ≡ addr_of (scenario_of world) own.vrf.edge
-    by true h = ap (λ (f : Fec). f.root) (sym (same_Some (transmit_tunnel (place_of world.network.state own.vrf.edge) edge.control own datagram.source datagram.group) fec h))
+    by : (b : Bool) → cond b (Some (transmit_tunnel (place_of world.network.state own.vrf.edge) edge.control own datagram.source datagram.group)) None
+        ≡ Some fec → fec.root ≡ addr_of (scenario_of world) own.vrf.edge
+    by true h =
+        ap (λ (f : Fec). f.root) (sym (same_Some (transmit_tunnel (place_of world.network.state own.vrf.edge) edge.control own datagram.source
+        datagram.group) fec h))
     by false h = absurd (none-some fec h)
 
-pub vrf_within : (scenario : Scenario) → Rules scenario → (id : VrfId) (vrf : Vrf) → slice_get scenario.vrfs id.0 ≡ Some vrf → vrf.edge.0 < length scenario.nodes
-vrf_within scenario rules id vrf known = (let edge = (vrf_rules_at scenario rules id.0 vrf known).edge in slice_get_within scenario.nodes vrf.edge.0 edge.node edge.at)
+pub vrf_within : (scenario : Scenario) → Rules scenario → (id : VrfId) (vrf : Vrf) → slice_get scenario.vrfs id.0 ≡ Some vrf
+    → vrf.edge.0 < length scenario.nodes
+vrf_within scenario rules id vrf known =
+    (let edge = (vrf_rules_at scenario rules id.0 vrf known).edge in slice_get_within scenario.nodes vrf.edge.0 edge.node edge.at)
 
-pub trees_calm : (cores : Cores) (script : Script) (events : List Timed) (trace : List Traced) (world : World) → CalmRun cores script events trace world → (datagram : Datagram) (id : VrfId) (vrf : Vrf) (fec : Fec)
-    → slice_get (scenario_of world).vrfs id.0 ≡ Some vrf → sends_on world.network datagram (record { id = id; vrf = vrf }) (world.network.state.node vrf.edge) ≡ Some fec → CalmTree world.network fec vrf.edge
+pub trees_calm : (cores : Cores) (script : Script) (events : List Timed) (trace : List Traced) (world : World)
+    → CalmRun cores script events trace world → (datagram : Datagram) (id : VrfId) (vrf : Vrf) (fec : Fec)
+    → slice_get (scenario_of world).vrfs id.0 ≡ Some vrf
+    → sends_on world.network datagram (record { id = id; vrf = vrf }) (world.network.state.node vrf.edge) ≡ Some fec
+    → CalmTree world.network fec vrf.edge
 trees_calm cores script events trace world c datagram id vrf fec known sends =
     let k = known_of cores script events trace world c in
     calm_tree world.network fec vrf.edge
-    (labels_calm script.scenario cores world k vrf.edge (vrf_within (scenario_of world) k.rules id vrf known) fec (sent_root world datagram (record { id = id; vrf = vrf }) (world.network.state.node vrf.edge) fec sends))
+    (labels_calm script.scenario cores world k vrf.edge (vrf_within (scenario_of world) k.rules id vrf known) fec
+    (sent_root world datagram (record { id = id; vrf = vrf }) (world.network.state.node vrf.edge) fec sends))

@@ -68,11 +68,14 @@ abbrev pub NetworkLeads : (OctetNetwork Nodes → Type 0) → Option (Behind (Oc
 NetworkLeads P None = ⊤
 NetworkLeads P (Some new) = P new.network
 
-leads_earlier : (P : OctetNetwork Nodes → Type 0) (puts : List Put) (found : Option (Behind (OctetNetwork Nodes))) → NetworkLeads P found → NetworkLeads P (with_earlier puts found)
+leads_earlier : (P : OctetNetwork Nodes → Type 0) (puts : List Put) (found : Option (Behind (OctetNetwork Nodes))) → NetworkLeads P found
+    → NetworkLeads P (with_earlier puts found)
 leads_earlier P puts None h = tt
 leads_earlier P puts (Some new) h = h
 
-leads_then : (P Q : OctetNetwork Nodes → Type 0) (found : Option (Behind (OctetNetwork Nodes))) (next : OctetNetwork Nodes → Option (Behind (OctetNetwork Nodes))) → NetworkLeads P found → ((network : OctetNetwork Nodes) → P network → NetworkLeads Q (next network))
+leads_then : (P Q : OctetNetwork Nodes → Type 0) (found : Option (Behind (OctetNetwork Nodes)))
+    (next : OctetNetwork Nodes → Option (Behind (OctetNetwork Nodes))) → NetworkLeads P found
+    → ((network : OctetNetwork Nodes) → P network → NetworkLeads Q (next network))
     → NetworkLeads Q (found >>? λ new. with_earlier new.puts (next new.network))
 leads_then P Q None next p h = tt
 leads_then P Q (Some new) next p h = leads_earlier Q new.puts (next new.network) (h new.network p)
@@ -80,14 +83,17 @@ leads_then P Q (Some new) next p h = leads_earlier Q new.puts (next new.network)
 abbrev Any : List ReportLine → Type 0
 Any all = ⊤
 
-module _ (F : Nodes → Type 0) (Fits : Kind → NodeId → NodeId → Type 0) (fit : (nodes : Nodes) → F nodes → AllByRecursion (AreFit Fits) (sessions nodes.scenario)) (May : NodeCall → Type 0) (free : (n : NodeId) (call : steps.Call) → IsOfSession Fits n call → May (Own n call))
+module _ (F : Nodes → Type 0) (Fits : Kind → NodeId → NodeId → Type 0)
+    (fit : (nodes : Nodes) → F nodes → AllByRecursion (AreFit Fits) (sessions nodes.scenario)) (May : NodeCall → Type 0)
+    (free : (n : NodeId) (call : steps.Call) → IsOfSession Fits n call → May (Own n call))
     (step : (nodes : Nodes) (call : NodeCall) → May call → F nodes → Holds (λ (new : Stepped Nodes). F new.state) (nodes_called call nodes)) where
   -- the nodes are so, and no stream holds back a whole message
   pub record Carried (network : OctetNetwork Nodes) : Type 0 where
     pub nodes : F network.state
     pub rests : (over : Direction) → Rests over.kind (network.stream over)
 
-  stepped : (old : OctetNetwork Nodes) (found : Option (Stepped Nodes)) → Carried old → Holds (λ (new : Stepped Nodes). F new.state) found → NetworkLeads Carried (with_step old found)
+  stepped : (old : OctetNetwork Nodes) (found : Option (Stepped Nodes)) → Carried old → Holds (λ (new : Stepped Nodes). F new.state) found
+      → NetworkLeads Carried (with_step old found)
   stepped old None c h = tt
   stepped old (Some new) c h = record { nodes = h; rests = c.rests }
 
@@ -95,15 +101,20 @@ module _ (F : Nodes → Type 0) (Fits : Kind → NodeId → NodeId → Type 0) (
   message_may from (SessionMessage.Bgp message) to = free to (steps.Update from message) tt
   message_may from (SessionMessage.Label message) to = free to (steps.Label from message) tt
 
-  taken : (over : Direction) (list : List SessionMessage) (old : OctetNetwork Nodes) → Carried old → NetworkLeads Carried (all_taken system old over list)
+  taken : (over : Direction) (list : List SessionMessage) (old : OctetNetwork Nodes) → Carried old
+      → NetworkLeads Carried (all_taken system old over list)
   taken over [] old c = c
   taken over (message ∷ rest) old c =
       leads_then Carried Carried (with_step old (system.taken over message old.state)) (λ network. all_taken system network over rest)
-      (stepped old (system.taken over message old.state) c (step old.state (Own over.to (call_of over.from message)) (message_may over.from message over.to) c.nodes))
+      (stepped old (system.taken over message old.state) c
+      (step old.state (Own over.to (call_of over.from message)) (message_may over.from message over.to) c.nodes))
       (λ network p. taken over rest network p)
 
-  moves : (over : Direction) (count : ℕ) (old : OctetNetwork Nodes) → Carried old → NetworkLeads Carried (octet_act system old (octets.Move over count))
-  moves over count old c = cond_both (old.joined over) (moved system old over count) (Some (record { network = old; puts = [] })) (NetworkLeads Carried) (λ t. there) (λ f. c)
+  moves : (over : Direction) (count : ℕ) (old : OctetNetwork Nodes) → Carried old
+      → NetworkLeads Carried (octet_act system old (octets.Move over count))
+  moves over count old c =
+      cond_both (old.joined over) (moved system old over count) (Some (record { network = old; puts = [] })) (NetworkLeads Carried) (λ t. there)
+      (λ f. c)
     where
       new : Stream
       new = fed (front_of over.kind) (old.stream over) (take count (old.transit over))
@@ -116,8 +127,10 @@ module _ (F : Nodes → Type 0) (Fits : Kind → NodeId → NodeId → Type 0) (
           } in
           taken over new.waiting left (record {
             nodes = c.nodes;
-            rests = λ other. cond_both (same_direction other over) (record new { waiting = [] }) (old.stream other) (λ (s : Stream). Rests other.kind s)
-                (λ t. subst (λ (d : Direction). Rests d.kind new) (sym (direction_is other over t)) (fed_rests over.kind (old.stream over) (take count (old.transit over)) (c.rests over)))
+            rests = λ other. cond_both (same_direction other over) (record new { waiting = [] }) (old.stream other)
+                (λ (s : Stream). Rests other.kind s)
+                (λ t. subst (λ (d : Direction). Rests d.kind new) (sym (direction_is other over t))
+                (fed_rests over.kind (old.stream over) (take count (old.transit over)) (c.rests over)))
                 (λ f. c.rests other);
           })
 
@@ -130,38 +143,61 @@ module _ (F : Nodes → Type 0) (Fits : Kind → NodeId → NodeId → Type 0) (
   one_act (octets.Move over count) w old c = moves over count old c
   one_act (octets.Call call) w old c = stepped old (system.called call old.state) c (step old.state call w c.nodes)
   one_act (octets.Lose hit) w old c = record { nodes = c.nodes; rests = c.rests }
-  one_act (octets.Forget hit) w old c = record { nodes = c.nodes; rests = λ over. cond_both (hit over && not (old.joined over)) unfed (old.stream over) (λ (s : Stream). Rests over.kind s) (λ t. unfed_rests over.kind) (λ f. c.rests over) }
-  one_act (octets.Join hit) w old c = record { nodes = c.nodes; rests = λ over. cond_both (hit over) unfed (old.stream over) (λ (s : Stream). Rests over.kind s) (λ t. unfed_rests over.kind) (λ f. c.rests over) }
+  one_act (octets.Forget hit) w old c =
+      record {
+        nodes = c.nodes;
+        rests =
+            λ over. cond_both (hit over && not (old.joined over)) unfed (old.stream over) (λ (s : Stream). Rests over.kind s) (λ t. unfed_rests over.kind)
+            (λ f. c.rests over);
+      }
+  one_act (octets.Join hit) w old c =
+      record {
+        nodes = c.nodes;
+        rests =
+            λ over. cond_both (hit over) unfed (old.stream over) (λ (s : Stream). Rests over.kind s) (λ t. unfed_rests over.kind) (λ f. c.rests over);
+      }
 
-  octet_acts : (acts : List (OctetAct NodeCall)) → AllByRecursion ActMay acts → (old : OctetNetwork Nodes) → Carried old → NetworkLeads Carried (octet_run system old acts)
+  octet_acts : (acts : List (OctetAct NodeCall)) → AllByRecursion ActMay acts → (old : OctetNetwork Nodes) → Carried old
+      → NetworkLeads Carried (octet_run system old acts)
   octet_acts [] w old c = c
-  octet_acts (one ∷ rest) w old c = leads_then Carried Carried (octet_act system old one) (λ network. octet_run system network rest) (one_act one w.0 old c) (λ network p. octet_acts rest w.1 network p)
+  octet_acts (one ∷ rest) w old c =
+      leads_then Carried Carried (octet_act system old one) (λ network. octet_run system network rest) (one_act one w.0 old c)
+      (λ network p. octet_acts rest w.1 network p)
 
   -- ---- acts
 
   abbrev pub Holding : World → Type 0
   Holding world = Carried world.network
 
-  network_gives : (world : World) (before : List ReportLine) (node : NodeId) (o : Option (Behind (OctetNetwork Nodes))) → NetworkLeads Carried o → Gives Any Holding (with_network world before o node)
+  network_gives : (world : World) (before : List ReportLine) (node : NodeId) (o : Option (Behind (OctetNetwork Nodes))) → NetworkLeads Carried o
+      → Gives Any Holding (with_network world before o node)
   network_gives world before node None h = tt
   network_gives world before node (Some new) h = (tt, h)
 
-  node_gives : (world : World) (node : NodeId) (before : List ReportLine) (acts : List (OctetAct NodeCall)) → AllByRecursion ActMay acts → Holding world → Gives Any Holding (at_node world node before acts)
-  node_gives world node before acts w c = network_gives world before node (octets.octet_run system world.network acts) (octet_acts acts w world.network c)
+  node_gives : (world : World) (node : NodeId) (before : List ReportLine) (acts : List (OctetAct NodeCall)) → AllByRecursion ActMay acts
+      → Holding world → Gives Any Holding (at_node world node before acts)
+  node_gives world node before acts w c =
+      network_gives world before node (octets.octet_run system world.network acts) (octet_acts acts w world.network c)
 
   aged_gives : (o : Result Acted NodeId) → Gives Any Holding o → Gives Any Holding (with_aged o)
   aged_gives (Err node) h = tt
   aged_gives (Ok new) h = (tt, h.1)
 
-  branches_hold : (node : NodeId) (ttl number : ℕ) (branches : List Branch) (world : World) → Holding world → Holding (with_branches node ttl number branches world)
+  branches_hold : (node : NodeId) (ttl number : ℕ) (branches : List Branch) (world : World) → Holding world
+      → Holding (with_branches node ttl number branches world)
   branches_hold node ttl number [] world c = c
-  branches_hold node ttl number (branch ∷ more) world c = branches_hold node ttl number more (with_copies node branch.node (world.copies node branch.node ++ copy_on world ttl number branch ∷ []) world) c
+  branches_hold node ttl number (branch ∷ more) world c =
+      branches_hold node ttl number more (with_copies node branch.node (world.copies node branch.node ++ copy_on world ttl number branch ∷ []) world)
+      c
 
   enters : (world : World) (id : VrfId) → Holding world → (o : Option Vrf) (d : Option Datagram) → Holding (entering world id o d).world
   enters world id c (Some vrf) (Some datagram) = by (world.network.state.node vrf.edge)
     where
       by : (state : NodeState) → Holding (enters_at world (record { id = id; vrf = vrf }) state datagram).world
-      by (Edge edge) = branches_hold vrf.edge 255 (length world.datagrams) (entering_fate (place_of world.network.state vrf.edge) (clock_of world) edge (record { id = id; vrf = vrf }) datagram.site datagram.source datagram.group).branches world c
+      by (Edge edge) =
+          branches_hold vrf.edge 255 (length world.datagrams)
+          (entering_fate (place_of world.network.state vrf.edge) (clock_of world) edge (record { id = id; vrf = vrf }) datagram.site datagram.source
+          datagram.group).branches world c
       by (CoreNode part) = c
   enters world id c (Some vrf) None = c
   enters world id c None d = c
@@ -172,7 +208,10 @@ module _ (F : Nodes → Type 0) (Fits : Kind → NodeId → NodeId → Type 0) (
     where
       by : (d : Option Datagram) → Holding (landed (without_copy world a b place) a b copy d).world
       by None = c
-      by (Some datagram) = branches_hold b (copy.ttl - 1) copy.number (with_ttl copy.ttl (fate_at (without_copy world a b place) b (world.network.state.node b) a copy.label datagram)).branches (without_copy world a b place) c
+      by (Some datagram) =
+          branches_hold b (copy.ttl - 1) copy.number
+          (with_ttl copy.ttl (fate_at (without_copy world a b place) b (world.network.state.node b) a copy.label datagram)).branches
+          (without_copy world a b place) c
 
   -- what acts call for
   abbrev pub IsFine : Act → Type 0
@@ -187,14 +226,24 @@ module _ (F : Nodes → Type 0) (Fits : Kind → NodeId → NodeId → Type 0) (
   IsFine other = ⊤
 
   pub act_holds : (one : Act) → IsFine one → (world : World) → Holding world → Gives Any Holding (act world one)
-  act_holds (Tick ticks) w world c = aged_gives (at_node world (record { 0 = 0 }) [] (octets.Call (Elapse ticks) ∷ [])) (node_gives world (record { 0 = 0 }) [] (octets.Call (Elapse ticks) ∷ []) (w, tt) c)
+  act_holds (Tick ticks) w world c =
+      aged_gives (at_node world (record { 0 = 0 }) [] (octets.Call (Elapse ticks) ∷ []))
+      (node_gives world (record { 0 = 0 }) [] (octets.Call (Elapse ticks) ∷ []) (w, tt) c)
   act_holds (Timers n) w world c = node_gives world n [] (octets.Call (Own n steps.Timers) ∷ []) (w, tt) c
-  act_holds (Move kind from to count) w world c = node_gives world to (lines.Take kind from to (take count (world.network.transit (direction kind from to))) ∷ []) (octets.Move (direction kind from to) count ∷ []) (tt, tt) c
+  act_holds (Move kind from to count) w world c =
+      node_gives world to (lines.Take kind from to (take count (world.network.transit (direction kind from to))) ∷ [])
+      (octets.Move (direction kind from to) count ∷ []) (tt, tt) c
   act_holds (Lose kind a b) w world c = node_gives world a [] (octets.Lose (is_of_session kind a b) ∷ []) (tt, tt) c
-  act_holds (Notice kind a b) w world c = node_gives world a [] (octets.Forget (is_from_peer kind a b) ∷ octets.Call (Own a (steps.Noticed kind b)) ∷ []) (tt, (free a (steps.Noticed kind b) tt, tt)) c
-  act_holds (RaiseFirst kind a b) w world c = node_gives world a [] (octets.Join (is_of_session kind a b) ∷ octets.Call (Own a (steps.Raised kind b)) ∷ []) (tt, (free a (steps.Raised kind b) w, tt)) c
-  act_holds (RaiseSecond kind a b) w world c = node_gives world b [] (octets.Call (Own b (steps.Raised kind a)) ∷ []) (free b (steps.Raised kind a) w, tt) c
-  act_holds (Restart n) w world c = node_gives world n [] (octets.Lose (is_at n) ∷ octets.Forget (leads_to n) ∷ octets.Call (Reset n) ∷ []) (tt, (tt, (w, tt))) c
+  act_holds (Notice kind a b) w world c =
+      node_gives world a [] (octets.Forget (is_from_peer kind a b) ∷ octets.Call (Own a (steps.Noticed kind b)) ∷ [])
+      (tt, (free a (steps.Noticed kind b) tt, tt)) c
+  act_holds (RaiseFirst kind a b) w world c =
+      node_gives world a [] (octets.Join (is_of_session kind a b) ∷ octets.Call (Own a (steps.Raised kind b)) ∷ [])
+      (tt, (free a (steps.Raised kind b) w, tt)) c
+  act_holds (RaiseSecond kind a b) w world c =
+      node_gives world b [] (octets.Call (Own b (steps.Raised kind a)) ∷ []) (free b (steps.Raised kind a) w, tt) c
+  act_holds (Restart n) w world c =
+      node_gives world n [] (octets.Lose (is_at n) ∷ octets.Forget (leads_to n) ∷ octets.Call (Reset n) ∷ []) (tt, (tt, (w, tt))) c
   act_holds (At n call) w world c = node_gives world n [] (octets.Call (Own n call) ∷ []) (w, tt) c
   act_holds (Enter id) w world c = (tt, enters world id c _ (datagram_at world (length world.datagrams)))
   act_holds (Land from to place) w world c = (tt, lands world from to place c _)
@@ -232,7 +281,9 @@ module _ (F : Nodes → Type 0) (Fits : Kind → NodeId → NodeId → Type 0) (
     where
       by : (o : Option Session) → find (is_session_of kind a b) list ≡ o → Fine (elim o [ None ↦ [] | Some session ↦ raise_acts session ])
       by None e = tt
-      by (Some session) e = (let f = all_at (AreFit Fits) list (position_or_len (is_session_of kind a b) list) session h (sym (find_at (is_session_of kind a b) list) ∙ e) in (f.0, (f.1, tt)))
+      by (Some session) e =
+          (let f = all_at (AreFit Fits) list (position_or_len (is_session_of kind a b) list) session h
+          (sym (find_at (is_session_of kind a b) list) ∙ e) in (f.0, (f.1, tt)))
 
   notices_fine : (world : World) (session : Session) (n peer : NodeId) → Fine (notices world session n peer)
   notices_fine world session n peer = cond_both (is_up world session.kind n peer) (Notice session.kind n peer ∷ []) [] Fine (λ t. (tt, tt)) (λ f. tt)
@@ -247,7 +298,8 @@ module _ (F : Nodes → Type 0) (Fits : Kind → NodeId → NodeId → Type 0) (
 
   landings_fine : (world : World) (ways : List (NodeId × NodeId)) → Fine (flat_map (landings world) ways)
   landings_fine world [] = tt
-  landings_fine world (way ∷ more) = each_append IsFine (landings world way) (flat_map (landings world) more) (copies (length (world.copies way.0 way.1))) (landings_fine world more)
+  landings_fine world (way ∷ more) =
+      each_append IsFine (landings world way) (flat_map (landings world) more) (copies (length (world.copies way.0 way.1))) (landings_fine world more)
     where
       copies : (count : ℕ) → Fine (replicate count (Land way.0 way.1 1))
       copies zero = tt
@@ -257,42 +309,57 @@ module _ (F : Nodes → Type 0) (Fits : Kind → NodeId → NodeId → Type 0) (
   entries_fine [] = tt
   entries_fine (vrf ∷ more) = (tt, entries_fine more)
 
-  at_edge_holds : (o : Option NodeId) (call : steps.Call) → ((n : NodeId) → May (Own n call)) → (world : World) → Holding world → Leads Any Holding (at_edge o call world)
+  at_edge_holds : (o : Option NodeId) (call : steps.Call) → ((n : NodeId) → May (Own n call)) → (world : World) → Holding world
+      → Leads Any Holding (at_edge o call world)
   at_edge_holds None call w world c = (tt, c)
   at_edge_holds (Some n) call w world c = rows (At n call ∷ []) (w n, tt) world c
 
-  message_holds : ((n : NodeId) (at : IfaceId) (message : JoinPrune) → May (Own n (steps.Pim at message))) → (o : Option Given) (world : World) → Holding world → Leads Any Holding (with_message o world)
+  message_holds : ((n : NodeId) (at : IfaceId) (message : JoinPrune) → May (Own n (steps.Pim at message))) → (o : Option Given) (world : World)
+      → Holding world → Leads Any Holding (with_message o world)
   message_holds w None world c = (tt, c)
-  message_holds w (Some given) world c = at_edge_holds (edge_of (scenario_of world) given.iface) (steps.Pim given.iface given.message) (λ n. w n given.iface given.message) world c
+  message_holds w (Some given) world c =
+      at_edge_holds (edge_of (scenario_of world) given.iface) (steps.Pim given.iface given.message) (λ n. w n given.iface given.message) world c
 
   turn_holds : (over : Direction) (world : World) → Holding world → Leads Any Holding (turn over world)
   turn_holds over world c = by (world.network.transit over)
     where
-      by : (bytes : List ℕ) → Leads Any Holding (elim bytes [ [] ↦ Done [] world | octet ∷ more ↦ row (Move over.kind over.from over.to (length (octet ∷ more)) ∷ []) world ])
+      by : (bytes : List ℕ) → Leads Any Holding (elim bytes
+          [ [] ↦ Done [] world | octet ∷ more ↦ row (Move over.kind over.from over.to (length (octet ∷ more)) ∷ []) world ])
       by [] = (tt, c)
       by (octet ∷ more) = rows (Move over.kind over.from over.to (length (octet ∷ more)) ∷ []) (tt, tt) world c
 
   turns_hold : (list : List Direction) (world : World) → Holding world → Leads Any Holding (each turn list world)
   turns_hold [] world c = (tt, c)
-  turns_hold (over ∷ more) world c = then_leads Any any_lines Holding Holding (turn over world) (each turn more) (turn_holds over world c) (λ next k. turns_hold more next k)
+  turns_hold (over ∷ more) world c =
+      then_leads Any any_lines Holding Holding (turn over world) (each turn more) (turn_holds over world c) (λ next k. turns_hold more next k)
 
   healed_holds : (session : Session) → AreFit Fits session → (world : World) → Holding world → Leads Any Holding (healed session world)
   healed_holds session h world c =
       let acts = notices world session session.a session.b ++ (notices world session session.b session.a ++ raise_acts session) in
       cond_both (is_joined world session) (Done [] world) (row acts world) (Leads Any Holding) (λ t. (tt, c))
-      (λ f. rows acts (each_append IsFine (notices world session session.a session.b) (notices world session session.b session.a ++ raise_acts session) (notices_fine world session session.a session.b) (each_append IsFine (notices world session session.b session.a) (raise_acts session) (notices_fine world session session.b session.a) (h.0, (h.1, tt)))) world c)
+      (λ f. rows acts (each_append IsFine (notices world session session.a session.b)
+      (notices world session session.b session.a ++ raise_acts session) (notices_fine world session session.a session.b)
+      (each_append IsFine (notices world session session.b session.a) (raise_acts session) (notices_fine world session session.b session.a)
+      (h.0, (h.1, tt)))) world c)
 
-  all_healed : (list : List Session) → AllByRecursion (AreFit Fits) list → (world : World) → Holding world → Leads Any Holding (each healed list world)
+  all_healed : (list : List Session) → AllByRecursion (AreFit Fits) list → (world : World) → Holding world
+      → Leads Any Holding (each healed list world)
   all_healed [] h world c = (tt, c)
-  all_healed (session ∷ more) h world c = then_leads Any any_lines Holding Holding (healed session world) (each healed more) (healed_holds session h.0 world c) (λ next k. all_healed more h.1 next k)
+  all_healed (session ∷ more) h world c =
+      then_leads Any any_lines Holding Holding (healed session world) (each healed more) (healed_holds session h.0 world c)
+      (λ next k. all_healed more h.1 next k)
 
-  sent_holds : (site : SiteId) (source group : Addr) (bytes : List ℕ) (world : World) → Holding world → Leads Any Holding (sent site source group bytes world)
+  sent_holds : (site : SiteId) (source group : Addr) (bytes : List ℕ) (world : World) → Holding world
+      → Leads Any Holding (sent site source group bytes world)
   sent_holds site source group bytes world c =
-      let begins : World = record world { datagrams = world.datagrams ++ record { site = site; source = source; group = group; octets = bytes } ∷ [] } in
+      let begins : World =
+      record world { datagrams = world.datagrams ++ record { site = site; source = source; group = group; octets = bytes } ∷ [] } in
       rows (map (λ (vrf : VrfId). Enter vrf) (entered (scenario_of world) site)) (entries_fine (entered (scenario_of world) site)) begins c
 
   pub rounds_hold : (count : ℕ) (world : World) → Holding world → Leads Any Holding (times (each turn (directions (scenario_of world))) count world)
-  rounds_hold count world c = times_leads Any any_lines Holding (each turn (directions (scenario_of world))) (λ one q. turns_hold (directions (scenario_of world)) one q) count world c
+  rounds_hold count world c =
+      times_leads Any any_lines Holding (each turn (directions (scenario_of world))) (λ one q. turns_hold (directions (scenario_of world)) one q)
+      count world c
 
   pub event_holds : (world : World) (event : Event) → EventMay event → Holding world → Leads Any Holding (done world event)
   event_holds world (events.Send site source group payload) w c = sent_holds site source group (packet source group payload) world c
@@ -303,11 +370,14 @@ module _ (F : Nodes → Type 0) (Fits : Kind → NodeId → NodeId → Type 0) (
   event_holds world (events.Move kind from to count) w c = rows (Move kind from to count ∷ []) (tt, tt) world c
   event_holds world (events.Lose kind a b) w c = rows (Lose kind a b ∷ []) (tt, tt) world c
   event_holds world (events.Notice kind a b) w c = rows (Notice kind a b ∷ []) (tt, tt) world c
-  event_holds world (events.Raise kind a b) w c = rows (raises (sessions (scenario_of world)) kind a b) (raises_fine (sessions (scenario_of world)) (fit world.network.state c.nodes) kind a b) world c
+  event_holds world (events.Raise kind a b) w c =
+      rows (raises (sessions (scenario_of world)) kind a b) (raises_fine (sessions (scenario_of world)) (fit world.network.state c.nodes) kind a b)
+      world c
   event_holds world (events.Join iface entry) w c = message_holds w (message_of (scenario_of world) (events.Join iface entry)) world c
   event_holds world (events.Prune iface entry) w c = message_holds w (message_of (scenario_of world) (events.Prune iface entry)) world c
   event_holds world (events.Pim iface bytes) w c = message_holds w (message_of (scenario_of world) (events.Pim iface bytes)) world c
-  event_holds world (events.Active iface source group) w c = at_edge_holds (edge_of (scenario_of world) iface) (steps.Active iface source group) w world c
+  event_holds world (events.Active iface source group) w c =
+      at_edge_holds (edge_of (scenario_of world) iface) (steps.Active iface source group) w world c
   event_holds world (events.Idle iface source group) w c = at_edge_holds (edge_of (scenario_of world) iface) (steps.Idle iface source group) w world c
   event_holds world (events.Select vrf pattern) w c = at_edge_holds (edge_of_vrf (scenario_of world) vrf) (steps.Select vrf pattern) w world c
   event_holds world (events.Unselect vrf pattern) w c = at_edge_holds (edge_of_vrf (scenario_of world) vrf) (steps.Unselect vrf pattern) w world c
@@ -317,14 +387,20 @@ module _ (F : Nodes → Type 0) (Fits : Kind → NodeId → NodeId → Type 0) (
   event_holds world (events.DropCopy from to place) w c = rows (Drop from to place ∷ []) (tt, tt) world c
   event_holds world events.Heal w c = all_healed (sessions (scenario_of world)) (fit world.network.state c.nodes) world c
   event_holds world events.Settle w c =
-      then_leads Any any_lines Holding Holding (row (map (λ n. Timers n) (all_nodes (scenario_of world))) world) (times (each turn (directions (scenario_of world))) (length (scenario_of world).nodes + 3)) (rows (map (λ n. Timers n) (all_nodes (scenario_of world))) (timers_fine w (all_nodes (scenario_of world))) world c)
-      (λ next k. times_leads Any any_lines Holding (each turn (directions (scenario_of world))) (λ one q. turns_hold (directions (scenario_of world)) one q) (length (scenario_of world).nodes + 3) next k)
-  event_holds world events.Drain w c = times_leads Any any_lines Holding drain_round (λ one q. rows (flat_map (landings one) (link_ways (scenario_of one))) (landings_fine one (link_ways (scenario_of one))) one q) 255 world c
+      then_leads Any any_lines Holding Holding (row (map (λ n. Timers n) (all_nodes (scenario_of world))) world)
+      (times (each turn (directions (scenario_of world))) (length (scenario_of world).nodes + 3))
+      (rows (map (λ n. Timers n) (all_nodes (scenario_of world))) (timers_fine w (all_nodes (scenario_of world))) world c)
+      (λ next k. times_leads Any any_lines Holding (each turn (directions (scenario_of world)))
+      (λ one q. turns_hold (directions (scenario_of world)) one q) (length (scenario_of world).nodes + 3) next k)
+  event_holds world events.Drain w c =
+      times_leads Any any_lines Holding drain_round
+      (λ one q. rows (flat_map (landings one) (link_ways (scenario_of one))) (landings_fine one (link_ways (scenario_of one))) one q) 255 world c
   event_holds world events.State w c = rows (Tell ∷ []) (tt, tt) world c
 
   -- ---- runs
 
-  pub runs_hold : (events : List Timed) → AllByRecursion (λ (timed : Timed). EventMay timed.event) events → (old : World) (number : ℕ) (trace : List Traced) (new : World) → Holding old → Runs old number events trace new → Holding new
+  pub runs_hold : (events : List Timed) → AllByRecursion (λ (timed : Timed). EventMay timed.event) events
+      → (old : World) (number : ℕ) (trace : List Traced) (new : World) → Holding old → Runs old number events trace new → Holding new
   runs_hold [] w old number trace new c run = subst Holding (sym run.1) c
   runs_hold (timed ∷ more) w old number trace new c run =
       runs_hold more w.1 run.1 (number + 1) run.2 new (elim (came old timed run.0 run.1 run.3).is [

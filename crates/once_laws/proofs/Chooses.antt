@@ -58,17 +58,23 @@ module _ (place : EdgePlace) (rules : Rules place.scenario) (octets : HasOctets 
       other_test (is_attached_at place.scenario own.id) (is_attached place.scenario own.id) place.scenario.sites route a
       (attached_of place.scenario own.id own.id route.site (same_itself (targets_of place.scenario own.id)) r.passed)
 
-  one_local : (a b : Route) → Among a (local_routes place.scenario own.id) → Among b (local_routes place.scenario own.id) → IsOnePrefix a.prefix b.prefix → a.site ≡ b.site
+  one_local : (a b : Route) → Among a (local_routes place.scenario own.id) → Among b (local_routes place.scenario own.id)
+      → IsOnePrefix a.prefix b.prefix → a.site ≡ b.site
   one_local a b in_a in_b same =
-      let there : covers b.prefix a.prefix.addr ≡ true = subst (λ (bits : ℕ). same_front b.prefix.addr a.prefix.addr bits ≡ true) same.0 (turned a.prefix.addr b.prefix.addr a.prefix.bits same.1) in
-      let numbers = one_site place.scenario rules octets own.id a b a.prefix.addr (in_vpn a in_a) (in_vpn b in_b) same.0 (itself a.prefix.addr a.prefix.bits) there in
+      let there : covers b.prefix a.prefix.addr ≡ true =
+      subst (λ (bits : ℕ). same_front b.prefix.addr a.prefix.addr bits ≡ true) same.0 (turned a.prefix.addr b.prefix.addr a.prefix.bits same.1) in
+      let numbers =
+      one_site place.scenario rules octets own.id a b a.prefix.addr (in_vpn a in_a) (in_vpn b in_b) same.0 (itself a.prefix.addr a.prefix.bits)
+      there in
       λ i. record { 0 = numbers i }
 
   of_sites : AreOfSites (known_routes place control own)
   of_sites route other site other_site a b same e f =
       let x = local_is place control own route site a e in
       let y = local_is place control own other other_site b f in
-      let one = one_local x.0 y.0 x.1 y.1 (subst (λ (p : Prefix). IsOnePrefix p y.0.prefix) (ap (λ (r : KnownRoute). r.prefix) x.2) (subst (λ (q : Prefix). IsOnePrefix route.prefix q) (ap (λ (r : KnownRoute). r.prefix) y.2) same)) in
+      let one =
+      one_local x.0 y.0 x.1 y.1 (subst (λ (p : Prefix). IsOnePrefix p y.0.prefix) (ap (λ (r : KnownRoute). r.prefix) x.2)
+      (subst (λ (q : Prefix). IsOnePrefix route.prefix q) (ap (λ (r : KnownRoute). r.prefix) y.2) same)) in
       let here : origins.Local site ≡ origins.Local x.0.site = sym e ∙ ap (λ (r : KnownRoute). r.origin) x.2 in
       let there : origins.Local other_site ≡ origins.Local y.0.site = sym f ∙ ap (λ (r : KnownRoute). r.origin) y.2 in
       let sites : site ≡ x.0.site = cc in
@@ -77,15 +83,18 @@ module _ (place : EdgePlace) (rules : Rules place.scenario) (octets : HasOctets 
 
 -- ---- runs
 
-pub choose_by_rule : (cores : Cores) (script : Script) (events : List Timed) (trace : List Traced) (world : World) → SoundRun cores script events trace world → (n : NodeId) (edge : EdgeData)
+pub choose_by_rule : (cores : Cores) (script : Script) (events : List Timed) (trace : List Traced) (world : World)
+    → SoundRun cores script events trace world → (n : NodeId) (edge : EdgeData)
     → world.network.state.node n ≡ Edge edge → (own : OwnVrf) → ChoosesByTheRule (place_of world.network.state n) edge.control own
 choose_by_rule cores script events trace world sound n edge e own =
     let facts = (run_facts script.scenario cores events trace world sound.run).0 in
     let place : EdgePlace = place_of world.network.state n in
     let rules : Rules place.scenario = subst Rules (sym facts.same) sound.scenario.rules in
     let octets : HasOctets place.scenario = subst HasOctets (sym facts.same) sound.scenario.octets in
-    let fact : EdgeFact place world.network.state.clock edge = subst (λ (state : NodeState). NodeFact place world.network.state.clock state) e (facts.node n) in
-    let nodes : AreNodes place edge.control = λ peer up. (let at = edge_of place.scenario peer (fact.peers peer up).0 in slice_get_within place.scenario.nodes peer.0 at.node at.at) in
+    let fact : EdgeFact place world.network.state.clock edge =
+    subst (λ (state : NodeState). NodeFact place world.network.state.clock state) e (facts.node n) in
+    let nodes : AreNodes place edge.control =
+    λ peer up. (let at = edge_of place.scenario peer (fact.peers peer up).0 in slice_get_within place.scenario.nodes peer.0 at.node at.at) in
     record {
       edges = of_edges place edge.control own rules nodes;
       sites = of_sites place rules octets edge.control own;

@@ -21,7 +21,9 @@ depth_of scenario core root n = count_by (λ m. nat_lt (core.cost m root) (core.
 
 count_few : {X : Type 0} (p : X → Bool) (xs : List X) → count_by p xs ≤ length xs
 count_few p [] = omega arith
-count_few p (x ∷ xs) = (let rest = count_few p xs in let one : cond {A = ℕ} (p x) 1 0 ≤ 1 = elim (p x) as (λ b. cond {A = ℕ} b 1 0 ≤ 1) [ true ↦ omega arith | false ↦ omega arith ] in omega (arith, count-cons p x xs, rest, one))
+count_few p (x ∷ xs) =
+    (let rest = count_few p xs in let one : cond {A = ℕ} (p x) 1 0 ≤ 1 =
+    elim (p x) as (λ b. cond {A = ℕ} b 1 0 ≤ 1) [ true ↦ omega arith | false ↦ omega arith ] in omega (arith, count-cons p x xs, rest, one))
 
 ids_length : (from count : ℕ) → length (node_ids from count) ≡ count
 ids_length from zero = refl
@@ -38,10 +40,12 @@ bit_le false false h = omega arith
 
 counts_le : {X : Type 0} (p q : X → Bool) → ((x : X) → p x ≡ true → q x ≡ true) → (xs : List X) → count_by p xs ≤ count_by q xs
 counts_le p q h [] = omega arith
-counts_le p q h (x ∷ xs) = (let rest = counts_le p q h xs in let one = bit_le (p x) (q x) (h x) in omega (arith, count-cons p x xs, count-cons q x xs, rest, one))
+counts_le p q h (x ∷ xs) =
+    (let rest = counts_le p q h xs in let one = bit_le (p x) (q x) (h x) in omega (arith, count-cons p x xs, count-cons q x xs, rest, one))
 
 -- one of the nodes passes the second test alone
-ids_less : (p q : NodeId → Bool) → ((x : NodeId) → p x ≡ true → q x ≡ true) → (at : NodeId) → p at ≡ false → q at ≡ true → (from count : ℕ) → from ≤ at.0 → at.0 < from + count → count_by p (node_ids from count) < count_by q (node_ids from count)
+ids_less : (p q : NodeId → Bool) → ((x : NodeId) → p x ≡ true → q x ≡ true) → (at : NodeId) → p at ≡ false → q at ≡ true → (from count : ℕ)
+    → from ≤ at.0 → at.0 < from + count → count_by p (node_ids from count) < count_by q (node_ids from count)
 ids_less p q h at not_low low_at from zero low high = absurd (omega (arith, low, high))
 ids_less p q h at not_low low_at from (suc count) low high = elim (cases_eq from at.0) [
   | inl e ↦
@@ -67,7 +71,8 @@ depth_few scenario core root n rules =
 -- ---- links at other costs
 
 -- what holds of each link by its ends, and by a cost that it may have, holds of each at its present cost
-pub repriced_each : (P Q : Link → Type 0) → ((link other : Link) → other.a ≡ link.a → other.b ≡ link.b → HasCost other → P link → Q other) → (links others : List Link) → AreRepriced links others
+pub repriced_each : (P Q : Link → Type 0) → ((link other : Link) → other.a ≡ link.a → other.b ≡ link.b → HasCost other → P link → Q other)
+    → (links others : List Link) → AreRepriced links others
     → AllByRecursion P links → AllByRecursion Q others
 repriced_each P Q each [] [] h all = tt
 repriced_each P Q each [] (other ∷ others) h all = absurd h
@@ -81,19 +86,25 @@ same_ends nodes link other a b h = record {
   two = λ e. h.two (ap (λ (n : NodeId). n.0) (sym a) ∙ e ∙ ap (λ (n : NodeId). n.0) b);
 }
 
-pub repriced_ends : (nodes : ℕ) (links others : List Link) → AreRepriced links others → AllByRecursion (HasEnds nodes) links → AllByRecursion (HasEnds nodes) others
-repriced_ends nodes links others h all = repriced_each (HasEnds nodes) (HasEnds nodes) (λ link other a b cost ends. same_ends nodes link other a b ends) links others h all
+pub repriced_ends : (nodes : ℕ) (links others : List Link) → AreRepriced links others → AllByRecursion (HasEnds nodes) links
+    → AllByRecursion (HasEnds nodes) others
+repriced_ends nodes links others h all =
+    repriced_each (HasEnds nodes) (HasEnds nodes) (λ link other a b cost ends. same_ends nodes link other a b ends) links others h all
 
-pub repriced_costs : (nodes : ℕ) (links others : List Link) → AreRepriced links others → AllByRecursion (HasEnds nodes) links → AllByRecursion HasCost others
+pub repriced_costs : (nodes : ℕ) (links others : List Link) → AreRepriced links others → AllByRecursion (HasEnds nodes) links
+    → AllByRecursion HasCost others
 repriced_costs nodes links others h all = repriced_each (HasEnds nodes) HasCost (λ link other a b cost ends. cost) links others h all
 
-good_by : (nodes a b cost : ℕ) (link : Link) → ((link.a.0 ≡ a) × (link.b.0 ≡ b)) ⊎ ((link.a.0 ≡ b) × (link.b.0 ≡ a)) → link.cost ≡ cost → HasEnds nodes link → HasCost link → (b < nodes) × (1 ≤ cost)
+good_by : (nodes a b cost : ℕ) (link : Link) → ((link.a.0 ≡ a) × (link.b.0 ≡ b)) ⊎ ((link.a.0 ≡ b) × (link.b.0 ≡ a)) → link.cost ≡ cost
+    → HasEnds nodes link → HasCost link → (b < nodes) × (1 ≤ cost)
 good_by nodes a b cost link (inl h) p ends price = (let y = ends.b in omega (arith, y, h.1), let dear = price.0 in omega (arith, dear, p))
 good_by nodes a b cost link (inr h) p ends price = (let x = ends.a in omega (arith, x, h.0), let dear = price.0 in omega (arith, dear, p))
 
-good : (nodes : ℕ) (links : List Link) → All (HasEnds nodes) links → All HasCost links → (a b cost : ℕ) → IsLinked links a b cost → (b < nodes) × (1 ≤ cost)
+good : (nodes : ℕ) (links : List Link) → All (HasEnds nodes) links → All HasCost links → (a b cost : ℕ) → IsLinked links a b cost
+    → (b < nodes) × (1 ≤ cost)
 good nodes links ends costs a b cost is =
-    good_by nodes a b cost is.link is.ends is.priced (All-contains (HasEnds nodes) links is.link ends is.listed) (All-contains HasCost links is.link costs is.listed)
+    good_by nodes a b cost is.link is.ends is.priced (All-contains (HasEnds nodes) links is.link ends is.listed)
+    (All-contains HasCost links is.link costs is.listed)
 
 -- the neighbour of a node on the way to the root: it is linked to the node, and nearer to the root
 pub record Nearer (scenario : Scenario) (links : List Link) (core : Core) (root n next : NodeId) : Type 0 where
@@ -101,7 +112,8 @@ pub record Nearer (scenario : Scenario) (links : List Link) (core : Core) (root 
   pub linked : IsLinked links n.0 next.0 cost
   pub less : depth_of scenario core root next < depth_of scenario core root n
 
-pub nearer : (scenario : Scenario) (links : List Link) (core : Core) → All (HasEnds (length scenario.nodes)) links → All HasCost links → IsCoreOf (length scenario.nodes) links core → (root n next : NodeId) → root.0 < length scenario.nodes
+pub nearer : (scenario : Scenario) (links : List Link) (core : Core) → All (HasEnds (length scenario.nodes)) links → All HasCost links
+    → IsCoreOf (length scenario.nodes) links core → (root n next : NodeId) → root.0 < length scenario.nodes
     → n.0 < length scenario.nodes → IsToward links n.0 root.0 next.0 → Nearer scenario links core root n next
 nearer scenario links core ends costs is root n next within here toward =
     let first = toward.first in
@@ -118,8 +130,10 @@ nearer scenario links core ends costs is root n next within here toward =
       cost = first.walk.0;
       linked = link;
       less = ids_less (λ (m : NodeId). nat_lt (core.cost m root) (core.cost next root)) (λ (m : NodeId). nat_lt (core.cost m root) (core.cost n root))
-          (λ m t. (let low = ltb-true (core.cost m root) (core.cost next root) t in lt-ltb (core.cost m root) (core.cost n root) (omega (arith, low, less))))
-          next (not_below (core.cost next root)) (lt-ltb (core.cost next root) (core.cost n root) less) 0 (length scenario.nodes) (omega arith) (let within_too = g.0 in omega (arith, within_too));
+          (λ m t. (let low = ltb-true (core.cost m root) (core.cost next root) t in
+          lt-ltb (core.cost m root) (core.cost n root) (omega (arith, low, less))))
+          next (not_below (core.cost next root)) (lt-ltb (core.cost next root) (core.cost n root) less) 0 (length scenario.nodes) (omega arith)
+          (let within_too = g.0 in omega (arith, within_too));
     }
   where
     not_below : (k : ℕ) → nat_lt k k ≡ false

@@ -54,26 +54,39 @@ each_among P x (y ∷ ys) all (inl e) = subst P (sym e) all.0
 each_among P x (y ∷ ys) all (inr a) = each_among P x ys all.1 a
 
 -- of each two of a list one of both orders is a session
-two_of : (P : Session → Type 0) (list : List NodeId) → AllByRecursion P (bgp_sessions list) → (a b : NodeId) → Among a list → Among b list → a ≢ b → P (bgp_session a b) ⊎ P (bgp_session b a)
+two_of : (P : Session → Type 0) (list : List NodeId) → AllByRecursion P (bgp_sessions list) → (a b : NodeId) → Among a list → Among b list → a ≢ b
+    → P (bgp_session a b) ⊎ P (bgp_session b a)
 two_of P [] all a b ina inb ne = absurd ina
 two_of P (x ∷ later) all a b (inl ea) (inl eb) ne = absurd (ne (ea ∙ sym eb))
-two_of P (x ∷ later) all a b (inl ea) (inr inb) ne = inl (subst (λ (y : NodeId). P (bgp_session y b)) (sym ea) (each_among (λ (n : NodeId). P (bgp_session x n)) b later (each_unmapped P (bgp_session x) later (each_front P (map (bgp_session x) later) (bgp_sessions later) all)) inb))
-two_of P (x ∷ later) all a b (inr ina) (inl eb) ne = inr (subst (λ (y : NodeId). P (bgp_session y a)) (sym eb) (each_among (λ (n : NodeId). P (bgp_session x n)) a later (each_unmapped P (bgp_session x) later (each_front P (map (bgp_session x) later) (bgp_sessions later) all)) ina))
-two_of P (x ∷ later) all a b (inr ina) (inr inb) ne = two_of P later (each_behind P (map (bgp_session x) later) (bgp_sessions later) all) a b ina inb ne
+two_of P (x ∷ later) all a b (inl ea) (inr inb) ne =
+    inl (subst (λ (y : NodeId). P (bgp_session y b)) (sym ea)
+    (each_among (λ (n : NodeId). P (bgp_session x n)) b later
+    (each_unmapped P (bgp_session x) later (each_front P (map (bgp_session x) later) (bgp_sessions later) all)) inb))
+two_of P (x ∷ later) all a b (inr ina) (inl eb) ne =
+    inr (subst (λ (y : NodeId). P (bgp_session y a)) (sym eb)
+    (each_among (λ (n : NodeId). P (bgp_session x n)) a later
+    (each_unmapped P (bgp_session x) later (each_front P (map (bgp_session x) later) (bgp_sessions later) all)) ina))
+two_of P (x ∷ later) all a b (inr ina) (inr inb) ne =
+    two_of P later (each_behind P (map (bgp_session x) later) (bgp_sessions later) all) a b ina inb ne
 
-edge_listed : (number k : ℕ) (nodes : List Node) (node : Node) → slice_get nodes k ≡ Some node → node.edge ≡ true → Among (record { 0 = number + k }) (edges_from number nodes)
+edge_listed : (number k : ℕ) (nodes : List Node) (node : Node) → slice_get nodes k ≡ Some node → node.edge ≡ true
+    → Among (record { 0 = number + k }) (edges_from number nodes)
 edge_listed number k [] node e t = absurd (none-some node e)
 edge_listed number zero (own ∷ more) node e t =
     let same : own ≡ node = cc in
     let is : own.edge ≡ true = ap (λ (n : Node). n.edge) same ∙ t in
-    subst (λ (b : Bool). Among (record { 0 = number + 0 }) (cond b (record { 0 = number } ∷ edges_from (number + 1) more) (edges_from (number + 1) more))) (sym is) (inl (λ i. record { 0 = plain number i }))
+    subst (λ (b : Bool). Among (record { 0 = number + 0 })
+    (cond b (record { 0 = number } ∷ edges_from (number + 1) more) (edges_from (number + 1) more))) (sym is)
+    (inl (λ i. record { 0 = plain number i }))
   where
     plain : (n : ℕ) → n + 0 ≡ n
     plain n = omega arith
 edge_listed number (suc k) (own ∷ more) node e t =
     let rest : Among (record { 0 = number + 1 + k }) (edges_from (number + 1) more) = edge_listed (number + 1) k more node e t in
-    let later : Among (record { 0 = number + suc k }) (edges_from (number + 1) more) = subst (λ (m : ℕ). Among (record { 0 = m }) (edges_from (number + 1) more)) (omega arith) rest in
-    elim own.edge as (λ b. Among (record { 0 = number + suc k }) (cond b (record { 0 = number } ∷ edges_from (number + 1) more) (edges_from (number + 1) more))) [ true ↦ inr later | false ↦ later ]
+    let later : Among (record { 0 = number + suc k }) (edges_from (number + 1) more) =
+    subst (λ (m : ℕ). Among (record { 0 = m }) (edges_from (number + 1) more)) (omega arith) rest in
+    elim own.edge as (λ b. Among (record { 0 = number + suc k })
+    (cond b (record { 0 = number } ∷ edges_from (number + 1) more) (edges_from (number + 1) more))) [ true ↦ inr later | false ↦ later ]
 
 -- an edge is a node of the scenario
 pub record EdgeOf (scenario : Scenario) (n : NodeId) : Type 0 where
@@ -89,7 +102,9 @@ edge_of scenario n h = by (slice_get scenario.nodes n.0) refl h
     by (Some node) e t = record { node = node; at = e; edge = t }
 
 pub edge_among : (scenario : Scenario) (n : NodeId) → is_edge scenario n ≡ true → Among n (edges scenario)
-edge_among scenario n h = (let e = edge_of scenario n h in subst (λ (m : ℕ). Among (record { 0 = m }) (edges scenario)) (omega arith) (edge_listed 0 n.0 scenario.nodes e.node e.at e.edge))
+edge_among scenario n h =
+    (let e = edge_of scenario n h in
+    subst (λ (m : ℕ). Among (record { 0 = m }) (edges scenario)) (omega arith) (edge_listed 0 n.0 scenario.nodes e.node e.at e.edge))
 
 each_id : (P : NodeId → Type 0) (from count : ℕ) → AllByRecursion P (node_ids from count) → (n : NodeId) → from ≤ n.0 → n.0 < from + count → P n
 each_id P from zero all n low high = absurd (omega (arith, low, high))
@@ -110,7 +125,8 @@ pub record CalmEdge (world : World) (n : NodeId) : Type 0 where
   pub at : world.network.state.node n ≡ Edge edge
   pub fact : EdgeFact (place_of world.network.state n) world.network.state.clock edge
   pub alive : (at : IfaceEntry) (expiry : Expiry) → maps.get edge.control.entries at ≡ Some expiry → is_after expiry world.network.state.clock ≡ true
-  pub run : (key : VrfPattern) (selected : Selected) → maps.get edge.control.selections key ≡ Some selected → IsDue (scenario_of world).delay world.network.state.clock selected.since → selected.run ≡ true
+  pub run : (key : VrfPattern) (selected : Selected) → maps.get edge.control.selections key ≡ Some selected
+      → IsDue (scenario_of world).delay world.network.state.clock selected.since → selected.run ≡ true
 
 module _ (scenario : Scenario) (cores : Cores) (world : World) (k : Known scenario cores world) where
   abbrev pub net : EdgeNetwork
@@ -122,16 +138,22 @@ module _ (scenario : Scenario) (cores : Cores) (world : World) (k : Known scenar
   pub flows_stand : FlowsStand net
   flows_stand n = by (world.network.state.node n) (k.facts.node n)
     where
-      by : (state : NodeState) → NodeFact (place_of world.network.state n) world.network.state.clock state → (moment : ℕ) × (moment ≤ world.network.state.clock) × ((control_of state).flows ≡ flows_at (place_of world.network.state n) moment (control_of state))
+      by : (state : NodeState) → NodeFact (place_of world.network.state n) world.network.state.clock state
+          → (moment : ℕ) × (moment ≤ world.network.state.clock)
+          × ((control_of state).flows ≡ flows_at (place_of world.network.state n) moment (control_of state))
       by (Edge edge) h = h.flows
       by (CoreNode part) h = fresh_stands (place_of world.network.state n) world.network.state.clock
 
   -- over a joined session nothing is pending
-  no_changes : (a b : NodeId) → world.network.joined (direction kinds.Bgp a b) ≡ true → world.network.transit (direction kinds.Bgp a b) ≡ [] → k.step.2.edges.0 a b ≡ []
+  no_changes : (a b : NodeId) → world.network.joined (direction kinds.Bgp a b) ≡ true → world.network.transit (direction kinds.Bgp a b) ≡ []
+      → k.step.2.edges.0 a b ≡ []
   no_changes a b joined quiet =
       let over : Direction = direction kinds.Bgp a b in
-      let carried : Carried kinds.Bgp (world.network.stream over) (world.network.transit over) (k.step.0 over) = subst (λ (b : Bool). IsLine kinds.Bgp b (world.network.stream over) (world.network.transit over) (k.step.0 over)) joined (k.step.1 over) in
-      none_mapped as_message (k.step.2.edges.0 a b) (sym (k.step.2.edges.1 a b) ∙ nothing_pending kinds.Bgp (world.network.stream over) (world.network.transit over) (k.step.0 over) carried (k.rests over) quiet)
+      let carried : Carried kinds.Bgp (world.network.stream over) (world.network.transit over) (k.step.0 over) =
+      subst (λ (b : Bool). IsLine kinds.Bgp b (world.network.stream over) (world.network.transit over) (k.step.0 over)) joined (k.step.1 over) in
+      none_mapped as_message (k.step.2.edges.0 a b)
+      (sym (k.step.2.edges.1 a b) ∙ nothing_pending kinds.Bgp (world.network.stream over) (world.network.transit over) (k.step.0 over) carried
+      (k.rests over) quiet)
 
   one_calm : (a b : NodeId) → a ≢ b → CalmSession world (bgp_session a b) → calm.CalmSession net a b
   one_calm a b ne s =
@@ -145,27 +167,37 @@ module _ (scenario : Scenario) (cores : Cores) (world : World) (k : Known scenar
 
   pub calm_session : (a b : NodeId) → is_edge (scenario_of world) a ≡ true → is_edge (scenario_of world) b ≡ true → a ≢ b → calm.CalmSession net a b
   calm_session a b ea eb ne =
-      let all = each_front (CalmSession world) (bgp_sessions (edges (scenario_of world))) (map ldp_session (scenario_of world).links) (calm_sessions world k.zeros) in
-      elim (two_of (CalmSession world) (edges (scenario_of world)) all a b (edge_among (scenario_of world) a ea) (edge_among (scenario_of world) b eb) ne) [
+      let all =
+      each_front (CalmSession world) (bgp_sessions (edges (scenario_of world))) (map ldp_session (scenario_of world).links)
+      (calm_sessions world k.zeros) in
+      elim (two_of (CalmSession world) (edges (scenario_of world)) all a b (edge_among (scenario_of world) a ea) (edge_among (scenario_of world) b eb)
+      ne) [
         | inl s ↦ one_calm a b ne s
-        | inr s ↦ (let c = one_calm b a (λ e. ne (sym e)) s in record { two = ne; joined = c.joined_back; joined_back = c.joined; quiet = c.quiet_back; quiet_back = c.quiet })
+        | inr s ↦ (let c = one_calm b a (λ e. ne (sym e)) s in
+            record { two = ne; joined = c.joined_back; joined_back = c.joined; quiet = c.quiet_back; quiet_back = c.quiet })
       ]
 
   -- ---- timers
 
-  alive_by : (now : ℕ) (held : entries.Entries) → entries.due held now ≡ 0 → (at : IfaceEntry) (expiry : Expiry) → maps.get held at ≡ Some expiry → is_after expiry now ≡ true
+  alive_by : (now : ℕ) (held : entries.Entries) → entries.due held now ≡ 0 → (at : IfaceEntry) (expiry : Expiry) → maps.get held at ≡ Some expiry
+      → is_after expiry now ≡ true
   alive_by now held none at expiry e =
       let all = none_counted (λ (x : Expiry). not (is_after x now)) (maps.values held) none in
-      not_not (is_after expiry now) (each_among (λ (x : Expiry). not (is_after x now) ≡ false) expiry (maps.values held) all (among_map (λ (p : IfaceEntry × Expiry). p.1) (at, expiry) (maps.entries held) (get_entry entry_cmp_exact held at expiry e)))
+      not_not (is_after expiry now) (each_among (λ (x : Expiry). not (is_after x now) ≡ false) expiry (maps.values held) all
+      (among_map (λ (p : IfaceEntry × Expiry). p.1) (at, expiry) (maps.entries held) (get_entry entry_cmp_exact held at expiry e)))
     where
       not_not : (b : Bool) → not b ≡ false → b ≡ true
       not_not true h = refl
       not_not false h = sym h
 
-  run_by : (delay now : ℕ) (selections : maps.FinMap pattern_cmp Selected) → count_by (is_selection_due delay now) (maps.values selections) ≡ 0 → (key : VrfPattern) (selected : Selected) → maps.get selections key ≡ Some selected → IsDue delay now selected.since → selected.run ≡ true
+  run_by : (delay now : ℕ) (selections : maps.FinMap pattern_cmp Selected) → count_by (is_selection_due delay now) (maps.values selections) ≡ 0
+      → (key : VrfPattern) (selected : Selected) → maps.get selections key ≡ Some selected → IsDue delay now selected.since → selected.run ≡ true
   run_by delay now selections none key selected e due =
       let all = none_counted (is_selection_due delay now) (maps.values selections) none in
-      let here = each_among (λ (x : Selected). is_selection_due delay now x ≡ false) selected (maps.values selections) all (among_map (λ (p : VrfPattern × Selected). p.1) (key, selected) (maps.entries selections) (get_entry pattern_exact selections key selected e)) in
+      let here =
+      each_among (λ (x : Selected). is_selection_due delay now x ≡ false) selected (maps.values selections) all
+      (among_map (λ (p : VrfPattern × Selected). p.1) (key, selected) (maps.entries selections)
+      (get_entry pattern_exact selections key selected e)) in
       was_run selected.run (nat_le (selected.since + delay) now) (le-leb (selected.since + delay) now due) here
     where
       was_run : (b over : Bool) → over ≡ true → (not b && over) ≡ false → b ≡ true
@@ -174,10 +206,16 @@ module _ (scenario : Scenario) (cores : Cores) (world : World) (k : Known scenar
 
   pub calm_edge : (n : NodeId) → is_edge (scenario_of world) n ≡ true → CalmEdge world n
   calm_edge n h = by (world.network.state.node n) refl (k.step.2.base.kinds n h) (k.facts.node n)
-      (each_id (λ (m : NodeId). node_due world.network.state m ≡ 0) 0 (length (scenario_of world).nodes) k.zeros.due n (omega arith) (let e = edge_of (scenario_of world) n h in let less = slice_get_within (scenario_of world).nodes n.0 e.node e.at in omega (arith, less)))
+      (each_id (λ (m : NodeId). node_due world.network.state m ≡ 0) 0 (length (scenario_of world).nodes) k.zeros.due n (omega arith)
+      (let e = edge_of (scenario_of world) n h in let less = slice_get_within (scenario_of world).nodes n.0 e.node e.at in omega (arith, less)))
     where
-      by : (state : NodeState) → world.network.state.node n ≡ state → IsEdgeNode state → NodeFact (place_of world.network.state n) world.network.state.clock state
-          → elim state as (λ _. ℕ) [ Edge edge ↦ dues.due (place_of world.network.state n) world.network.state.clock edge | CoreNode part ↦ labels.due (label_place_of world.network.state n) world.network.state.clock part ] ≡ 0 → CalmEdge world n
+      by : (state : NodeState) → world.network.state.node n ≡ state → IsEdgeNode state
+          → NodeFact (place_of world.network.state n) world.network.state.clock state
+          → elim state as (λ _. ℕ) [
+            | Edge edge ↦ dues.due (place_of world.network.state n) world.network.state.clock edge
+            | CoreNode part ↦
+                labels.due (label_place_of world.network.state n) world.network.state.clock part
+          ] ≡ 0 → CalmEdge world n
       by (CoreNode part) e kind fact due = absurd kind
       by (Edge edge) e kind fact due =
           let now : ℕ = world.network.state.clock in
@@ -187,7 +225,16 @@ module _ (scenario : Scenario) (cores : Cores) (world : World) (k : Known scenar
           let c : ℕ = count_by (is_selection_due delay now) (maps.values edge.control.selections) in
           let d : ℕ = sum_by (dues.due_from (place_of world.network.state n) now) (maps.entries edge.control.peers) in
           let total : a + (b + (c + d)) ≡ 0 = due in
-          record { edge = edge; at = e; fact = fact; alive = alive_by now edge.control.entries (omega (arith, total)); run = run_by delay now edge.control.selections (omega (arith, total)) }
+          record {
+            edge = edge;
+            at = e;
+            fact = fact;
+            alive = alive_by now edge.control.entries (omega (arith, total));
+            run =
+                run_by delay now edge.control.selections (omega (arith, total));
+          }
 
   pub none_due : (root : NodeId) → is_edge (scenario_of world) root ≡ true → NoneDue net root
-  none_due root h = (let e = calm_edge root h in λ key selected got due. e.run key selected (sym (ap (λ (s : NodeState). maps.get (control_of s).selections key) e.at) ∙ got) due)
+  none_due root h =
+      (let e = calm_edge root h in
+      λ key selected got due. e.run key selected (sym (ap (λ (s : NodeState). maps.get (control_of s).selections key) e.at) ∙ got) due)

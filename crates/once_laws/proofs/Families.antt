@@ -44,15 +44,19 @@ counted_there clock None c = absurd (true≢false (sym c))
 counted_there clock (Some expiry) c = (expiry, refl)
 
 -- an entry that a node keeps is sound
-kept_sound : (node : NodeState) (iface : IfaceId) (entry : JoinEntry) (expiry : Expiry) → SoundNode node → expiry_at (control_of node).entries iface entry ≡ Some expiry → SoundEntry entry
+kept_sound : (node : NodeState) (iface : IfaceId) (entry : JoinEntry) (expiry : Expiry) → SoundNode node
+    → expiry_at (control_of node).entries iface entry ≡ Some expiry → SoundEntry entry
 kept_sound (Edge edge) iface entry expiry sound e = sound.0.entries (record { iface = iface; entry = entry }) expiry e
 kept_sound (CoreNode part) iface entry expiry sound e =
     let at : IfaceEntry = record { iface = iface; entry = entry } in
     absurd (none-some expiry (sym (maps.get-empty entry_cmp at) ∙ e))
 
-pub one_family_kept : (cores : Cores) (script : Script) (events : List Timed) (trace : List Traced) (world : World) → SoundRun cores script events trace world → Rises 0 events → EntriesAreOfOneFamily (past_of script.scenario events trace) world
+pub one_family_kept : (cores : Cores) (script : Script) (events : List Timed) (trace : List Traced) (world : World)
+    → SoundRun cores script events trace world → Rises 0 events → EntriesAreOfOneFamily (past_of script.scenario events trace) world
 one_family_kept cores script events trace world sound rises iface n entry at counted =
     let told = entries_told cores script.scenario events trace world sound.scenario.rules rises sound.run in
     let stays = run_stays script.scenario cores events trace world sound.scenario sound.sound_events sound.run in
-    let there = counted_there (clock_of world) (expiry_at (control_of (world.network.state.node n)).entries iface entry) (sym (told.counted iface n entry at) ∙ counted) in
+    let there =
+    counted_there (clock_of world) (expiry_at (control_of (world.network.state.node n)).entries iface entry)
+    (sym (told.counted iface n entry at) ∙ counted) in
     sound_family entry (kept_sound (world.network.state.node n) iface entry there.0 (stays.0.node n) there.1)

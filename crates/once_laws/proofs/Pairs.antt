@@ -30,7 +30,8 @@ pub each_behind : {X : Type 0} (P : X → Type 0) (xs ys : List X) → AllByRecu
 each_behind P [] ys h = h
 each_behind P (x ∷ xs) ys h = each_behind P xs ys h.1
 
-pub each_flat : {X Y : Type 0} (P : Y → Type 0) (f : X → List Y) (xs : List X) → AllByRecursion P (flat_map f xs) → AllByRecursion (λ x. AllByRecursion P (f x)) xs
+pub each_flat : {X Y : Type 0} (P : Y → Type 0) (f : X → List Y) (xs : List X) → AllByRecursion P (flat_map f xs)
+    → AllByRecursion (λ x. AllByRecursion P (f x)) xs
 each_flat P f [] h = tt
 each_flat P f (x ∷ xs) h = (each_front P (f x) (flat_map f xs) h, each_flat P f xs (each_behind P (f x) (flat_map f xs) h))
 
@@ -48,7 +49,8 @@ pub record CalmSession (world : World) (session : Session) : Type 0 where
 pub calm_sessions : (world : World) → Zeros world → AllByRecursion (CalmSession world) (sessions (scenario_of world))
 calm_sessions world z =
     let Quiet : Direction → Type 0 = λ over. world.network.transit over ≡ [] in
-    all_both (λ session. counts.is_ready world session ≡ true) (λ session. AllByRecursion Quiet (directions_of session)) (CalmSession world) (λ session r q. record { ready = r; quiet = q.0; quiet_back = q.1.0 })
+    all_both (λ session. counts.is_ready world session ≡ true) (λ session. AllByRecursion Quiet (directions_of session)) (CalmSession world)
+    (λ session r q. record { ready = r; quiet = q.0; quiet_back = q.1.0 })
     (sessions (scenario_of world)) z.ready (each_flat Quiet directions_of (sessions (scenario_of world)) z.transit)
 
 -- ---- links
@@ -67,11 +69,14 @@ turned world u n p = record { two = λ e. p.two (sym e); within = (p.within.1, p
 abbrev pub Alike : World → Type 0
 Alike world = (u n : NodeId) → u ≢ n → world.network.joined (direction kinds.Ldp u n) ≡ world.network.joined (direction kinds.Ldp n u)
 
-link_pair : (world : World) → Alike world → (link : Link) → HasEnds (length (scenario_of world).nodes) link → CalmSession world (ldp_session link) → Pair world link.a link.b
+link_pair : (world : World) → Alike world → (link : Link) → HasEnds (length (scenario_of world).nodes) link → CalmSession world (ldp_session link)
+    → Pair world link.a link.b
 link_pair world alike link ends s =
     let ne : link.a ≢ link.b = λ e. ends.two (ap (λ (n : NodeId). n.0) e) in
     let parts = and_parts (counts.is_joined world (ldp_session link)) (counts.are_held world (ldp_session link)) s.ready in
-    let held = and_parts (is_ready (part_of (world.network.state.node link.a)) link.b) (is_ready (part_of (world.network.state.node link.b)) link.a) parts.1 in
+    let held =
+    and_parts (is_ready (part_of (world.network.state.node link.a)) link.b) (is_ready (part_of (world.network.state.node link.b)) link.a) parts.1
+    in
     record {
       two = ne;
       within = (ends.a, ends.b);
@@ -79,24 +84,34 @@ link_pair world alike link ends s =
       back = record { joined = sym (alike link.a link.b ne) ∙ parts.0; ready = held.1; quiet = s.quiet_back };
     }
 
-pub link_pairs : (world : World) → Rules (scenario_of world) → Alike world → Zeros world → AllByRecursion (λ (link : Link). Pair world link.a link.b) (scenario_of world).links
+pub link_pairs : (world : World) → Rules (scenario_of world) → Alike world → Zeros world
+    → AllByRecursion (λ (link : Link). Pair world link.a link.b) (scenario_of world).links
 link_pairs world rules alike z =
     let scenario : Scenario = scenario_of world in
-    all_both (HasEnds (length scenario.nodes)) (λ (link : Link). CalmSession world (ldp_session link)) (λ (link : Link). Pair world link.a link.b) (λ link ends s. link_pair world alike link ends s) scenario.links
+    all_both (HasEnds (length scenario.nodes)) (λ (link : Link). CalmSession world (ldp_session link)) (λ (link : Link). Pair world link.a link.b)
+    (λ link ends s. link_pair world alike link ends s) scenario.links
     (recursion_from_All (HasEnds (length scenario.nodes)) scenario.links rules.core.topology.ends)
-    (each_unmapped (CalmSession world) ldp_session scenario.links (each_behind (CalmSession world) (bgp_sessions (edges scenario)) (map ldp_session scenario.links) (calm_sessions world z)))
+    (each_unmapped (CalmSession world) ldp_session scenario.links
+    (each_behind (CalmSession world) (bgp_sessions (edges scenario)) (map ldp_session scenario.links) (calm_sessions world z)))
 
-by_ends : (world : World) (link : Link) (u n : NodeId) → ((link.a.0 ≡ u.0) × (link.b.0 ≡ n.0)) ⊎ ((link.a.0 ≡ n.0) × (link.b.0 ≡ u.0)) → Pair world link.a link.b → Pair world u n
-by_ends world link u n (inl e) p = subst (λ (x : NodeId). Pair world x n) (λ i. record { 0 = e.0 i }) (subst (λ (x : NodeId). Pair world link.a x) (λ i. record { 0 = e.1 i }) p)
-by_ends world link u n (inr e) p = turned world n u (subst (λ (x : NodeId). Pair world x u) (λ i. record { 0 = e.0 i }) (subst (λ (x : NodeId). Pair world link.a x) (λ i. record { 0 = e.1 i }) p))
+by_ends : (world : World) (link : Link) (u n : NodeId) → ((link.a.0 ≡ u.0) × (link.b.0 ≡ n.0)) ⊎ ((link.a.0 ≡ n.0) × (link.b.0 ≡ u.0))
+    → Pair world link.a link.b → Pair world u n
+by_ends world link u n (inl e) p =
+    subst (λ (x : NodeId). Pair world x n) (λ i. record { 0 = e.0 i }) (subst (λ (x : NodeId). Pair world link.a x) (λ i. record { 0 = e.1 i }) p)
+by_ends world link u n (inr e) p =
+    turned world n u (subst (λ (x : NodeId). Pair world x u) (λ i. record { 0 = e.0 i })
+    (subst (λ (x : NodeId). Pair world link.a x) (λ i. record { 0 = e.1 i }) p))
 
 -- linked nodes have a calm session
-pub linked_pair : (world : World) (links : List Link) → AllByRecursion (λ (link : Link). Pair world link.a link.b) links → (u n : NodeId) (cost : ℕ) → IsLinked links u.0 n.0 cost → Pair world u n
+pub linked_pair : (world : World) (links : List Link) → AllByRecursion (λ (link : Link). Pair world link.a link.b) links → (u n : NodeId) (cost : ℕ)
+    → IsLinked links u.0 n.0 cost → Pair world u n
 linked_pair world links pairs u n cost is =
-    by_ends world is.link u n is.ends (All-contains (λ (link : Link). Pair world link.a link.b) links is.link (All-from_recursion (λ (link : Link). Pair world link.a link.b) links pairs) is.listed)
+    by_ends world is.link u n is.ends (All-contains (λ (link : Link). Pair world link.a link.b) links is.link
+    (All-from_recursion (λ (link : Link). Pair world link.a link.b) links pairs) is.listed)
 
 -- and so have those between which a link leads
-pub way_pair : (world : World) (u n : NodeId) (links : List Link) → AllByRecursion (λ (link : Link). Pair world link.a link.b) links → 0 < count_by (is_way u n) (flat_map (λ (link : Link). (link.a, link.b) ∷ (link.b, link.a) ∷ []) links) → Pair world u n
+pub way_pair : (world : World) (u n : NodeId) (links : List Link) → AllByRecursion (λ (link : Link). Pair world link.a link.b) links
+    → 0 < count_by (is_way u n) (flat_map (λ (link : Link). (link.a, link.b) ∷ (link.b, link.a) ∷ []) links) → Pair world u n
 way_pair world u n [] pairs h = absurd (omega (arith, h))
 way_pair world u n (link ∷ more) pairs h = elim (cases_Bool (is_way u n (link.a, link.b))) [
   | inl t ↦
@@ -105,11 +120,19 @@ way_pair world u n (link ∷ more) pairs h = elim (cases_Bool (is_way u n (link.
   | inr f ↦ elim (cases_Bool (is_way u n (link.b, link.a))) [
     | inl t ↦
         let x = and_parts (link.b.0 == u.0) (link.a.0 == n.0) t in
-        subst (λ (y : NodeId). Pair world y n) (node_equal link.b u x.0) (subst (λ (y : NodeId). Pair world link.b y) (node_equal link.a n x.1) (turned world link.a link.b pairs.0))
+        subst (λ (y : NodeId). Pair world y n) (node_equal link.b u x.0)
+        (subst (λ (y : NodeId). Pair world link.b y) (node_equal link.a n x.1) (turned world link.a link.b pairs.0))
     | inr g ↦
         let rest : List (NodeId × NodeId) = flat_map (λ (link : Link). (link.a, link.b) ∷ (link.b, link.a) ∷ []) more in
         let one : cond {A = ℕ} (is_way u n (link.a, link.b)) 1 0 ≡ 0 = ap (λ b. cond b 1 0) f in
         let two : cond {A = ℕ} (is_way u n (link.b, link.a)) 1 0 ≡ 0 = ap (λ b. cond b 1 0) g in
-        way_pair world u n more pairs.1 (omega (arith, h, one, two, count-cons (is_way u n) (link.a, link.b) ((link.b, link.a) ∷ rest), count-cons (is_way u n) (link.b, link.a) rest))
+        way_pair world u n more pairs.1 (omega (
+          arith,
+          h,
+          one,
+          two,
+          count-cons (is_way u n) (link.a, link.b) ((link.b, link.a) ∷ rest),
+          count-cons (is_way u n) (link.b, link.a) rest,
+        ))
   ]
 ]

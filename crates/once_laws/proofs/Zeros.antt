@@ -23,7 +23,8 @@ pub none_counted : {X : Type 0} (p : X → Bool) (xs : List X) → count_by p xs
 none_counted p [] e = tt
 none_counted p (x ∷ xs) e =
     let s = count-cons p x xs in
-    let here : (b : Bool) → cond {A = ℕ} b 1 0 ≡ 0 → b ≡ false = λ b. elim b as (λ b. cond {A = ℕ} b 1 0 ≡ 0 → b ≡ false) [ true ↦ (λ h. absurd (omega (arith, h))) | false ↦ (λ h. refl) ] in
+    let here : (b : Bool) → cond {A = ℕ} b 1 0 ≡ 0 → b ≡ false =
+    λ b. elim b as (λ b. cond {A = ℕ} b 1 0 ≡ 0 → b ≡ false) [ true ↦ (λ h. absurd (omega (arith, h))) | false ↦ (λ h. refl) ] in
     (here (p x) (omega (arith, s, e)), none_counted p xs (omega (arith, s, e)))
 
 pub zeros_of : (world : World) → state_line world ≡ lines.State 0 0 0 0 0 → Zeros world
@@ -32,7 +33,12 @@ zeros_of world e =
     let timers : due_timers world ≡ 0 = cc in
     let sessions_not : unready world ≡ 0 = cc in
     record {
-      transit = each_weaker (λ (over : Direction). length (world.network.transit over) ≡ 0) (λ (over : Direction). world.network.transit over ≡ []) (λ over h. none_of_length (world.network.transit over) h) (directions (scenario_of world)) (each_zero (λ (over : Direction). length (world.network.transit over)) (directions (scenario_of world)) transit);
+      transit =
+          each_weaker (λ (over : Direction). length (world.network.transit over) ≡ 0) (λ (over : Direction). world.network.transit over ≡ [])
+          (λ over h. none_of_length (world.network.transit over) h) (directions (scenario_of world))
+          (each_zero (λ (over : Direction). length (world.network.transit over)) (directions (scenario_of world)) transit);
       due = each_zero (node_due world.network.state) (all_nodes (scenario_of world)) timers;
-      ready = each_weaker (λ (session : Session). not (is_ready world session) ≡ false) (λ (session : Session). is_ready world session ≡ true) (λ session h. not_false (is_ready world session) h) (sessions (scenario_of world)) (none_counted (λ (session : Session). not (is_ready world session)) (sessions (scenario_of world)) sessions_not);
+      ready = each_weaker (λ (session : Session). not (is_ready world session) ≡ false) (λ (session : Session). is_ready world session ≡ true)
+          (λ session h. not_false (is_ready world session) h) (sessions (scenario_of world))
+          (none_counted (λ (session : Session). not (is_ready world session)) (sessions (scenario_of world)) sessions_not);
     }

@@ -28,18 +28,24 @@ is_among list at = list_any (eq_by_cmp entry_cmp at) list
 
 -- ---- entries with their expiries
 
-add_first : (expiry : IfaceEntry → Option Expiry) (first : IfaceEntry) (more : List IfaceEntry) (at : IfaceEntry) (here : Option Expiry) → expiry first ≡ here →
+add_first : (expiry : IfaceEntry → Option Expiry) (first : IfaceEntry) (more : List IfaceEntry) (at : IfaceEntry) (here : Option Expiry)
+    → expiry first ≡ here →
     find entry_cmp at (with_expiries expiry more) ≡ cond (is_among more at) (expiry at) None →
-    find entry_cmp at (elim here [ None ↦ with_expiries expiry more | Some found ↦ (first, found) ∷ with_expiries expiry more ]) ≡ cond (eq_by_cmp entry_cmp at first || is_among more at) (expiry at) None
+    find entry_cmp at (elim here [ None ↦ with_expiries expiry more | Some found ↦ (first, found) ∷ with_expiries expiry more ])
+    ≡ cond (eq_by_cmp entry_cmp at first || is_among more at) (expiry at) None
 add_first expiry first more at here e later = tied (eq_by_cmp entry_cmp at first) refl
   where
-    tied : (b : Bool) → eq_by_cmp entry_cmp at first ≡ b → find entry_cmp at (elim here [ None ↦ with_expiries expiry more | Some found ↦ (first, found) ∷ with_expiries expiry more ]) ≡ cond (eq_by_cmp entry_cmp at first || is_among more at) (expiry at) None
+    tied : (b : Bool) → eq_by_cmp entry_cmp at first ≡ b
+        → find entry_cmp at (elim here [ None ↦ with_expiries expiry more | Some found ↦ (first, found) ∷ with_expiries expiry more ])
+        ≡ cond (eq_by_cmp entry_cmp at first || is_among more at) (expiry at) None
     tied true t =
         let one : at ≡ first = same_at_equal at first (sym (ties-same at first) ∙ t) in
         let own : expiry at ≡ here = ap expiry one ∙ e in
         by_here here own
       where
-        by_here : (o : Option Expiry) → expiry at ≡ o → find entry_cmp at (elim o [ None ↦ with_expiries expiry more | Some found ↦ (first, found) ∷ with_expiries expiry more ]) ≡ cond (eq_by_cmp entry_cmp at first || is_among more at) (expiry at) None
+        by_here : (o : Option Expiry) → expiry at ≡ o
+            → find entry_cmp at (elim o [ None ↦ with_expiries expiry more | Some found ↦ (first, found) ∷ with_expiries expiry more ])
+            ≡ cond (eq_by_cmp entry_cmp at first || is_among more at) (expiry at) None
         by_here None own = later ∙ none (is_among more at) ∙ sym (rw (t, own) refl)
           where
             none : (b : Bool) → cond b (expiry at) None ≡ None
@@ -48,11 +54,14 @@ add_first expiry first more at here e later = tied (eq_by_cmp entry_cmp at first
         by_here (Some found) own = rw (t, own) refl
     tied false t = by_here here
       where
-        by_here : (o : Option Expiry) → find entry_cmp at (elim o [ None ↦ with_expiries expiry more | Some found ↦ (first, found) ∷ with_expiries expiry more ]) ≡ cond (eq_by_cmp entry_cmp at first || is_among more at) (expiry at) None
+        by_here : (o : Option Expiry) → find entry_cmp at
+            (elim o [ None ↦ with_expiries expiry more | Some found ↦ (first, found) ∷ with_expiries expiry more ])
+            ≡ cond (eq_by_cmp entry_cmp at first || is_among more at) (expiry at) None
         by_here None = rw t later
         by_here (Some found) = rw t later
 
-find-with : (expiry : IfaceEntry → Option Expiry) (list : List IfaceEntry) (at : IfaceEntry) → find entry_cmp at (with_expiries expiry list) ≡ cond (is_among list at) (expiry at) None
+find-with : (expiry : IfaceEntry → Option Expiry) (list : List IfaceEntry) (at : IfaceEntry)
+    → find entry_cmp at (with_expiries expiry list) ≡ cond (is_among list at) (expiry at) None
 find-with expiry [] at = refl
 find-with expiry (first ∷ more) at = add_first expiry first more at (expiry first) refl (find-with expiry more at)
 
@@ -60,7 +69,8 @@ find-with expiry (first ∷ more) at = add_first expiry first more at (expiry fi
 
 -- An entry of the interface ties with one that a source names exactly where it is that one.
 tie-named : (iface : IfaceId) (group : Addr) (source : JpSource) (entry : JoinEntry) →
-    same_entry (entry_of group source) entry ≡ true → eq_by_cmp entry_cmp (record { iface = iface; entry = entry }) (record { iface = iface; entry = entry_of group source }) ≡ true
+    same_entry (entry_of group source) entry ≡ true
+    → eq_by_cmp entry_cmp (record { iface = iface; entry = entry }) (record { iface = iface; entry = entry_of group source }) ≡ true
 tie-named iface group source entry h =
     let one = same_entry_equal (entry_of group source) entry h in
     let at : IfaceEntry = record { iface = iface; entry = entry } in
@@ -76,7 +86,8 @@ listed-named : (iface : IfaceId) (group : Addr) (sources : List JpSource) (entry
     is_among (named_of iface group sources) (record { iface = iface; entry = entry }) ≡ true
 listed-named iface group [] entry h = absurd cc
 listed-named iface group (source ∷ more) entry h =
-    by_either (same_entry (entry_of group source) entry) (lists group more entry) (is_among (named_of iface group (source ∷ more)) (record { iface = iface; entry = entry }) ≡ true)
+    by_either (same_entry (entry_of group source) entry) (lists group more entry)
+    (is_among (named_of iface group (source ∷ more)) (record { iface = iface; entry = entry }) ≡ true)
     (λ e. or_left _ _ (tie-named iface group source entry e))
     (λ e. or_right _ _ (listed-named iface group more entry e))
     h
@@ -84,13 +95,16 @@ listed-named iface group (source ∷ more) entry h =
 abbrev named_by : IfaceId → List Group → List IfaceEntry
 named_by iface groups = flat_map (λ group. named_of iface group.group (group.joins ++ group.prunes)) groups
 
-group-named : (iface : IfaceId) (group : Group) (entry : JoinEntry) → (lists group.group group.joins entry || lists group.group group.prunes entry) ≡ true →
+group-named : (iface : IfaceId) (group : Group) (entry : JoinEntry)
+    → (lists group.group group.joins entry || lists group.group group.prunes entry) ≡ true →
     is_among (named_of iface group.group (group.joins ++ group.prunes)) (record { iface = iface; entry = entry }) ≡ true
 group-named iface group entry h =
     let at : IfaceEntry = record { iface = iface; entry = entry } in
     let split = map-append (λ (source : JpSource). record { iface = iface; entry = entry_of group.group source }) group.joins group.prunes in
-    ap (λ (l : List IfaceEntry). is_among l at) split ∙ list_any-append (eq_by_cmp entry_cmp at) (named_of iface group.group group.joins) (named_of iface group.group group.prunes)
-    ∙ by_either (lists group.group group.joins entry) (lists group.group group.prunes entry) ((is_among (named_of iface group.group group.joins) at || is_among (named_of iface group.group group.prunes) at) ≡ true)
+    ap (λ (l : List IfaceEntry). is_among l at) split
+    ∙ list_any-append (eq_by_cmp entry_cmp at) (named_of iface group.group group.joins) (named_of iface group.group group.prunes)
+    ∙ by_either (lists group.group group.joins entry) (lists group.group group.prunes entry)
+    ((is_among (named_of iface group.group group.joins) at || is_among (named_of iface group.group group.prunes) at) ≡ true)
     (λ e. or_left _ _ (listed-named iface group.group group.joins entry e))
     (λ e. or_right _ _ (listed-named iface group.group group.prunes entry e))
     h
@@ -101,7 +115,8 @@ joined-named iface [] entry h = absurd cc
 joined-named iface (group ∷ more) entry h =
     let at : IfaceEntry = record { iface = iface; entry = entry } in
     list_any-append (eq_by_cmp entry_cmp at) (named_of iface group.group (group.joins ++ group.prunes)) (named_by iface more)
-    ∙ by_either (lists group.group group.joins entry) (list_any (λ other. lists other.group other.joins entry) more) ((is_among (named_of iface group.group (group.joins ++ group.prunes)) at || is_among (named_by iface more) at) ≡ true)
+    ∙ by_either (lists group.group group.joins entry) (list_any (λ other. lists other.group other.joins entry) more)
+    ((is_among (named_of iface group.group (group.joins ++ group.prunes)) at || is_among (named_by iface more) at) ≡ true)
     (λ e. or_left _ _ (group-named iface group entry (or_left _ _ e)))
     (λ e. or_right _ _ (joined-named iface more entry e))
     h
@@ -112,7 +127,8 @@ pruned-named iface [] entry h = absurd cc
 pruned-named iface (group ∷ more) entry h =
     let at : IfaceEntry = record { iface = iface; entry = entry } in
     list_any-append (eq_by_cmp entry_cmp at) (named_of iface group.group (group.joins ++ group.prunes)) (named_by iface more)
-    ∙ by_either (lists group.group group.prunes entry) (list_any (λ other. lists other.group other.prunes entry) more) ((is_among (named_of iface group.group (group.joins ++ group.prunes)) at || is_among (named_by iface more) at) ≡ true)
+    ∙ by_either (lists group.group group.prunes entry) (list_any (λ other. lists other.group other.prunes entry) more)
+    ((is_among (named_of iface group.group (group.joins ++ group.prunes)) at || is_among (named_by iface more) at) ≡ true)
     (λ e. or_left _ _ (group-named iface group entry (or_right _ _ e)))
     (λ e. or_right _ _ (pruned-named iface more entry e))
     h
@@ -120,7 +136,8 @@ pruned-named iface (group ∷ more) entry h =
 -- ---- what the message does not name
 
 -- An entry that is not there and that the message neither joins nor prunes is not there behind it.
-pub unnamed : (entry : JoinEntry) (mention : Mention) (clock holdtime : ℕ) → mention.joined ≡ false → mention.pruned ≡ false → expiry_after entry mention clock holdtime None ≡ None
+pub unnamed : (entry : JoinEntry) (mention : Mention) (clock holdtime : ℕ) → mention.joined ≡ false → mention.pruned ≡ false
+    → expiry_after entry mention clock holdtime None ≡ None
 unnamed (Star group) mention clock holdtime j p = rw (p, j) refl
 unnamed (Source source group) mention clock holdtime j p = rw (p, j) refl
 unnamed (Rpt source group) mention clock holdtime j p = rw (p, j) (nothing (mention.shared && true))
@@ -130,10 +147,12 @@ unnamed (Rpt source group) mention clock holdtime j p = rw (p, j) (nothing (ment
     nothing false = refl
 
 -- What the message does not name it neither joins nor prunes.
-unjoined : (iface : IfaceId) (message : JoinPrune) (entry : JoinEntry) → is_among (named_in iface message) (record { iface = iface; entry = entry }) ≡ false → joins message entry ≡ false
+unjoined : (iface : IfaceId) (message : JoinPrune) (entry : JoinEntry)
+    → is_among (named_in iface message) (record { iface = iface; entry = entry }) ≡ false → joins message entry ≡ false
 unjoined iface message entry h = false_from_ne_true (joins message entry) (λ j. false≢true (sym h ∙ joined-named iface message.groups entry j))
 
-unpruned : (iface : IfaceId) (message : JoinPrune) (entry : JoinEntry) → is_among (named_in iface message) (record { iface = iface; entry = entry }) ≡ false → prunes message entry ≡ false
+unpruned : (iface : IfaceId) (message : JoinPrune) (entry : JoinEntry)
+    → is_among (named_in iface message) (record { iface = iface; entry = entry }) ≡ false → prunes message entry ≡ false
 unpruned iface message entry h = false_from_ne_true (prunes message entry) (λ j. false≢true (sym h ∙ pruned-named iface message.groups entry j))
 
 is_absent : (o : Option Expiry) → is_some o ≡ false → o ≡ None
@@ -148,22 +167,27 @@ then_none entries iface message clock at a n = own (at.iface.0 == iface.0) refl
     absent : get entries at ≡ None
     absent = is_absent (get entries at) (contains_key-keys entries at ∙ a)
 
-    own : (b : Bool) → (at.iface.0 == iface.0) ≡ b → cond b (expiry_after at.entry (mention_of message at.entry) clock message.holdtime (get entries at)) (get entries at) ≡ None
+    own : (b : Bool) → (at.iface.0 == iface.0) ≡ b
+        → cond b (expiry_after at.entry (mention_of message at.entry) clock message.holdtime (get entries at)) (get entries at) ≡ None
     own true e =
         let number : at.iface.0 ≡ iface.0 = grind (arith, nat_tests) in
-        let same : is_among (named_in iface message) (record { iface = iface; entry = at.entry }) ≡ false = subst (λ (k : ℕ). is_among (named_in iface message) (record { iface = record { 0 = k }; entry = at.entry }) ≡ false) number n in
+        let same : is_among (named_in iface message) (record { iface = iface; entry = at.entry }) ≡ false =
+        subst (λ (k : ℕ). is_among (named_in iface message) (record { iface = record { 0 = k }; entry = at.entry }) ≡ false) number n in
         ap (expiry_after at.entry (mention_of message at.entry) clock message.holdtime) absent
-        ∙ unnamed at.entry (mention_of message at.entry) clock message.holdtime (unjoined iface message at.entry same) (unpruned iface message at.entry same)
+        ∙ unnamed at.entry (mention_of message at.entry) clock message.holdtime (unjoined iface message at.entry same)
+        (unpruned iface message at.entry same)
     own false e = absent
 
 -- Behind a message each entry has the expiry that the message leaves it.
-pub get-applied : (entries : Entries) (iface : IfaceId) (message : JoinPrune) (clock : ℕ) (at : IfaceEntry) → get (applied entries iface message clock) at ≡ expiry_then entries iface message clock at
+pub get-applied : (entries : Entries) (iface : IfaceId) (message : JoinPrune) (clock : ℕ) (at : IfaceEntry)
+    → get (applied entries iface message clock) at ≡ expiry_then entries iface message clock at
 get-applied entries iface message clock at =
     get-from_entries entry_cmp_total (with_expiries (expiry_then entries iface message clock) (keys entries ++ named_in iface message)) at
     ∙ find-with (expiry_then entries iface message clock) (keys entries ++ named_in iface message) at
     ∙ found (is_among (keys entries ++ named_in iface message) at) refl
   where
-    found : (b : Bool) → is_among (keys entries ++ named_in iface message) at ≡ b → cond b (expiry_then entries iface message clock at) None ≡ expiry_then entries iface message clock at
+    found : (b : Bool) → is_among (keys entries ++ named_in iface message) at ≡ b
+        → cond b (expiry_then entries iface message clock at) None ≡ expiry_then entries iface message clock at
     found true e = refl
     found false e =
         let none = or_parts _ _ (sym (list_any-append (eq_by_cmp entry_cmp at) (keys entries) (named_in iface message)) ∙ e) in
@@ -171,4 +195,6 @@ get-applied entries iface message clock at =
 
 -- Behind a run of the timers the entries that ended are gone.
 pub get-kept : (entries : Entries) (clock : ℕ) (at : IfaceEntry) → get (kept_at entries clock) at ≡ remaining clock (get entries at)
-get-kept entries clock at = get-retain_keys entries (λ key. counts clock (get entries key)) at (λ x tie. ap (λ (k : IfaceEntry). counts clock (get entries k)) (sym (entry_cmp_exact at x tie)))
+get-kept entries clock at =
+    get-retain_keys entries (λ key. counts clock (get entries key)) at
+    (λ x tie. ap (λ (k : IfaceEntry). counts clock (get entries k)) (sym (entry_cmp_exact at x tie)))

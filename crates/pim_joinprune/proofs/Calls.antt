@@ -30,7 +30,8 @@ placed_ok : (len : ℕ) (r : Result JoinPrune (ℕ × PimFault)) (m : JoinPrune)
 placed_ok len (Ok n) m e = e
 placed_ok len (Err f) m e = absurd cc
 
-placed_err : (len place : ℕ) (fault : PimFault) (r : Result JoinPrune (ℕ × PimFault)) → placed len r ≡ Err (place, fault) → (left : ℕ) × (r ≡ Err (left, fault)) × (len - left ≡ place)
+placed_err : (len place : ℕ) (fault : PimFault) (r : Result JoinPrune (ℕ × PimFault)) → placed len r ≡ Err (place, fault)
+    → (left : ℕ) × (r ≡ Err (left, fault)) × (len - left ≡ place)
 placed_err len place fault (Ok n) e = absurd cc
 placed_err len place fault (Err f) e =
     let whole : ℕ × PimFault = (len - f.0, f.1) in
@@ -66,7 +67,8 @@ only_value (Ok n) read m h e = let same : n ≡ m = ok_is {E = ℕ × PimFault} 
 only_value (Err answers.NoMemory) read m h e = inr refl
 only_value (Err (answers.Bad place fault)) read m h e = absurd cc
 
-only_fault : (r : Result JoinPrune DecodeFault) (read : Result JoinPrune (ℕ × PimFault)) (place : ℕ) (fault : PimFault) → Decodes r read → read ≡ Err (place, fault) → (r ≡ Err (answers.Bad place fault)) ⊎ (r ≡ Err answers.NoMemory)
+only_fault : (r : Result JoinPrune DecodeFault) (read : Result JoinPrune (ℕ × PimFault)) (place : ℕ) (fault : PimFault) → Decodes r read
+    → read ≡ Err (place, fault) → (r ≡ Err (answers.Bad place fault)) ⊎ (r ≡ Err answers.NoMemory)
 only_fault (Ok n) read place fault h e = absurd cc
 only_fault (Err answers.NoMemory) read place fault h e = inr refl
 only_fault (Err (answers.Bad at f)) read place fault h e =

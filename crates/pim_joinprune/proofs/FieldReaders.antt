@@ -26,12 +26,14 @@ abbrev missed : {A : Type 0} → ℕ → Result A (ℕ × PimFault)
 missed len = Err (len, faults.Short)
 
 -- the answer where octets are missing
-lacks : {A : Type 0} (n : ℕ) (octets : List ℕ) (len left : ℕ) (fault : PimFault) → length octets < n → len ≡ length octets → missed {A = A} len ≡ Err (left, fault) → Lacks n octets left fault
+lacks : {A : Type 0} (n : ℕ) (octets : List ℕ) (len left : ℕ) (fault : PimFault) → length octets < n → len ≡ length octets
+    → missed {A = A} len ≡ Err (left, fault) → Lacks n octets left fault
 lacks {A} n octets len left fault few same e =
     let is : (len, faults.Short) ≡ (left, fault) = err_is {A = A} (len, faults.Short) (left, fault) e in
     record { few = few; at = ap (λ (f : ℕ × PimFault). f.0) (sym is) ∙ same; is = ap (λ (f : ℕ × PimFault). f.1) (sym is) }
 
-lacked : {A : Type 0} (n : ℕ) (octets : List ℕ) (len left : ℕ) (fault : PimFault) → len ≡ length octets → Lacks n octets left fault → missed {A = A} len ≡ Err (left, fault)
+lacked : {A : Type 0} (n : ℕ) (octets : List ℕ) (len left : ℕ) (fault : PimFault) → len ≡ length octets → Lacks n octets left fault
+    → missed {A = A} len ≡ Err (left, fault)
 lacked n octets len left fault same l = rw (l.at, l.is, same) refl
 
 -- ---- an octet
@@ -39,7 +41,8 @@ lacked n octets len left fault same l = rw (l.at, l.is, same) refl
 pub octet_reader : IsReader octet_at IsOctet (Lacks 1)
 octet_reader = record { taken = taken; again = again; fails = fails; faulty = faulty }
   where
-    taken : (octets : List ℕ) (x : ℕ × List ℕ) → IsOctets octets → octet_at octets ≡ Ok x → (text : List ℕ) × IsOctet x.0 text × (octets ≡ text ++ x.1)
+    taken : (octets : List ℕ) (x : ℕ × List ℕ) → IsOctets octets → octet_at octets ≡ Ok x
+        → (text : List ℕ) × IsOctet x.0 text × (octets ≡ text ++ x.1)
     taken [] x fits e = absurd cc
     taken (o ∷ rest) x fits e =
         subst (λ (y : ℕ × List ℕ). (text : List ℕ) × IsOctet y.0 text × (o ∷ rest ≡ text ++ y.1)) (ok_is (o, rest) x e) (o ∷ [], (fits 0, refl), refl)
@@ -60,7 +63,8 @@ octet_reader = record { taken = taken; again = again; fails = fails; faulty = fa
 pub number_reader : IsReader number_at IsNumber (Lacks 2)
 number_reader = record { taken = taken; again = again; fails = fails; faulty = faulty }
   where
-    taken : (octets : List ℕ) (x : ℕ × List ℕ) → IsOctets octets → number_at octets ≡ Ok x → (text : List ℕ) × IsNumber x.0 text × (octets ≡ text ++ x.1)
+    taken : (octets : List ℕ) (x : ℕ × List ℕ) → IsOctets octets → number_at octets ≡ Ok x
+        → (text : List ℕ) × IsNumber x.0 text × (octets ≡ text ++ x.1)
     taken [] x fits e = absurd cc
     taken (a ∷ []) x fits e = absurd cc
     taken (a ∷ b ∷ rest) x fits e =
@@ -95,7 +99,8 @@ guard_err false d x f e = absurd cc
 pub octets_reader : (n : ℕ) → IsReader (octets_at n) (AreOctets n) (Lacks n)
 octets_reader n = record { taken = taken; again = again; fails = fails; faulty = faulty }
   where
-    taken : (octets : List ℕ) (x : List ℕ × List ℕ) → IsOctets octets → octets_at n octets ≡ Ok x → (text : List ℕ) × AreOctets n x.0 text × (octets ≡ text ++ x.1)
+    taken : (octets : List ℕ) (x : List ℕ × List ℕ) → IsOctets octets → octets_at n octets ≡ Ok x
+        → (text : List ℕ) × AreOctets n x.0 text × (octets ≡ text ++ x.1)
     taken octets x fits e =
         let g = guard_ok (ltb (length octets) n) (length octets, faults.Short) (take n octets, drop n octets) x e in
         subst (λ (y : List ℕ × List ℕ). (text : List ℕ) × AreOctets n y.0 text × (octets ≡ text ++ y.1)) g.1
@@ -138,7 +143,9 @@ known_same value own octets = refl
 pub known_reader : (value : ℕ) (own : PimFault) → value < 2 ^ 8 → IsReader (known_at value own) (IsKnown value) (KnownFails value own)
 known_reader value own lt =
     said_reader (known_at value own) (Passed IsOctet (λ x z. (x ≡ value) × (z ≡ x))) (IsKnown value) (KnownFails value own) there back
-    (same_reader (test_at octet_at (known_step value own)) (known_at value own) _ _ (known_same value own) (test_reader octet_at IsOctet (Lacks 1) (known_step value own) (λ x z. (x ≡ value) × (z ≡ x)) (λ x. x ≢ value) own octet_reader (known_test value own)))
+    (same_reader (test_at octet_at (known_step value own)) (known_at value own) _ _ (known_same value own)
+    (test_reader octet_at IsOctet (Lacks 1) (known_step value own) (λ x z. (x ≡ value) × (z ≡ x)) (λ x. x ≢ value) own octet_reader
+    (known_test value own)))
   where
     there : (z : ℕ) (text : List ℕ) → Passed IsOctet (λ x z. (x ≡ value) × (z ≡ x)) z text → IsKnown value z text
     there z text p = (p.good.1 ∙ p.good.0, p.spells.1 ∙ ap (λ (n : ℕ). n ∷ []) p.good.0)
@@ -178,7 +185,8 @@ kind_same octets = refl
 pub kind_reader : IsReader kind_at IsKind KindFails
 kind_reader =
     said_reader kind_at (Passed IsOctet (λ x kind. x % 4 ≡ low_flags kind)) IsKind KindFails there back
-    (same_reader (test_at octet_at kind_step) kind_at _ _ kind_same (test_reader octet_at IsOctet (Lacks 1) kind_step (λ x kind. x % 4 ≡ low_flags kind) (λ x. x % 4 ≡ 2) faults.Flags octet_reader kind_test))
+    (same_reader (test_at octet_at kind_step) kind_at _ _ kind_same
+    (test_reader octet_at IsOctet (Lacks 1) kind_step (λ x kind. x % 4 ≡ low_flags kind) (λ x. x % 4 ≡ 2) faults.Flags octet_reader kind_test))
   where
     there : (kind : SourceKind) (text : List ℕ) → Passed IsOctet (λ x kind. x % 4 ≡ low_flags kind) kind text → IsKind kind text
     there kind text p = (p.x, p.spells.0, p.good, p.spells.1)
@@ -223,7 +231,9 @@ mask_below Ipv6 = omega arith
 pub family_reader : IsReader family_at IsFamily FamilyFails
 family_reader =
     said_reader family_at (Passed IsOctet (λ x family. x ≡ family_octet family)) IsFamily FamilyFails there back
-    (same_reader (test_at octet_at family_step) family_at _ _ family_same (test_reader octet_at IsOctet (Lacks 1) family_step (λ x family. x ≡ family_octet family) (λ x. (x ≢ 1) × (x ≢ 2)) faults.Family octet_reader family_test))
+    (same_reader (test_at octet_at family_step) family_at _ _ family_same
+    (test_reader octet_at IsOctet (Lacks 1) family_step (λ x family. x ≡ family_octet family) (λ x. (x ≢ 1) × (x ≢ 2)) faults.Family octet_reader
+    family_test))
   where
     there : (family : Family) (text : List ℕ) → Passed IsOctet (λ x family. x ≡ family_octet family) family text → IsFamily family text
     there family text p = p.spells.1 ∙ ap (λ (n : ℕ). n ∷ []) p.good
@@ -239,14 +249,18 @@ address_same family octets = refl
 
 pub address_reader : (family : Family) → IsReader (address_at family) (SpellsAddress family) (Lacks (addr_len family))
 address_reader family =
-    said_reader (address_at family) (Made (addr_of family) (AreOctets (addr_len family))) (SpellsAddress family) (Lacks (addr_len family)) (λ addr text m. subst (λ (a : Addr). SpellsAddress family a text) (sym m.is) (there family m.x text m.spells)) (back family)
-    (same_reader (made_at (octets_at (addr_len family)) (addr_of family)) (address_at family) _ _ (address_same family) (made_reader (octets_at (addr_len family)) (AreOctets (addr_len family)) (Lacks (addr_len family)) (addr_of family) (octets_reader (addr_len family))))
+    said_reader (address_at family) (Made (addr_of family) (AreOctets (addr_len family))) (SpellsAddress family) (Lacks (addr_len family))
+    (λ addr text m. subst (λ (a : Addr). SpellsAddress family a text) (sym m.is) (there family m.x text m.spells)) (back family)
+    (same_reader (made_at (octets_at (addr_len family)) (addr_of family)) (address_at family) _ _ (address_same family)
+    (made_reader (octets_at (addr_len family)) (AreOctets (addr_len family)) (Lacks (addr_len family)) (addr_of family)
+    (octets_reader (addr_len family))))
   where
     there : (family : Family) (x text : List ℕ) → AreOctets (addr_len family) x text → SpellsAddress family (addr_of family x) text
     there Ipv4 x text a = a
     there Ipv6 x text a = a
 
-    back : (family : Family) (addr : Addr) (text : List ℕ) → SpellsAddress family addr text → Made (addr_of family) (AreOctets (addr_len family)) addr text
+    back : (family : Family) (addr : Addr) (text : List ℕ) → SpellsAddress family addr text
+        → Made (addr_of family) (AreOctets (addr_len family)) addr text
     back Ipv4 (V4 x) text s = record { x = x; is = refl; spells = s }
     back Ipv4 (V6 x) text s = absurd s.0
     back Ipv6 (V4 x) text s = absurd s.0
@@ -284,11 +298,17 @@ multicast_same family octets = refl
 
 pub multicast_reader : (family : Family) → IsReader (multicast_at family) (SpellsMulticast family) (MulticastFails family)
 multicast_reader family =
-    said_reader (multicast_at family) (Passed (SpellsAddress family) (λ x addr. (addr ≡ x) × BeginsMulticast x)) (SpellsMulticast family) (MulticastFails family) there back
-    (same_reader (test_at (address_at family) multicast_step) (multicast_at family) _ _ (multicast_same family) (test_reader (address_at family) (SpellsAddress family) (Lacks (addr_len family)) multicast_step (λ x addr. (addr ≡ x) × BeginsMulticast x) (λ x. ¬ (BeginsMulticast x)) faults.NotMulticast (address_reader family) multicast_test))
+    said_reader (multicast_at family) (Passed (SpellsAddress family) (λ x addr. (addr ≡ x) × BeginsMulticast x)) (SpellsMulticast family)
+    (MulticastFails family) there back
+    (same_reader (test_at (address_at family) multicast_step) (multicast_at family) _ _ (multicast_same family)
+    (test_reader (address_at family) (SpellsAddress family) (Lacks (addr_len family)) multicast_step (λ x addr. (addr ≡ x) × BeginsMulticast x)
+    (λ x. ¬ (BeginsMulticast x)) faults.NotMulticast (address_reader family) multicast_test))
   where
-    there : (addr : Addr) (text : List ℕ) → Passed (SpellsAddress family) (λ x addr. (addr ≡ x) × BeginsMulticast x) addr text → SpellsMulticast family addr text
-    there addr text p = subst (λ (a : Addr). SpellsMulticast family a text) (sym p.good.0) (record { multicast = (p.spells.0, p.good.1); octets = p.spells.1 })
+    there : (addr : Addr) (text : List ℕ) → Passed (SpellsAddress family) (λ x addr. (addr ≡ x) × BeginsMulticast x) addr text
+        → SpellsMulticast family addr text
+    there addr text p =
+        subst (λ (a : Addr). SpellsMulticast family a text) (sym p.good.0) (record { multicast = (p.spells.0, p.good.1); octets = p.spells.1 })
 
-    back : (addr : Addr) (text : List ℕ) → SpellsMulticast family addr text → Passed (SpellsAddress family) (λ x addr. (addr ≡ x) × BeginsMulticast x) addr text
+    back : (addr : Addr) (text : List ℕ) → SpellsMulticast family addr text
+        → Passed (SpellsAddress family) (λ x addr. (addr ≡ x) × BeginsMulticast x) addr text
     back addr text s = record { x = addr; spells = (s.multicast.0, s.octets); good = (refl, s.multicast.1) }

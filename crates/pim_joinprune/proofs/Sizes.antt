@@ -27,11 +27,13 @@ IsClose F n = (octets : List ℕ) (left : ℕ) (fault : PimFault) → F octets l
 lacks_close : (n : ℕ) → IsClose (Lacks n) 0
 lacks_close n octets left fault l = (omega (arith, l.at), omega (arith, l.at))
 
-field_close : {A : Type 0} (S : A → List ℕ → Type 0) (F : List ℕ → ℕ → PimFault → Type 0) (W : A → Type 0) (own : PimFault) (n : ℕ) → IsClose F n → IsClose (FieldFails S F W own) n
+field_close : {A : Type 0} (S : A → List ℕ → Type 0) (F : List ℕ → ℕ → PimFault → Type 0) (W : A → Type 0) (own : PimFault) (n : ℕ) → IsClose F n
+    → IsClose (FieldFails S F W own) n
 field_close S F W own n close octets left fault (missing first) = close octets left fault first
 field_close S F W own n close octets left fault (wrong x text rest spells parts w at is) = (omega (arith, at), omega (arith, at))
 
-then_close : {A : Type 0} (S : A → List ℕ → Type 0) (F : List ℕ → ℕ → PimFault → Type 0) (G : A → List ℕ → ℕ → PimFault → Type 0) (n m : ℕ) → IsSized S n → IsClose F n → ((x : A) (text : List ℕ) → S x text → IsClose (G x) m) → IsClose (Then S F G) (n + m)
+then_close : {A : Type 0} (S : A → List ℕ → Type 0) (F : List ℕ → ℕ → PimFault → Type 0) (G : A → List ℕ → ℕ → PimFault → Type 0) (n m : ℕ)
+    → IsSized S n → IsClose F n → ((x : A) (text : List ℕ) → S x text → IsClose (G x) m) → IsClose (Then S F G) (n + m)
 then_close S F G n m sized close far octets left fault (here first) =
     let c = close octets left fault first in
     (c.0, omega (arith, c.1))
@@ -72,10 +74,17 @@ source_sized family source text s = omega (arith, ap (λ (xs : List ℕ). length
 group_address_sized : (family : Family) → IsSized (SpellsGroupAddress family) 20
 group_address_sized family addr text s = omega (arith, ap (λ (xs : List ℕ). length xs) s.octets, of_sized family addr s.multicast.0)
 
-sources_sized : (family : Family) (sources : List JpSource) (text : List ℕ) → AreAll (SpellsSource family) sources text → length text ≤ 20 * length sources
+sources_sized : (family : Family) (sources : List JpSource) (text : List ℕ) → AreAll (SpellsSource family) sources text
+    → length text ≤ 20 * length sources
 sources_sized family [] text h = omega (arith, ap (λ (xs : List ℕ). length xs) h)
 sources_sized family (s ∷ ss) text (first, others, spells, more, parts) =
-    omega (arith, source_sized family s first spells, sources_sized family ss others more, ap (λ (xs : List ℕ). length xs) parts, length-append first others)
+    omega (
+      arith,
+      source_sized family s first spells,
+      sources_sized family ss others more,
+      ap (λ (xs : List ℕ). length xs) parts,
+      length-append first others,
+    )
 
 -- ---- groups
 
@@ -84,21 +93,47 @@ group_sized family group text s =
     let joined = to_be_bytes w16 (length group.joins) in
     let pruned = to_be_bytes w16 (length group.prunes) in
     let sources = s.joins ++ s.prunes in
-    let all : length text ≡ length (masked family s.flags group.group) + length (joined ++ (pruned ++ sources)) = ap (λ (xs : List ℕ). length xs) s.octets ∙ length-append (masked family s.flags group.group) (joined ++ (pruned ++ sources)) in
+    let all : length text ≡ length (masked family s.flags group.group) + length (joined ++ (pruned ++ sources)) =
+    ap (λ (xs : List ℕ). length xs) s.octets ∙ length-append (masked family s.flags group.group) (joined ++ (pruned ++ sources)) in
     let counts : length (joined ++ (pruned ++ sources)) ≡ length sources + 4 = omega arith in
-    omega (arith, all, counts, length-append s.joins s.prunes, of_sized family group.group s.is.multicast.0, sources_sized family group.joins s.joins s.joined, sources_sized family group.prunes s.prunes s.pruned, s.is.joins.0, s.is.prunes.0)
+    omega (
+      arith,
+      all,
+      counts,
+      length-append s.joins s.prunes,
+      of_sized family group.group s.is.multicast.0,
+      sources_sized family group.joins s.joins s.joined,
+      sources_sized family group.prunes s.prunes s.pruned,
+      s.is.joins.0,
+      s.is.prunes.0,
+    )
 
-groups_sized : (family : Family) (groups : List Group) (text : List ℕ) → AreAll (SpellsGroup family) groups text → length text ≤ 2621424 * length groups
+groups_sized : (family : Family) (groups : List Group) (text : List ℕ) → AreAll (SpellsGroup family) groups text
+    → length text ≤ 2621424 * length groups
 groups_sized family [] text h = omega (arith, ap (λ (xs : List ℕ). length xs) h)
 groups_sized family (g ∷ gs) text (first, others, spells, more, parts) =
-    omega (arith, group_sized family g first spells, groups_sized family gs others more, ap (λ (xs : List ℕ). length xs) parts, length-append first others)
+    omega (
+      arith,
+      group_sized family g first spells,
+      groups_sized family gs others more,
+      ap (λ (xs : List ℕ). length xs) parts,
+      length-append first others,
+    )
 
 fields_sized : IsSized SpellsFields 668463142
 fields_sized message text s =
     let behind : List ℕ = s.reserved ∷ length message.groups ∷ (to_be_bytes w16 message.holdtime ++ s.groups) in
-    let all : length text ≡ length (unicast message.neighbour) + length behind = ap (λ (xs : List ℕ). length xs) s.octets ∙ length-append (unicast message.neighbour) behind in
+    let all : length text ≡ length (unicast message.neighbour) + length behind =
+    ap (λ (xs : List ℕ). length xs) s.octets ∙ length-append (unicast message.neighbour) behind in
     let four : length behind ≡ length s.groups + 4 = omega arith in
-    omega (arith, all, four, addr_sized message.neighbour s.is.neighbour, groups_sized (family_of message.neighbour) message.groups s.groups s.each, s.is.few)
+    omega (
+      arith,
+      all,
+      four,
+      addr_sized message.neighbour s.is.neighbour,
+      groups_sized (family_of message.neighbour) message.groups s.groups s.each,
+      s.is.few,
+    )
 
 -- ---- first faults
 
@@ -108,14 +143,22 @@ known_close value own octets left fault h =
     (c.0, omega (arith, c.1))
 
 -- an octet that has one value alone, and what is behind it
-after_close : (value : ℕ) (own : PimFault) (G : List ℕ → ℕ → PimFault → Type 0) (m : ℕ) → IsClose G m → IsClose (Then (IsKnown value) (KnownFails value own) (λ octet. G)) (1 + m)
-after_close value own G m close = then_close (IsKnown value) (KnownFails value own) (λ octet. G) 1 m (known_sized value) (known_close value own) (λ x text h. close)
+after_close : (value : ℕ) (own : PimFault) (G : List ℕ → ℕ → PimFault → Type 0) (m : ℕ) → IsClose G m
+    → IsClose (Then (IsKnown value) (KnownFails value own) (λ octet. G)) (1 + m)
+after_close value own G m close =
+    then_close (IsKnown value) (KnownFails value own) (λ octet. G) 1 m (known_sized value) (known_close value own) (λ x text h. close)
 
-octet_close : (G : ℕ → List ℕ → ℕ → PimFault → Type 0) (m : ℕ) → ((x : ℕ) (text : List ℕ) → IsOctet x text → IsClose (G x) m) → IsClose (Then IsOctet (Lacks 1) G) (1 + m)
-octet_close G m close = then_close IsOctet (Lacks 1) G 1 m octet_sized (λ octets left fault l. let c = lacks_close 1 octets left fault l in (c.0, omega (arith, c.1))) close
+octet_close : (G : ℕ → List ℕ → ℕ → PimFault → Type 0) (m : ℕ) → ((x : ℕ) (text : List ℕ) → IsOctet x text → IsClose (G x) m)
+    → IsClose (Then IsOctet (Lacks 1) G) (1 + m)
+octet_close G m close =
+    then_close IsOctet (Lacks 1) G 1 m octet_sized (λ octets left fault l. let c = lacks_close 1 octets left fault l in (c.0, omega (arith, c.1)))
+    close
 
-number_close : (G : ℕ → List ℕ → ℕ → PimFault → Type 0) (m : ℕ) → ((x : ℕ) (text : List ℕ) → IsNumber x text → IsClose (G x) m) → IsClose (Then IsNumber (Lacks 2) G) (2 + m)
-number_close G m close = then_close IsNumber (Lacks 2) G 2 m number_sized (λ octets left fault l. let c = lacks_close 2 octets left fault l in (c.0, omega (arith, c.1))) close
+number_close : (G : ℕ → List ℕ → ℕ → PimFault → Type 0) (m : ℕ) → ((x : ℕ) (text : List ℕ) → IsNumber x text → IsClose (G x) m)
+    → IsClose (Then IsNumber (Lacks 2) G) (2 + m)
+number_close G m close =
+    then_close IsNumber (Lacks 2) G 2 m number_sized (λ octets left fault l. let c = lacks_close 2 octets left fault l in (c.0, omega (arith, c.1)))
+    close
 
 family_close : IsClose FamilyFails 1
 family_close octets left fault h =
@@ -123,7 +166,9 @@ family_close octets left fault h =
     (c.0, omega (arith, c.1))
 
 unicast_close : IsClose UnicastFails 2
-unicast_close = then_close IsFamily FamilyFails _ 1 1 family_sized family_close (λ family text h. after_close 0 faults.Encoding (Lacks (addr_len family)) 0 (lacks_close (addr_len family)))
+unicast_close =
+    then_close IsFamily FamilyFails _ 1 1 family_sized family_close
+    (λ family text h. after_close 0 faults.Encoding (Lacks (addr_len family)) 0 (lacks_close (addr_len family)))
 
 kind_close : IsClose KindFails 1
 kind_close octets left fault h =
@@ -133,14 +178,17 @@ kind_close octets left fault h =
 source_close : (family : Family) → IsClose (SourceFails family) 4
 source_close family =
     after_close (family_octet family) faults.Family _ 3 (after_close 0 faults.Encoding _ 2
-    (then_close IsKind KindFails _ 1 1 kind_sized kind_close (λ kind text h. after_close (mask_len family) faults.MaskLength (Lacks (addr_len family)) 0 (lacks_close (addr_len family)))))
+    (then_close IsKind KindFails _ 1 1 kind_sized kind_close
+    (λ kind text h. after_close (mask_len family) faults.MaskLength (Lacks (addr_len family)) 0 (lacks_close (addr_len family)))))
 
 multicast_close : (family : Family) → IsClose (MulticastFails family) 0
 multicast_close family = field_close (SpellsAddress family) (Lacks (addr_len family)) _ faults.NotMulticast 0 (lacks_close (addr_len family))
 
 group_address_close : (family : Family) → IsClose (GroupAddressFails family) 4
 group_address_close family =
-    after_close (family_octet family) faults.Family _ 3 (after_close 0 faults.Encoding _ 2 (octet_close _ 1 (λ flags text h. after_close (mask_len family) faults.MaskLength (MulticastFails family) 0 (multicast_close family))))
+    after_close (family_octet family) faults.Family _ 3
+    (after_close 0 faults.Encoding _ 2 (octet_close _ 1
+    (λ flags text h. after_close (mask_len family) faults.MaskLength (MulticastFails family) 0 (multicast_close family))))
 
 sources_close : (family : Family) (n : ℕ) → n < 2 ^ 16 → IsClose (SourcesFail family n) 1310704
 sources_close family n lt octets left fault h =
@@ -149,10 +197,12 @@ sources_close family n lt octets left fault h =
     let len : length octets ≡ length h.text + length h.rest = ap (λ (xs : List ℕ). length xs) h.parts ∙ length-append h.text h.rest in
     (omega (arith, len, c.0), omega (arith, len, c.1, s, h.few, lt))
 
-joins_close : (family : Family) (joined pruned : ℕ) → joined < 2 ^ 16 → pruned < 2 ^ 16 → IsClose (Then (AreCounted (SpellsSource family) joined) (SourcesFail family joined) (λ joins. SourcesFail family pruned)) 2621408
+joins_close : (family : Family) (joined pruned : ℕ) → joined < 2 ^ 16 → pruned < 2 ^ 16
+    → IsClose (Then (AreCounted (SpellsSource family) joined) (SourcesFail family joined) (λ joins. SourcesFail family pruned)) 2621408
 joins_close family joined pruned lt less =
     then_close (AreCounted (SpellsSource family) joined) (SourcesFail family joined) (λ joins. SourcesFail family pruned) 1310704 1310704
-    (λ xs text h. omega (arith, sources_sized family xs text h.each, h.count, lt)) (sources_close family joined lt) (λ xs text h. sources_close family pruned less)
+    (λ xs text h. omega (arith, sources_sized family xs text h.each, h.count, lt)) (sources_close family joined lt)
+    (λ xs text h. sources_close family pruned less)
 
 group_close : (family : Family) → IsClose (GroupFails family) 2621432
 group_close family =
@@ -171,7 +221,8 @@ fields_close : IsClose FieldsFail 669000022
 fields_close =
     then_close SpellsUnicast UnicastFails _ 18 669000004 unicast_sized
     (λ octets left fault h. let c = unicast_close octets left fault h in (c.0, omega (arith, c.1)))
-    (λ neighbour text h. octet_close _ 669000003 (λ reserved t r. octet_close _ 669000002 (λ count u k. number_close _ 669000000 (λ holdtime v d. groups_close neighbour count k.0))))
+    (λ neighbour text h. octet_close _ 669000003
+    (λ reserved t r. octet_close _ 669000002 (λ count u k. number_close _ 669000000 (λ holdtime v d. groups_close neighbour count k.0))))
 
 -- What stands behind the checksum has its fault within so many octets.
 pub rest_close : IsClose RestFails 669000022

@@ -39,7 +39,8 @@ whole_err : (octets : List ℕ) (f : ℕ × PimFault) → fields_at octets ≡ E
 unfolding whole_of
 whole_err octets f e = rw e refl
 
-whole_more : (octets : List ℕ) (m : JoinPrune) (rest : List ℕ) → fields_at octets ≡ Ok (m, rest) → 0 < length rest → whole_of octets ≡ Err (length rest, reasons.Trailing)
+whole_more : (octets : List ℕ) (m : JoinPrune) (rest : List ℕ) → fields_at octets ≡ Ok (m, rest) → 0 < length rest
+    → whole_of octets ≡ Err (length rest, reasons.Trailing)
 unfolding whole_of
 whole_more octets m rest e more = rw (e, ne_eqb (length rest) 0 (λ none. omega (arith, more, none))) refl
 
@@ -69,8 +70,15 @@ rest_fails octets left fault fits e =
           behind a.0.0 p.0 a.0.1 p.1 p.2 (trail a.0.1 left fault some k.1)
     ]
   where
-    trail : (rest : List ℕ) (left : ℕ) (fault : PimFault) → length rest ≢ 0 → at_fault left fault ≡ at_fault (length rest) reasons.Trailing → Trails rest left fault
-    trail rest left fault some is = record { more = omega (arith, some); at = first_is left (length rest) fault reasons.Trailing is; is = second_is left (length rest) fault reasons.Trailing is }
+    trail : (rest : List ℕ) (left : ℕ) (fault : PimFault) → length rest ≢ 0 → at_fault left fault ≡ at_fault (length rest) reasons.Trailing
+        → Trails rest left fault
+    trail rest left fault some is =
+        record {
+          more = omega (arith, some);
+          at = first_is left (length rest) fault reasons.Trailing is;
+          is =
+              second_is left (length rest) fault reasons.Trailing is;
+        }
 
 fails_rest : (octets : List ℕ) (left : ℕ) (fault : PimFault) → RestFails octets left fault → whole_of octets ≡ Err (left, fault)
 fails_rest octets left fault (here first) = whole_err octets (left, fault) (fields_reader.faulty octets left fault first)
@@ -103,7 +111,8 @@ typed_err first len left fault e =
 version_err : (first reserved sum : ℕ) (rest : List ℕ) → first / 16 ≢ 2 → headed first reserved sum rest ≡ Err (4 + length rest, reasons.Version)
 version_err first reserved sum rest other = rw (ne_eqb (first / 16) 2 other) refl
 
-type_err : (first reserved sum : ℕ) (rest : List ℕ) → first / 16 ≡ 2 → first % 16 ≢ 3 → headed first reserved sum rest ≡ Err (4 + length rest, reasons.PimType)
+type_err : (first reserved sum : ℕ) (rest : List ℕ) → first / 16 ≡ 2 → first % 16 ≢ 3
+    → headed first reserved sum rest ≡ Err (4 + length rest, reasons.PimType)
 type_err first reserved sum rest two other = rw (eq-eqb (first / 16) 2 two, ne_eqb (first % 16) 3 other) refl
 
 -- ---- the checksum
@@ -115,25 +124,29 @@ sum_below reserved rest = omega arith
 summed_is : (reserved sum : ℕ) (rest : List ℕ) → sum_of 0x23 reserved rest ≡ sum → headed 0x23 reserved sum rest ≡ whole_of rest
 summed_is reserved sum rest same = rw (eq-eqb (sum_of 0x23 reserved rest) sum same) refl
 
-summed_err : (reserved sum : ℕ) (rest : List ℕ) → sum_of 0x23 reserved rest ≢ sum → headed 0x23 reserved sum rest ≡ Err (2 + length rest, reasons.Checksum)
+summed_err : (reserved sum : ℕ) (rest : List ℕ) → sum_of 0x23 reserved rest ≢ sum
+    → headed 0x23 reserved sum rest ≡ Err (2 + length rest, reasons.Checksum)
 summed_err reserved sum rest other = rw (ne_eqb (sum_of 0x23 reserved rest) sum other) refl
 
 -- the octets of a message with that checksum
 abbrev with_sum : ℕ → ℕ → List ℕ → List ℕ
 with_sum reserved sum rest = 0x23 ∷ reserved ∷ (to_be_bytes w16 sum ++ rest)
 
-message_is : (reserved sum : ℕ) (rest : List ℕ) → message_of (with_sum reserved sum rest) ≡ headed 0x23 reserved (from_be_bytes w16 (to_be_bytes w16 sum)) rest
+message_is : (reserved sum : ℕ) (rest : List ℕ)
+    → message_of (with_sum reserved sum rest) ≡ headed 0x23 reserved (from_be_bytes w16 (to_be_bytes w16 sum)) rest
 unfolding message_of
 message_is reserved sum rest = refl
 
 summed_message : (reserved : ℕ) (rest : List ℕ) → message_of (with_sum reserved (sum_of 0x23 reserved rest) rest) ≡ whole_of rest
 summed_message reserved rest =
     let sum = sum_of 0x23 reserved rest in
-    message_is reserved sum rest ∙ summed_is reserved (from_be_bytes w16 (to_be_bytes w16 sum)) rest (sym (wide16.again sum (sum_below reserved rest)))
+    message_is reserved sum rest ∙ summed_is reserved (from_be_bytes w16 (to_be_bytes w16 sum)) rest
+    (sym (wide16.again sum (sum_below reserved rest)))
 
 -- ---- what is read is spelled
 
-headed_taken : (first reserved high low : ℕ) (rest : List ℕ) (m : JoinPrune) → IsOctets (first ∷ reserved ∷ high ∷ low ∷ rest) → headed first reserved (from_be_bytes w16 (high ∷ low ∷ [])) rest ≡ Ok m → Spells m (first ∷ reserved ∷ high ∷ low ∷ rest)
+headed_taken : (first reserved high low : ℕ) (rest : List ℕ) (m : JoinPrune) → IsOctets (first ∷ reserved ∷ high ∷ low ∷ rest)
+    → headed first reserved (from_be_bytes w16 (high ∷ low ∷ [])) rest ≡ Ok m → Spells m (first ∷ reserved ∷ high ∷ low ∷ rest)
 headed_taken first reserved high low rest m fits e =
     let octets : List ℕ = first ∷ reserved ∷ high ∷ low ∷ rest in
     let sum : ℕ = from_be_bytes w16 (high ∷ low ∷ []) in
@@ -169,7 +182,8 @@ message_again m text s = ap message_of s.octets ∙ summed_message s.reserved s.
 abbrev Stands : List ℕ → ℕ → PimFault → Type 0
 Stands octets left fault = (place : ℕ) × FirstFault octets place fault × (place + left ≡ length octets)
 
-headed_fails : (first reserved high low : ℕ) (rest : List ℕ) (left : ℕ) (fault : PimFault) → IsOctets (first ∷ reserved ∷ high ∷ low ∷ rest) → headed first reserved (from_be_bytes w16 (high ∷ low ∷ [])) rest ≡ Err (left, fault) → Stands (first ∷ reserved ∷ high ∷ low ∷ rest) left fault
+headed_fails : (first reserved high low : ℕ) (rest : List ℕ) (left : ℕ) (fault : PimFault) → IsOctets (first ∷ reserved ∷ high ∷ low ∷ rest)
+    → headed first reserved (from_be_bytes w16 (high ∷ low ∷ [])) rest ≡ Err (left, fault) → Stands (first ∷ reserved ∷ high ∷ low ∷ rest) left fault
 headed_fails first reserved high low rest left fault fits e =
     let octets : List ℕ = first ∷ reserved ∷ high ∷ low ∷ rest in
     let sum : ℕ = from_be_bytes w16 (high ∷ low ∷ []) in
@@ -183,7 +197,9 @@ headed_fails first reserved high low rest left fault fits e =
           summed_fails first reserved high low rest left fault fits is a.2
     ]
   where
-    summed_fails : (first reserved high low : ℕ) (rest : List ℕ) (left : ℕ) (fault : PimFault) → IsOctets (first ∷ reserved ∷ high ∷ low ∷ rest) → first ≡ 0x23 → (summed first reserved (from_be_bytes w16 (high ∷ low ∷ [])) rest >>= λ c. whole_of rest) ≡ Err (left, fault) → Stands (first ∷ reserved ∷ high ∷ low ∷ rest) left fault
+    summed_fails : (first reserved high low : ℕ) (rest : List ℕ) (left : ℕ) (fault : PimFault) → IsOctets (first ∷ reserved ∷ high ∷ low ∷ rest)
+        → first ≡ 0x23 → (summed first reserved (from_be_bytes w16 (high ∷ low ∷ [])) rest >>= λ c. whole_of rest) ≡ Err (left, fault)
+        → Stands (first ∷ reserved ∷ high ∷ low ∷ rest) left fault
     summed_fails first reserved high low rest left fault fits is e =
         let octets : List ℕ = first ∷ reserved ∷ high ∷ low ∷ rest in
         let sum : ℕ = from_be_bytes w16 (high ∷ low ∷ []) in
@@ -194,28 +210,42 @@ headed_fails first reserved high low rest left fault fits e =
           | inl wrong ↦
               let k = checked_err (eqb (sum_of first reserved rest) sum) (2 + length rest, reasons.Checksum) tt (left, fault) wrong in
               let other = eqb-false _ _ k.0 in
-              let differ : high ∷ low ∷ [] ≢ to_be_bytes w16 (sum_of 0x23 reserved rest) = λ same. other (sym moved ∙ sym (ap (from_be_bytes w16) same ∙ wide16.again (sum_of 0x23 reserved rest) (sum_below reserved rest))) in
-              (2, faults.sum reserved (high ∷ low ∷ []) rest head refl differ refl (second_is left (2 + length rest) fault reasons.Checksum k.1), omega (arith, first_is left (2 + length rest) fault reasons.Checksum k.1))
+              let differ : high ∷ low ∷ [] ≢ to_be_bytes w16 (sum_of 0x23 reserved rest) =
+              λ same. other (sym moved ∙ sym (ap (from_be_bytes w16) same ∙ wide16.again (sum_of 0x23 reserved rest) (sum_below reserved rest)))
+              in (
+                2,
+                faults.sum reserved (high ∷ low ∷ []) rest head refl differ refl (second_is left (2 + length rest) fault reasons.Checksum k.1),
+                omega (arith, first_is left (2 + length rest) fault reasons.Checksum k.1),
+              )
           | inr b ↦
               let k = checked_ok (eqb (sum_of first reserved rest) sum) (2 + length rest, reasons.Checksum) tt b.0 b.1 in
               let same : sum_of 0x23 reserved rest ≡ sum = moved ∙ eqb-true _ _ k.0 in
-              let words : to_be_bytes w16 (sum_of 0x23 reserved rest) ≡ high ∷ low ∷ [] = ap (to_be_bytes w16) same ∙ wide16.back (high ∷ low ∷ []) refl two in
+              let words : to_be_bytes w16 (sum_of 0x23 reserved rest) ≡ high ∷ low ∷ [] =
+              ap (to_be_bytes w16) same ∙ wide16.back (high ∷ low ∷ []) refl two in
               let f = rest_fails rest left fault (octets_behind 4 octets fits) b.2 in
               let near = rest_close rest left fault f in
-              let at : (4 + length rest - left) + left ≡ length (first ∷ reserved ∷ high ∷ low ∷ rest) = omega (arith, near.0) in
-              (4 + length rest - left, faults.field reserved rest left (head ∙ ap (λ (xs : List ℕ). 0x23 ∷ reserved ∷ (xs ++ rest)) (sym words)) f at, at)
+              let at : (4 + length rest - left) + left ≡ length (first ∷ reserved ∷ high ∷ low ∷ rest) = omega (arith, near.0) in (
+                4 + length rest - left,
+                faults.field reserved rest left (head ∙ ap (λ (xs : List ℕ). 0x23 ∷ reserved ∷ (xs ++ rest)) (sym words)) f at,
+                at,
+              )
         ]
 
-short_stands : (octets : List ℕ) (left : ℕ) (fault : PimFault) → length octets < 4 → at_fault 0 reasons.Short ≡ at_fault left fault → Stands octets left fault
-short_stands octets left fault few is = (length octets, faults.short few refl (sym (second_is 0 left reasons.Short fault is)), omega (arith, first_is 0 left reasons.Short fault is))
+short_stands : (octets : List ℕ) (left : ℕ) (fault : PimFault) → length octets < 4 → at_fault 0 reasons.Short ≡ at_fault left fault
+    → Stands octets left fault
+short_stands octets left fault few is =
+    (length octets, faults.short few refl (sym (second_is 0 left reasons.Short fault is)), omega (arith, first_is 0 left reasons.Short fault is))
 
 -- A fault that is answered is the first one.
-pub message_fails : (octets : List ℕ) (left : ℕ) (fault : PimFault) → IsOctets octets → message_of octets ≡ Err (left, fault) → Stands octets left fault
+pub message_fails : (octets : List ℕ) (left : ℕ) (fault : PimFault) → IsOctets octets → message_of octets ≡ Err (left, fault)
+    → Stands octets left fault
 unfolding message_of
 message_fails [] left fault fits e = short_stands [] left fault (omega arith) (err_is {A = JoinPrune} (0, reasons.Short) (left, fault) e)
 message_fails (a ∷ []) left fault fits e = short_stands (a ∷ []) left fault (omega arith) (err_is {A = JoinPrune} (0, reasons.Short) (left, fault) e)
-message_fails (a ∷ b ∷ []) left fault fits e = short_stands (a ∷ b ∷ []) left fault (omega arith) (err_is {A = JoinPrune} (0, reasons.Short) (left, fault) e)
-message_fails (a ∷ b ∷ c ∷ []) left fault fits e = short_stands (a ∷ b ∷ c ∷ []) left fault (omega arith) (err_is {A = JoinPrune} (0, reasons.Short) (left, fault) e)
+message_fails (a ∷ b ∷ []) left fault fits e =
+    short_stands (a ∷ b ∷ []) left fault (omega arith) (err_is {A = JoinPrune} (0, reasons.Short) (left, fault) e)
+message_fails (a ∷ b ∷ c ∷ []) left fault fits e =
+    short_stands (a ∷ b ∷ c ∷ []) left fault (omega arith) (err_is {A = JoinPrune} (0, reasons.Short) (left, fault) e)
 message_fails (a ∷ b ∷ c ∷ d ∷ rest) left fault fits e = headed_fails a b c d rest left fault fits e
 
 -- what is answered where a fault stands
@@ -230,21 +260,26 @@ short_answered (a ∷ b ∷ []) few = refl
 short_answered (a ∷ b ∷ c ∷ []) few = refl
 short_answered (a ∷ b ∷ c ∷ d ∷ rest) few = absurd (omega (arith, few))
 
-version_answered : (first : ℕ) (rest : List ℕ) → 3 ≤ length rest → first / 16 ≢ 2 → message_of (first ∷ rest) ≡ Err (suc (length rest), reasons.Version)
+version_answered : (first : ℕ) (rest : List ℕ) → 3 ≤ length rest → first / 16 ≢ 2
+    → message_of (first ∷ rest) ≡ Err (suc (length rest), reasons.Version)
 unfolding message_of
 version_answered first [] few other = absurd (omega (arith, few))
 version_answered first (b ∷ []) few other = absurd (omega (arith, few))
 version_answered first (b ∷ c ∷ []) few other = absurd (omega (arith, few))
-version_answered first (b ∷ c ∷ d ∷ rest) few other = version_err first b (from_be_bytes w16 (c ∷ d ∷ [])) rest other ∙ ap (λ (n : ℕ). Err (n, reasons.Version)) (omega arith)
+version_answered first (b ∷ c ∷ d ∷ rest) few other =
+    version_err first b (from_be_bytes w16 (c ∷ d ∷ [])) rest other ∙ ap (λ (n : ℕ). Err (n, reasons.Version)) (omega arith)
 
-type_answered : (first : ℕ) (rest : List ℕ) → 3 ≤ length rest → first / 16 ≡ 2 → first % 16 ≢ 3 → message_of (first ∷ rest) ≡ Err (suc (length rest), reasons.PimType)
+type_answered : (first : ℕ) (rest : List ℕ) → 3 ≤ length rest → first / 16 ≡ 2 → first % 16 ≢ 3
+    → message_of (first ∷ rest) ≡ Err (suc (length rest), reasons.PimType)
 unfolding message_of
 type_answered first [] few two other = absurd (omega (arith, few))
 type_answered first (b ∷ []) few two other = absurd (omega (arith, few))
 type_answered first (b ∷ c ∷ []) few two other = absurd (omega (arith, few))
-type_answered first (b ∷ c ∷ d ∷ rest) few two other = type_err first b (from_be_bytes w16 (c ∷ d ∷ [])) rest two other ∙ ap (λ (n : ℕ). Err (n, reasons.PimType)) (omega arith)
+type_answered first (b ∷ c ∷ d ∷ rest) few two other =
+    type_err first b (from_be_bytes w16 (c ∷ d ∷ [])) rest two other ∙ ap (λ (n : ℕ). Err (n, reasons.PimType)) (omega arith)
 
-sum_answered : (reserved : ℕ) (sum fields : List ℕ) → IsOctets (0x23 ∷ reserved ∷ (sum ++ fields)) → length sum ≡ 2 → sum ≢ to_be_bytes w16 (sum_of 0x23 reserved fields) → message_of (0x23 ∷ reserved ∷ (sum ++ fields)) ≡ Err (2 + length fields, reasons.Checksum)
+sum_answered : (reserved : ℕ) (sum fields : List ℕ) → IsOctets (0x23 ∷ reserved ∷ (sum ++ fields)) → length sum ≡ 2
+    → sum ≢ to_be_bytes w16 (sum_of 0x23 reserved fields) → message_of (0x23 ∷ reserved ∷ (sum ++ fields)) ≡ Err (2 + length fields, reasons.Checksum)
 unfolding message_of
 sum_answered reserved [] fields fits len differ = absurd (omega (arith, len))
 sum_answered reserved (a ∷ []) fields fits len differ = absurd (omega (arith, len))
@@ -257,12 +292,22 @@ sum_answered reserved (a ∷ b ∷ c ∷ more) fields fits len differ = absurd (
 pub fails_message : (octets : List ℕ) (place : ℕ) (fault : PimFault) → IsOctets octets → FirstFault octets place fault → Answered octets place fault
 fails_message octets place fault fits (faults.short few at is) =
     (0, short_answered octets few ∙ ap (λ (g : PimFault). Err (0, g)) (sym is), omega (arith, at))
-fails_message octets place fault fits (faults.version first rest parts long other at is) =
-    (suc (length rest), ap message_of parts ∙ version_answered first rest long other ∙ ap (λ (g : PimFault). Err (suc (length rest), g)) (sym is), omega (arith, at, ap (λ (xs : List ℕ). length xs) parts))
-fails_message octets place fault fits (faults.type first rest parts long two other at is) =
-    (suc (length rest), ap message_of parts ∙ type_answered first rest long two other ∙ ap (λ (g : PimFault). Err (suc (length rest), g)) (sym is), omega (arith, at, ap (λ (xs : List ℕ). length xs) parts))
-fails_message octets place fault fits (faults.sum reserved sum fields parts len differ at is) =
-    (2 + length fields, ap message_of parts ∙ sum_answered reserved sum fields (subst IsOctets parts fits) len differ ∙ ap (λ (g : PimFault). Err (2 + length fields, g)) (sym is), omega (arith, at, ap (λ (xs : List ℕ). length xs) parts, length-append sum fields, len))
+fails_message octets place fault fits (faults.version first rest parts long other at is) = (
+  suc (length rest),
+  ap message_of parts ∙ version_answered first rest long other ∙ ap (λ (g : PimFault). Err (suc (length rest), g)) (sym is),
+  omega (arith, at, ap (λ (xs : List ℕ). length xs) parts),
+)
+fails_message octets place fault fits (faults.type first rest parts long two other at is) = (
+  suc (length rest),
+  ap message_of parts ∙ type_answered first rest long two other ∙ ap (λ (g : PimFault). Err (suc (length rest), g)) (sym is),
+  omega (arith, at, ap (λ (xs : List ℕ). length xs) parts),
+)
+fails_message octets place fault fits (faults.sum reserved sum fields parts len differ at is) = (
+  2 + length fields,
+  ap message_of parts ∙ sum_answered reserved sum fields (subst IsOctets parts fits) len differ
+      ∙ ap (λ (g : PimFault). Err (2 + length fields, g)) (sym is),
+  omega (arith, at, ap (λ (xs : List ℕ). length xs) parts, length-append sum fields, len),
+)
 fails_message octets place fault fits (faults.field reserved fields left parts wrong at) =
     (left, ap message_of parts ∙ summed_message reserved fields ∙ fails_rest fields left fault wrong, omega (arith, at))
 

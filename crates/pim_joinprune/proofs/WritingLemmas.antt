@@ -25,9 +25,16 @@ source_written family source is =
     let f = flags_are source.kind in
     record { flags = flags_of source.kind; octet = f.0; kind = f.1; addr = is; octets = refl }
 
-sources_written : (family : Family) (sources : List JpSource) → AllByRecursion (IsSource family) sources → AreAll (SpellsSource family) sources (sources_text family sources)
+sources_written : (family : Family) (sources : List JpSource) → AllByRecursion (IsSource family) sources
+    → AreAll (SpellsSource family) sources (sources_text family sources)
 sources_written family [] h = refl
-sources_written family (s ∷ ss) (is, more) = (source_text family s, sources_text family ss, source_written family s is, sources_written family ss more, flat_map-cons (source_text family) s ss)
+sources_written family (s ∷ ss) (is, more) = (
+  source_text family s,
+  sources_text family ss,
+  source_written family s is,
+  sources_written family ss more,
+  flat_map-cons (source_text family) s ss,
+)
 
 group_written : (family : Family) (group : Group) → IsGroup family group → SpellsGroup family group (group_text family group)
 group_written family group is = record {
@@ -44,9 +51,11 @@ group_written family group is = record {
 abbrev groups_text : Family → List Group → List ℕ
 groups_text family groups = flat_map (group_text family) groups
 
-groups_written : (family : Family) (groups : List Group) → AllByRecursion (IsGroup family) groups → AreAll (SpellsGroup family) groups (groups_text family groups)
+groups_written : (family : Family) (groups : List Group) → AllByRecursion (IsGroup family) groups
+    → AreAll (SpellsGroup family) groups (groups_text family groups)
 groups_written family [] h = refl
-groups_written family (g ∷ gs) (is, more) = (group_text family g, groups_text family gs, group_written family g is, groups_written family gs more, flat_map-cons (group_text family) g gs)
+groups_written family (g ∷ gs) (is, more) =
+    (group_text family g, groups_text family gs, group_written family g is, groups_written family gs more, flat_map-cons (group_text family) g gs)
 
 -- A value that has a spelling is spelled by what is written.
 pub written_spells : (message : JoinPrune) → IsJoinPrune message → Spells message (written message)
@@ -54,7 +63,16 @@ written_spells message is = record {
   reserved = 0;
   octet = omega arith;
   fields = fields_text message;
-  spelled = record { is = is; reserved = 0; octet = omega arith; groups = groups_text (family_of message.neighbour) message.groups; each = groups_written (family_of message.neighbour) message.groups is.groups; octets = refl };
+  spelled =
+      record {
+        is = is;
+        reserved = 0;
+        octet = omega arith;
+        groups = groups_text (family_of message.neighbour) message.groups;
+        each =
+            groups_written (family_of message.neighbour) message.groups is.groups;
+        octets = refl;
+      };
   octets = refl;
 }
 

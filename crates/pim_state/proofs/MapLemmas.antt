@@ -53,7 +53,8 @@ is_false true h = absurd (h refl)
 is_false false h = refl
 
 pub at-flips : (a b : IfaceEntry) → is_at a b ≡ false → is_at b a ≡ false
-at-flips a b h = is_false (is_at b a) (λ t. not_both (is_at a b) (subst (λ (x : IfaceEntry). is_at a x ≡ true) (sym (at-equal b a t)) (at-itself a)) h)
+at-flips a b h =
+    is_false (is_at b a) (λ t. not_both (is_at a b) (subst (λ (x : IfaceEntry). is_at a x ≡ true) (sym (at-equal b a t)) (at-itself a)) h)
 
 pub at-symmetric : (a b : IfaceEntry) → is_at a b ≡ is_at b a
 at-symmetric a b = by (is_at a b) refl
@@ -72,7 +73,8 @@ pub get-lookup : (es : List (IfaceEntry × Expiry)) (q : IfaceEntry) → get (fr
 get-lookup es q = get-from_entries entry_cmp_total es q ∙ find-lookup es q
 
 -- A key that differs from all keys is not found.
-lookup-apart : {X : Type 0} (q : IfaceEntry) (es : List (IfaceEntry × X)) → AllByRecursion (λ at. is_at q at ≡ false) (keys_of es) → lookup (is_at q) es ≡ None
+lookup-apart : {X : Type 0} (q : IfaceEntry) (es : List (IfaceEntry × X)) → AllByRecursion (λ at. is_at q at ≡ false) (keys_of es)
+    → lookup (is_at q) es ≡ None
 lookup-apart q [] h = refl
 lookup-apart q (e ∷ es) h = rw h.0 (lookup-apart q es h.1)
 
@@ -85,15 +87,21 @@ not_some : (x : Expiry) → Some x ≡ None → ⊥
 not_some x e = not_both true refl (ap is_some e)
 
 -- One entry more, of which the key is new, counts as one element more.
-count-put : (p : Expiry → Bool) (k : IfaceEntry) (v : Expiry) (es : List (IfaceEntry × Expiry)) → find entry_cmp k es ≡ None → count_by p (values_of (put entry_cmp k v es)) ≡ cond (p v) 1 0 + count_by p (values_of es)
+count-put : (p : Expiry → Bool) (k : IfaceEntry) (v : Expiry) (es : List (IfaceEntry × Expiry)) → find entry_cmp k es ≡ None
+    → count_by p (values_of (put entry_cmp k v es)) ≡ cond (p v) 1 0 + count_by p (values_of es)
 count-put p k v [] none = count-cons p v []
 count-put p k v (e ∷ es) none =
-    elim (entry_cmp k e.0) as (λ r. entry_cmp k e.0 ≡ r → cond (is_eq r) (Some e.1) (find entry_cmp k es) ≡ None → count_by p (values_of (finite.Entries.by_order r ((k, v) ∷ e ∷ es) ((e.0, v) ∷ es) (e ∷ put entry_cmp k v es))) ≡ cond (p v) 1 0 + count_by p (values_of (e ∷ es))) [
+    elim (entry_cmp k e.0) as (λ r. entry_cmp k e.0 ≡ r → cond (is_eq r) (Some e.1) (find entry_cmp k es) ≡ None
+    → count_by p (values_of (finite.Entries.by_order r ((k, v) ∷ e ∷ es) ((e.0, v) ∷ es) (e ∷ put entry_cmp k v es)))
+    ≡ cond (p v) 1 0 + count_by p (values_of (e ∷ es))) [
       | Less ↦ λ r n. count-cons p v (e.1 ∷ values_of es)
       | Equal ↦ λ r n. absurd (not_some e.1 n)
       | Greater ↦ λ r n.
           let behind = count-put p k v es n in
-          count-cons p e.1 (values_of (put entry_cmp k v es)) ∙ (ap (λ (n : ℕ). cond (p e.1) 1 0 + n) behind ∙ (swapped (cond (p e.1) 1 0) (cond (p v) 1 0) (count_by p (values_of es)) ∙ ap (λ (n : ℕ). cond (p v) 1 0 + n) (sym (count-cons p e.1 (values_of es)))))
+          count-cons p e.1 (values_of (put entry_cmp k v es))
+          ∙ (ap (λ (n : ℕ). cond (p e.1) 1 0 + n) behind
+          ∙ (swapped (cond (p e.1) 1 0) (cond (p v) 1 0) (count_by p (values_of es))
+          ∙ ap (λ (n : ℕ). cond (p v) 1 0 + n) (sym (count-cons p e.1 (values_of es)))))
     ] refl none
   where
     swapped : (a b c : ℕ) → a + (b + c) ≡ b + (a + c)
@@ -107,10 +115,13 @@ no-entries : entries (from_entries {X = Expiry} {R = entry_cmp} []) ≡ []
 no-entries = no-length _ (sym (len-entries (from_entries [])) ∙ len-empty entry_cmp Expiry)
 
 -- Entries with distinct keys count as their map does.
-pub count-map : (p : Expiry → Bool) (es : List (IfaceEntry × Expiry)) → IsDistinct is_at (keys_of es) → count_by p (values (from_entries {R = entry_cmp} es)) ≡ count_by p (values_of es)
+pub count-map : (p : Expiry → Bool) (es : List (IfaceEntry × Expiry)) → IsDistinct is_at (keys_of es)
+    → count_by p (values (from_entries {R = entry_cmp} es)) ≡ count_by p (values_of es)
 count-map p [] h = ap (λ (l : List (IfaceEntry × Expiry)). count_by p (values_of l)) no-entries
 count-map p (e ∷ es) h =
-    let none : find entry_cmp e.0 (entries (from_entries {R = entry_cmp} es)) ≡ None = sym (get-entries (from_entries {R = entry_cmp} es) e.0) ∙ (get-lookup es e.0 ∙ lookup-apart e.0 es (IsDistinct-head is_at e.0 (keys_of es) h)) in
+    let none : find entry_cmp e.0 (entries (from_entries {R = entry_cmp} es)) ≡ None =
+    sym (get-entries (from_entries {R = entry_cmp} es) e.0)
+    ∙ (get-lookup es e.0 ∙ lookup-apart e.0 es (IsDistinct-head is_at e.0 (keys_of es) h)) in
     ap (λ (l : List (IfaceEntry × Expiry)). count_by p (values_of l)) (entries-insert entry_cmp_total (from_entries es) e.0 e.1)
     ∙ (count-put p e.0 e.1 (entries (from_entries es)) none
     ∙ (ap (λ (n : ℕ). cond (p e.1) 1 0 + n) (count-map p es (IsDistinct-tail is_at e.0 (keys_of es) h)) ∙ sym (count-cons p e.1 (values_of es))))
@@ -130,7 +141,8 @@ length-values (e ∷ es) = ap suc (length-values es)
 pub length-map : (es : List (IfaceEntry × Expiry)) → IsDistinct is_at (keys_of es) → len (from_entries {R = entry_cmp} es) ≡ length es
 length-map es h =
     let m : Entries = from_entries es in
-    len-entries m ∙ (sym (length-values (entries m)) ∙ (sym (all-count (values m)) ∙ (count-map (λ x. true) es h ∙ (all-count (values_of es) ∙ length-values es))))
+    len-entries m ∙ (sym (length-values (entries m))
+    ∙ (sym (all-count (values m)) ∙ (count-map (λ x. true) es h ∙ (all-count (values_of es) ∙ length-values es))))
 
 -- ---- timers
 
@@ -138,7 +150,8 @@ length-map es h =
 abbrev pub left_at : ℕ → List (IfaceEntry × Expiry) → List (IfaceEntry × Expiry)
 left_at clock es = filter (λ e. is_after e.1 clock) es
 
-apart-left : (clock : ℕ) (q : IfaceEntry) (es : List (IfaceEntry × Expiry)) → AllByRecursion (λ at. is_at q at ≡ false) (keys_of es) → lookup (is_at q) (left_at clock es) ≡ None
+apart-left : (clock : ℕ) (q : IfaceEntry) (es : List (IfaceEntry × Expiry)) → AllByRecursion (λ at. is_at q at ≡ false) (keys_of es)
+    → lookup (is_at q) (left_at clock es) ≡ None
 apart-left clock q [] h = refl
 apart-left clock q (e ∷ es) h = by (is_after e.1 clock) (apart-left clock q es h.1)
   where
@@ -147,22 +160,28 @@ apart-left clock q (e ∷ es) h = by (is_after e.1 clock) (apart-left clock q es
     by false none = none
 
 -- Behind a run of the timers each entry is there that was and has not ended.
-lookup-left : (clock : ℕ) (q : IfaceEntry) (es : List (IfaceEntry × Expiry)) → IsDistinct is_at (keys_of es) → lookup (is_at q) (left_at clock es) ≡ remaining clock (lookup (is_at q) es)
+lookup-left : (clock : ℕ) (q : IfaceEntry) (es : List (IfaceEntry × Expiry)) → IsDistinct is_at (keys_of es)
+    → lookup (is_at q) (left_at clock es) ≡ remaining clock (lookup (is_at q) es)
 lookup-left clock q [] h = refl
 lookup-left clock q (e ∷ es) h = by (lookup-left clock q es (IsDistinct-tail is_at e.0 (keys_of es) h)) (is_at q e.0) (is_after e.1 clock) refl refl
   where
     gone : is_at q e.0 ≡ true → lookup (is_at q) (left_at clock es) ≡ None
-    gone t = subst (λ (x : IfaceEntry). lookup (is_at x) (left_at clock es) ≡ None) (sym (at-equal q e.0 t)) (apart-left clock e.0 es (IsDistinct-head is_at e.0 (keys_of es) h))
+    gone t = subst (λ (x : IfaceEntry). lookup (is_at x) (left_at clock es) ≡ None) (sym (at-equal q e.0 t))
+        (apart-left clock e.0 es (IsDistinct-head is_at e.0 (keys_of es) h))
 
-    by : lookup (is_at q) (left_at clock es) ≡ remaining clock (lookup (is_at q) es) → (t b : Bool) → is_at q e.0 ≡ t → is_after e.1 clock ≡ b → lookup (is_at q) (cond (is_after e.1 clock) (e ∷ left_at clock es) (left_at clock es)) ≡ remaining clock (cond (is_at q e.0) (Some e.1) (lookup (is_at q) es))
+    by : lookup (is_at q) (left_at clock es) ≡ remaining clock (lookup (is_at q) es) → (t b : Bool) → is_at q e.0 ≡ t → is_after e.1 clock ≡ b
+        → lookup (is_at q) (cond (is_after e.1 clock) (e ∷ left_at clock es) (left_at clock es))
+        ≡ remaining clock (cond (is_at q e.0) (Some e.1) (lookup (is_at q) es))
     by rest true true s a = rw (a, s) (rw a refl)
     by rest true false s a = rw (a, s) (gone s ∙ sym (rw a refl))
     by rest false true s a = rw (a, s) rest
     by rest false false s a = rw (a, s) rest
 
-pub left-kept : (clock : ℕ) (es : List (IfaceEntry × Expiry)) → IsDistinct is_at (keys_of es) → from_entries {R = entry_cmp} (left_at clock es) ≡ kept_at (from_entries es) clock
+pub left-kept : (clock : ℕ) (es : List (IfaceEntry × Expiry)) → IsDistinct is_at (keys_of es)
+    → from_entries {R = entry_cmp} (left_at clock es) ≡ kept_at (from_entries es) clock
 left-kept clock es h = same_map entry_cmp_total entry_cmp_exact _ _ (λ q.
-    get-lookup (left_at clock es) q ∙ (lookup-left clock q es h ∙ (ap (remaining clock) (sym (get-lookup es q)) ∙ sym (get-kept (from_entries es) clock q))))
+    get-lookup (left_at clock es) q ∙ (lookup-left clock q es h
+    ∙ (ap (remaining clock) (sym (get-lookup es q)) ∙ sym (get-kept (from_entries es) clock q))))
 
 -- what follows from either answer
 pub either : {X E P Q R : Type 0} (result : Result X E) → OnOk result P → OnErr result Q → (P → R) → (Q → R) → R

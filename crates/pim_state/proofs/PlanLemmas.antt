@@ -37,11 +37,15 @@ more-or false true false = refl
 more-or false false false = refl
 
 -- One source more.
-pub named-more : (group : Addr) (sources : List JpSource) (i : ℕ) (d : JpSource) (named entry : JoinEntry) (first old new : Bool) → i < length sources → named ≡ entry_of group (get_or sources i d) →
-    new ≡ cond (is_entry named entry) true old → old ≡ (first || lists group (take i sources) entry) → new ≡ (first || lists group (take (i + 1) sources) entry)
+pub named-more : (group : Addr) (sources : List JpSource) (i : ℕ) (d : JpSource) (named entry : JoinEntry) (first old new : Bool) → i < length sources
+    → named ≡ entry_of group (get_or sources i d) →
+    new ≡ cond (is_entry named entry) true old → old ≡ (first || lists group (take i sources) entry)
+    → new ≡ (first || lists group (take (i + 1) sources) entry)
 named-more group sources i d named entry first old new l e n o =
-    let here : is_entry named entry ≡ same_entry (entry_of group (get_or sources i d)) entry = entry-same named entry ∙ ap (λ (x : JoinEntry). same_entry x entry) e in
-    n ∙ ((λ k. cond (here k) true (o k)) ∙ (more-or first (lists group (take i sources) entry) (same_entry (entry_of group (get_or sources i d)) entry)
+    let here : is_entry named entry ≡ same_entry (entry_of group (get_or sources i d)) entry =
+    entry-same named entry ∙ ap (λ (x : JoinEntry). same_entry x entry) e in
+    n ∙ ((λ k. cond (here k) true (o k)) ∙ (more-or first (lists group (take i sources) entry)
+    (same_entry (entry_of group (get_or sources i d)) entry)
     ∙ ap (λ (b : Bool). first || b) (sym (list_any_more (λ source. same_entry (entry_of group source) entry) sources i d l))))
 
 -- ---- one entry
@@ -58,12 +62,18 @@ named-one : (arrival : Arrival) (entry : JoinEntry) (at : IfaceEntry) → is_nam
 named-one arrival entry at = or-none (at.iface.0 == arrival.iface.0) (is_entry at.entry entry)
 
 -- What is planned for an entry is what the plan says of it, and of no other.
-pub plan-one : (arrival : Arrival) (entries : Expiries) (entry : JoinEntry) (next : Option Expiry) (old new : Option (Option Expiry)) (at : IfaceEntry) →
-    next ≡ then_of arrival entry (get is_at entries (own arrival entry)) → new ≡ cond (is_at (own arrival entry) at) (Some next) old → new ≡ told_at arrival entries (is_named arrival (entry ∷ []) at) old at
-plan-one arrival entries entry next old new at t n = n ∙ (by (is_at (own arrival entry) at) refl ∙ ap (λ (b : Bool). told_at arrival entries b old at) (at-symmetric (own arrival entry) at ∙ sym (named-one arrival entry at)))
+pub plan-one : (arrival : Arrival) (entries : Expiries) (entry : JoinEntry) (next : Option Expiry) (old new : Option (Option Expiry))
+    (at : IfaceEntry) →
+    next ≡ then_of arrival entry (get is_at entries (own arrival entry)) → new ≡ cond (is_at (own arrival entry) at) (Some next) old
+    → new ≡ told_at arrival entries (is_named arrival (entry ∷ []) at) old at
+plan-one arrival entries entry next old new at t n =
+    n ∙ (by (is_at (own arrival entry) at) refl ∙ ap (λ (b : Bool). told_at arrival entries b old at)
+    (at-symmetric (own arrival entry) at ∙ sym (named-one arrival entry at)))
   where
     by : (b : Bool) → is_at (own arrival entry) at ≡ b → cond b (Some next) old ≡ told_at arrival entries b old at
-    by true h = subst (λ (x : IfaceEntry). Some next ≡ Some (planned arrival entries x)) (at-equal (own arrival entry) at h) (ap (λ (o : Option Expiry). Some o) t)
+    by true h =
+        subst (λ (x : IfaceEntry). Some next ≡ Some (planned arrival entries x)) (at-equal (own arrival entry) at h)
+        (ap (λ (o : Option Expiry). Some o) t)
     by false h = refl
 
 both_true : (a b : Bool) → (a && b) ≡ true → (a ≡ true) × (b ≡ true)
@@ -72,7 +82,8 @@ both_true true false h = absurd cc
 both_true false b h = absurd cc
 
 -- The one entry that the message may end is the one that is planned.
-pub ended-one : (arrival : Arrival) (at other : IfaceEntry) → may_end arrival at ≡ true → is_named arrival (at.entry ∷ []) other ≡ ends_among arrival (at ∷ []) other
+pub ended-one : (arrival : Arrival) (at other : IfaceEntry) → may_end arrival at ≡ true
+    → is_named arrival (at.entry ∷ []) other ≡ ends_among arrival (at ∷ []) other
 ended-one arrival at other h =
     let number : (at.iface.0 == arrival.iface.0) ≡ true = (both_true _ _ h).0 in
     let iface : at.iface.0 ≡ arrival.iface.0 = grind (arith, nat_tests) in
@@ -110,8 +121,10 @@ false-and : (a b : Bool) → b ≡ false → (a && b) ≡ false
 false-and true b h = h
 false-and false b h = refl
 
-pub none-ended : (arrival : Arrival) (list : List IfaceEntry) (at : IfaceEntry) → list_any is_shared arrival.joins.keys ≡ false → ends_among arrival list at ≡ false
-none-ended arrival list at h = and-false _ (list_any (is_at at) list) (false-and (at.iface.0 == arrival.iface.0) (is_ended arrival at.entry) (by at.entry))
+pub none-ended : (arrival : Arrival) (list : List IfaceEntry) (at : IfaceEntry) → list_any is_shared arrival.joins.keys ≡ false
+    → ends_among arrival list at ≡ false
+none-ended arrival list at h =
+    and-false _ (list_any (is_at at) list) (false-and (at.iface.0 == arrival.iface.0) (is_ended arrival at.entry) (by at.entry))
   where
     by : (entry : JoinEntry) → is_ended arrival entry ≡ false
     by (Star g) = refl
@@ -122,7 +135,8 @@ found-among : {X : Type 0} (test : IfaceEntry → Bool) (es : List (IfaceEntry �
 found-among test [] = refl
 found-among test (e ∷ es) = by (test e.0) (found-among test es)
   where
-    by : (b : Bool) → is_some (lookup test es) ≡ list_any test (keys_of es) → is_some (cond b (Some e.1) (lookup test es)) ≡ (b || list_any test (keys_of es))
+    by : (b : Bool) → is_some (lookup test es) ≡ list_any test (keys_of es)
+        → is_some (cond b (Some e.1) (lookup test es)) ≡ (b || list_any test (keys_of es))
     by true rest = refl
     by false rest = rest
 
@@ -131,7 +145,8 @@ absent None h = refl
 absent (Some x) h = absurd cc
 
 -- An entry that is neither joined nor pruned stays, unless it is a prune (S,G,rpt) and (*,G) is joined.
-unsaid : (arrival : Arrival) (entry : JoinEntry) (now : Option Expiry) → is_among arrival.joins.keys entry ≡ false → is_among arrival.prunes.keys entry ≡ false →
+unsaid : (arrival : Arrival) (entry : JoinEntry) (now : Option Expiry) → is_among arrival.joins.keys entry ≡ false
+    → is_among arrival.prunes.keys entry ≡ false →
     (is_ended arrival entry ≡ true → now ≡ None) → then_of arrival entry now ≡ now
 unsaid arrival (Star g) now j p e = rw (p, j) refl
 unsaid arrival (Source s g) now j p e = rw (p, j) refl
@@ -150,7 +165,8 @@ thrice arrival entries at =
     let second = told_at arrival entries (is_named arrival arrival.prunes.keys at) first at in
     told_at arrival entries (ends_among arrival (keys_of entries.entries) at) second at
 
-three : (a b c : Bool) (next now : Option Expiry) → (a ≡ false → b ≡ false → c ≡ false → next ≡ now) → unwrap_or (cond c (Some next) (cond b (Some next) (cond a (Some next) None))) now ≡ next
+three : (a b c : Bool) (next now : Option Expiry) → (a ≡ false → b ≡ false → c ≡ false → next ≡ now)
+    → unwrap_or (cond c (Some next) (cond b (Some next) (cond a (Some next) None))) now ≡ next
 three a b true next now h = refl
 three a true false next now h = refl
 three true false false next now h = refl
@@ -164,32 +180,53 @@ own-three false a b c d next now after e h = refl
 
 -- By the plan each entry has the expiry that the message leaves it.
 thrice-then : (arrival : Arrival) (entries : Expiries) (message : JoinPrune) (at : IfaceEntry) → Tells arrival message →
-    unwrap_or (thrice arrival entries at) (get is_at entries at) ≡ cond (at.iface.0 == arrival.iface.0) (expiry_after at.entry (mention_of message at.entry) arrival.clock message.holdtime (get is_at entries at)) (get is_at entries at)
+    unwrap_or (thrice arrival entries at) (get is_at entries at)
+    ≡ cond (at.iface.0 == arrival.iface.0) (expiry_after at.entry (mention_of message at.entry) arrival.clock message.holdtime
+    (get is_at entries at)) (get is_at entries at)
 thrice-then arrival entries message at tells =
-    own-three (at.iface.0 == arrival.iface.0) (is_among arrival.joins.keys at.entry) (is_among arrival.prunes.keys at.entry) (is_ended arrival at.entry) (list_any (is_at at) (keys_of entries.entries))
-    (planned arrival entries at) (get is_at entries at) (expiry_after at.entry (mention_of message at.entry) arrival.clock message.holdtime (get is_at entries at))
-    (λ i. expiry_after at.entry (record { joined = tells.joined at.entry i; pruned = tells.pruned at.entry i; shared = tells.joined (Star (group_of at.entry)) i }) arrival.clock (tells.held i) (get is_at entries at))
-    (λ j p e. unsaid arrival at.entry (get is_at entries at) j p (λ t. absent (get is_at entries at) (found-among (is_at at) entries.entries ∙ (sym (ap (λ (x : Bool). x && list_any (is_at at) (keys_of entries.entries)) t) ∙ e))))
+    own-three (at.iface.0 == arrival.iface.0) (is_among arrival.joins.keys at.entry) (is_among arrival.prunes.keys at.entry)
+    (is_ended arrival at.entry) (list_any (is_at at) (keys_of entries.entries))
+    (planned arrival entries at) (get is_at entries at)
+    (expiry_after at.entry (mention_of message at.entry) arrival.clock message.holdtime (get is_at entries at))
+    (λ i. expiry_after at.entry (record {
+      joined = tells.joined at.entry i;
+      pruned = tells.pruned at.entry i;
+      shared =
+          tells.joined (Star (group_of at.entry)) i;
+    }) arrival.clock (tells.held i) (get is_at entries at))
+    (λ j p e. unsaid arrival at.entry (get is_at entries at) j p
+    (λ t. absent (get is_at entries at) (found-among (is_at at) entries.entries
+    ∙ (sym (ap (λ (x : Bool). x && list_any (is_at at) (keys_of entries.entries)) t) ∙ e))))
 
 -- ---- changes as a map
 
-apart-then : (at : IfaceEntry) (changes : List (IfaceEntry × Option Expiry)) (now : Option Expiry) → AllByRecursion (λ k. is_at at k ≡ false) (keys_of changes) → then_at changes now at ≡ now
+apart-then : (at : IfaceEntry) (changes : List (IfaceEntry × Option Expiry)) (now : Option Expiry)
+    → AllByRecursion (λ k. is_at at k ≡ false) (keys_of changes) → then_at changes now at ≡ now
 apart-then at [] now h = refl
-apart-then at (change ∷ more) now h = ap (λ (b : Bool). then_at more (cond b change.1 now) at) (at-symmetric change.0 at ∙ h.0) ∙ apart-then at more now h.1
+apart-then at (change ∷ more) now h =
+    ap (λ (b : Bool). then_at more (cond b change.1 now) at) (at-symmetric change.0 at ∙ h.0) ∙ apart-then at more now h.1
 
 -- Of changes of entries once each, an entry's own is what becomes of it.
-then-lookup : (at : IfaceEntry) (changes : List (IfaceEntry × Option Expiry)) (now : Option Expiry) → IsDistinct is_at (keys_of changes) → then_at changes now at ≡ unwrap_or (lookup (is_at at) changes) now
+then-lookup : (at : IfaceEntry) (changes : List (IfaceEntry × Option Expiry)) (now : Option Expiry) → IsDistinct is_at (keys_of changes)
+    → then_at changes now at ≡ unwrap_or (lookup (is_at at) changes) now
 then-lookup at [] now h = refl
-then-lookup at (change ∷ more) now h = by (is_at at change.0) refl (then-lookup at more now (IsDistinct-tail is_at change.0 (keys_of more) h)) (IsDistinct-head is_at change.0 (keys_of more) h)
+then-lookup at (change ∷ more) now h =
+    by (is_at at change.0) refl (then-lookup at more now (IsDistinct-tail is_at change.0 (keys_of more) h))
+    (IsDistinct-head is_at change.0 (keys_of more) h)
   where
-    by : (b : Bool) → is_at at change.0 ≡ b → then_at more now at ≡ unwrap_or (lookup (is_at at) more) now → AllByRecursion (λ k. is_at change.0 k ≡ false) (keys_of more) →
+    by : (b : Bool) → is_at at change.0 ≡ b → then_at more now at ≡ unwrap_or (lookup (is_at at) more) now
+        → AllByRecursion (λ k. is_at change.0 k ≡ false) (keys_of more) →
         then_at more (cond (is_at change.0 at) change.1 now) at ≡ unwrap_or (cond (is_at at change.0) (Some change.1) (lookup (is_at at) more)) now
-    by true t rest apart = rw (at-symmetric change.0 at ∙ t, t) (subst (λ (x : IfaceEntry). then_at more change.1 x ≡ change.1) (sym (at-equal at change.0 t)) (apart-then change.0 more change.1 apart))
+    by true t rest apart =
+        rw (at-symmetric change.0 at ∙ t, t) (subst (λ (x : IfaceEntry). then_at more change.1 x ≡ change.1) (sym (at-equal at change.0 t))
+        (apart-then change.0 more change.1 apart))
     by false t rest apart = rw (at-symmetric change.0 at ∙ t, t) rest
 
 -- The planned changes make of the entries what the message makes of them.
-pub plan-applied : (arrival : Arrival) (entries : Expiries) (message : JoinPrune) (changes : List (IfaceEntry × Option Expiry)) → Tells arrival message → IsDistinct is_at (keys_of changes) →
-    ((at : IfaceEntry) → lookup (is_at at) changes ≡ thrice arrival entries at) → changed_by (from_entries entries.entries) changes ≡ applied (from_entries entries.entries) arrival.iface message arrival.clock
+pub plan-applied : (arrival : Arrival) (entries : Expiries) (message : JoinPrune) (changes : List (IfaceEntry × Option Expiry))
+    → Tells arrival message → IsDistinct is_at (keys_of changes) →
+    ((at : IfaceEntry) → lookup (is_at at) changes ≡ thrice arrival entries at)
+    → changed_by (from_entries entries.entries) changes ≡ applied (from_entries entries.entries) arrival.iface message arrival.clock
 plan-applied arrival entries message changes tells distinct told = same_map entry_cmp_total entry_cmp_exact _ _ (λ at.
     let m : Entries = from_entries entries.entries in
     let now = get is_at entries at in
@@ -199,5 +236,6 @@ plan-applied arrival entries message changes tells distinct told = same_map entr
     ∙ (then-lookup at changes now distinct
     ∙ (ap (λ (o : Option (Option Expiry)). unwrap_or o now) (told at)
     ∙ (thrice-then arrival entries message at tells
-    ∙ (ap (λ (o : Option Expiry). cond (at.iface.0 == arrival.iface.0) (expiry_after at.entry (mention_of message at.entry) arrival.clock message.holdtime o) o) (sym seen)
+    ∙ (ap (λ (o : Option Expiry). cond (at.iface.0 == arrival.iface.0)
+    (expiry_after at.entry (mention_of message at.entry) arrival.clock message.holdtime o) o) (sym seen)
     ∙ sym (get-applied m arrival.iface message arrival.clock at)))))))

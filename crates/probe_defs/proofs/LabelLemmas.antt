@@ -68,7 +68,8 @@ changed_goes part fec changes.NoLabel h = absurd h
 no_ends_after : (puts : List Put) → ends_after maps.empty puts ≡ maps.empty
 no_ends_after [] = refl
 no_ends_after (put ∷ more) =
-    ap (λ (o : Option End). elim o as (λ _. FinMap node_cmp End) [ None ↦ ends_after maps.empty more | Some end ↦ ends_after (maps.insert maps.empty put.to (told end)) more ])
+    ap (λ (o : Option End). elim o as (λ _. FinMap node_cmp End)
+    [ None ↦ ends_after maps.empty more | Some end ↦ ends_after (maps.insert maps.empty put.to (told end)) more ])
     (maps.get-empty node_cmp put.to)
     ∙ no_ends_after more
 
@@ -87,7 +88,8 @@ settled place part fec e =
     let none : went.new.ends ≡ maps.empty = went.ends ∙ e in
     record {
       new = counted (record { part = went.new; puts = [] ++ put_by fec change });
-      is = ap (λ (o : Option LabelData). option_map counted (o >>? λ new. settle_all place [] (record { part = new; puts = [] ++ put_by fec change }))) went.is;
+      is = ap (λ (o : Option LabelData). option_map counted
+          (o >>? λ new. settle_all place [] (record { part = new; puts = [] ++ put_by fec change }))) went.is;
       ends = ap (λ (ends : FinMap node_cmp End). ends_after ends (put_by fec change)) none ∙ no_ends_after (put_by fec change);
     }
 
@@ -95,7 +97,8 @@ settled place part fec e =
 abbrev turn : Bool → Fec → Call
 turn wants fec = cond wants (Want fec) (Unwant fec)
 
-turned : (place : Place) (now : ℕ) (part : LabelData) (wants : Bool) (fec : Fec) → part.ends ≡ maps.empty → Made (label_step place now part (turn wants fec))
+turned : (place : Place) (now : ℕ) (part : LabelData) (wants : Bool) (fec : Fec) → part.ends ≡ maps.empty
+    → Made (label_step place now part (turn wants fec))
 turned place now part true fec e = settled place (record part { leaves = sets.insert part.leaves fec }) fec e
 turned place now part false fec e = settled place (record part { leaves = sets.remove part.leaves fec }) fec e
 
@@ -105,11 +108,13 @@ pub record RowMade (part : LabelData) (result : Option (List LabelStep)) : Type 
   pub is : result ≡ Some row
   pub ends : (part_after part row).ends ≡ maps.empty
 
-row_by : (place : EdgePlace) (now : ℕ) (part : LabelData) (call : Call) (more : List Call) → (made : Made (label_step (label_place place.scenario place.core place.me) now part call))
+row_by : (place : EdgePlace) (now : ℕ) (part : LabelData) (call : Call) (more : List Call)
+    → (made : Made (label_step (label_place place.scenario place.core place.me) now part call))
     → RowMade made.new.part (label_row place now made.new.part more) → RowMade part (label_row place now part (call ∷ more))
 row_by place now part call more made behind = record {
   row = record { old = part; call = call; new = made.new } ∷ behind.row;
-  is = ap (λ (o : Option Stepped). o >>? λ new. label_row place now new.part more >>? λ row. Some (record { old = part; call = call; new = new } ∷ row)) made.is
+  is = ap (λ (o : Option Stepped). o >>? λ new. label_row place now new.part more >>? λ row. Some
+      (record { old = part; call = call; new = new } ∷ row)) made.is
       ∙ ap (λ (o : Option (List LabelStep)). o >>? λ row. Some (record { old = part; call = call; new = made.new } ∷ row)) behind.is;
   ends = behind.ends;
 }
@@ -120,4 +125,5 @@ pub row_made : (place : EdgePlace) (now : ℕ) (part : LabelData) (wants : Fec �
 row_made place now part wants [] e = record { row = []; is = refl; ends = e }
 row_made place now part wants (fec ∷ more) e =
     let made = turned (label_place place.scenario place.core place.me) now part (wants fec) fec e in
-    row_by place now part (turn (wants fec) fec) (map (λ fec. cond (wants fec) (Want fec) (Unwant fec)) more) made (row_made place now made.new.part wants more made.ends)
+    row_by place now part (turn (wants fec) fec) (map (λ fec. cond (wants fec) (Want fec) (Unwant fec)) more) made
+    (row_made place now made.new.part wants more made.ends)

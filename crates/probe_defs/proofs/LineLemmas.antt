@@ -49,10 +49,13 @@ module _ (place : EdgePlace) (peer : NodeId) where
       → Stepped old (edge_with place peer (table_on table messages) entries) (all_taken place 0 peer (map (λ message. Bgp message) messages) old)
   taken_goes [] table entries old goes = record { goes = goes; streams = refl }
   taken_goes (message ∷ more) table entries old goes =
-      let first = step_goes place old (Update peer message) (edge_with place peer table entries) _ refl goes (update_keeps place peer table entries message) in
+      let first =
+      step_goes place old (Update peer message) (edge_with place peer table entries) _ refl goes (update_keeps place peer table entries message)
+      in
       let rest = taken_goes more _ entries (stepped place 0 old (Update peer message)) first.goes in
       record {
-        goes = subst (λ (t : Table). Goes (edge_with place peer t entries) (all_taken place 0 peer (map (λ message. Bgp message) (message ∷ more)) old)) (sym (table_more table message more)) rest.goes;
+        goes = subst (λ (t : Table). Goes (edge_with place peer t entries)
+            (all_taken place 0 peer (map (λ message. Bgp message) (message ∷ more)) old)) (sym (table_more table message more)) rest.goes;
         streams = rest.streams ∙ first.streams;
       }
 
@@ -62,7 +65,8 @@ module _ (place : EdgePlace) (peer : NodeId) where
   abbrev next_stream : List ℕ → EdgeState → Stream
   next_stream piece old = fed (front_of kinds.Bgp) (stream_at old.streams (peer_session peer)) piece
 
-  fed_goes : (octets piece : List ℕ) (joins : List IfaceEntry) (old : EdgeState) → IsOctets (octets ++ piece) → Keeps octets joins old → (stream_with octets).fault ≡ None
+  fed_goes : (octets piece : List ℕ) (joins : List IfaceEntry) (old : EdgeState) → IsOctets (octets ++ piece) → Keeps octets joins old
+      → (stream_with octets).fault ≡ None
       → Keeps (octets ++ piece) joins (fed_octets place 0 (peer_session peer) piece old)
   fed_goes octets piece joins old fits keeps none =
       let entries = joined place.scenario joins in
@@ -70,7 +74,8 @@ module _ (place : EdgePlace) (peer : NodeId) where
       let a = adds d piece none in
       let all : BgpStream = stream_with (octets ++ piece) in
       let together : fed message_front d piece ≡ all = with_piece octets piece fits in
-      let messages : (cut_of (octets ++ piece)).messages ≡ (cut_of octets).messages ++ a.added = ap (λ (s : BgpStream). s.waiting) (sym together) ∙ a.all in
+      let messages : (cut_of (octets ++ piece)).messages ≡ (cut_of octets).messages ++ a.added =
+      ap (λ (s : BgpStream). s.waiting) (sym together) ∙ a.all in
       let is : next_stream piece old ≡ bgp_stream (record all { waiting = a.added }) =
       ap (λ (s : Stream). fed (front_of kinds.Bgp) s piece) keeps.stream
       ∙ fed_same (λ message. Bgp message) (λ fault. BgpFault fault) message_front (drained d) piece
@@ -78,16 +83,21 @@ module _ (place : EdgePlace) (peer : NodeId) where
       ∙ ap (λ (s : BgpStream). bgp_stream (record s { waiting = a.added })) together in
       let left : Stream → EdgeState = λ s. record old { streams = maps.insert old.streams (peer_session peer) (record s { waiting = [] }) } in
       let new : EdgeState = left (bgp_stream (record all { waiting = a.added })) in
-      let taken = taken_goes a.added (table_of (cut_of octets).messages) entries new (record { unspent = keeps.goes.unspent; ends = keeps.goes.ends; keeps = keeps.goes.keeps }) in
+      let taken =
+      taken_goes a.added (table_of (cut_of octets).messages) entries new
+      (record { unspent = keeps.goes.unspent; ends = keeps.goes.ends; keeps = keeps.goes.keeps }) in
       let tables : table_on (table_of (cut_of octets).messages) a.added ≡ table_of (cut_of (octets ++ piece)).messages =
       sym (table_append maps.empty (cut_of octets).messages a.added) ∙ ap table_of (sym messages) in
       let done : Keeps (octets ++ piece) joins (all_taken place 0 peer (map (λ message. Bgp message) a.added) new) = record {
-        goes = subst (λ (t : Table). Goes (edge_with place peer t entries) (all_taken place 0 peer (map (λ message. Bgp message) a.added) new)) tables taken.goes;
-        stream = ap (λ (streams : _). stream_at streams (peer_session peer)) taken.streams ∙ stream_put old.streams (peer_session peer) (bgp_stream (drained all));
+        goes = subst (λ (t : Table). Goes (edge_with place peer t entries) (all_taken place 0 peer (map (λ message. Bgp message) a.added) new)) tables
+            taken.goes;
+        stream = ap (λ (streams : _). stream_at streams (peer_session peer)) taken.streams
+            ∙ stream_put old.streams (peer_session peer) (bgp_stream (drained all));
       } in
       subst (λ (s : Stream). Keeps (octets ++ piece) joins (all_taken place 0 peer s.waiting (left s))) (sym is) done
 
-  failed_stays : (octets piece : List ℕ) (joins : List IfaceEntry) (old : EdgeState) (f : ℕ × StreamFault) → IsOctets (octets ++ piece) → Keeps octets joins old → (stream_with octets).fault ≡ Some f
+  failed_stays : (octets piece : List ℕ) (joins : List IfaceEntry) (old : EdgeState) (f : ℕ × StreamFault) → IsOctets (octets ++ piece)
+      → Keeps octets joins old → (stream_with octets).fault ≡ Some f
       → Keeps (octets ++ piece) joins old
   failed_stays octets piece joins old f fits keeps some =
       let same : stream_with octets ≡ stream_with (octets ++ piece) = sym (stays (stream_with octets) piece f some) ∙ with_piece octets piece fits in
@@ -96,7 +106,8 @@ module _ (place : EdgePlace) (peer : NodeId) where
         stream = keeps.stream ∙ ap (λ (s : BgpStream). bgp_stream (drained s)) same;
       }
 
-  piece_by : (octets piece : List ℕ) (joins : List IfaceEntry) (old : EdgeState) (stop : Option (ℕ × StreamFault)) → IsOctets (octets ++ piece) → Keeps octets joins old → (stream_with octets).fault ≡ stop
+  piece_by : (octets piece : List ℕ) (joins : List IfaceEntry) (old : EdgeState) (stop : Option (ℕ × StreamFault)) → IsOctets (octets ++ piece)
+      → Keeps octets joins old → (stream_with octets).fault ≡ stop
       → Keeps (octets ++ piece) joins (took_unless None (fault_as (λ f. BgpFault f) stop) place 0 (peer_session peer) piece old)
   piece_by octets piece joins old None fits keeps e = fed_goes octets piece joins old fits keeps e
   piece_by octets piece joins old (Some f) fits keeps e = failed_stays octets piece joins old f fits keeps e
@@ -104,8 +115,10 @@ module _ (place : EdgePlace) (peer : NodeId) where
   piece_goes : (octets piece : List ℕ) (joins : List IfaceEntry) (old : EdgeState) → IsOctets (octets ++ piece) → Keeps octets joins old
       → Keeps (octets ++ piece) joins (took place 0 (peer_session peer) piece old)
   piece_goes octets piece joins old fits keeps =
-      let told : fault_at old.streams (peer_session peer) ≡ fault_as (λ f. BgpFault f) (stream_with octets).fault = ap (λ (s : Stream). s.fault) keeps.stream in
-      let same : took place 0 (peer_session peer) piece old ≡ took_unless None (fault_as (λ f. BgpFault f) (stream_with octets).fault) place 0 (peer_session peer) piece old =
+      let told : fault_at old.streams (peer_session peer) ≡ fault_as (λ f. BgpFault f) (stream_with octets).fault =
+      ap (λ (s : Stream). s.fault) keeps.stream in
+      let same : took place 0 (peer_session peer) piece old
+      ≡ took_unless None (fault_as (λ f. BgpFault f) (stream_with octets).fault) place 0 (peer_session peer) piece old =
       ap (λ (spent : Option _). took_unless spent (fault_at old.streams (peer_session peer)) place 0 (peer_session peer) piece old) keeps.goes.unspent
       ∙ ap (λ (f : Option (ℕ × SessionFault)). took_unless None f place 0 (peer_session peer) piece old) told in
       subst (Keeps (octets ++ piece) joins) (sym same) (piece_by octets piece joins old (stream_with octets).fault fits keeps refl)
@@ -114,7 +127,8 @@ module _ (place : EdgePlace) (peer : NodeId) where
 
   fold_joined : (at : IfaceEntry) (joins : List IfaceEntry) (entries : Entries)
       → fold (λ entries at. applied entries at.iface (join_of (own_addr place.scenario at.iface) at.entry) 0) entries (joins ++ at ∷ [])
-      ≡ applied (fold (λ entries at. applied entries at.iface (join_of (own_addr place.scenario at.iface) at.entry) 0) entries joins) at.iface (join_of (own_addr place.scenario at.iface) at.entry) 0
+      ≡ applied (fold (λ entries at. applied entries at.iface (join_of (own_addr place.scenario at.iface) at.entry) 0) entries joins) at.iface
+      (join_of (own_addr place.scenario at.iface) at.entry) 0
   fold_joined at [] entries = refl
   fold_joined at (x ∷ joins) entries = fold_joined at joins (applied entries x.iface (join_of (own_addr place.scenario x.iface) x.entry) 0)
 
@@ -124,9 +138,12 @@ module _ (place : EdgePlace) (peer : NodeId) where
       let message = join_of (own_addr place.scenario at.iface) at.entry in
       let table : Table = table_of (cut_of octets).messages in
       let entries : Entries = joined place.scenario joins in
-      let step = step_goes place old (Pim at.iface message) (edge_with place peer table entries) _ refl keeps.goes (join_keeps place peer table entries at.iface message) in
+      let step =
+      step_goes place old (Pim at.iface message) (edge_with place peer table entries) _ refl keeps.goes
+      (join_keeps place peer table entries at.iface message) in
       let new : EdgeState = stepped place 0 old (Pim at.iface message) in
-      let same : called place 0 old (Pim at.iface message) ≡ new = ap (λ (spent : Option _). called_unless spent place 0 old (Pim at.iface message)) keeps.goes.unspent in
+      let same : called place 0 old (Pim at.iface message) ≡ new =
+      ap (λ (spent : Option _). called_unless spent place 0 old (Pim at.iface message)) keeps.goes.unspent in
       subst (Keeps octets (joins ++ at ∷ [])) (sym same) (record {
         goes = subst (λ (es : Entries). Goes (edge_with place peer table es) new) (sym (fold_joined at joins maps.empty)) step.goes;
         stream = ap (λ (streams : _). stream_at streams (peer_session peer)) step.streams ∙ keeps.stream;
@@ -134,27 +151,33 @@ module _ (place : EdgePlace) (peer : NodeId) where
 
   -- ---- lines
 
-  lines_go : (octets : List ℕ) (joins : List IfaceEntry) (old : EdgeState) (lines : List ProbeLine) → IsOctets (octets ++ octets_of lines) → Keeps octets joins old
+  lines_go : (octets : List ℕ) (joins : List IfaceEntry) (old : EdgeState) (lines : List ProbeLine) → IsOctets (octets ++ octets_of lines)
+      → Keeps octets joins old
       → Keeps (octets ++ octets_of lines) (joins ++ joins_of lines) (fold (given place peer) old lines)
   lines_go octets joins old [] fits keeps =
-      subst (λ (xs : List ℕ). Keeps xs (joins ++ []) old) (sym (append-nil octets)) (subst (λ (js : List IfaceEntry). Keeps octets js old) (sym (append-nil joins)) keeps)
+      subst (λ (xs : List ℕ). Keeps xs (joins ++ []) old) (sym (append-nil octets))
+      (subst (λ (js : List IfaceEntry). Keeps octets js old) (sym (append-nil joins)) keeps)
   lines_go octets joins old (Join iface source group ∷ more) fits keeps =
       let at : IfaceEntry = record { iface = iface; entry = Source source group } in
       let new : EdgeState = given place peer old (Join iface source group) in
-      subst (λ (js : List IfaceEntry). Keeps (octets ++ octets_of more) js (fold (given place peer) new more)) (append_assoc joins (at ∷ []) (joins_of more))
+      subst (λ (js : List IfaceEntry). Keeps (octets ++ octets_of more) js (fold (given place peer) new more))
+      (append_assoc joins (at ∷ []) (joins_of more))
       (lines_go octets (joins ++ at ∷ []) new more fits (join_goes octets joins old at keeps))
   lines_go octets joins old (Piece piece ∷ more) fits keeps =
       let new : EdgeState = given place peer old (Piece piece) in
       let grouped : (octets ++ piece) ++ octets_of more ≡ octets ++ (piece ++ octets_of more) = append_assoc octets piece (octets_of more) in
       let fits' : IsOctets ((octets ++ piece) ++ octets_of more) = subst IsOctets (sym grouped) fits in
       subst (λ (xs : List ℕ). Keeps xs (joins ++ joins_of more) (fold (given place peer) new more)) grouped
-      (lines_go (octets ++ piece) joins new more fits' (piece_goes octets piece joins old (IsOctets-before (octets ++ piece) (octets_of more) fits') keeps))
+      (lines_go (octets ++ piece) joins new more fits'
+      (piece_goes octets piece joins old (IsOctets-before (octets ++ piece) (octets_of more) fits') keeps))
 
   -- ---- the first line
 
-  fresh_goes : Stepped (prepared (Raised kinds.Bgp peer) (fresh_state place.scenario.labels)) (edge_with place peer maps.empty maps.empty) (begun place peer)
+  fresh_goes : Stepped (prepared (Raised kinds.Bgp peer) (fresh_state place.scenario.labels)) (edge_with place peer maps.empty maps.empty)
+      (begun place peer)
   fresh_goes =
-      step_goes place (prepared (Raised kinds.Bgp peer) (fresh_state place.scenario.labels)) (Raised kinds.Bgp peer) no_control (edge_with place peer maps.empty maps.empty) refl
+      step_goes place (prepared (Raised kinds.Bgp peer) (fresh_state place.scenario.labels)) (Raised kinds.Bgp peer) no_control
+      (edge_with place peer maps.empty maps.empty) refl
       (record { unspent = refl; ends = refl; keeps = refl }) (raise_keeps place peer)
 
   begun_keeps : Keeps [] [] (begun place peer)

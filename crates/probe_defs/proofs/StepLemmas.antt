@@ -42,23 +42,43 @@ pub record Stepped (old : EdgeState) (control : Control) (new : EdgeState) : Typ
   pub goes : Goes control new
   pub streams : new.streams ≡ old.streams
 
-behind_step : (place : EdgePlace) (old : EdgeState) (call : Call) (control : Control) → old.spent ≡ None → (row : List LabelStep) → (part_after old.edge.part row).ends ≡ maps.empty
+behind_step : (place : EdgePlace) (old : EdgeState) (call : Call) (control : Control) → old.spent ≡ None → (row : List LabelStep)
+    → (part_after old.edge.part row).ends ≡ maps.empty
     → control_step place 0 old.edge.control call ≡ control
-    → Stepped old control (behind place 0 old (Some (record { edge = record { control = control_step place 0 old.edge.control call; part = part_after old.edge.part row; raised = raised_after 0 old.edge.raised call }; row = row })))
+    → Stepped old control (behind place 0 old (Some
+    (record {
+      edge =
+          record {
+            control = control_step place 0 old.edge.control call;
+            part = part_after old.edge.part row;
+            raised =
+                raised_after 0 old.edge.raised call;
+          };
+      row = row;
+    })))
 behind_step place old call control unspent row ends keeps = record { goes = record { unspent = unspent; ends = ends; keeps = keeps }; streams = refl }
 
-pub step_goes : (place : EdgePlace) (old : EdgeState) (call : Call) (control next : Control) → own_label_call call ≡ None → Goes control old → control_step place 0 control call ≡ next → Stepped old next (stepped place 0 old call)
+pub step_goes : (place : EdgePlace) (old : EdgeState) (call : Call) (control next : Control) → own_label_call call ≡ None → Goes control old
+    → control_step place 0 control call ≡ next → Stepped old next (stepped place 0 old call)
 step_goes place old call control next none goes is =
     let now : Control = control_step place 0 old.edge.control call in
     let keeps : now ≡ next = ap (λ (c : Control). control_step place 0 c call) goes.keeps ∙ is in
     let before = leaves place old.edge.control in
     let after = leaves place now in
-    let row = row_made place 0 old.edge.part (sets.contains after) (filter (λ fec. not (sets.contains before fec && sets.contains after fec)) (in_order (sets.union before after))) goes.ends in
+    let row =
+    row_made place 0 old.edge.part (sets.contains after)
+    (filter (λ fec. not (sets.contains before fec && sets.contains after fec)) (in_order (sets.union before after))) goes.ends in
     let made : Option (List LabelStep) → Option EdgeStepped = λ o. o >>? λ row.
     Some (record { edge = record { control = now; part = part_after old.edge.part row; raised = raised_after 0 old.edge.raised call }; row = row }) in
-    let same : stepped place 0 old call ≡ behind place 0 old (Some (record { edge = record { control = now; part = part_after old.edge.part row.row; raised = raised_after 0 old.edge.raised call }; row = row.row })) =
+    let same : stepped place 0 old call ≡ behind place 0 old
+    (Some (record {
+      edge = record { control = now; part = part_after old.edge.part row.row; raised = raised_after 0 old.edge.raised call };
+      row =
+          row.row;
+    })) =
     ap (λ (spent : Option Spent). stepped_unless spent place 0 old call) goes.unspent
-    ∙ ap (λ (own : Option labels.Call). behind place 0 old (made (label_row place 0 old.edge.part (one_call own ++ changed_leaves before after)))) none
+    ∙ ap (λ (own : Option labels.Call). behind place 0 old (made (label_row place 0 old.edge.part (one_call own ++ changed_leaves before after))))
+    none
     ∙ ap (λ (o : Option (List LabelStep)). behind place 0 old (made o)) row.is in
     subst (Stepped old next) (sym same) (behind_step place old call next goes.unspent row.row row.ends keeps)
 
@@ -68,7 +88,8 @@ pub join_keeps : (place : EdgePlace) (peer : NodeId) (table : Table) (entries : 
     → control_step place 0 (edge_with place peer table entries) (Pim iface message) ≡ edge_with place peer table (applied entries iface message 0)
 join_keeps place peer table entries iface message = refl
 
-put_again : (peer : NodeId) (one other : Taken) → maps.insert (maps.insert {R = node_cmp} maps.empty peer one) peer other ≡ maps.insert maps.empty peer other
+put_again : (peer : NodeId) (one other : Taken)
+    → maps.insert (maps.insert {R = node_cmp} maps.empty peer one) peer other ≡ maps.insert maps.empty peer other
 put_again peer one other = maps.same_map node_cmp_total node_cmp_exact _ _ (λ q.
     maps.get-insert node_cmp_total (maps.insert maps.empty peer one) peer other q
     ∙ ap (λ (o : Option Taken). cond (eq_by_cmp node_cmp q peer) (Some other) o) (maps.get-insert node_cmp_total maps.empty peer one q)
@@ -85,7 +106,8 @@ kept_with place entries peers = refreshed place 0 (record no_control { entries =
 
 -- the peer's table behind changes, where it has one
 abbrev with_changes : FinMap node_cmp Taken → NodeId → Message → Option Taken → FinMap node_cmp Taken
-with_changes peers peer message o = elim o as (λ _. FinMap node_cmp Taken) [ None ↦ peers | Some taken ↦ maps.insert peers peer (fold (taken_change 0) taken (changes_of message)) ]
+with_changes peers peer message o =
+    elim o as (λ _. FinMap node_cmp Taken) [ None ↦ peers | Some taken ↦ maps.insert peers peer (fold (taken_change 0) taken (changes_of message)) ]
 
 pub update_keeps : (place : EdgePlace) (peer : NodeId) (table : Table) (entries : Entries) (message : Message)
     → control_step place 0 (edge_with place peer table entries) (Update peer message)
@@ -94,11 +116,14 @@ update_keeps place peer table entries message =
     let taken : Taken = taken_at_once table in
     let peers : FinMap node_cmp Taken = maps.insert maps.empty peer taken in
     let old : Control = edge_with place peer table entries in
-    ap (λ (o : Option Taken). refreshed place 0 (elim o as (λ _. Control) [ None ↦ old | Some taken ↦ record old { peers = maps.insert peers peer (fold (taken_change 0) taken (changes_of message)) } ])) (put_here node_cmp_total node_cmp_exact maps.empty peer taken)
+    ap (λ (o : Option Taken). refreshed place 0 (elim o as (λ _. Control)
+    [ None ↦ old | Some taken ↦ record old { peers = maps.insert peers peer (fold (taken_change 0) taken (changes_of message)) } ]))
+    (put_here node_cmp_total node_cmp_exact maps.empty peer taken)
     ∙ ap (λ (t : Taken). kept_with place entries (maps.insert peers peer t)) (changes_at_once table (changes_of message))
     ∙ ap (kept_with place entries) (put_again peer taken (taken_at_once (applied_all table (map as_table_change (changes_of message)))))
 
 -- ---- the first step
 
-pub raise_keeps : (place : EdgePlace) (peer : NodeId) → control_step place 0 no_control (Raised kinds.Bgp peer) ≡ edge_with place peer maps.empty maps.empty
+pub raise_keeps : (place : EdgePlace) (peer : NodeId)
+    → control_step place 0 no_control (Raised kinds.Bgp peer) ≡ edge_with place peer maps.empty maps.empty
 raise_keeps place peer = ap (λ (t : Taken). kept_with place maps.empty (maps.insert maps.empty peer t)) (sym none_at_once)

@@ -55,7 +55,8 @@ with_piece octets piece fits = fed_is message_front SpellsMessage message_format
 
 -- ---- what the octets yield
 
-yields_by : (octets : List ℕ) → IsOctets octets → (stop : Option (ℕ × StreamFault)) → (cut_of octets).fault ≡ stop → Yield octets (cut_of octets).messages (moved 0 stop)
+yields_by : (octets : List ℕ) → IsOctets octets → (stop : Option (ℕ × StreamFault)) → (cut_of octets).fault ≡ stop
+    → Yield octets (cut_of octets).messages (moved 0 stop)
 yields_by octets fits None e =
     let is = cut_splits message_front SpellsMessage message_format.stream.framing octets fits e in
     let rest : List ℕ = (cut_of octets).rest in

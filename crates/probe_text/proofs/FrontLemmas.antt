@@ -34,14 +34,18 @@ IsSaid draft said = (said ≡ says.Blank) ⊎ IsDeclared draft said
 declared_meets : (draft : Drafted) (r : Result Line TextFault) → Meets (IsDeclared draft) r → Meets (IsSaid draft) r
 declared_meets draft r m = record { holds = λ said e. inr (m.holds said e) }
 
-declaring_meets : (draft : Drafted) (row : Row) (words : List Placed) → IsTopology (length draft.scenario.nodes) draft.scenario.links → Meets (IsSaid draft) (declaring draft row words)
+declaring_meets : (draft : Drafted) (row : Row) (words : List Placed) → IsTopology (length draft.scenario.nodes) draft.scenario.links
+    → Meets (IsSaid draft) (declaring draft row words)
 unfolding declaring
 declaring_meets draft row [] core = ok_meets _ _ (inl refl)
 declaring_meets draft row (first ∷ rest) core = if_meets _ _ _ _ (λ _. declared_meets draft _ (scenario_line_meets draft row first rest core))
 
-said_by : (draft : Drafted) (number : ℕ) (octets : List ℕ) → IsTopology (length draft.scenario.nodes) draft.scenario.links → Meets (IsSaid draft) (declared_by draft number octets)
+said_by : (draft : Drafted) (number : ℕ) (octets : List ℕ) → IsTopology (length draft.scenario.nodes) draft.scenario.links
+    → Meets (IsSaid draft) (declared_by draft number octets)
 unfolding declared_by
-said_by draft number octets core = bind_meets (IsSaid draft) (words_in number octets) (declaring draft (row_of number octets)) (λ words w. declaring_meets draft (row_of number octets) words core)
+said_by draft number octets core =
+    bind_meets (IsSaid draft) (words_in number octets) (declaring draft (row_of number octets))
+    (λ words w. declaring_meets draft (row_of number octets) words core)
 
 is_new : (draft : Drafted) (said : Line) → IsSaid draft said → IsNew draft said
 is_new draft said (inl blank) = subst (λ (x : Line). IsNew draft x) (sym blank) tt
@@ -51,21 +55,25 @@ is_kept : (draft : Drafted) (number : ℕ) (said : Line) → Kept draft → IsSa
 is_kept draft number said kept (inl blank) = subst (λ (x : Line). Kept (added draft number x)) (sym blank) kept
 is_kept draft number said kept (inr declared) = kept_added draft number said kept declared
 
-pub line_new : (draft : Drafted) (number : ℕ) (octets : List ℕ) (said : Line) → Kept draft → declared_by draft number octets ≡ Ok said → IsNew draft said
+pub line_new : (draft : Drafted) (number : ℕ) (octets : List ℕ) (said : Line) → Kept draft → declared_by draft number octets ≡ Ok said
+    → IsNew draft said
 line_new draft number octets said kept e = is_new draft said ((said_by draft number octets kept.core.topology).holds said e)
 
-pub line_kept : (draft : Drafted) (number : ℕ) (octets : List ℕ) (said : Line) → Kept draft → declared_by draft number octets ≡ Ok said → Kept (added draft number said)
+pub line_kept : (draft : Drafted) (number : ℕ) (octets : List ℕ) (said : Line) → Kept draft → declared_by draft number octets ≡ Ok said
+    → Kept (added draft number said)
 line_kept draft number octets said kept e = is_kept draft number said kept ((said_by draft number octets kept.core.topology).holds said e)
 
 -- ---- one line more
 
-pub declared_next : (draft : Drafted) (number k : ℕ) (rows : List (List ℕ)) (line : List ℕ) (more : List (List ℕ)) (said : Line) → rows ≡ line ∷ more → declared_by draft number line ≡ Ok said
+pub declared_next : (draft : Drafted) (number k : ℕ) (rows : List (List ℕ)) (line : List ℕ) (more : List (List ℕ)) (said : Line) → rows ≡ line ∷ more
+    → declared_by draft number line ≡ Ok said
     → declared_from draft number (take (suc k) rows) ≡ declared_from (added draft number said) (number + 1) (take k more)
 declared_next draft number k rows line more said is e =
     ap (λ (rs : List (List ℕ)). declared_from draft number (take (suc k) rs)) is
     ∙ ap (λ (r : Result Line TextFault). r >>= λ s. declared_from (added draft number s) (number + 1) (take k more)) e
 
-pub declared_fails : (draft : Drafted) (number k : ℕ) (rows : List (List ℕ)) (line : List ℕ) (more : List (List ℕ)) (fault : TextFault) → rows ≡ line ∷ more → declared_by draft number line ≡ Err fault
+pub declared_fails : (draft : Drafted) (number k : ℕ) (rows : List (List ℕ)) (line : List ℕ) (more : List (List ℕ)) (fault : TextFault)
+    → rows ≡ line ∷ more → declared_by draft number line ≡ Err fault
     → declared_from draft number (take (suc k) rows) ≡ Err fault
 declared_fails draft number k rows line more fault is e =
     ap (λ (rs : List (List ℕ)). declared_from draft number (take (suc k) rs)) is
@@ -76,19 +84,22 @@ drop_next rows zero line more e = ap (drop 1) e
 drop_next [] (suc n) line more e = absurd cc
 drop_next (row ∷ rows) (suc n) line more e = drop_next rows n line more e
 
-pub front_fails : (draft : Drafted) (number k : ℕ) (rows : List (List ℕ)) (line : List ℕ) (more : List (List ℕ)) (stop : ReadFault) → rows ≡ line ∷ more → Fails stop (declared_by draft number line)
+pub front_fails : (draft : Drafted) (number k : ℕ) (rows : List (List ℕ)) (line : List ℕ) (more : List (List ℕ)) (stop : ReadFault)
+    → rows ≡ line ∷ more → Fails stop (declared_by draft number line)
     → Fails stop (declared_from draft number (take (suc k) rows))
 front_fails draft number k rows line more faults.NoMemory is f = tt
 front_fails draft number k rows line more (faults.Text fault) is f = declared_fails draft number k rows line more fault is f
 
 -- ---- joins
 
-pub joins_more : (done : List ProbeLine) (line : ProbeLine) → length (joins_of (done ++ line ∷ [])) ≡ length (joins_of done) + length (joins_of (line ∷ []))
+pub joins_more : (done : List ProbeLine) (line : ProbeLine)
+    → length (joins_of (done ++ line ∷ [])) ≡ length (joins_of done) + length (joins_of (line ∷ []))
 joins_more [] line = omega arith
 joins_more (Join iface source group ∷ more) line = (let e = joins_more more line in omega (arith, e))
 joins_more (Piece octets ∷ more) line = joins_more more line
 
-pub joins_join : (done : List ProbeLine) (iface : IfaceId) (source group : Addr) → length (joins_of (done ++ Join iface source group ∷ [])) ≡ length (joins_of done) + 1
+pub joins_join : (done : List ProbeLine) (iface : IfaceId) (source group : Addr)
+    → length (joins_of (done ++ Join iface source group ∷ [])) ≡ length (joins_of done) + 1
 joins_join done iface source group = (let e = joins_more done (Join iface source group) in omega (arith, e))
 
 pub joins_piece : (done : List ProbeLine) (octets : List ℕ) → length (joins_of (done ++ Piece octets ∷ [])) ≡ length (joins_of done)

@@ -69,52 +69,69 @@ unfolding probe_line
 ends_meet draft number octets =
     then_meets _ _ _ _ (λ core. bind_meets _ (words_in number octets) _ (λ words w. ends_line_meets draft (row_of number octets) words))
 
-core_meets : (draft : Drafted) (number : ℕ) (octets : List ℕ) → Meets (λ (ends : Ends). is_connected (length draft.scenario.nodes) draft.scenario.links ≡ true) (probe_line draft number octets)
+core_meets : (draft : Drafted) (number : ℕ) (octets : List ℕ)
+    → Meets (λ (ends : Ends). is_connected (length draft.scenario.nodes) draft.scenario.links ≡ true) (probe_line draft number octets)
 unfolding probe_line
 core_meets draft number octets = then_meets _ _ _ _ (λ core. record { holds = λ ends e. core })
 
 -- ---- an interface at the edge
 
-any_vrf : (p : OwnVrf → Bool) (me : NodeId) (n : ℕ) (vrfs : List Vrf) (i : ℕ) (vrf : Vrf) → slice_get vrfs i ≡ Some vrf → (vrf.edge.0 == me.0) ≡ true → p (record { id = record { 0 = n + i }; vrf = vrf }) ≡ true → list_any p (vrfs_from me n vrfs) ≡ true
+any_vrf : (p : OwnVrf → Bool) (me : NodeId) (n : ℕ) (vrfs : List Vrf) (i : ℕ) (vrf : Vrf) → slice_get vrfs i ≡ Some vrf → (vrf.edge.0 == me.0) ≡ true
+    → p (record { id = record { 0 = n + i }; vrf = vrf }) ≡ true → list_any p (vrfs_from me n vrfs) ≡ true
 any_vrf p me n [] i vrf e own h = absurd cc
 any_vrf p me n (first ∷ more) zero vrf e own h =
     let same : first ≡ vrf = same_Some first vrf e in
     let at : n + 0 ≡ n = omega arith in
-    subst (λ (x : Vrf). list_any p (cond (x.edge.0 == me.0) (record { id = record { 0 = n }; vrf = x } ∷ vrfs_from me (n + 1) more) (vrfs_from me (n + 1) more)) ≡ true) (sym same)
-    (subst (λ (b : Bool). list_any p (cond b (record { id = record { 0 = n }; vrf = vrf } ∷ vrfs_from me (n + 1) more) (vrfs_from me (n + 1) more)) ≡ true) (sym own)
-    (or_left (p (record { id = record { 0 = n }; vrf = vrf })) (list_any p (vrfs_from me (n + 1) more)) (subst (λ (m : ℕ). p (record { id = record { 0 = m }; vrf = vrf }) ≡ true) at h)))
+    subst (λ (x : Vrf). list_any p (cond (x.edge.0 == me.0) (record { id = record { 0 = n }; vrf = x } ∷ vrfs_from me (n + 1) more)
+    (vrfs_from me (n + 1) more)) ≡ true) (sym same)
+    (subst (λ (b : Bool). list_any p (cond b (record { id = record { 0 = n }; vrf = vrf } ∷ vrfs_from me (n + 1) more) (vrfs_from me (n + 1) more))
+    ≡ true) (sym own)
+    (or_left (p (record { id = record { 0 = n }; vrf = vrf })) (list_any p (vrfs_from me (n + 1) more))
+    (subst (λ (m : ℕ). p (record { id = record { 0 = m }; vrf = vrf }) ≡ true) at h)))
 any_vrf p me n (first ∷ more) (suc i) vrf e own h =
     let at : n + suc i ≡ n + 1 + i = omega arith in
     by (first.edge.0 == me.0) (any_vrf p me (n + 1) more i vrf e own (subst (λ (m : ℕ). p (record { id = record { 0 = m }; vrf = vrf }) ≡ true) at h))
   where
-    by : (b : Bool) → list_any p (vrfs_from me (n + 1) more) ≡ true → list_any p (cond b (record { id = record { 0 = n }; vrf = first } ∷ vrfs_from me (n + 1) more) (vrfs_from me (n + 1) more)) ≡ true
+    by : (b : Bool) → list_any p (vrfs_from me (n + 1) more) ≡ true
+        → list_any p (cond b (record { id = record { 0 = n }; vrf = first } ∷ vrfs_from me (n + 1) more) (vrfs_from me (n + 1) more)) ≡ true
     by true a = or_right (p (record { id = record { 0 = n }; vrf = first })) (list_any p (vrfs_from me (n + 1) more)) a
     by false a = a
 
-own_any : (scenario : Scenario) (edge : NodeId) (iface : IfaceId) → is_iface_at scenario edge iface ≡ true → list_any (λ (own : OwnVrf). is_iface_of scenario own.id iface) (vrfs_from edge 0 scenario.vrfs) ≡ true
+own_any : (scenario : Scenario) (edge : NodeId) (iface : IfaceId) → is_iface_at scenario edge iface ≡ true
+    → list_any (λ (own : OwnVrf). is_iface_of scenario own.id iface) (vrfs_from edge 0 scenario.vrfs) ≡ true
 own_any scenario edge iface h = by_iface (slice_get scenario.ifaces iface.0) refl h
   where
-    by_vrf : (own : Iface) → slice_get scenario.ifaces iface.0 ≡ Some own → (v : Option Vrf) → slice_get scenario.vrfs own.vrf.0 ≡ v → elim v [ None ↦ false | Some vrf ↦ vrf.edge.0 == edge.0 ] ≡ true → list_any (λ (own : OwnVrf). is_iface_of scenario own.id iface) (vrfs_from edge 0 scenario.vrfs) ≡ true
+    by_vrf : (own : Iface) → slice_get scenario.ifaces iface.0 ≡ Some own → (v : Option Vrf) → slice_get scenario.vrfs own.vrf.0 ≡ v
+        → elim v [ None ↦ false | Some vrf ↦ vrf.edge.0 == edge.0 ] ≡ true
+        → list_any (λ (own : OwnVrf). is_iface_of scenario own.id iface) (vrfs_from edge 0 scenario.vrfs) ≡ true
     by_vrf own e None f k = absurd cc
     by_vrf own e (Some vrf) f k =
         let at : own.vrf.0 ≡ 0 + own.vrf.0 = omega arith in
         any_vrf (λ (own : OwnVrf). is_iface_of scenario own.id iface) edge 0 scenario.vrfs own.vrf.0 vrf f k
-        (subst (λ (o : Option Iface). elim o [ None ↦ false | Some found ↦ found.vrf.0 == 0 + own.vrf.0 ] ≡ true) (sym e) (eq-eqb own.vrf.0 (0 + own.vrf.0) at))
+        (subst (λ (o : Option Iface). elim o [ None ↦ false | Some found ↦ found.vrf.0 == 0 + own.vrf.0 ] ≡ true) (sym e)
+        (eq-eqb own.vrf.0 (0 + own.vrf.0) at))
 
-    by_iface : (o : Option Iface) → slice_get scenario.ifaces iface.0 ≡ o → elim o [ None ↦ false | Some own ↦ elim (slice_get scenario.vrfs own.vrf.0) [ None ↦ false | Some vrf ↦ vrf.edge.0 == edge.0 ] ] ≡ true → list_any (λ (own : OwnVrf). is_iface_of scenario own.id iface) (vrfs_from edge 0 scenario.vrfs) ≡ true
+    by_iface : (o : Option Iface) → slice_get scenario.ifaces iface.0 ≡ o
+        → elim o [ None ↦ false | Some own ↦ elim (slice_get scenario.vrfs own.vrf.0) [ None ↦ false | Some vrf ↦ vrf.edge.0 == edge.0 ] ] ≡ true
+        → list_any (λ (own : OwnVrf). is_iface_of scenario own.id iface) (vrfs_from edge 0 scenario.vrfs) ≡ true
     by_iface None e k = absurd cc
     by_iface (Some own) e k = by_vrf own e (slice_get scenario.vrfs own.vrf.0) refl k
 
-own_meets : (draft : Drafted) (edge : NodeId) (row : Row) (a : Placed) → Meets (λ (iface : IfaceId). is_iface_at draft.scenario edge iface ≡ true) (own_iface_at draft edge row a)
+own_meets : (draft : Drafted) (edge : NodeId) (row : Row) (a : Placed)
+    → Meets (λ (iface : IfaceId). is_iface_at draft.scenario edge iface ≡ true) (own_iface_at draft edge row a)
 unfolding own_iface_at
-own_meets draft edge row a = bind_meets _ (iface_at draft row a) _ (λ iface i. then_meets _ _ _ _ (λ own. ok_meets (λ (iface : IfaceId). is_iface_at draft.scenario edge iface ≡ true) iface own))
+own_meets draft edge row a =
+    bind_meets _ (iface_at draft row a) _ (λ iface i. then_meets _ _ _ _
+    (λ own. ok_meets (λ (iface : IfaceId). is_iface_at draft.scenario edge iface ≡ true) iface own))
 
 -- ---- lines behind it
 
-join_words_meets : (draft : Drafted) (edge : NodeId) (row : Row) (a b c : Placed) → Meets (IsLineAt draft.scenario edge) (join_words draft edge row a b c)
+join_words_meets : (draft : Drafted) (edge : NodeId) (row : Row) (a b c : Placed)
+    → Meets (IsLineAt draft.scenario edge) (join_words draft edge row a b c)
 unfolding join_words
 join_words_meets draft edge row a b c =
-    bind_meets _ (own_iface_at draft edge row a) _ (λ iface i. bind_meets _ (source_at row b) _ (λ source s. bind_meets _ (group_at row c) _ (λ group g.
+    bind_meets _ (own_iface_at draft edge row a) _
+    (λ iface i. bind_meets _ (source_at row b) _ (λ source s. bind_meets _ (group_at row c) _ (λ group g.
     then_meets _ _ _ _ (λ fits.
     let p = and_parts (same_family source group) (is_of_iface draft iface group) fits in
     ok_meets (IsLineAt draft.scenario edge) (Join iface source group) (record {
@@ -123,7 +140,8 @@ join_words_meets draft edge row a b c =
       family = of_iface draft iface group p.1;
     })))))
 
-join_line_meets : (draft : Drafted) (edge : NodeId) (row : Row) (words : List Placed) → Meets (IsLineAt draft.scenario edge) (join_line draft edge row words)
+join_line_meets : (draft : Drafted) (edge : NodeId) (row : Row) (words : List Placed)
+    → Meets (IsLineAt draft.scenario edge) (join_line draft edge row words)
 unfolding join_line
 join_line_meets draft edge row [] = err_meets _ _
 join_line_meets draft edge row (a ∷ []) = err_meets _ _
@@ -138,7 +156,8 @@ record IsPiece (scenario : Scenario) (edge : NodeId) (line : ProbeLine) : Type 0
 piece_line_meets : (scenario : Scenario) (edge : NodeId) (row : Row) (words : List Placed) → Meets (IsPiece scenario edge) (piece_line row words)
 unfolding piece_line
 piece_line_meets scenario edge row [] = err_meets _ _
-piece_line_meets scenario edge row (a ∷ []) = bind_meets _ (payload_at row a) _ (λ octets p. ok_meets (IsPiece scenario edge) (Piece octets) (record { fits = tt; joinless = refl }))
+piece_line_meets scenario edge row (a ∷ []) =
+    bind_meets _ (payload_at row a) _ (λ octets p. ok_meets (IsPiece scenario edge) (Piece octets) (record { fits = tt; joinless = refl }))
 piece_line_meets scenario edge row (a ∷ b ∷ more) = err_meets _ _
 
 -- A line more, behind so many joins.
@@ -157,22 +176,26 @@ at_most_one (Piece octets) = omega arith
 below_limit : (joins : ℕ) → nat_lt joins 1024 ≡ true → joins < 1024
 below_limit joins h = grind (arith, nat_tests)
 
-given_words_meets : (draft : Drafted) (edge : NodeId) (joins : ℕ) (row : Row) (words : List Placed) → joins ≤ join_limit → Meets (IsNext draft.scenario edge joins) (given_words draft edge joins row words)
+given_words_meets : (draft : Drafted) (edge : NodeId) (joins : ℕ) (row : Row) (words : List Placed) → joins ≤ join_limit
+    → Meets (IsNext draft.scenario edge joins) (given_words draft edge joins row words)
 unfolding given_words
 given_words_meets draft edge joins row [] few = ok_meets (IsNext draft.scenario edge joins) None tt
 given_words_meets draft edge joins row (first ∷ rest) few =
     either_meets _ _ _ _
     (then_meets _ _ _ _ (λ below. bind_meets _ (join_line draft edge row rest) _ (λ line l.
-    ok_meets (IsNext draft.scenario edge joins) (Some line) (record { fits = (join_line_meets draft edge row rest).holds line l; few = omega (arith, below_limit joins below, at_most_one line) }))))
+    ok_meets (IsNext draft.scenario edge joins) (Some line)
+    (record { fits = (join_line_meets draft edge row rest).holds line l; few = omega (arith, below_limit joins below, at_most_one line) }))))
     (either_meets _ _ _ _
     (bind_meets _ (piece_line row rest) _ (λ line l.
     let p = (piece_line_meets draft.scenario edge row rest).holds line l in
     ok_meets (IsNext draft.scenario edge joins) (Some line) (record { fits = p.fits; few = omega (arith, few, p.joinless) })))
     (err_meets _ _))
 
-given_by_meets : (draft : Drafted) (edge : NodeId) (joins number : ℕ) (octets : List ℕ) → joins ≤ join_limit → Meets (IsNext draft.scenario edge joins) (given_by draft edge joins number octets)
+given_by_meets : (draft : Drafted) (edge : NodeId) (joins number : ℕ) (octets : List ℕ) → joins ≤ join_limit
+    → Meets (IsNext draft.scenario edge joins) (given_by draft edge joins number octets)
 unfolding given_by
-given_by_meets draft edge joins number octets few = bind_meets _ (words_in number octets) _ (λ words w. given_words_meets draft edge joins (row_of number octets) words few)
+given_by_meets draft edge joins number octets few =
+    bind_meets _ (words_in number octets) _ (λ words w. given_words_meets draft edge joins (row_of number octets) words few)
 
 record AreFit (scenario : Scenario) (edge : NodeId) (done : List ProbeLine) : Type 0 where
   pub each : AllByRecursion (IsLineAt scenario edge) done
@@ -182,23 +205,27 @@ all_more : (P : ProbeLine → Type 0) (done : List ProbeLine) (line : ProbeLine)
 all_more P [] line h k = (k, tt)
 all_more P (first ∷ more) line h k = (h.0, all_more P more line h.1 k)
 
-fit_next : (scenario : Scenario) (edge : NodeId) (done : List ProbeLine) (line : Option ProbeLine) → AreFit scenario edge done → IsNext scenario edge (length (joins_of done)) line → AreFit scenario edge (with_line done line)
+fit_next : (scenario : Scenario) (edge : NodeId) (done : List ProbeLine) (line : Option ProbeLine) → AreFit scenario edge done
+    → IsNext scenario edge (length (joins_of done)) line → AreFit scenario edge (with_line done line)
 fit_next scenario edge done None fit next = fit
 fit_next scenario edge done (Some line) fit next =
     record { each = all_more (IsLineAt scenario edge) done line fit.each next.fits; few = omega (arith, joins_more done line, next.few) }
 
-given_meet : (draft : Drafted) (edge : NodeId) (done : List ProbeLine) (number : ℕ) (rows : List (List ℕ)) → AreFit draft.scenario edge done → Meets (AreFit draft.scenario edge) (given_from draft edge done number rows)
+given_meet : (draft : Drafted) (edge : NodeId) (done : List ProbeLine) (number : ℕ) (rows : List (List ℕ)) → AreFit draft.scenario edge done
+    → Meets (AreFit draft.scenario edge) (given_from draft edge done number rows)
 given_meet draft edge done number [] fit = ok_meets (AreFit draft.scenario edge) done fit
 given_meet draft edge done number (octets ∷ more) fit =
     bind_meets _ (given_by draft edge (length (joins_of done)) number octets) _ (λ line l.
-    given_meet draft edge (with_line done line) (number + 1) more (fit_next draft.scenario edge done line fit ((given_by_meets draft edge (length (joins_of done)) number octets fit.few).holds line l)))
+    given_meet draft edge (with_line done line) (number + 1) more
+    (fit_next draft.scenario edge done line fit ((given_by_meets draft edge (length (joins_of done)) number octets fit.few).holds line l)))
 
 -- ---- the text
 
 declared_keep : (draft : Drafted) (number : ℕ) (rows : List (List ℕ)) → Kept draft → Meets Kept (declared_from draft number rows)
 declared_keep draft number [] kept = ok_meets Kept draft kept
 declared_keep draft number (octets ∷ more) kept =
-    bind_meets _ (declared_by draft number octets) _ (λ said s. declared_keep (added draft number said) (number + 1) more (line_kept draft number octets said kept s))
+    bind_meets _ (declared_by draft number octets) _
+    (λ said s. declared_keep (added draft number said) (number + 1) more (line_kept draft number octets said kept s))
 
 abbrev IsRead : ProbeText → Type 0
 IsRead text = IsProbe text.scenario text.ends.edge text.ends.peer text.lines
@@ -221,15 +248,18 @@ probe_from_meets draft number (octets ∷ more) kept =
 
 probe_at_meets : (rows : List (List ℕ)) (at : ℕ) → Meets IsRead (probe_at rows at)
 probe_at_meets rows at =
-    bind_meets _ (declared_from empty_draft 1 (take at rows)) _ (λ draft d. probe_from_meets draft (at + 1) (drop at rows) ((declared_keep empty_draft 1 (take at rows) kept_empty).holds draft d))
+    bind_meets _ (declared_from empty_draft 1 (take at rows)) _
+    (λ draft d. probe_from_meets draft (at + 1) (drop at rows) ((declared_keep empty_draft 1 (take at rows) kept_empty).holds draft d))
 
-place_meets : (rows : List (List ℕ)) (place : Option ℕ) → Meets IsRead (elim place [ None ↦ fault (length rows + 1) 1 reasons.Probe | Some at ↦ probe_at rows at ])
+place_meets : (rows : List (List ℕ)) (place : Option ℕ)
+    → Meets IsRead (elim place [ None ↦ fault (length rows + 1) 1 reasons.Probe | Some at ↦ probe_at rows at ])
 place_meets rows None = err_meets _ _
 place_meets rows (Some at) = probe_at_meets rows at
 
 probe_meets : (text : List ℕ) → Meets IsRead (probe_of text)
 probe_meets text = if_meets _ _ _ _ (λ short. place_meets (lines text) (position is_probe_line (lines text)))
 
-pub given_is_probe : (text : List ℕ) (result : Result ProbeText ReadFault) → Gives result (probe_of text) → IfOk result (λ (read : ProbeText). IsProbe read.scenario read.ends.edge read.ends.peer read.lines)
+pub given_is_probe : (text : List ℕ) (result : Result ProbeText ReadFault) → Gives result (probe_of text)
+    → IfOk result (λ (read : ProbeText). IsProbe read.scenario read.ends.edge read.ends.peer read.lines)
 given_is_probe text (Ok read) g = (probe_meets text).holds read g
 given_is_probe text (Err stop) g = tt

@@ -49,24 +49,31 @@ nothing_there w rule a b ne off = by (w.direction a b).transit refl
     by : (l : List (Change Key Value)) → (w.direction a b).transit ≡ l → l ≡ []
     by [] e = refl
     by (change ∷ more) e =
-        let quiet : values_at key_cmp (key_of change) (change ∷ more) ≡ [] = sym (ap (values_at key_cmp (key_of change)) e) ∙ (rule.view a b (key_of change) ne).quiet off in
+        let quiet : values_at key_cmp (key_of change) (change ∷ more) ≡ [] =
+        sym (ap (values_at key_cmp (key_of change)) e) ∙ (rule.view a b (key_of change) ne).quiet off in
         let some : values_at key_cmp (key_of change) (change ∷ more) ≡ value_of change ∷ values_at key_cmp (key_of change) more =
-        cond-true (eq_by_cmp key_cmp (key_of change) (key_of change)) (value_of change ∷ values_at key_cmp (key_of change) more) (values_at key_cmp (key_of change) more) (ap is_eq (tied_itself key_total (key_of change))) in
+        cond-true (eq_by_cmp key_cmp (key_of change) (key_of change)) (value_of change ∷ values_at key_cmp (key_of change) more)
+        (values_at key_cmp (key_of change) more) (ap is_eq (tied_itself key_total (key_of change))) in
         let bad : value_of change ∷ values_at key_cmp (key_of change) more ≡ [] = sym some ∙ quiet in absurd cc
 
-joined_carries : (t : Bool) (old : List SessionMessage) (changes : List (Change Key Value)) → old ≡ map as_message changes → (t ≡ true → changes ≡ []) → cond t [] old ≡ map as_message changes
+joined_carries : (t : Bool) (old : List SessionMessage) (changes : List (Change Key Value)) → old ≡ map as_message changes → (t ≡ true → changes ≡ [])
+    → cond t [] old ≡ map as_message changes
 joined_carries true old changes e h = sym (ap (map as_message) (h refl))
 joined_carries false old changes e h = e
 
 -- what a call makes of the control of an edge
-edge_control : (nodes : Nodes) (n : NodeId) (call : steps.Call) → IsEdgeNode (nodes.node n) → control_behind nodes n (nodes.node n) call ≡ control_step (place_of nodes n) nodes.clock (control_of (nodes.node n)) call
+edge_control : (nodes : Nodes) (n : NodeId) (call : steps.Call) → IsEdgeNode (nodes.node n)
+    → control_behind nodes n (nodes.node n) call ≡ control_step (place_of nodes n) nodes.clock (control_of (nodes.node n)) call
 edge_control nodes n call is = by (nodes.node n) is
   where
-    by : (state : NodeState) → IsEdgeNode state → control_behind nodes n state call ≡ control_step (place_of nodes n) nodes.clock (control_of state) call
+    by : (state : NodeState) → IsEdgeNode state → control_behind nodes n state call
+        ≡ control_step (place_of nodes n) nodes.clock (control_of state) call
     by (Edge edge) own = refl
     by (CoreNode part) own = absurd own
 
-module _ (scenario : Scenario) (network : MessageNetwork Nodes) (copies : Copies) (datagrams : List Datagram) (a b : NodeId) (good : Good scenario network copies datagrams) (ne : a ≢ b) (is_a : is_edge network.state.scenario a ≡ true) (is_b : is_edge network.state.scenario b ≡ true)
+module _ (scenario : Scenario) (network : MessageNetwork Nodes) (copies : Copies) (datagrams : List Datagram) (a b : NodeId)
+    (good : Good scenario network copies datagrams) (ne : a ≢ b) (is_a : is_edge network.state.scenario a ≡ true)
+    (is_b : is_edge network.state.scenario b ≡ true)
     (off_a : is_up (control_of (network.state.node a)) b ≡ false) (off_b : is_up (control_of (network.state.node b)) a ≡ false) where
   abbrev state : Nodes
   state = network.state
@@ -101,19 +108,23 @@ module _ (scenario : Scenario) (network : MessageNetwork Nodes) (copies : Copies
   kept_first : AllKept first copies datagrams
   kept_first later =
       let v : LabelNetwork = label_network network copies (datagrams ++ later) in
-      let same : v ≡ label_network first copies (datagrams ++ later) = λ i. record v { direction = λ u n. record (v.direction u n) { joined = sym (or_false (v.direction u n).joined) i } } in
+      let same : v ≡ label_network first copies (datagrams ++ later) =
+      λ i. record v { direction = λ u n. record (v.direction u n) { joined = sym (or_false (v.direction u n).joined) i } } in
       subst Kept same (good.kept later)
 
   was_apart : (u n : NodeId) → is_between a b u n ≡ true → network.joined (direction kinds.Bgp u n) ≡ false
   was_apart u n h = between (λ x y. network.joined (direction kinds.Bgp x y) ≡ false) a b u n
-      (false_from_ne_true (network.joined (direction kinds.Bgp a b)) (λ j. let x : false ≡ true = sym off_a ∙ good.edges.2.rule.ends a b ne j in absurd cc))
-      (false_from_ne_true (network.joined (direction kinds.Bgp b a)) (λ j. let x : false ≡ true = sym off_b ∙ good.edges.2.rule.ends b a back j in absurd cc)) h
+      (false_from_ne_true (network.joined (direction kinds.Bgp a b))
+      (λ j. let x : false ≡ true = sym off_a ∙ good.edges.2.rule.ends a b ne j in absurd cc))
+      (false_from_ne_true (network.joined (direction kinds.Bgp b a))
+      (λ j. let x : false ≡ true = sym off_b ∙ good.edges.2.rule.ends b a back j in absurd cc)) h
 
   carries_first : Carries first changes
   carries_first u n = joined_carries (is_between a b u n) (network.transit (direction kinds.Bgp u n)) (changes u n) (good.edges.1 u n)
       (λ h. nothing_there w good.edges.2.rule u n (between (λ x y. x ≢ y) a b u n ne back h) (was_apart u n h))
 
-  module _ (new : Stepped Nodes) (called : node_called state a (state.node a) (steps.Raised kinds.Bgp b) ≡ Some new) (is : IsGoodCall (steps.Raised kinds.Bgp b)) (sound : Sound scenario new.state) where
+  module _ (new : Stepped Nodes) (called : node_called state a (state.node a) (steps.Raised kinds.Bgp b) ≡ Some new)
+      (is : IsGoodCall (steps.Raised kinds.Bgp b)) (sound : Sound scenario new.state) where
     abbrev middle : MessageNetwork Nodes
     middle = with_messages first new
 
@@ -150,7 +161,10 @@ module _ (scenario : Scenario) (network : MessageNetwork Nodes) (copies : Copies
         (subst EdgeRule (λ i. acts.raised w a b (node_apart a b ne i) (off_a i) (off_b i)) (act_both w (acts.Raise a b) tt good.edges.2))
 
     still_edge : is_edge middle.state.scenario b ≡ true
-    still_edge = (parts.1.peers a b (or_right (network.joined (direction kinds.Bgp a b)) (is_between a b a b) (or_left ((a.0 == a.0) && (b.0 == b.0)) ((a.0 == b.0) && (b.0 == a.0)) (and_from (a.0 == a.0) (b.0 == b.0) (node_itself a a refl) (node_itself b b refl))))).0
+    still_edge =
+        (parts.1.peers a b (or_right (network.joined (direction kinds.Bgp a b)) (is_between a b a b)
+        (or_left ((a.0 == a.0) && (b.0 == b.0)) ((a.0 == b.0) && (b.0 == a.0))
+        (and_from (a.0 == a.0) (b.0 == b.0) (node_itself a a refl) (node_itself b b refl))))).0
 
     next_b : EdgesNext middle b (steps.Raised kinds.Bgp a)
     next_b = (next, carries_middle, edge_rule_behind middle next b (steps.Raised kinds.Bgp a) (parts.1.kinds b still_edge) both_rule)
@@ -158,5 +172,7 @@ module _ (scenario : Scenario) (network : MessageNetwork Nodes) (copies : Copies
     up_b : UpWhereJoined middle b (part_of (middle.state.node b)) (steps.Raised kinds.Bgp a)
     up_b to joined = up_by scenario middle copies datagrams parts.1 parts.2 b to joined
 
-    pub bgp_raised_good : (last : Stepped Nodes) → node_called middle.state b (middle.state.node b) (steps.Raised kinds.Bgp a) ≡ Some last → IsGoodCall (steps.Raised kinds.Bgp a) → Sound scenario last.state → Good scenario (with_messages middle last) copies datagrams
-    bgp_raised_good last e good_call sound_last = call_good scenario middle copies datagrams parts.1 b (steps.Raised kinds.Bgp a) last e good_call tt sound_last up_b parts.2 next_b
+    pub bgp_raised_good : (last : Stepped Nodes) → node_called middle.state b (middle.state.node b) (steps.Raised kinds.Bgp a) ≡ Some last
+        → IsGoodCall (steps.Raised kinds.Bgp a) → Sound scenario last.state → Good scenario (with_messages middle last) copies datagrams
+    bgp_raised_good last e good_call sound_last =
+        call_good scenario middle copies datagrams parts.1 b (steps.Raised kinds.Bgp a) last e good_call tt sound_last up_b parts.2 next_b

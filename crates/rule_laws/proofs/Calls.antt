@@ -69,11 +69,14 @@ pub record Good (scenario : Scenario) (network : MessageNetwork Nodes) (copies :
 
 -- ---- a call of a node
 
-pub trees_behind : (scenario : Scenario) (nodes : Nodes) → Sound scenario nodes → (n : NodeId) (call : steps.Call) → IsGoodCall call → TreesBehind nodes n (nodes.node n) call
+pub trees_behind : (scenario : Scenario) (nodes : Nodes) → Sound scenario nodes → (n : NodeId) (call : steps.Call) → IsGoodCall call
+    → TreesBehind nodes n (nodes.node n) call
 trees_behind scenario nodes s n call good = by (nodes.node n) (s.node n)
   where
     by : (state : NodeState) → SoundNode state → TreesBehind nodes n state call
-    by (Edge edge) own = leaves_are_trees (place_of nodes n) (steps.control_step (place_of nodes n) nodes.clock edge.control call) (good.control (place_of nodes n) nodes.clock edge.control (subst SoundScenario (sym s.same) s.lines) own.0)
+    by (Edge edge) own =
+        leaves_are_trees (place_of nodes n) (steps.control_step (place_of nodes n) nodes.clock edge.control call)
+        (good.control (place_of nodes n) nodes.clock edge.control (subst SoundScenario (sym s.same) s.lines) own.0)
     by (CoreNode part) own = tt
 
 pub numbers_at : (b : Bool) (x y : NodeState) → NumbersOk (control_of x) → NumbersOk (control_of y) → NumbersOk (control_of (cond b x y))
@@ -84,14 +87,19 @@ pub kind_at : (b : Bool) (x y : NodeState) → (b ≡ true → IsEdgeNode x) →
 kind_at true x y p q = p refl
 kind_at false x y p q = q
 
-pub behind_numbers : (nodes : Nodes) (n : NodeId) (state : NodeState) (call : steps.Call) → HasRoom (control_of state) call → NumbersOk (control_of state) → NumbersOk (control_behind nodes n state call)
+pub behind_numbers : (nodes : Nodes) (n : NodeId) (state : NodeState) (call : steps.Call) → HasRoom (control_of state) call
+    → NumbersOk (control_of state) → NumbersOk (control_behind nodes n state call)
 behind_numbers nodes n (Edge edge) call room h = step_numbers (place_of nodes n) nodes.clock edge.control call room h
 behind_numbers nodes n (CoreNode part) call room h = h
 
 -- what a call of a node keeps of its own, and of the network of label nodes
-pub call_parts : (scenario : Scenario) (network : MessageNetwork Nodes) (copies : Copies) (datagrams : List Datagram) → Base scenario network → (n : NodeId) (call : steps.Call) (new : Stepped Nodes) → (e : node_called network.state n (network.state.node n) call ≡ Some new)
-    → IsGoodCall call → HasRoom (control_of (network.state.node n)) call → Sound scenario new.state → UpWhereJoined network n (part_of (network.state.node n)) call → ((later : List Datagram) → FirstKept network copies (datagrams ++ later) n (own_label_call call))
-    → CalledRow network.state n (network.state.node n) call new × Base scenario (with_messages network new) × AllKept (with_messages network new) copies datagrams
+pub call_parts : (scenario : Scenario) (network : MessageNetwork Nodes) (copies : Copies) (datagrams : List Datagram) → Base scenario network
+    → (n : NodeId) (call : steps.Call) (new : Stepped Nodes) → (e : node_called network.state n (network.state.node n) call ≡ Some new)
+    → IsGoodCall call → HasRoom (control_of (network.state.node n)) call → Sound scenario new.state
+    → UpWhereJoined network n (part_of (network.state.node n)) call
+    → ((later : List Datagram) → FirstKept network copies (datagrams ++ later) n (own_label_call call))
+    → CalledRow network.state n (network.state.node n) call new × Base scenario (with_messages network new)
+    × AllKept (with_messages network new) copies datagrams
 call_parts scenario network copies datagrams base n call new e good room sound up first =
     let nodes : Nodes = network.state in
     let old : LabelData = part_of (nodes.node n) in
@@ -100,18 +108,26 @@ call_parts scenario network copies datagrams base n call new e good room sound u
       record {
         sound = sound;
         apart = base.apart;
-        numbers = λ m. subst (λ (state : Nodes). NumbersOk (control_of (state.node m))) (sym c.state) (numbers_at (m.0 == n.0) c.node (nodes.node m) (subst NumbersOk (sym c.control) (behind_numbers nodes n (nodes.node n) call room (base.numbers n))) (base.numbers m));
+        numbers =
+            λ m. subst (λ (state : Nodes). NumbersOk (control_of (state.node m))) (sym c.state)
+            (numbers_at (m.0 == n.0) c.node (nodes.node m)
+            (subst NumbersOk (sym c.control) (behind_numbers nodes n (nodes.node n) call room (base.numbers n))) (base.numbers m));
         peers = λ u m joined. (let p = base.peers u m joined in (subst (λ (state : Nodes). is_edge state.scenario m ≡ true) (sym c.state) p.0, p.1));
         kinds = λ m. subst (λ (state : Nodes). is_edge state.scenario m ≡ true → IsEdgeNode (state.node m)) (sym c.state) (λ t.
-            kind_at (m.0 == n.0) c.node (nodes.node m) (λ here. c.kind (base.kinds n (ap (is_edge nodes.scenario) (sym (node_equal m n here)) ∙ t))) (base.kinds m t));
+            kind_at (m.0 == n.0) c.node (nodes.node m) (λ here. c.kind (base.kinds n (ap (is_edge nodes.scenario) (sym (node_equal m n here)) ∙ t)))
+            (base.kinds m t));
       },
       λ later.
           let all : List Datagram = datagrams ++ later in
-          subst Kept (sym (called_is network copies all n call new c up)) (row_kept network copies all n (own_label_call call) c.wants c.are (first later) c.row c.made),
+          subst Kept (sym (called_is network copies all n call new c up))
+          (row_kept network copies all n (own_label_call call) c.wants c.are (first later) c.row c.made),
     )
 
-pub call_good : (scenario : Scenario) (network : MessageNetwork Nodes) (copies : Copies) (datagrams : List Datagram) → Base scenario network → (n : NodeId) (call : steps.Call) (new : Stepped Nodes) → node_called network.state n (network.state.node n) call ≡ Some new
-    → IsGoodCall call → HasRoom (control_of (network.state.node n)) call → Sound scenario new.state → UpWhereJoined network n (part_of (network.state.node n)) call → ((later : List Datagram) → FirstKept network copies (datagrams ++ later) n (own_label_call call))
+pub call_good : (scenario : Scenario) (network : MessageNetwork Nodes) (copies : Copies) (datagrams : List Datagram) → Base scenario network
+    → (n : NodeId) (call : steps.Call) (new : Stepped Nodes) → node_called network.state n (network.state.node n) call ≡ Some new
+    → IsGoodCall call → HasRoom (control_of (network.state.node n)) call → Sound scenario new.state
+    → UpWhereJoined network n (part_of (network.state.node n)) call
+    → ((later : List Datagram) → FirstKept network copies (datagrams ++ later) n (own_label_call call))
     → EdgesNext network n call → Good scenario (with_messages network new) copies datagrams
 call_good scenario network copies datagrams base n call new e good room sound up first (changes, carries, rule) =
     let parts = call_parts scenario network copies datagrams base n call new e good room sound up first in
@@ -132,32 +148,47 @@ was_up : (f : End → End) (o : Option End) → is_some o ≡ true → is_some (
 was_up f (Some end) e = refl
 was_up f None e = e
 
-pub stays_up : (place : Place) (now : ℕ) (part : LabelData) (own : Option labels.Call) (to : NodeId) → IsNoCut to own → is_up part to ≡ true → is_up (own_effect place now part own) to ≡ true
+pub stays_up : (place : Place) (now : ℕ) (part : LabelData) (own : Option labels.Call) (to : NodeId) → IsNoCut to own → is_up part to ≡ true
+    → is_up (own_effect place now part own) to ≡ true
 stays_up place now part None to cut h = h
-stays_up place now part (Some (labels.Taken from message)) to cut h = ap (λ (ends : FinMap node_cmp End). is_some (maps.get ends to)) (effect_ends place now part from message) ∙ h
+stays_up place now part (Some (labels.Taken from message)) to cut h =
+    ap (λ (ends : FinMap node_cmp End). is_some (maps.get ends to)) (effect_ends place now part from message) ∙ h
 stays_up place now part (Some (labels.Want fec)) to cut h = h
 stays_up place now part (Some (labels.Unwant fec)) to cut h = h
-stays_up place now part (Some (labels.Raised peer)) to cut h = ap is_some (maps.get-insert node_cmp_total part.ends peer (raised_end now) to) ∙ put_up (eq_by_cmp node_cmp to peer) (raised_end now) (maps.get part.ends to) h
+stays_up place now part (Some (labels.Raised peer)) to cut h =
+    ap is_some (maps.get-insert node_cmp_total part.ends peer (raised_end now) to)
+    ∙ put_up (eq_by_cmp node_cmp to peer) (raised_end now) (maps.get part.ends to) h
 stays_up place now part (Some (labels.Noticed peer)) to cut h = ap is_some (cut_other node_cmp_total node_cmp_exact part.ends peer to cut) ∙ h
 stays_up place now part (Some labels.Rerouted) to cut h = h
-stays_up place now part (Some labels.Timers) to cut h = ap is_some (timed_end place now part to) ∙ was_up (hold_run place.life now) (maps.get part.ends to) h
+stays_up place now part (Some labels.Timers) to cut h =
+    ap is_some (timed_end place now part to) ∙ was_up (hold_run place.life now) (maps.get part.ends to) h
 
 -- no session joins a node with itself
-pub joined_apart : (scenario : Scenario) (network : MessageNetwork Nodes) → Base scenario network → (u n : NodeId) → network.joined (direction kinds.Ldp u n) ≡ true → u ≢ n
+pub joined_apart : (scenario : Scenario) (network : MessageNetwork Nodes) → Base scenario network → (u n : NodeId)
+    → network.joined (direction kinds.Ldp u n) ≡ true → u ≢ n
 joined_apart scenario network base u n joined same =
     let x : false ≡ true = sym (base.apart n) ∙ ap (λ (m : NodeId). network.joined (direction kinds.Ldp m n)) (sym same) ∙ joined in absurd cc
 
 -- the ends of a joined session are up
-pub up_by : (scenario : Scenario) (network : MessageNetwork Nodes) (copies : Copies) (datagrams : List Datagram) → Base scenario network → AllKept network copies datagrams → (n to : NodeId) → network.joined (direction kinds.Ldp n to) ≡ true → is_up (part_of (network.state.node n)) to ≡ true
-up_by scenario network copies datagrams base kept n to joined = ((kept []).rule.session n to (joined_apart scenario network base n to joined)).ends joined
+pub up_by : (scenario : Scenario) (network : MessageNetwork Nodes) (copies : Copies) (datagrams : List Datagram) → Base scenario network
+    → AllKept network copies datagrams → (n to : NodeId) → network.joined (direction kinds.Ldp n to) ≡ true
+    → is_up (part_of (network.state.node n)) to ≡ true
+up_by scenario network copies datagrams base kept n to joined =
+    ((kept []).rule.session n to (joined_apart scenario network base n to joined)).ends joined
 
-pub joined_up : (scenario : Scenario) (network : MessageNetwork Nodes) (copies : Copies) (datagrams : List Datagram) → Good scenario network copies datagrams → (n to : NodeId) → network.joined (direction kinds.Ldp n to) ≡ true → is_up (part_of (network.state.node n)) to ≡ true
-joined_up scenario network copies datagrams good n to joined = ((good.kept []).rule.session n to (joined_apart scenario network good.base n to joined)).ends joined
+pub joined_up : (scenario : Scenario) (network : MessageNetwork Nodes) (copies : Copies) (datagrams : List Datagram)
+    → Good scenario network copies datagrams → (n to : NodeId) → network.joined (direction kinds.Ldp n to) ≡ true
+    → is_up (part_of (network.state.node n)) to ≡ true
+joined_up scenario network copies datagrams good n to joined =
+    ((good.kept []).rule.session n to (joined_apart scenario network good.base n to joined)).ends joined
 
-pub up_there : (scenario : Scenario) (network : MessageNetwork Nodes) (copies : Copies) (datagrams : List Datagram) → Good scenario network copies datagrams → (n : NodeId) (call : steps.Call) → ((to : NodeId) → network.joined (direction kinds.Ldp n to) ≡ true → IsNoCut to (own_label_call call))
+pub up_there : (scenario : Scenario) (network : MessageNetwork Nodes) (copies : Copies) (datagrams : List Datagram)
+    → Good scenario network copies datagrams → (n : NodeId) (call : steps.Call)
+    → ((to : NodeId) → network.joined (direction kinds.Ldp n to) ≡ true → IsNoCut to (own_label_call call))
     → UpWhereJoined network n (part_of (network.state.node n)) call
 up_there scenario network copies datagrams good n call cut to joined =
-    stays_up (label_place network.state.scenario (core_at network.state n) n) network.state.clock (part_of (network.state.node n)) (own_label_call call) to (cut to joined) (joined_up scenario network copies datagrams good n to joined)
+    stays_up (label_place network.state.scenario (core_at network.state n) n) network.state.clock (part_of (network.state.node n))
+    (own_label_call call) to (cut to joined) (joined_up scenario network copies datagrams good n to joined)
 
 -- ---- calls of a node by itself
 
@@ -165,14 +196,17 @@ up_there scenario network copies datagrams good n call cut to joined =
 -- is not joined and the end is up.
 abbrev pub IsFitCall : MessageNetwork Nodes → NodeId → steps.Call → Type 0
 IsFitCall network n (steps.Raised kinds.Ldp peer) = ⊥
-IsFitCall network n (steps.Noticed kinds.Ldp peer) = (network.joined (direction kinds.Ldp n peer) ≡ false) × (is_up (part_of (network.state.node n)) peer ≡ true)
+IsFitCall network n (steps.Noticed kinds.Ldp peer) =
+    (network.joined (direction kinds.Ldp n peer) ≡ false) × (is_up (part_of (network.state.node n)) peer ≡ true)
 IsFitCall network n (steps.Label neighbour message) = ⊥
 IsFitCall network n steps.Rerouted = ⊥
 IsFitCall network n (steps.Select vrf pattern) = HasRoom (control_of (network.state.node n)) (steps.Select vrf pattern)
 IsFitCall network n other = Unit {0}
 
-fit_cut : (network : MessageNetwork Nodes) (n : NodeId) (call : steps.Call) → IsFitCall network n call → (to : NodeId) → network.joined (direction kinds.Ldp n to) ≡ true → IsNoCut to (own_label_call call)
-fit_cut network n (steps.Noticed kinds.Ldp peer) fit to joined = λ same. let x : false ≡ true = sym fit.0 ∙ ap (λ (m : NodeId). network.joined (direction kinds.Ldp n m)) (sym same) ∙ joined in absurd cc
+fit_cut : (network : MessageNetwork Nodes) (n : NodeId) (call : steps.Call) → IsFitCall network n call → (to : NodeId)
+    → network.joined (direction kinds.Ldp n to) ≡ true → IsNoCut to (own_label_call call)
+fit_cut network n (steps.Noticed kinds.Ldp peer) fit to joined = λ same. let x : false ≡ true =
+    sym fit.0 ∙ ap (λ (m : NodeId). network.joined (direction kinds.Ldp n m)) (sym same) ∙ joined in absurd cc
 fit_cut network n (steps.Noticed kinds.Bgp peer) fit to joined = tt
 fit_cut network n (steps.Raised kinds.Ldp peer) fit to joined = tt
 fit_cut network n (steps.Raised kinds.Bgp peer) fit to joined = tt
@@ -186,11 +220,14 @@ fit_cut network n (steps.Unselect vrf pattern) fit to joined = tt
 fit_cut network n steps.Timers fit to joined = tt
 fit_cut network n steps.Rerouted fit to joined = tt
 
-fit_first : (network : MessageNetwork Nodes) (copies : Copies) (datagrams : List Datagram) (n : NodeId) (call : steps.Call) → IsFitCall network n call → Kept (label_network network copies datagrams) → FirstKept network copies datagrams n (own_label_call call)
+fit_first : (network : MessageNetwork Nodes) (copies : Copies) (datagrams : List Datagram) (n : NodeId) (call : steps.Call) → IsFitCall network n call
+    → Kept (label_network network copies datagrams) → FirstKept network copies datagrams n (own_label_call call)
 fit_first network copies datagrams n (steps.Noticed kinds.Ldp peer) fit k = λ first e.
     let w : LabelNetwork = label_network network copies datagrams in
     act_gives w (Notice n peer) (behind w n first) ((λ i. noticed w n peer (fit.0 i) (fit.1 i)) ∙ ap (option_map (behind w n)) e) k
-fit_first network copies datagrams n steps.Timers fit k = λ first e. (let w : LabelNetwork = label_network network copies datagrams in act_gives w (Timers n) (behind w n first) (ap (option_map (behind w n)) e) k)
+fit_first network copies datagrams n steps.Timers fit k =
+    λ first e. (let w : LabelNetwork = label_network network copies datagrams in
+    act_gives w (Timers n) (behind w n first) (ap (option_map (behind w n)) e) k)
 fit_first network copies datagrams n (steps.Noticed kinds.Bgp peer) fit k = k
 fit_first network copies datagrams n (steps.Raised kinds.Ldp peer) fit k = absurd fit
 fit_first network copies datagrams n (steps.Raised kinds.Bgp peer) fit k = k
@@ -203,7 +240,8 @@ fit_first network copies datagrams n (steps.Idle iface source group) fit k = k
 fit_first network copies datagrams n (steps.Select vrf pattern) fit k = k
 fit_first network copies datagrams n (steps.Unselect vrf pattern) fit k = k
 
-fit_room : (network : MessageNetwork Nodes) (n : NodeId) (call : steps.Call) → IsFitCall network n call → HasRoom (control_of (network.state.node n)) call
+fit_room : (network : MessageNetwork Nodes) (n : NodeId) (call : steps.Call) → IsFitCall network n call
+    → HasRoom (control_of (network.state.node n)) call
 fit_room network n (steps.Select vrf pattern) fit = fit
 fit_room network n (steps.Unselect vrf pattern) fit = tt
 fit_room network n (steps.Noticed kind peer) fit = tt
@@ -216,10 +254,15 @@ fit_room network n (steps.Idle iface source group) fit = tt
 fit_room network n steps.Timers fit = tt
 fit_room network n steps.Rerouted fit = tt
 
-pub own_good : (scenario : Scenario) (network : MessageNetwork Nodes) (copies : Copies) (datagrams : List Datagram) → Good scenario network copies datagrams → (n : NodeId) (call : steps.Call) → IsFitCall network n call → IsEdgeFit network n call → IsGoodCall call
-    → (new : Stepped Nodes) → node_called network.state n (network.state.node n) call ≡ Some new → Sound scenario new.state → Good scenario (with_messages network new) copies datagrams
+pub own_good : (scenario : Scenario) (network : MessageNetwork Nodes) (copies : Copies) (datagrams : List Datagram)
+    → Good scenario network copies datagrams → (n : NodeId) (call : steps.Call) → IsFitCall network n call → IsEdgeFit network n call
+    → IsGoodCall call
+    → (new : Stepped Nodes) → node_called network.state n (network.state.node n) call ≡ Some new → Sound scenario new.state
+    → Good scenario (with_messages network new) copies datagrams
 own_good scenario network copies datagrams good n call fit fits is new e sound =
-    call_good scenario network copies datagrams good.base n call new e is (fit_room network n call fit) sound (up_there scenario network copies datagrams good n call (fit_cut network n call fit)) (λ later. fit_first network copies (datagrams ++ later) n call fit (good.kept later))
+    call_good scenario network copies datagrams good.base n call new e is (fit_room network n call fit) sound
+    (up_there scenario network copies datagrams good n call (fit_cut network n call fit))
+    (λ later. fit_first network copies (datagrams ++ later) n call fit (good.kept later))
     (good.edges.0, good.edges.1, rule_behind network good.edges.0 n call good.edges.2 (fit_rule network good.edges.0 n call fits good.edges.2))
 
 -- ---- a message is taken
@@ -233,13 +276,20 @@ labels_cond true xs ys = refl
 labels_cond false xs ys = refl
 
 left_is : (network : MessageNetwork Nodes) (copies : Copies) (datagrams : List Datagram) (a b : NodeId) (rest : List SessionMessage)
-    → left_in_transit (label_network network copies datagrams) a b (labels_in rest) ≡ label_network (left network (direction kinds.Ldp a b) rest) copies datagrams
+    → left_in_transit (label_network network copies datagrams) a b (labels_in rest)
+    ≡ label_network (left network (direction kinds.Ldp a b) rest) copies datagrams
 left_is network copies datagrams a b rest =
     let w : LabelNetwork = label_network network copies datagrams in
-    λ i. record w { direction = λ u n. record (w.direction u n) { transit = sym (labels_cond ((u.0 == a.0) && (n.0 == b.0)) rest (network.transit (direction kinds.Ldp u n))) i } }
+    λ i. record w {
+      direction = λ u n. record (w.direction u n)
+          { transit = sym (labels_cond ((u.0 == a.0) && (n.0 == b.0)) rest (network.transit (direction kinds.Ldp u n))) i };
+    }
 
-label_first : (scenario : Scenario) (network : MessageNetwork Nodes) (copies : Copies) (datagrams : List Datagram) → Good scenario network copies datagrams → (a b : NodeId) (message : LabelMessage) (rest : List SessionMessage) → network.joined (direction kinds.Ldp a b) ≡ true
-    → network.transit (direction kinds.Ldp a b) ≡ Label message ∷ rest → (later : List Datagram) → FirstKept (left network (direction kinds.Ldp a b) rest) copies (datagrams ++ later) b (Some (labels.Taken a message))
+label_first : (scenario : Scenario) (network : MessageNetwork Nodes) (copies : Copies) (datagrams : List Datagram)
+    → Good scenario network copies datagrams → (a b : NodeId) (message : LabelMessage) (rest : List SessionMessage)
+    → network.joined (direction kinds.Ldp a b) ≡ true
+    → network.transit (direction kinds.Ldp a b) ≡ Label message ∷ rest → (later : List Datagram)
+    → FirstKept (left network (direction kinds.Ldp a b) rest) copies (datagrams ++ later) b (Some (labels.Taken a message))
 label_first scenario network copies datagrams good a b message rest joined e later first is =
     let w : LabelNetwork = label_network network copies (datagrams ++ later) in
     let other : (a.0 == b.0) ≡ false = node_apart a b (joined_apart scenario network good.base a b joined) in
@@ -248,10 +298,13 @@ label_first scenario network copies datagrams good a b message rest joined e lat
     let up : is_up (w.node b) a ≡ true = t.ends (sym s.alike ∙ joined) in
     let gone : LabelNetwork = left_in_transit w a b (labels_in rest) in
     subst (λ (v : LabelNetwork). Kept (behind v b first)) (left_is network copies (datagrams ++ later) a b rest)
-    (act_gives w (Deliver a b) (behind gone b first) ((λ i. delivered w a b (other i) (up i) (labels_in (e i))) ∙ ap (option_map (behind gone b)) is) (good.kept later))
+    (act_gives w (Deliver a b) (behind gone b first) ((λ i. delivered w a b (other i) (up i) (labels_in (e i))) ∙ ap (option_map (behind gone b)) is)
+    (good.kept later))
 
-left_base : (scenario : Scenario) (network : MessageNetwork Nodes) (over : Direction) (rest : List SessionMessage) → Base scenario network → Base scenario (left network over rest)
-left_base scenario network over rest base = record { sound = base.sound; apart = base.apart; numbers = base.numbers; peers = base.peers; kinds = base.kinds }
+left_base : (scenario : Scenario) (network : MessageNetwork Nodes) (over : Direction) (rest : List SessionMessage) → Base scenario network
+    → Base scenario (left network over rest)
+left_base scenario network over rest base =
+    record { sound = base.sound; apart = base.apart; numbers = base.numbers; peers = base.peers; kinds = base.kinds }
 
 -- a message of the session's protocol
 abbrev pub IsOfKind : Kind → SessionMessage → Type 0
@@ -260,12 +313,16 @@ IsOfKind kinds.Ldp (Label message) = Unit {0}
 IsOfKind kind other = ⊥
 
 -- a change that is taken
-cond_carries : (t : Bool) (rest old : List SessionMessage) (more changes : List (Change Key Value)) → rest ≡ map as_message more → old ≡ map as_message changes → cond t rest old ≡ map as_message (cond t more changes)
+cond_carries : (t : Bool) (rest old : List SessionMessage) (more changes : List (Change Key Value)) → rest ≡ map as_message more
+    → old ≡ map as_message changes → cond t rest old ≡ map as_message (cond t more changes)
 cond_carries true rest old more changes e f = e
 cond_carries false rest old more changes e f = f
 
-update_next : (scenario : Scenario) (network : MessageNetwork Nodes) (copies : Copies) (datagrams : List Datagram) → Good scenario network copies datagrams → (a b : NodeId) (message : Message) (rest : List SessionMessage) → network.joined (direction kinds.Bgp a b) ≡ true
-    → network.transit (direction kinds.Bgp a b) ≡ Bgp message ∷ rest → EdgesNext (left network (direction kinds.Bgp a b) rest) b (steps.Update a message)
+update_next : (scenario : Scenario) (network : MessageNetwork Nodes) (copies : Copies) (datagrams : List Datagram)
+    → Good scenario network copies datagrams → (a b : NodeId) (message : Message) (rest : List SessionMessage)
+    → network.joined (direction kinds.Bgp a b) ≡ true
+    → network.transit (direction kinds.Bgp a b) ≡ Bgp message ∷ rest
+    → EdgesNext (left network (direction kinds.Bgp a b) rest) b (steps.Update a message)
 update_next scenario network copies datagrams good a b message rest joined e = by (good.edges.0 a b) refl
   where
     changes : InTransit
@@ -288,19 +345,31 @@ update_next scenario network copies datagrams good a b message rest joined e = b
         let step : EdgeRule (edge_acts.stepped (edge_acts.left_in_transit w a b more) b (steps.Update a (message_of change))) =
         subst EdgeRule (λ i. edge_acts.delivered w a b (node_apart a b p.1 i) (up i) (is i)) (act_both w (edge_acts.Deliver a b) tt good.edges.2) in (
           next,
-          (λ u n. cond_carries ((u.0 == a.0) && (n.0 == b.0)) rest (network.transit (direction kinds.Bgp u n)) more (changes u n) tail (good.edges.1 u n)),
-          edge_rule_behind gone next b (steps.Update a message) (good.base.kinds b p.0) (subst (λ (m : Message). EdgeRule (edge_acts.stepped (edge_acts.left_in_transit w a b more) b (steps.Update a m))) (sym head) step),
+          (λ u n. cond_carries ((u.0 == a.0) && (n.0 == b.0)) rest (network.transit (direction kinds.Bgp u n)) more (changes u n) tail
+              (good.edges.1 u n)),
+          edge_rule_behind gone next b (steps.Update a message) (good.base.kinds b p.0)
+              (subst (λ (m : Message). EdgeRule (edge_acts.stepped (edge_acts.left_in_transit w a b more) b (steps.Update a m))) (sym head) step),
         )
 
-pub take_good : (scenario : Scenario) (network : MessageNetwork Nodes) (copies : Copies) (datagrams : List Datagram) → Good scenario network copies datagrams → (kind : Kind) (a b : NodeId) (message : SessionMessage) (rest : List SessionMessage)
-    → IsOfKind kind message → IsGoodCall (call_of a message) → network.joined (direction kind a b) ≡ true → network.transit (direction kind a b) ≡ message ∷ rest → (new : Stepped Nodes)
-    → node_called network.state b (network.state.node b) (call_of a message) ≡ Some new → Sound scenario new.state → Good scenario (with_messages (left network (direction kind a b) rest) new) copies datagrams
+pub take_good : (scenario : Scenario) (network : MessageNetwork Nodes) (copies : Copies) (datagrams : List Datagram)
+    → Good scenario network copies datagrams → (kind : Kind) (a b : NodeId) (message : SessionMessage) (rest : List SessionMessage)
+    → IsOfKind kind message → IsGoodCall (call_of a message) → network.joined (direction kind a b) ≡ true
+    → network.transit (direction kind a b) ≡ message ∷ rest → (new : Stepped Nodes)
+    → node_called network.state b (network.state.node b) (call_of a message) ≡ Some new → Sound scenario new.state
+    → Good scenario (with_messages (left network (direction kind a b) rest) new) copies datagrams
 take_good scenario network copies datagrams good kinds.Ldp a b (Label message) rest of is joined e new made sound =
-    call_good scenario (left network (direction kinds.Ldp a b) rest) copies datagrams (left_base scenario network (direction kinds.Ldp a b) rest good.base) b (steps.Label a message) new made is tt sound
-    (up_there scenario network copies datagrams good b (steps.Label a message) (λ to j. tt)) (label_first scenario network copies datagrams good a b message rest joined e)
-    (good.edges.0, good.edges.1, rule_behind network good.edges.0 b (steps.Label a message) good.edges.2 (fit_rule network good.edges.0 b (steps.Label a message) tt good.edges.2))
+    call_good scenario (left network (direction kinds.Ldp a b) rest) copies datagrams
+    (left_base scenario network (direction kinds.Ldp a b) rest good.base) b (steps.Label a message) new made is tt sound
+    (up_there scenario network copies datagrams good b (steps.Label a message) (λ to j. tt))
+    (label_first scenario network copies datagrams good a b message rest joined e) (
+      good.edges.0,
+      good.edges.1,
+      rule_behind network good.edges.0 b (steps.Label a message) good.edges.2
+          (fit_rule network good.edges.0 b (steps.Label a message) tt good.edges.2),
+    )
 take_good scenario network copies datagrams good kinds.Bgp a b (Bgp message) rest of is joined e new made sound =
-    call_good scenario (left network (direction kinds.Bgp a b) rest) copies datagrams (left_base scenario network (direction kinds.Bgp a b) rest good.base) b (steps.Update a message) new made is tt sound
+    call_good scenario (left network (direction kinds.Bgp a b) rest) copies datagrams
+    (left_base scenario network (direction kinds.Bgp a b) rest good.base) b (steps.Update a message) new made is tt sound
     (up_there scenario network copies datagrams good b (steps.Update a message) (λ to j. tt)) (λ later. good.kept later)
     (update_next scenario network copies datagrams good a b message rest joined e)
 take_good scenario network copies datagrams good kinds.Ldp a b (Bgp message) rest of is joined e new made sound = absurd of

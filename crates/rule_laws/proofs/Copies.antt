@@ -59,14 +59,17 @@ none_more true xs = sym (append-nil xs)
 none_more false xs = refl
 
 one_more : (t s : Bool) (xs : List PacketCopy) (now number : ℕ) (branch : Branch) (others : List Branch)
-    → cond t (cond (t && s) (xs ++ new_copy now number branch.label ∷ []) xs ++ map (new_copy now number) (map (λ own. own.label) others)) (cond (t && s) (xs ++ new_copy now number branch.label ∷ []) xs)
+    → cond t (cond (t && s) (xs ++ new_copy now number branch.label ∷ []) xs ++ map (new_copy now number) (map (λ own. own.label) others))
+    (cond (t && s) (xs ++ new_copy now number branch.label ∷ []) xs)
     ≡ cond t (xs ++ map (new_copy now number) (map (λ own. own.label) (cond s (branch ∷ others) others))) xs
-one_more true true xs now number branch others = append_assoc xs (new_copy now number branch.label ∷ []) (map (new_copy now number) (map (λ (own : Branch). own.label) others))
+one_more true true xs now number branch others =
+    append_assoc xs (new_copy now number branch.label ∷ []) (map (new_copy now number) (map (λ (own : Branch). own.label) others))
 one_more true false xs now number branch others = refl
 one_more false true xs now number branch others = refl
 one_more false false xs now number branch others = refl
 
-set_copies : (t : Bool) (old here : List LinkCopy) (copy : LinkCopy) → (t ≡ true → here ≡ old) → map packet_copy (cond t (here ++ copy ∷ []) old) ≡ cond t (map packet_copy old ++ packet_copy copy ∷ []) (map packet_copy old)
+set_copies : (t : Bool) (old here : List LinkCopy) (copy : LinkCopy) → (t ≡ true → here ≡ old)
+    → map packet_copy (cond t (here ++ copy ∷ []) old) ≡ cond t (map packet_copy old ++ packet_copy copy ∷ []) (map packet_copy old)
 set_copies true old here copy h = ap (λ (cs : List LinkCopy). map packet_copy (cs ++ copy ∷ [])) (h refl) ∙ both old
   where
     both : (cs : List LinkCopy) → map packet_copy (cs ++ copy ∷ []) ≡ map packet_copy cs ++ packet_copy copy ∷ []
@@ -75,7 +78,9 @@ set_copies true old here copy h = ap (λ (cs : List LinkCopy). map packet_copy (
 set_copies false old here copy h = refl
 
 branches_put : (node : NodeId) (ttl number : ℕ) (branches : List Branch) (world : World) (u m : NodeId)
-    → map packet_copy ((with_branches node ttl number branches world).copies u m) ≡ cond (u.0 == node.0) (map packet_copy (world.copies u m) ++ copies_to (clock_of world) number m branches) (map packet_copy (world.copies u m))
+    → map packet_copy ((with_branches node ttl number branches world).copies u m)
+    ≡ cond (u.0 == node.0) (map packet_copy (world.copies u m) ++ copies_to (clock_of world) number m branches)
+    (map packet_copy (world.copies u m))
 branches_put node ttl number [] world u m = none_more (u.0 == node.0) (map packet_copy (world.copies u m))
 branches_put node ttl number (branch ∷ more) world u m =
     let copy : LinkCopy = copy_on world ttl number branch in
@@ -86,8 +91,12 @@ branches_put node ttl number (branch ∷ more) world u m =
     let others : List Branch = filter (λ (own : Branch). own.node.0 == m.0) more in
     branches_put node ttl number more next u m
     ∙ ap (λ (cs : List PacketCopy). cond (u.0 == node.0) (cs ++ copies_to now number m more) cs)
-    (set_copies ((u.0 == node.0) && (m.0 == branch.node.0)) (world.copies u m) here copy (λ t. let x = and_parts (u.0 == node.0) (m.0 == branch.node.0) t in λ i. world.copies (sym (node_equal u node x.0) i) (sym (node_equal m branch.node x.1) i)))
-    ∙ ap (λ (s : Bool). cond (u.0 == node.0) (cond ((u.0 == node.0) && s) (old ++ new_copy now number branch.label ∷ []) old ++ copies_to now number m more) (cond ((u.0 == node.0) && s) (old ++ new_copy now number branch.label ∷ []) old)) (eq_turned m.0 branch.node.0)
+    (set_copies ((u.0 == node.0) && (m.0 == branch.node.0)) (world.copies u m) here copy
+    (λ t. let x = and_parts (u.0 == node.0) (m.0 == branch.node.0) t in
+    λ i. world.copies (sym (node_equal u node x.0) i) (sym (node_equal m branch.node x.1) i)))
+    ∙ ap (λ (s : Bool). cond (u.0 == node.0) (cond ((u.0 == node.0) && s) (old ++ new_copy now number branch.label ∷ []) old
+    ++ copies_to now number m more) (cond ((u.0 == node.0) && s) (old ++ new_copy now number branch.label ∷ []) old))
+    (eq_turned m.0 branch.node.0)
     ∙ one_more (u.0 == node.0) (branch.node.0 == m.0) old now number branch others
 
 -- The rule holds of the copies of a world, by what is pending.
@@ -98,34 +107,45 @@ CopiesKept pending world = AllKept (seen world.network pending) world.copies wor
 abbrev pub KeptWith : (Direction → List SessionMessage) → World → Copies → Type 0
 KeptWith pending world copies = AllKept (seen world.network pending) copies world.datagrams
 
-pub put_kept : (pending : Direction → List SessionMessage) (world : World) (n : NodeId) (fec : Fec) (ttl number : ℕ) → ((later : List Datagram) → vpn_of (scenario_of world) fec ≡ origin (scenario_of world) (world.datagrams ++ later) number) → CopiesKept pending world
+pub put_kept : (pending : Direction → List SessionMessage) (world : World) (n : NodeId) (fec : Fec) (ttl number : ℕ)
+    → ((later : List Datagram) → vpn_of (scenario_of world) fec ≡ origin (scenario_of world) (world.datagrams ++ later) number)
+    → CopiesKept pending world
     → KeptWith pending world (with_branches n ttl number (branches_of (part_of (world.network.state.node n)) fec) world).copies
 put_kept pending world n fec ttl number fits kept later =
     let all : List Datagram = world.datagrams ++ later in
     let w : LabelNetwork = label_network (seen world.network pending) world.copies all in
-    subst Kept (λ i. record w { direction = λ u m. record (w.direction u m) { copies = sym (branches_put n ttl number (branches_of (part_of (world.network.state.node n)) fec) world u m) i } }) (copied_kept w n fec number (fits later) (kept later))
+    subst Kept (λ i. record w {
+      direction = λ u m. record (w.direction u m)
+          { copies = sym (branches_put n ttl number (branches_of (part_of (world.network.state.node n)) fec) world u m) i };
+    })
+    (copied_kept w n fec number (fits later) (kept later))
 
 -- ---- a copy that leaves its link
 
-removed : (t : Bool) (k : ℕ) (old here : List LinkCopy) → (t ≡ true → here ≡ old) → cond t (remove (map packet_copy old) k) (map packet_copy old) ≡ map packet_copy (cond t (remove here k) old)
+removed : (t : Bool) (k : ℕ) (old here : List LinkCopy) → (t ≡ true → here ≡ old)
+    → cond t (remove (map packet_copy old) k) (map packet_copy old) ≡ map packet_copy (cond t (remove here k) old)
 removed true k old here h = sym (map_remove packet_copy old k) ∙ ap (λ (cs : List LinkCopy). map packet_copy (remove cs k)) (sym (h refl))
 removed false k old here h = refl
 
 without_is : (world : World) (pending : Direction → List SessionMessage) (all : List Datagram) (a b : NodeId) (place : ℕ)
-    → acts.without_copy (label_network (seen world.network pending) world.copies all) a b (place - 1) ≡ label_network (seen world.network pending) (without_copy world a b place).copies all
+    → acts.without_copy (label_network (seen world.network pending) world.copies all) a b (place - 1)
+    ≡ label_network (seen world.network pending) (without_copy world a b place).copies all
 without_is world pending all a b place =
     let w : LabelNetwork = label_network (seen world.network pending) world.copies all in
     λ i. record w {
       direction = λ u m. record (w.direction u m) {
-        copies = removed ((u.0 == a.0) && (m.0 == b.0)) (place - 1) (world.copies u m) (world.copies a b) (λ t. let x = and_parts (u.0 == a.0) (m.0 == b.0) t in λ j. world.copies (sym (node_equal u a x.0) j) (sym (node_equal m b x.1) j)) i;
+        copies = removed ((u.0 == a.0) && (m.0 == b.0)) (place - 1) (world.copies u m) (world.copies a b)
+            (λ t. let x = and_parts (u.0 == a.0) (m.0 == b.0) t in λ j. world.copies (sym (node_equal u a x.0) j) (sym (node_equal m b x.1) j)) i;
       };
     }
 
-pub drop_kept : (pending : Direction → List SessionMessage) (world : World) (a b : NodeId) (place : ℕ) → CopiesKept pending world → KeptWith pending world (without_copy world a b place).copies
+pub drop_kept : (pending : Direction → List SessionMessage) (world : World) (a b : NodeId) (place : ℕ) → CopiesKept pending world
+    → KeptWith pending world (without_copy world a b place).copies
 drop_kept pending world a b place kept later =
     let all : List Datagram = world.datagrams ++ later in
     let w : LabelNetwork = label_network (seen world.network pending) world.copies all in
-    subst Kept (without_is world pending all a b place) (act_gives w (acts.Drop a b (place - 1)) (acts.without_copy w a b (place - 1)) refl (kept later))
+    subst Kept (without_is world pending all a b place)
+    (act_gives w (acts.Drop a b (place - 1)) (acts.without_copy w a b (place - 1)) refl (kept later))
 
 -- ---- a copy that lands
 
@@ -133,17 +153,24 @@ drop_kept pending world a b place kept later =
 abbrev pub branches_by : NodeId → LabelData → Option LabelUse → List Branch
 branches_by a part usage = elim (tree_of a usage) [ None ↦ [] | Some fec ↦ branches_of part fec ]
 
-branches_in : (o : Option Fec) (outs : Fec → List IfaceId) (branches : Fec → List Branch) → (elim o as (λ _. Fate) [ None ↦ discarded | Some fec ↦ record { outs = outs fec; branches = branches fec } ]).branches ≡ elim o as (λ _. List Branch) [ None ↦ [] | Some fec ↦ branches fec ]
+branches_in : (o : Option Fec) (outs : Fec → List IfaceId) (branches : Fec → List Branch)
+    → (elim o as (λ _. Fate) [ None ↦ discarded | Some fec ↦ record { outs = outs fec; branches = branches fec } ]).branches
+    ≡ elim o as (λ _. List Branch) [ None ↦ [] | Some fec ↦ branches fec ]
 branches_in None outs branches = refl
 branches_in (Some fec) outs branches = refl
 
-pub fate_is : (world : World) (b : NodeId) (state : NodeState) (a : NodeId) (label : ℕ) (datagram : Datagram) → (fate_at world b state a label datagram).branches ≡ branches_by a (part_of state) (use_of (part_of state) label)
+pub fate_is : (world : World) (b : NodeId) (state : NodeState) (a : NodeId) (label : ℕ) (datagram : Datagram)
+    → (fate_at world b state a label datagram).branches ≡ branches_by a (part_of state) (use_of (part_of state) label)
 fate_is world b (Edge edge) a label datagram =
-    branches_in (tree_of a (use_of edge.part label)) (λ fec. outs_of (place_of world.network.state b) (clock_of world) edge fec datagram.source datagram.group) (branches_of edge.part)
+    branches_in (tree_of a (use_of edge.part label))
+    (λ fec. outs_of (place_of world.network.state b) (clock_of world) edge fec datagram.source datagram.group) (branches_of edge.part)
 fate_is world b (CoreNode part) a label datagram = branches_in (tree_of a (use_of part label)) (λ fec. []) (branches_of part)
 
-pub land_kept : (pending : Direction → List SessionMessage) (world : World) (a b : NodeId) → a ≢ b → (place : ℕ) (copy : LinkCopy) → slice_get (world.copies a b) (place - 1) ≡ Some copy → (ttl : ℕ) → CopiesKept pending world
-    → KeptWith pending world (with_branches b ttl copy.number (branches_by a (part_of (world.network.state.node b)) (use_of (part_of (world.network.state.node b)) copy.label)) (without_copy world a b place)).copies
+pub land_kept : (pending : Direction → List SessionMessage) (world : World) (a b : NodeId) → a ≢ b → (place : ℕ) (copy : LinkCopy)
+    → slice_get (world.copies a b) (place - 1) ≡ Some copy → (ttl : ℕ) → CopiesKept pending world
+    → KeptWith pending world (with_branches b ttl copy.number
+    (branches_by a (part_of (world.network.state.node b)) (use_of (part_of (world.network.state.node b)) copy.label))
+    (without_copy world a b place)).copies
 land_kept pending world a b ne place copy e ttl kept = by (use_of part copy.label) refl
   where
     part : LabelData
@@ -156,16 +183,22 @@ land_kept pending world a b ne place copy e ttl kept = by (use_of part copy.labe
     dropped = drop_kept pending world a b place kept
 
     -- the label is mapped towards the neighbour from which the copy came
-    fits : (fec : Fec) → use_of part copy.label ≡ Some (uses.Mapped fec a) → (later : List Datagram) → vpn_of (scenario_of world) fec ≡ origin (scenario_of world) (world.datagrams ++ later) copy.number
+    fits : (fec : Fec) → use_of part copy.label ≡ Some (uses.Mapped fec a) → (later : List Datagram)
+        → vpn_of (scenario_of world) fec ≡ origin (scenario_of world) (world.datagrams ++ later) copy.number
     fits fec is later =
         let w : LabelNetwork = label_network (seen world.network pending) world.copies (world.datagrams ++ later) in
-        lands_in_vpn w a b (place - 1) (packet_copy copy) fec (kept later).rule ne (map_get packet_copy (world.copies a b) (place - 1) ∙ ap (option_map packet_copy) e) is
+        lands_in_vpn w a b (place - 1) (packet_copy copy) fec (kept later).rule ne
+        (map_get packet_copy (world.copies a b) (place - 1) ∙ ap (option_map packet_copy) e) is
 
-    toward : (fec : Fec) (upstream : NodeId) (t : Bool) → (upstream.0 == a.0) ≡ t → use_of part copy.label ≡ Some (uses.Mapped fec upstream) → KeptWith pending world (with_branches b ttl copy.number (elim (cond t (Some fec) None) [ None ↦ [] | Some own ↦ branches_of part own ]) gone).copies
-    toward fec upstream true t is = put_kept pending gone b fec ttl copy.number (fits fec (is ∙ ap (λ (x : NodeId). Some (uses.Mapped fec x)) (node_equal upstream a t))) dropped
+    toward : (fec : Fec) (upstream : NodeId) (t : Bool) → (upstream.0 == a.0) ≡ t → use_of part copy.label ≡ Some (uses.Mapped fec upstream)
+        → KeptWith pending world (with_branches b ttl copy.number (elim (cond t (Some fec) None) [ None ↦ [] | Some own ↦ branches_of part own ])
+        gone).copies
+    toward fec upstream true t is =
+        put_kept pending gone b fec ttl copy.number (fits fec (is ∙ ap (λ (x : NodeId). Some (uses.Mapped fec x)) (node_equal upstream a t))) dropped
     toward fec upstream false t is = dropped
 
-    by : (usage : Option LabelUse) → use_of part copy.label ≡ usage → KeptWith pending world (with_branches b ttl copy.number (branches_by a part usage) gone).copies
+    by : (usage : Option LabelUse) → use_of part copy.label ≡ usage
+        → KeptWith pending world (with_branches b ttl copy.number (branches_by a part usage) gone).copies
     by None is = dropped
     by (Some uses.Free) is = dropped
     by (Some (uses.Leaving fec upstream)) is = dropped

@@ -42,7 +42,8 @@ map_both : (xs ys : List (Change Key Value)) → map as_message (xs ++ ys) ≡ m
 map_both [] ys = refl
 map_both (x ∷ xs) ys = ap (λ (ms : List SessionMessage). as_message x ∷ ms) (map_both xs ys)
 
-carries_more : (here joined : Bool) (old over : List SessionMessage) (changes puts : List (Change Key Value)) → old ≡ map as_message changes → (here ≡ true → joined ≡ true → over ≡ map as_message puts) → (here ≡ false → over ≡ [])
+carries_more : (here joined : Bool) (old over : List SessionMessage) (changes puts : List (Change Key Value)) → old ≡ map as_message changes
+    → (here ≡ true → joined ≡ true → over ≡ map as_message puts) → (here ≡ false → over ≡ [])
     → cond joined (old ++ over) old ≡ map as_message (cond (here && joined) (changes ++ puts) changes)
 carries_more true true old over changes puts e h k = (λ i. e i ++ h refl refl i) ∙ sym (map_both changes puts)
 carries_more true false old over changes puts e h k = e
@@ -77,8 +78,11 @@ core_idle : (network : EdgeNetwork) (n : NodeId) → network.node n ≡ no_contr
 core_idle network n e = λ i. record network {
   node = λ m. same_control (m.0 == n.0) no_control (network.node m) (λ t. ap network.node (node_equal m n t) ∙ e) i;
   direction = λ u m. record (network.direction u m) {
-    transit = sym (nothing_more ((u.0 == n.0) && (network.direction u m).joined) (network.direction u m).transit (put_to (record { scenario = network.scenario; core = network.core n; me = n }) (network.node n) no_control m)
-        (ap (λ (c : Control). put_to (record { scenario = network.scenario; core = network.core n; me = n }) c no_control m) e ∙ core_puts (record { scenario = network.scenario; core = network.core n; me = n }) m)) i;
+    transit =
+        sym (nothing_more ((u.0 == n.0) && (network.direction u m).joined) (network.direction u m).transit
+        (put_to (record { scenario = network.scenario; core = network.core n; me = n }) (network.node n) no_control m)
+        (ap (λ (c : Control). put_to (record { scenario = network.scenario; core = network.core n; me = n }) c no_control m) e
+        ∙ core_puts (record { scenario = network.scenario; core = network.core n; me = n }) m)) i;
   };
 }
 
@@ -87,17 +91,24 @@ core_idle network n e = λ i. record network {
 -- the changes in transit behind a step of a node
 abbrev pub changes_behind : MessageNetwork Nodes → InTransit → NodeId → Control → InTransit
 changes_behind network changes n new u m =
-    cond ((u.0 == n.0) && network.joined (direction kinds.Bgp u m)) (changes u m ++ put_to (place_of network.state n) (control_of (network.state.node n)) new m) (changes u m)
+    cond ((u.0 == n.0) && network.joined (direction kinds.Bgp u m))
+    (changes u m ++ put_to (place_of network.state n) (control_of (network.state.node n)) new m) (changes u m)
 
-puts_carry : (nodes : Nodes) (n to : NodeId) (state : NodeState) (call : steps.Call) → is_edge nodes.scenario to ≡ true → over_bgp n to (bgp_behind nodes n state call) ≡ map as_message (put_to (place_of nodes n) (control_of state) (control_behind nodes n state call) to)
-puts_carry nodes n to (Edge edge) call e = bgp_here (place_of nodes n) edge.control (control_step (place_of nodes n) nodes.clock edge.control call) to e
+puts_carry : (nodes : Nodes) (n to : NodeId) (state : NodeState) (call : steps.Call) → is_edge nodes.scenario to ≡ true
+    → over_bgp n to (bgp_behind nodes n state call)
+    ≡ map as_message (put_to (place_of nodes n) (control_of state) (control_behind nodes n state call) to)
+puts_carry nodes n to (Edge edge) call e =
+    bgp_here (place_of nodes n) edge.control (control_step (place_of nodes n) nodes.clock edge.control call) to e
 puts_carry nodes n to (CoreNode part) call e = sym (ap (map as_message) (core_puts (place_of nodes n) to))
 
-none_elsewhere : (nodes : Nodes) (n u to : NodeId) (state : NodeState) (call : steps.Call) → (n.0 == u.0) ≡ false → over_bgp u to (bgp_behind nodes n state call) ≡ []
-none_elsewhere nodes n u to (Edge edge) call e = bgp_elsewhere (place_of nodes n) edge.control (control_step (place_of nodes n) nodes.clock edge.control call) u to e
+none_elsewhere : (nodes : Nodes) (n u to : NodeId) (state : NodeState) (call : steps.Call) → (n.0 == u.0) ≡ false
+    → over_bgp u to (bgp_behind nodes n state call) ≡ []
+none_elsewhere nodes n u to (Edge edge) call e =
+    bgp_elsewhere (place_of nodes n) edge.control (control_step (place_of nodes n) nodes.clock edge.control call) u to e
 none_elsewhere nodes n u to (CoreNode part) call e = refl
 
-module _ (network : MessageNetwork Nodes) (changes : InTransit) (n : NodeId) (call : steps.Call) (new : Stepped Nodes) (c : CalledRow network.state n (network.state.node n) call new) where
+module _ (network : MessageNetwork Nodes) (changes : InTransit) (n : NodeId) (call : steps.Call) (new : Stepped Nodes)
+    (c : CalledRow network.state n (network.state.node n) call new) where
   abbrev nodes : Nodes
   nodes = network.state
 
@@ -106,10 +117,13 @@ module _ (network : MessageNetwork Nodes) (changes : InTransit) (n : NodeId) (ca
 
   pub carries_behind : Carries network changes → PeersAreEdges network → Carries (with_messages network new) (changes_behind network changes n after)
   carries_behind carries peers u m =
-      carries_more (u.0 == n.0) (network.joined (direction kinds.Bgp u m)) (network.transit (direction kinds.Bgp u m)) (messages_over (direction kinds.Bgp u m) new.puts) (changes u m) (put_to (place_of nodes n) (control_of (nodes.node n)) after m) (carries u m)
+      carries_more (u.0 == n.0) (network.joined (direction kinds.Bgp u m)) (network.transit (direction kinds.Bgp u m))
+      (messages_over (direction kinds.Bgp u m) new.puts) (changes u m) (put_to (place_of nodes n) (control_of (nodes.node n)) after m)
+      (carries u m)
       (λ t joined.
       let same : u ≡ n = node_equal u n t in
-      c.bgp u m ∙ ap (λ (x : NodeId). over_bgp x m (bgp_behind nodes n (nodes.node n) call)) same ∙ puts_carry nodes n m (nodes.node n) call (peers u m joined).0)
+      c.bgp u m ∙ ap (λ (x : NodeId). over_bgp x m (bgp_behind nodes n (nodes.node n) call)) same
+      ∙ puts_carry nodes n m (nodes.node n) call (peers u m joined).0)
       (λ f. c.bgp u m ∙ none_elsewhere nodes n u m (nodes.node n) call (turned u n f))
 
   pub edges_behind : edge_network (with_messages network new) (changes_behind network changes n after) ≡ behind (edge_network network changes) n after
@@ -121,32 +135,43 @@ module _ (network : MessageNetwork Nodes) (changes : InTransit) (n : NodeId) (ca
         direction = λ u m. record { joined = network.joined (direction kinds.Bgp u m); transit = changes_behind network changes n after u m };
       })
 
-  pub edges_kept : Carries network changes → PeersAreEdges network → EdgeRule (behind (edge_network network changes) n after) → EdgesKept (with_messages network new)
+  pub edges_kept : Carries network changes → PeersAreEdges network → EdgeRule (behind (edge_network network changes) n after)
+      → EdgesKept (with_messages network new)
   edges_kept carries peers rule = (changes_behind network changes n after, carries_behind carries peers, subst EdgeRule (sym edges_behind) rule)
 
 -- ---- the rule behind a step
 
 -- a step of a node that is an edge, and of one that is none
-pub rule_behind : (network : MessageNetwork Nodes) (changes : InTransit) (n : NodeId) (call : steps.Call) → EdgeRule (edge_network network changes) → EdgeRule (stepped (edge_network network changes) n call)
+pub rule_behind : (network : MessageNetwork Nodes) (changes : InTransit) (n : NodeId) (call : steps.Call) → EdgeRule (edge_network network changes)
+    → EdgeRule (stepped (edge_network network changes) n call)
     → EdgeRule (behind (edge_network network changes) n (control_behind network.state n (network.state.node n) call))
 rule_behind network changes n call rule step = by (network.state.node n) refl
   where
-    by : (state : NodeState) → network.state.node n ≡ state → EdgeRule (behind (edge_network network changes) n (control_behind network.state n state call))
-    by (Edge edge) at = subst (λ (control : Control). EdgeRule (behind (edge_network network changes) n (control_step (place_of network.state n) network.state.clock control call))) (ap control_of at) step
+    by : (state : NodeState) → network.state.node n ≡ state
+        → EdgeRule (behind (edge_network network changes) n (control_behind network.state n state call))
+    by (Edge edge) at =
+        subst (λ (control : Control). EdgeRule (behind (edge_network network changes) n
+        (control_step (place_of network.state n) network.state.clock control call))) (ap control_of at) step
     by (CoreNode part) at = subst EdgeRule (core_idle (edge_network network changes) n (ap control_of at)) rule
 
 -- the same of an edge alone
-pub edge_rule_behind : (network : MessageNetwork Nodes) (changes : InTransit) (n : NodeId) (call : steps.Call) → IsEdgeNode (network.state.node n) → EdgeRule (stepped (edge_network network changes) n call)
+pub edge_rule_behind : (network : MessageNetwork Nodes) (changes : InTransit) (n : NodeId) (call : steps.Call) → IsEdgeNode (network.state.node n)
+    → EdgeRule (stepped (edge_network network changes) n call)
     → EdgeRule (behind (edge_network network changes) n (control_behind network.state n (network.state.node n) call))
 edge_rule_behind network changes n call is step = by (network.state.node n) refl is
   where
-    by : (state : NodeState) → network.state.node n ≡ state → IsEdgeNode state → EdgeRule (behind (edge_network network changes) n (control_behind network.state n state call))
-    by (Edge edge) at own = subst (λ (control : Control). EdgeRule (behind (edge_network network changes) n (control_step (place_of network.state n) network.state.clock control call))) (ap control_of at) step
+    by : (state : NodeState) → network.state.node n ≡ state → IsEdgeNode state
+        → EdgeRule (behind (edge_network network changes) n (control_behind network.state n state call))
+    by (Edge edge) at own =
+        subst (λ (control : Control). EdgeRule (behind (edge_network network changes) n
+        (control_step (place_of network.state n) network.state.clock control call))) (ap control_of at) step
     by (CoreNode part) at own = absurd own
 
 -- what holds of the changes and of the network of edges at a step of a node
 abbrev pub EdgesNext : MessageNetwork Nodes → NodeId → steps.Call → Type 0
-EdgesNext network n call = (changes : InTransit) × Carries network changes × EdgeRule (behind (edge_network network changes) n (control_behind network.state n (network.state.node n) call))
+EdgesNext network n call =
+    (changes : InTransit) × Carries network changes
+    × EdgeRule (behind (edge_network network changes) n (control_behind network.state n (network.state.node n) call))
 
 -- What is asked of a call for the network of edges: a pattern is not selected twice, a loss is noticed at an end that is up of a session
 -- that is not joined; a message of a peer and a raise are acts of their own.
@@ -154,23 +179,31 @@ abbrev pub IsEdgeFit : MessageNetwork Nodes → NodeId → steps.Call → Type 0
 IsEdgeFit network n (steps.Update peer message) = ⊥
 IsEdgeFit network n (steps.Raised kinds.Bgp peer) = ⊥
 IsEdgeFit network n steps.Rerouted = ⊥
-IsEdgeFit network n (steps.Noticed kinds.Bgp peer) = (network.joined (direction kinds.Bgp n peer) ≡ false) × (network.joined (direction kinds.Bgp peer n) ≡ false) × (is_up (control_of (network.state.node n)) peer ≡ true)
+IsEdgeFit network n (steps.Noticed kinds.Bgp peer) =
+    (network.joined (direction kinds.Bgp n peer) ≡ false) × (network.joined (direction kinds.Bgp peer n) ≡ false)
+    × (is_up (control_of (network.state.node n)) peer ≡ true)
 IsEdgeFit network n (steps.Select vrf pattern) =
-    (is_some (maps.get (control_of (network.state.node n)).selections (record { vrf = vrf; pattern = pattern })) ≡ false) × HasRoom (control_of (network.state.node n)) (steps.Select vrf pattern)
+    (is_some (maps.get (control_of (network.state.node n)).selections (record { vrf = vrf; pattern = pattern })) ≡ false)
+    × HasRoom (control_of (network.state.node n)) (steps.Select vrf pattern)
 IsEdgeFit network n other = Unit {0}
 
-pub fit_rule : (network : MessageNetwork Nodes) (changes : InTransit) (n : NodeId) (call : steps.Call) → IsEdgeFit network n call → EdgeRule (edge_network network changes) → EdgeRule (stepped (edge_network network changes) n call)
+pub fit_rule : (network : MessageNetwork Nodes) (changes : InTransit) (n : NodeId) (call : steps.Call) → IsEdgeFit network n call
+    → EdgeRule (edge_network network changes) → EdgeRule (stepped (edge_network network changes) n call)
 fit_rule network changes n (steps.Update peer message) fit rule = absurd fit
 fit_rule network changes n (steps.Label neighbour message) fit rule = act_both (edge_network network changes) (acts.Label n neighbour message) tt rule
 fit_rule network changes n (steps.Pim iface message) fit rule = act_both (edge_network network changes) (acts.Pim n iface message) tt rule
-fit_rule network changes n (steps.Active iface source group) fit rule = act_both (edge_network network changes) (acts.Active n iface source group) tt rule
+fit_rule network changes n (steps.Active iface source group) fit rule =
+    act_both (edge_network network changes) (acts.Active n iface source group) tt rule
 fit_rule network changes n (steps.Idle iface source group) fit rule = act_both (edge_network network changes) (acts.Idle n iface source group) tt rule
-fit_rule network changes n (steps.Select vrf pattern) fit rule = subst (λ (b : Bool). EdgeRule (acts.selected (edge_network network changes) n vrf pattern b)) fit.0 (act_both (edge_network network changes) (acts.Select n vrf pattern) fit.1 rule)
+fit_rule network changes n (steps.Select vrf pattern) fit rule =
+    subst (λ (b : Bool). EdgeRule (acts.selected (edge_network network changes) n vrf pattern b)) fit.0
+    (act_both (edge_network network changes) (acts.Select n vrf pattern) fit.1 rule)
 fit_rule network changes n (steps.Unselect vrf pattern) fit rule = act_both (edge_network network changes) (acts.Unselect n vrf pattern) tt rule
 fit_rule network changes n (steps.Raised kinds.Ldp peer) fit rule = act_both (edge_network network changes) (acts.LabelRaise n peer) tt rule
 fit_rule network changes n (steps.Raised kinds.Bgp peer) fit rule = absurd fit
 fit_rule network changes n (steps.Noticed kinds.Ldp peer) fit rule = act_both (edge_network network changes) (acts.LabelNotice n peer) tt rule
 fit_rule network changes n (steps.Noticed kinds.Bgp peer) fit rule =
-    subst EdgeRule (λ i. acts.noticed (edge_network network changes) n peer (fit.0 i || fit.1 i) (fit.2 i)) (act_both (edge_network network changes) (acts.Notice n peer) tt rule)
+    subst EdgeRule (λ i. acts.noticed (edge_network network changes) n peer (fit.0 i || fit.1 i) (fit.2 i))
+    (act_both (edge_network network changes) (acts.Notice n peer) tt rule)
 fit_rule network changes n steps.Rerouted fit rule = absurd fit
 fit_rule network changes n steps.Timers fit rule = act_both (edge_network network changes) (acts.Timers n) tt rule

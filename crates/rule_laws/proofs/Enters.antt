@@ -22,11 +22,13 @@ one_longer : (before : List Datagram) (datagram : Datagram) → length (before +
 one_longer [] datagram = refl
 one_longer (first ∷ before) datagram = ap suc (one_longer before datagram)
 
-pub last_is : (before : List Datagram) (datagram : Datagram) (later : List Datagram) → numbered ((before ++ datagram ∷ []) ++ later) (length (before ++ datagram ∷ [])) ≡ Some datagram
+pub last_is : (before : List Datagram) (datagram : Datagram) (later : List Datagram)
+    → numbered ((before ++ datagram ∷ []) ++ later) (length (before ++ datagram ∷ [])) ≡ Some datagram
 last_is before datagram later =
     let longer = one_longer before datagram in
     let place : length (before ++ datagram ∷ []) - 1 ≡ length before = omega (arith, longer) in
-    numbered_at ((before ++ datagram ∷ []) ++ later) (length (before ++ datagram ∷ [])) (omega (arith, longer)) ∙ (λ i. slice_get (append_assoc before (datagram ∷ []) later i) (place i)) ∙ at_end before datagram later
+    numbered_at ((before ++ datagram ∷ []) ++ later) (length (before ++ datagram ∷ [])) (omega (arith, longer))
+    ∙ (λ i. slice_get (append_assoc before (datagram ∷ []) later i) (place i)) ∙ at_end before datagram later
 
 pub enters : Enters
 enters scenario world before datagram id s is_all attached vrf edge source group later known at =

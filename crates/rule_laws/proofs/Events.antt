@@ -71,7 +71,8 @@ use Rattle.rule_laws.proofs.Raises.{between}
 
 -- A datagram that enters at a VRF where its site is attached is one of the VRF's VPN.
 abbrev pub Enters : Type 0
-Enters = (scenario : Scenario) (world : World) (before : List Datagram) (datagram : Datagram) (id : VrfId) → InStep scenario world → world.datagrams ≡ before ++ datagram ∷ [] → is_attached_at (scenario_of world) id datagram.site ≡ true → IsFitEnter world id
+Enters = (scenario : Scenario) (world : World) (before : List Datagram) (datagram : Datagram) (id : VrfId) → InStep scenario world
+    → world.datagrams ≡ before ++ datagram ∷ [] → is_attached_at (scenario_of world) id datagram.site ≡ true → IsFitEnter world id
 
 -- ---- lists
 
@@ -92,16 +93,27 @@ IsFitSession scenario session = IsPair scenario session.kind session.a session.b
 abbrev pub IsEdgeFrom : Scenario → ℕ → NodeId → Type 0
 IsEdgeFrom scenario number n = (number ≤ n.0) × (n.0 < length scenario.nodes) × (is_edge scenario n ≡ true)
 
-pub edges_are : (scenario : Scenario) (number : ℕ) (nodes : List Node) → ((k : ℕ) (node : Node) → slice_get nodes k ≡ Some node → slice_get scenario.nodes (number + k) ≡ Some node) → AllByRecursion (IsEdgeFrom scenario number) (edges_from number nodes)
+pub edges_are : (scenario : Scenario) (number : ℕ) (nodes : List Node)
+    → ((k : ℕ) (node : Node) → slice_get nodes k ≡ Some node → slice_get scenario.nodes (number + k) ≡ Some node)
+    → AllByRecursion (IsEdgeFrom scenario number) (edges_from number nodes)
 edges_are scenario number [] at = tt
 edges_are scenario number (node ∷ more) at =
     let n : NodeId = record { 0 = number } in
     let here : slice_get scenario.nodes number ≡ Some node = ap (slice_get scenario.nodes) (omega arith) ∙ at 0 node refl in
     let rest : AllByRecursion (IsEdgeFrom scenario number) (edges_from (number + 1) more) =
-    each_weaker (IsEdgeFrom scenario (number + 1)) (IsEdgeFrom scenario number) (λ m e. ((let le = e.0 in omega (arith, le)), e.1, e.2)) (edges_from (number + 1) more)
+    each_weaker (IsEdgeFrom scenario (number + 1)) (IsEdgeFrom scenario number) (λ m e. ((let le = e.0 in omega (arith, le)), e.1, e.2))
+    (edges_from (number + 1) more)
     (edges_are scenario (number + 1) more (λ k one e. ap (slice_get scenario.nodes) (omega arith) ∙ at (suc k) one e)) in
-    elim node.edge as (λ b. node.edge ≡ b → AllByRecursion (IsEdgeFrom scenario number) (cond b (n ∷ edges_from (number + 1) more) (edges_from (number + 1) more))) [
-      | true ↦ λ e. ((omega arith, slice_get_within scenario.nodes number node here, ap (λ (o : Option Node). elim o as (λ _. Bool) [ None ↦ false | Some found ↦ found.edge ]) here ∙ e), rest)
+    elim node.edge as (λ b. node.edge ≡ b → AllByRecursion (IsEdgeFrom scenario number)
+    (cond b (n ∷ edges_from (number + 1) more) (edges_from (number + 1) more))) [
+      | true ↦ λ e. (
+        (
+          omega arith,
+          slice_get_within scenario.nodes number node here,
+          ap (λ (o : Option Node). elim o as (λ _. Bool) [ None ↦ false | Some found ↦ found.edge ]) here ∙ e,
+        ),
+        rest,
+      )
       | false ↦ λ e. rest
     ] refl
 
@@ -110,30 +122,48 @@ abbrev pub AreRising : List NodeId → Type 0
 AreRising [] = Unit {0}
 AreRising (n ∷ more) = AllByRecursion (λ (m : NodeId). n.0 < m.0) more × AreRising more
 
-pub edges_rise : (scenario : Scenario) (number : ℕ) (nodes : List Node) → ((k : ℕ) (node : Node) → slice_get nodes k ≡ Some node → slice_get scenario.nodes (number + k) ≡ Some node) → AreRising (edges_from number nodes)
+pub edges_rise : (scenario : Scenario) (number : ℕ) (nodes : List Node)
+    → ((k : ℕ) (node : Node) → slice_get nodes k ≡ Some node → slice_get scenario.nodes (number + k) ≡ Some node)
+    → AreRising (edges_from number nodes)
 edges_rise scenario number [] at = tt
 edges_rise scenario number (node ∷ more) at =
     let later = λ (k : ℕ) (one : Node) (e : slice_get more k ≡ Some one). ap (slice_get scenario.nodes) (omega arith) ∙ at (suc k) one e in
     let rest = edges_rise scenario (number + 1) more later in
     elim node.edge as (λ b. AreRising (cond b (record { 0 = number } ∷ edges_from (number + 1) more) (edges_from (number + 1) more))) [
-      | true ↦ (each_weaker (IsEdgeFrom scenario (number + 1)) (λ m. number < m.0) (λ m e. (let le = e.0 in omega (arith, le))) (edges_from (number + 1) more) (edges_are scenario (number + 1) more later), rest)
+      | true ↦ (
+        each_weaker (IsEdgeFrom scenario (number + 1)) (λ m. number < m.0) (λ m e. (let le = e.0 in omega (arith, le)))
+            (edges_from (number + 1) more) (edges_are scenario (number + 1) more later),
+        rest,
+      )
       | false ↦ rest
     ]
 
-pairs_fit : (scenario : Scenario) (all : List NodeId) → AllByRecursion (IsEdgeFrom scenario 0) all → AreRising all → AllByRecursion (IsFitSession scenario) (bgp_sessions all)
+pairs_fit : (scenario : Scenario) (all : List NodeId) → AllByRecursion (IsEdgeFrom scenario 0) all → AreRising all
+    → AllByRecursion (IsFitSession scenario) (bgp_sessions all)
 pairs_fit scenario [] are rise = tt
 pairs_fit scenario (a ∷ later) are rise =
     each_append (IsFitSession scenario) (map (bgp_session a) later) (bgp_sessions later)
-    (each_map (IsFitSession scenario) (bgp_session a) later (each_weaker (λ (b : NodeId). IsEdgeFrom scenario 0 b × (a.0 < b.0)) (λ b. IsFitSession scenario (bgp_session a b))
-    (λ b e. record { first = are.0.1; second = e.0.1; apart = λ same. (let x = e.1 in let y = ap (λ (n : NodeId). n.0) same in omega (arith, x, y)); ends = (are.0.2, e.0.2) }) later (each_both (IsEdgeFrom scenario 0) (λ b. a.0 < b.0) later are.1 rise.0)))
+    (each_map (IsFitSession scenario) (bgp_session a) later
+    (each_weaker (λ (b : NodeId). IsEdgeFrom scenario 0 b × (a.0 < b.0)) (λ b. IsFitSession scenario (bgp_session a b))
+    (λ b e. record {
+      first = are.0.1;
+      second = e.0.1;
+      apart =
+          λ same. (let x = e.1 in let y = ap (λ (n : NodeId). n.0) same in omega (arith, x, y));
+      ends = (are.0.2, e.0.2);
+    }) later
+    (each_both (IsEdgeFrom scenario 0) (λ b. a.0 < b.0) later are.1 rise.0)))
     (pairs_fit scenario later are.1 rise.1)
 
 pub sessions_fit : (scenario : Scenario) → SoundScenario scenario → AllByRecursion (IsFitSession scenario) (sessions scenario)
 sessions_fit scenario sound =
     let own = λ (k : ℕ) (node : Node) (e : slice_get scenario.nodes k ≡ Some node). ap (slice_get scenario.nodes) (omega arith) ∙ e in
-    each_append (IsFitSession scenario) (bgp_sessions (edges scenario)) (map ldp_session scenario.links) (pairs_fit scenario (edges scenario) (edges_are scenario 0 scenario.nodes own) (edges_rise scenario 0 scenario.nodes own))
-    (each_map (IsFitSession scenario) ldp_session scenario.links (each_weaker (HasEnds (length scenario.nodes)) (λ link. IsFitSession scenario (ldp_session link))
-    (λ link ends. record { first = ends.a; second = ends.b; apart = λ same. ends.two (ap (λ (n : NodeId). n.0) same); ends = tt }) scenario.links (links_are scenario sound)))
+    each_append (IsFitSession scenario) (bgp_sessions (edges scenario)) (map ldp_session scenario.links)
+    (pairs_fit scenario (edges scenario) (edges_are scenario 0 scenario.nodes own) (edges_rise scenario 0 scenario.nodes own))
+    (each_map (IsFitSession scenario) ldp_session scenario.links
+    (each_weaker (HasEnds (length scenario.nodes)) (λ link. IsFitSession scenario (ldp_session link))
+    (λ link ends. record { first = ends.a; second = ends.b; apart = λ same. ends.two (ap (λ (n : NodeId). n.0) same); ends = tt }) scenario.links
+    (links_are scenario sound)))
 
 abbrev pub IsWay : NodeId × NodeId → Type 0
 IsWay way = way.0 ≢ way.1
@@ -142,7 +172,8 @@ pub ways_apart : (scenario : Scenario) → SoundScenario scenario → AllByRecur
 ways_apart scenario sound =
     each_flat IsWay (λ link. (link.a, link.b) ∷ (link.b, link.a) ∷ []) scenario.links
     (each_weaker (HasEnds (length scenario.nodes)) (λ (link : Link). AllByRecursion IsWay ((link.a, link.b) ∷ (link.b, link.a) ∷ []))
-    (λ link ends. ((λ same. ends.two (ap (λ (n : NodeId). n.0) same)), ((λ same. ends.two (sym (ap (λ (n : NodeId). n.0) same))), tt))) scenario.links (links_are scenario sound))
+    (λ link ends. ((λ same. ends.two (ap (λ (n : NodeId). n.0) same)), ((λ same. ends.two (sym (ap (λ (n : NodeId). n.0) same))), tt))) scenario.links
+    (links_are scenario sound))
 
 -- ---- rows of acts
 
@@ -160,20 +191,28 @@ module _ (scenario : Scenario) where
   keeps : (one : Act) → SoundAct scenario one → ((world : World) → IsFit world one) → Keep one
   keeps one sound fit world s = act_in_step scenario one sound world (fit world) s
 
-  alone : (one : Act) → SoundAct scenario one → (world : World) → IsFit world one → InStep scenario world → Goes LabelRule Keeping world (row (one ∷ []) world)
-  alone one sound world fit s = goes_then LabelRule Keeping Keeping (world_rule scenario) one [] world (world_rule scenario world s) (act_in_step scenario one sound world fit s) (λ next p. nothing_goes LabelRule Keeping next (world_rule scenario next p) p)
+  alone : (one : Act) → SoundAct scenario one → (world : World) → IsFit world one → InStep scenario world
+      → Goes LabelRule Keeping world (row (one ∷ []) world)
+  alone one sound world fit s =
+      goes_then LabelRule Keeping Keeping (world_rule scenario) one [] world (world_rule scenario world s)
+      (act_in_step scenario one sound world fit s) (λ next p. nothing_goes LabelRule Keeping next (world_rule scenario next p) p)
 
   -- ---- settling and draining
 
   turn_in_step : (over : Direction) (world : World) → InStep scenario world → Goes LabelRule Keeping world (turn over world)
   turn_in_step over world s = by (world.network.transit over)
     where
-      by : (octets : List ℕ) → Goes LabelRule Keeping world (elim octets [ [] ↦ Done [] world | octet ∷ more ↦ row (Move over.kind over.from over.to (length (octet ∷ more)) ∷ []) world ])
+      by : (octets : List ℕ) → Goes LabelRule Keeping world
+          (elim octets [ [] ↦ Done [] world | octet ∷ more ↦ row (Move over.kind over.from over.to (length (octet ∷ more)) ∷ []) world ])
       by [] = nothing_goes LabelRule Keeping world (world_rule scenario world s) s
-      by (octet ∷ more) = row_in_step (Move over.kind over.from over.to (length (octet ∷ more)) ∷ []) (keeps (Move over.kind over.from over.to (length (octet ∷ more))) tt (λ old. tt), tt) world s
+      by (octet ∷ more) =
+          row_in_step (Move over.kind over.from over.to (length (octet ∷ more)) ∷ [])
+          (keeps (Move over.kind over.from over.to (length (octet ∷ more))) tt (λ old. tt), tt) world s
 
   round_in_step : (all : List Direction) (world : World) → InStep scenario world → Goes LabelRule Keeping world (each turn all world)
-  round_in_step all world s = each_goes LabelRule Keeping (world_rule scenario) turn all (each_of (λ over. (old : World) → InStep scenario old → Goes LabelRule Keeping old (turn over old)) turn_in_step all) world s
+  round_in_step all world s =
+      each_goes LabelRule Keeping (world_rule scenario) turn all
+      (each_of (λ over. (old : World) → InStep scenario old → Goes LabelRule Keeping old (turn over old)) turn_in_step all) world s
 
   same_acts : (one : Act) → Keep one → (count : ℕ) → AllByRecursion Keep (replicate count one)
   same_acts one keep zero = tt
@@ -182,59 +221,89 @@ module _ (scenario : Scenario) where
   drain_in_step : (world : World) → InStep scenario world → Goes LabelRule Keeping world (drain_round world)
   drain_in_step world s =
       let ways = link_ways (scenario_of world) in
-      let apart : AllByRecursion IsWay ways = subst (λ (own : Scenario). AllByRecursion IsWay (link_ways own)) (sym s.2.base.sound.same) (ways_apart scenario s.2.base.sound.lines) in
+      let apart : AllByRecursion IsWay ways =
+      subst (λ (own : Scenario). AllByRecursion IsWay (link_ways own)) (sym s.2.base.sound.same) (ways_apart scenario s.2.base.sound.lines) in
       row_in_step (flat_map (landings world) ways)
-      (each_flat Keep (landings world) ways (each_weaker IsWay (λ way. AllByRecursion Keep (landings world way)) (λ way ne. same_acts (Land way.0 way.1 1) (λ old p. act_in_step scenario (Land way.0 way.1 1) tt old ne p) (length (world.copies way.0 way.1))) ways apart)) world s
+      (each_flat Keep (landings world) ways (each_weaker IsWay (λ way. AllByRecursion Keep (landings world way))
+      (λ way ne. same_acts (Land way.0 way.1 1) (λ old p. act_in_step scenario (Land way.0 way.1 1) tt old ne p)
+      (length (world.copies way.0 way.1))) ways apart)) world s
 
   -- ---- datagrams
 
   pub enter_datagrams : (world : World) (id : VrfId) → Gives (λ new. new.datagrams ≡ world.datagrams) (act world (Enter id))
   enter_datagrams world id = by (slice_get (scenario_of world).vrfs id.0) (datagram_at world (length world.datagrams))
     where
-      at : (vrf : Vrf) (state : NodeState) (datagram : Datagram) → (enters_at world (record { id = id; vrf = vrf }) state datagram).world.datagrams ≡ world.datagrams
+      at : (vrf : Vrf) (state : NodeState) (datagram : Datagram)
+          → (enters_at world (record { id = id; vrf = vrf }) state datagram).world.datagrams ≡ world.datagrams
       at vrf (CoreNode part) datagram = refl
-      at vrf (Edge edge) datagram = branches_datagrams vrf.edge 255 (length world.datagrams) (entering_fate (place_of world.network.state vrf.edge) (clock_of world) edge (record { id = id; vrf = vrf }) datagram.site datagram.source datagram.group).branches world
+      at vrf (Edge edge) datagram =
+          branches_datagrams vrf.edge 255 (length world.datagrams)
+          (entering_fate (place_of world.network.state vrf.edge) (clock_of world) edge (record { id = id; vrf = vrf }) datagram.site datagram.source
+          datagram.group).branches world
 
       by : (o : Option Vrf) (d : Option Datagram) → (entering world id o d).world.datagrams ≡ world.datagrams
       by (Some vrf) (Some datagram) = at vrf (world.network.state.node vrf.edge) datagram
       by (Some vrf) None = refl
       by None d = refl
 
-  pub along : (old all : List Datagram) → old ≡ all → (o : Result Acted NodeId) → Gives (λ new. new.datagrams ≡ old) o → Gives (λ new. new.datagrams ≡ all) o
+  pub along : (old all : List Datagram) → old ≡ all → (o : Result Acted NodeId) → Gives (λ new. new.datagrams ≡ old) o
+      → Gives (λ new. new.datagrams ≡ all) o
   along old all e (Err node) h = tt
   along old all e (Ok new) h = h ∙ e
 
-  pub attached_from : (own : Scenario) (site : SiteId) (number : ℕ) (vrfs : List Vrf) → AllByRecursion (λ (id : VrfId). is_attached_at own id site ≡ true) (entered_from own site number vrfs)
+  pub attached_from : (own : Scenario) (site : SiteId) (number : ℕ) (vrfs : List Vrf)
+      → AllByRecursion (λ (id : VrfId). is_attached_at own id site ≡ true) (entered_from own site number vrfs)
   attached_from own site number [] = tt
   attached_from own site number (vrf ∷ more) =
       let rest = attached_from own site (number + 1) more in
-      elim (is_attached_at own (record { 0 = number }) site) as (λ t. is_attached_at own (record { 0 = number }) site ≡ t → AllByRecursion (λ (id : VrfId). is_attached_at own id site ≡ true) (cond t (record { 0 = number } ∷ entered_from own site (number + 1) more) (entered_from own site (number + 1) more))) [
+      elim (is_attached_at own (record { 0 = number }) site) as
+      (λ t. is_attached_at own (record { 0 = number }) site ≡ t
+      → AllByRecursion (λ (id : VrfId). is_attached_at own id site ≡ true)
+      (cond t (record { 0 = number } ∷ entered_from own site (number + 1) more) (entered_from own site (number + 1) more))) [
         | true ↦ λ e. (e, rest)
         | false ↦ λ e. rest
       ] refl
 
-  sent_in_step : Enters → (site : SiteId) (source group : Addr) (octets : List ℕ) (world : World) → InStep scenario world → GoesWith LabelRule Keeping world (sent site source group octets world)
+  sent_in_step : Enters → (site : SiteId) (source group : Addr) (octets : List ℕ) (world : World) → InStep scenario world
+      → GoesWith LabelRule Keeping world (sent site source group octets world)
   sent_in_step enters site source group octets world (pending, are, good) =
       let datagram : Datagram = record { site = site; source = source; group = group; octets = octets } in
       let all : List Datagram = world.datagrams ++ datagram ∷ [] in
       let with_it : World = record world { datagrams = all } in
       let P : World → Type 0 = λ new. InStep scenario new × (new.datagrams ≡ all) in
-      let start : InStep scenario with_it = (pending, are, record { base = good.base; edges = good.edges; kept = λ later. subst (λ (ds : List Datagram). Kept (label_network (seen world.network pending) world.copies ds)) (sym (append_assoc world.datagrams (datagram ∷ []) later)) (good.kept (datagram ∷ later)) }) in
+      let start : InStep scenario with_it = (
+        pending,
+        are,
+        record {
+          base = good.base;
+          edges = good.edges;
+          kept =
+              λ later. subst (λ (ds : List Datagram). Kept (label_network (seen world.network pending) world.copies ds))
+              (sym (append_assoc world.datagrams (datagram ∷ []) later)) (good.kept (datagram ∷ later));
+        },
+      ) in
       let ids : List VrfId = entered (scenario_of world) site in
       let attached : AllByRecursion (λ (id : VrfId). is_attached_at scenario id site ≡ true) ids =
-      subst (λ (own : Scenario). AllByRecursion (λ (id : VrfId). is_attached_at own id site ≡ true) ids) good.base.sound.same (attached_from (scenario_of world) site 0 (scenario_of world).vrfs) in (
+      subst (λ (own : Scenario). AllByRecursion (λ (id : VrfId). is_attached_at own id site ≡ true) ids) good.base.sound.same
+      (attached_from (scenario_of world) site 0 (scenario_of world).vrfs) in (
         all,
         goes_as LabelRule P Keeping with_it (row (map (λ id. Enter id) ids) with_it) (λ new p. p.0)
             (row_goes LabelRule P (λ new p. world_rule scenario new p.0) (map (λ id. Enter id) ids)
             (each_map (λ one. (old : World) → P old → Gives P (act old one)) (λ id. Enter id) ids
-            (each_weaker (λ (id : VrfId). is_attached_at scenario id site ≡ true) (λ id. (old : World) → P old → Gives P (act old (Enter id))) (λ id at old p.
-            let there : is_attached_at (scenario_of old) id site ≡ true = ap (λ (own : Scenario). is_attached_at own id site) p.0.2.base.sound.same ∙ at in
-            both_give Keeping (λ new. new.datagrams ≡ all) (act old (Enter id)) (act_in_step scenario (Enter id) tt old (enters scenario old world.datagrams datagram id p.0 p.1 there) p.0) (along old.datagrams all p.1 (act old (Enter id)) (enter_datagrams old id))) ids attached)) with_it (start, refl)),
+            (each_weaker (λ (id : VrfId). is_attached_at scenario id site ≡ true) (λ id. (old : World) → P old → Gives P (act old (Enter id)))
+            (λ id at old p.
+            let there : is_attached_at (scenario_of old) id site ≡ true =
+            ap (λ (own : Scenario). is_attached_at own id site) p.0.2.base.sound.same ∙ at in
+            both_give Keeping (λ new. new.datagrams ≡ all) (act old (Enter id))
+            (act_in_step scenario (Enter id) tt old (enters scenario old world.datagrams datagram id p.0 p.1 there) p.0)
+            (along old.datagrams all p.1 (act old (Enter id)) (enter_datagrams old id))) ids attached)) with_it (start, refl)),
       )
 
   -- ---- calls
 
-  edge_in_step : (o : Option NodeId) (call : steps.Call) → IsFoundNode scenario o → IsSoundCall call → ((n : NodeId) → o ≡ Some n → (world : World) → IsFit world (At n call)) → (world : World) → InStep scenario world → Goes LabelRule Keeping world (at_edge o call world)
+  edge_in_step : (o : Option NodeId) (call : steps.Call) → IsFoundNode scenario o → IsSoundCall call
+      → ((n : NodeId) → o ≡ Some n → (world : World) → IsFit world (At n call)) → (world : World) → InStep scenario world
+      → Goes LabelRule Keeping world (at_edge o call world)
   edge_in_step None call within sound fit world s = nothing_goes LabelRule Keeping world (world_rule scenario world s) s
   edge_in_step (Some n) call within sound fit world s = alone (At n call) (within, sound) world (fit n refl world) s
 
@@ -246,11 +315,15 @@ module _ (scenario : Scenario) where
   kind_is kinds.Bgp kinds.Ldp e = absurd cc
   kind_is kinds.Ldp kinds.Bgp e = absurd cc
 
-  raise_in_step : (kind : Kind) (a b : NodeId) (all : List Session) → AllByRecursion (IsFitSession scenario) all → (world : World) → is_end world kind a b ≡ false → is_end world kind b a ≡ false → InStep scenario world → Goes LabelRule Keeping world (row (raises all kind a b) world)
+  raise_in_step : (kind : Kind) (a b : NodeId) (all : List Session) → AllByRecursion (IsFitSession scenario) all → (world : World)
+      → is_end world kind a b ≡ false → is_end world kind b a ≡ false → InStep scenario world
+      → Goes LabelRule Keeping world (row (raises all kind a b) world)
   raise_in_step kind a b [] fit world off back s = nothing_goes LabelRule Keeping world (world_rule scenario world s) s
   raise_in_step kind a b (session ∷ more) fit world off back s =
       let later = raise_in_step kind a b more fit.1 world off back s in
-      elim (is_session_of kind a b session) as (λ t. is_session_of kind a b session ≡ t → Goes LabelRule Keeping world (row (elim (cond t (Some session) (find (is_session_of kind a b) more)) [ None ↦ [] | Some found ↦ raise_acts found ]) world)) [
+      elim (is_session_of kind a b session) as (λ t. is_session_of kind a b session ≡ t
+      → Goes LabelRule Keeping world (row (elim (cond t (Some session) (find (is_session_of kind a b) more))
+      [ None ↦ [] | Some found ↦ raise_acts found ]) world)) [
         | true ↦ λ e.
             let x = and_parts (same_kind kind session.kind) (is_between a b session.a session.b) e in
             let own : kind ≡ session.kind = kind_is kind session.kind x.0 in
@@ -275,96 +348,166 @@ or_not_refused (Some reason) other e = let x : None ≡ Some reason = sym e in a
 settle_in_step : (world : World) → InStep (scenario_of world) world → Goes LabelRule (InStep (scenario_of world)) world (settled world)
 settle_in_step world s =
     let scenario = scenario_of world in
-    then_goes LabelRule (InStep scenario) (InStep scenario) world (row (map (λ n. Timers n) (all_nodes scenario)) world) (times (each turn (directions scenario)) (length scenario.nodes + 3))
+    then_goes LabelRule (InStep scenario) (InStep scenario) world (row (map (λ n. Timers n) (all_nodes scenario)) world)
+    (times (each turn (directions scenario)) (length scenario.nodes + 3))
     (row_in_step scenario (map (λ n. Timers n) (all_nodes scenario))
-    (each_map (Keep scenario) (λ n. Timers n) (all_nodes scenario) (each_weaker (IsNode scenario) (λ n. Keep scenario (Timers n)) (λ n within. keeps scenario (Timers n) within (λ old. tt)) (all_nodes scenario) (nodes_within 0 (length scenario.nodes) (length scenario.nodes) (omega arith)))) world s)
-    (λ next p. times_goes LabelRule (InStep scenario) (world_rule scenario) (each turn (directions scenario)) (λ one q. round_in_step scenario (directions scenario) one q) (length scenario.nodes + 3) next p)
+    (each_map (Keep scenario) (λ n. Timers n) (all_nodes scenario)
+    (each_weaker (IsNode scenario) (λ n. Keep scenario (Timers n)) (λ n within. keeps scenario (Timers n) within (λ old. tt)) (all_nodes scenario)
+    (nodes_within 0 (length scenario.nodes) (length scenario.nodes) (omega arith)))) world s)
+    (λ next p. times_goes LabelRule (InStep scenario) (world_rule scenario) (each turn (directions scenario))
+    (λ one q. round_in_step scenario (directions scenario) one q) (length scenario.nodes + 3) next p)
 
-cost_in_step : (world : World) (a b : NodeId) (cost : ℕ) → IsCost cost → InStep (scenario_of world) world → Goes LabelRule (InStep (scenario_of world)) world (row (cost_acts (scenario_of world) a b cost) world)
+cost_in_step : (world : World) (a b : NodeId) (cost : ℕ) → IsCost cost → InStep (scenario_of world) world
+    → Goes LabelRule (InStep (scenario_of world)) world (row (cost_acts (scenario_of world) a b cost) world)
 cost_in_step world a b cost is s =
     let scenario = scenario_of world in
     row_in_step scenario (cost_acts scenario a b cost) (
       keeps scenario (SetCost a b cost) is (λ old. tt),
-      each_map (Keep scenario) (λ n. Reroute n) (all_nodes scenario) (each_weaker (IsNode scenario) (λ n. Keep scenario (Reroute n)) (λ n within. keeps scenario (Reroute n) within (λ old. tt)) (all_nodes scenario) (nodes_within 0 (length scenario.nodes) (length scenario.nodes) (omega arith))),
+      each_map (Keep scenario) (λ n. Reroute n) (all_nodes scenario)
+          (each_weaker (IsNode scenario) (λ n. Keep scenario (Reroute n)) (λ n within. keeps scenario (Reroute n) within (λ old. tt))
+          (all_nodes scenario) (nodes_within 0 (length scenario.nodes) (length scenario.nodes) (omega arith))),
     ) world s
 
-message_in_step : (world : World) → SoundScenario (scenario_of world) → (o : Option Given) → IsSoundGiven o → InStep (scenario_of world) world → Goes LabelRule (InStep (scenario_of world)) world (with_message o world)
+message_in_step : (world : World) → SoundScenario (scenario_of world) → (o : Option Given) → IsSoundGiven o → InStep (scenario_of world) world
+    → Goes LabelRule (InStep (scenario_of world)) world (with_message o world)
 message_in_step world sound None is s = nothing_goes LabelRule (InStep (scenario_of world)) world (world_rule (scenario_of world) world s) s
 message_in_step world sound (Some given) is s =
-    edge_in_step (scenario_of world) (edge_of (scenario_of world) given.iface) (steps.Pim given.iface given.message) (edge_within (scenario_of world) sound given.iface) is (λ n e old. tt) world s
+    edge_in_step (scenario_of world) (edge_of (scenario_of world) given.iface) (steps.Pim given.iface given.message)
+    (edge_within (scenario_of world) sound given.iface) is (λ n e old. tt) world s
 
-pub notice_fits : (scenario : Scenario) (world : World) (kind : Kind) (a b : NodeId) → InStep scenario world → (is_session_joined world kind a b || not (is_end world kind a b)) ≡ false → IsFit world (Notice kind a b)
+pub notice_fits : (scenario : Scenario) (world : World) (kind : Kind) (a b : NodeId) → InStep scenario world
+    → (is_session_joined world kind a b || not (is_end world kind a b)) ≡ false → IsFit world (Notice kind a b)
 notice_fits scenario world kinds.Bgp a b s e =
     let x = or_parts (is_session_joined world kinds.Bgp a b) (not (is_end world kinds.Bgp a b)) e in
     (x.0, sym (s.2.edges.2.rule.alike a b) ∙ x.0, bgp_up_is (world.network.state.node a) b ∙ not-false (is_end world kinds.Bgp a b) x.1)
-notice_fits scenario world kinds.Ldp a b s e = let x = or_parts (is_session_joined world kinds.Ldp a b) (not (is_end world kinds.Ldp a b)) e in (x.0, not-false (is_end world kinds.Ldp a b) x.1)
+notice_fits scenario world kinds.Ldp a b s e = let x = or_parts (is_session_joined world kinds.Ldp a b) (not (is_end world kinds.Ldp a b)) e in
+    (x.0, not-false (is_end world kinds.Ldp a b) x.1)
 
-select_in_step : (world : World) → SoundScenario (scenario_of world) → InStep (scenario_of world) world → (vrf : VrfId) (pattern : Pattern) → IsSoundCall (steps.Select vrf pattern) → (maps.len (control_at world (edge_of_vrf (scenario_of world) vrf)).selections < 1000000) × (is_selected world vrf pattern ≡ false)
+select_in_step : (world : World) → SoundScenario (scenario_of world) → InStep (scenario_of world) world → (vrf : VrfId) (pattern : Pattern)
+    → IsSoundCall (steps.Select vrf pattern) → (maps.len (control_at world (edge_of_vrf (scenario_of world) vrf)).selections < 1000000)
+    × (is_selected world vrf pattern ≡ false)
     → Goes LabelRule (InStep (scenario_of world)) world (at_edge (edge_of_vrf (scenario_of world) vrf) (steps.Select vrf pattern) world)
 select_in_step world sound s vrf pattern is room = by (edge_of_vrf (scenario_of world) vrf) (vrf_within (scenario_of world) sound vrf) room
   where
-    by : (o : Option NodeId) → IsFoundNode (scenario_of world) o → (maps.len (control_at world o).selections < 1000000) × (maps.contains_key (control_at world o).selections (record { vrf = vrf; pattern = pattern }) ≡ false) → Goes LabelRule (InStep (scenario_of world)) world (at_edge o (steps.Select vrf pattern) world)
+    by : (o : Option NodeId) → IsFoundNode (scenario_of world) o
+        → (maps.len (control_at world o).selections < 1000000)
+        × (maps.contains_key (control_at world o).selections (record { vrf = vrf; pattern = pattern }) ≡ false)
+        → Goes LabelRule (InStep (scenario_of world)) world (at_edge o (steps.Select vrf pattern) world)
     by None within fits = nothing_goes LabelRule (InStep (scenario_of world)) world (world_rule (scenario_of world) world s) s
     by (Some n) within fits = alone (scenario_of world) (At n (steps.Select vrf pattern)) (within, is) world fits s
 
-done_in_step : Enters → (world : World) → SoundScenario (scenario_of world) → InStep (scenario_of world) world → (event : Event) → refusal world event ≡ None → IsSoundEvent (scenario_of world) event → GoesWith LabelRule (InStep (scenario_of world)) world (done world event)
+done_in_step : Enters → (world : World) → SoundScenario (scenario_of world) → InStep (scenario_of world) world → (event : Event)
+    → refusal world event ≡ None → IsSoundEvent (scenario_of world) event → GoesWith LabelRule (InStep (scenario_of world)) world (done world event)
 done_in_step enters world lines s (events.Tick count) free sound = (world.datagrams, alone (scenario_of world) (Tick count) tt world tt s)
 done_in_step enters world lines s (events.Timers node) free sound = (world.datagrams, alone (scenario_of world) (Timers node) sound world tt s)
 done_in_step enters world lines s (events.Restart node) free sound = (world.datagrams, alone (scenario_of world) (Restart node) tt world tt s)
-done_in_step enters world lines s (events.Move kind from to count) free sound = (world.datagrams, alone (scenario_of world) (Move kind from to count) tt world tt s)
+done_in_step enters world lines s (events.Move kind from to count) free sound =
+    (world.datagrams, alone (scenario_of world) (Move kind from to count) tt world tt s)
 done_in_step enters world lines s (events.Lose kind a b) free sound = (world.datagrams, alone (scenario_of world) (Lose kind a b) tt world tt s)
-done_in_step enters world lines s (events.Notice kind a b) free sound = (world.datagrams, alone (scenario_of world) (Notice kind a b) sound world (notice_fits (scenario_of world) world kind a b s (not_refused (is_session_joined world kind a b || not (is_end world kind a b)) refusals.State free)) s)
+done_in_step enters world lines s (events.Notice kind a b) free sound = (
+  world.datagrams,
+  alone (scenario_of world) (Notice kind a b) sound world
+      (notice_fits (scenario_of world) world kind a b s
+      (not_refused (is_session_joined world kind a b || not (is_end world kind a b)) refusals.State free)) s,
+)
 done_in_step enters world lines s (events.Raise kind a b) free sound =
-    let x = or_parts (is_end world kind a b) (is_end world kind b a) (not_refused (is_end world kind a b || is_end world kind b a) refusals.State free) in
-    (world.datagrams, raise_in_step (scenario_of world) kind a b (sessions (scenario_of world)) (sessions_fit (scenario_of world) lines) world x.0 x.1 s)
-done_in_step enters world lines s (events.Join iface entry) free sound = (world.datagrams, message_in_step world lines (message_of (scenario_of world) (events.Join iface entry)) (join_is_sound (scenario_of world) iface entry sound.1) s)
-done_in_step enters world lines s (events.Prune iface entry) free sound = (world.datagrams, message_in_step world lines (message_of (scenario_of world) (events.Prune iface entry)) (prune_is_sound (scenario_of world) iface entry sound.1) s)
-done_in_step enters world lines s (events.Pim iface octets) free sound = (world.datagrams, message_in_step world lines (message_of (scenario_of world) (events.Pim iface octets)) (read_is_sound iface octets sound) s)
-done_in_step enters world lines s (events.Active iface source group) free sound =
-    (world.datagrams, edge_in_step (scenario_of world) (edge_of (scenario_of world) iface) (steps.Active iface source group) (edge_within (scenario_of world) lines iface) sound (λ n e old. tt) world s)
-done_in_step enters world lines s (events.Idle iface source group) free sound =
-    (world.datagrams, edge_in_step (scenario_of world) (edge_of (scenario_of world) iface) (steps.Idle iface source group) (edge_within (scenario_of world) lines iface) tt (λ n e old. tt) world s)
-done_in_step enters world lines s (events.Send site source group payload) free sound = sent_in_step (scenario_of world) enters site source group (packet source group payload) world s
-done_in_step enters world lines s (events.Packet site octets) free sound = sent_in_step (scenario_of world) enters site (source_in octets) (group_in octets) octets world s
+    let x = or_parts (is_end world kind a b) (is_end world kind b a)
+    (not_refused (is_end world kind a b || is_end world kind b a) refusals.State free) in (
+      world.datagrams,
+      raise_in_step (scenario_of world) kind a b (sessions (scenario_of world)) (sessions_fit (scenario_of world) lines) world x.0 x.1
+          s,
+    )
+done_in_step enters world lines s (events.Join iface entry) free sound = (
+  world.datagrams,
+  message_in_step world lines (message_of (scenario_of world) (events.Join iface entry))
+      (join_is_sound (scenario_of world) iface entry sound.1) s,
+)
+done_in_step enters world lines s (events.Prune iface entry) free sound = (
+  world.datagrams,
+  message_in_step world lines (message_of (scenario_of world) (events.Prune iface entry))
+      (prune_is_sound (scenario_of world) iface entry sound.1) s,
+)
+done_in_step enters world lines s (events.Pim iface octets) free sound =
+    (world.datagrams, message_in_step world lines (message_of (scenario_of world) (events.Pim iface octets)) (read_is_sound iface octets sound) s)
+done_in_step enters world lines s (events.Active iface source group) free sound = (
+  world.datagrams,
+  edge_in_step (scenario_of world) (edge_of (scenario_of world) iface) (steps.Active iface source group)
+      (edge_within (scenario_of world) lines iface) sound (λ n e old. tt) world s,
+)
+done_in_step enters world lines s (events.Idle iface source group) free sound = (
+  world.datagrams,
+  edge_in_step (scenario_of world) (edge_of (scenario_of world) iface) (steps.Idle iface source group)
+      (edge_within (scenario_of world) lines iface) tt (λ n e old. tt) world s,
+)
+done_in_step enters world lines s (events.Send site source group payload) free sound =
+    sent_in_step (scenario_of world) enters site source group (packet source group payload) world s
+done_in_step enters world lines s (events.Packet site octets) free sound =
+    sent_in_step (scenario_of world) enters site (source_in octets) (group_in octets) octets world s
 done_in_step enters world lines s (events.Select vrf pattern) free sound =
-    let x = or_not_refused (refused_if (is_selected world vrf pattern) refusals.State) (refused_if (are_sessions_full world || nat_le selection_limit (selections_at world vrf)) refusals.Full) free in
-    let y = or_parts (are_sessions_full world) (nat_le selection_limit (selections_at world vrf)) (not_refused (are_sessions_full world || nat_le selection_limit (selections_at world vrf)) refusals.Full x.1) in
-    let few = leb-false 256 (selections_at world vrf) y.1 in
-    (world.datagrams, select_in_step world lines s vrf pattern sound (omega (arith, few), not_refused (is_selected world vrf pattern) refusals.State x.0))
-done_in_step enters world lines s (events.Unselect vrf pattern) free sound =
-    (world.datagrams, edge_in_step (scenario_of world) (edge_of_vrf (scenario_of world) vrf) (steps.Unselect vrf pattern) (vrf_within (scenario_of world) lines vrf) tt (λ n e old. tt) world s)
-done_in_step enters world lines s (events.Hop from to place) free sound = (world.datagrams, alone (scenario_of world) (Land from to place) tt world (two_ends (scenario_of world) lines from to place sound) s)
-done_in_step enters world lines s (events.DropCopy from to place) free sound = (world.datagrams, alone (scenario_of world) (Drop from to place) tt world tt s)
+    let x = or_not_refused (refused_if (is_selected world vrf pattern) refusals.State)
+    (refused_if (are_sessions_full world || nat_le selection_limit (selections_at world vrf)) refusals.Full) free in
+    let y = or_parts (are_sessions_full world) (nat_le selection_limit (selections_at world vrf))
+    (not_refused (are_sessions_full world || nat_le selection_limit (selections_at world vrf)) refusals.Full x.1) in
+    let few = leb-false 256 (selections_at world vrf) y.1 in (
+      world.datagrams,
+      select_in_step world lines s vrf pattern sound
+          (omega (arith, few), not_refused (is_selected world vrf pattern) refusals.State x.0),
+    )
+done_in_step enters world lines s (events.Unselect vrf pattern) free sound = (
+  world.datagrams,
+  edge_in_step (scenario_of world) (edge_of_vrf (scenario_of world) vrf) (steps.Unselect vrf pattern)
+      (vrf_within (scenario_of world) lines vrf) tt (λ n e old. tt) world s,
+)
+done_in_step enters world lines s (events.Hop from to place) free sound =
+    (world.datagrams, alone (scenario_of world) (Land from to place) tt world (two_ends (scenario_of world) lines from to place sound) s)
+done_in_step enters world lines s (events.DropCopy from to place) free sound =
+    (world.datagrams, alone (scenario_of world) (Drop from to place) tt world tt s)
 done_in_step enters world lines s events.Heal free sound = (
   world.datagrams,
   each_goes LabelRule (InStep (scenario_of world)) (world_rule (scenario_of world)) healed (sessions (scenario_of world))
-      (each_weaker (IsFitSession (scenario_of world)) (λ session. (old : World) → InStep (scenario_of world) old → Goes LabelRule (InStep (scenario_of world)) old (healed session old)) (λ session fit. healed_goes (scenario_of world) session fit) (sessions (scenario_of world)) (sessions_fit (scenario_of world) lines)) world s,
+      (each_weaker (IsFitSession (scenario_of world))
+      (λ session. (old : World) → InStep (scenario_of world) old → Goes LabelRule (InStep (scenario_of world)) old (healed session old))
+      (λ session fit. healed_goes (scenario_of world) session fit) (sessions (scenario_of world)) (sessions_fit (scenario_of world) lines)) world
+      s,
 )
 done_in_step enters world lines s events.Settle free sound = (world.datagrams, settle_in_step world s)
-done_in_step enters world lines s events.Drain free sound = (world.datagrams, times_goes LabelRule (InStep (scenario_of world)) (world_rule (scenario_of world)) drain_round (drain_in_step (scenario_of world)) 255 world s)
+done_in_step enters world lines s events.Drain free sound = (
+  world.datagrams,
+  times_goes LabelRule (InStep (scenario_of world)) (world_rule (scenario_of world)) drain_round
+      (drain_in_step (scenario_of world)) 255 world s,
+)
 done_in_step enters world lines s (events.Cost a b cost) free sound = (world.datagrams, cost_in_step world a b cost sound s)
 done_in_step enters world lines s events.State free sound = (world.datagrams, alone (scenario_of world) Tell tt world tt s)
 
-event_in_step : Enters → (scenario : Scenario) (world : World) → InStep scenario world → (event : Event) → refusal world event ≡ None → IsSoundEvent scenario event → GoesWith LabelRule (InStep scenario) world (done world event)
+event_in_step : Enters → (scenario : Scenario) (world : World) → InStep scenario world → (event : Event) → refusal world event ≡ None
+    → IsSoundEvent scenario event → GoesWith LabelRule (InStep scenario) world (done world event)
 event_in_step enters scenario world s event free sound =
-    subst (λ (own : Scenario). SoundScenario own → InStep own world → IsSoundEvent own event → GoesWith LabelRule (InStep own) world (done world event)) s.2.base.sound.same (λ lines stays is. done_in_step enters world lines stays event free is) s.2.base.sound.lines s sound
+    subst (λ (own : Scenario). SoundScenario own → InStep own world → IsSoundEvent own event
+    → GoesWith LabelRule (InStep own) world (done world event)) s.2.base.sound.same
+    (λ lines stays is. done_in_step enters world lines stays event free is) s.2.base.sound.lines s sound
 
 -- ---- runs
 
 -- the label rule holds throughout what comes of an event
-pub outcome_goes : Enters → (scenario : Scenario) (old : World) → InStep scenario old → (timed : Timed) → IsSoundEvent scenario timed.event → GoesWith LabelRule (InStep scenario) old (outcome old timed)
+pub outcome_goes : Enters → (scenario : Scenario) (old : World) → InStep scenario old → (timed : Timed) → IsSoundEvent scenario timed.event
+    → GoesWith LabelRule (InStep scenario) old (outcome old timed)
 outcome_goes enters scenario old s timed sound = by (refusal old timed.event) refl
   where
-    by : (o : Option Refusal) → refusal old timed.event ≡ o → GoesWith LabelRule (InStep scenario) old (elim o [ None ↦ done old timed.event | Some reason ↦ Done (record { act = None; lines = lines.Refused timed.line reason ∷ [] } ∷ []) old ])
+    by : (o : Option Refusal) → refusal old timed.event ≡ o
+        → GoesWith LabelRule (InStep scenario) old (elim o
+        [ None ↦ done old timed.event | Some reason ↦ Done (record { act = None; lines = lines.Refused timed.line reason ∷ [] } ∷ []) old ])
     by None free = event_in_step enters scenario old s timed.event free sound
     by (Some reason) free = (let holds = world_rule scenario old s in (old.datagrams, (s, (old, holds, refl, (refl, holds)))))
 
-pub turned_in_step : Enters → (scenario : Scenario) (old : World) → InStep scenario old → (timed : Timed) → IsSoundEvent scenario timed.event → (acts : List Happened) (next : World) → outcome old timed ≡ Done acts next → InStep scenario next
+pub turned_in_step : Enters → (scenario : Scenario) (old : World) → InStep scenario old → (timed : Timed) → IsSoundEvent scenario timed.event
+    → (acts : List Happened) (next : World) → outcome old timed ≡ Done acts next → InStep scenario next
 turned_in_step enters scenario old s timed sound acts next e =
     let g = outcome_goes enters scenario old s timed sound in
     subst (Comes (InStep scenario)) e (goes_comes LabelRule (InStep scenario) (record old { datagrams = g.0 }) (outcome old timed) g.1)
 
-pub runs_in_step : Enters → (scenario : Scenario) (all : List Timed) → AllByRecursion (λ timed. IsSoundEvent scenario timed.event) all → (old : World) (number : ℕ) (trace : List Traced) (new : World) → InStep scenario old → Runs old number all trace new → InStep scenario new
+pub runs_in_step : Enters → (scenario : Scenario) (all : List Timed) → AllByRecursion (λ timed. IsSoundEvent scenario timed.event) all
+    → (old : World) (number : ℕ) (trace : List Traced) (new : World) → InStep scenario old → Runs old number all trace new → InStep scenario new
 runs_in_step enters scenario [] sound old number trace new s run = subst (InStep scenario) (sym run.1) s
 runs_in_step enters scenario (timed ∷ more) sound old number trace new s run =
-    runs_in_step enters scenario more sound.1 run.1 (number + 1) run.2 new (turned_in_step enters scenario old s timed sound.0 run.0 run.1 run.3) run.5
+    runs_in_step enters scenario more sound.1 run.1 (number + 1) run.2 new (turned_in_step enters scenario old s timed sound.0 run.0 run.1 run.3)
+    run.5

@@ -61,8 +61,10 @@ record TunnelVpn (scenario : Scenario) (fec : Fec) (number : ℕ) : Type 0 where
 tunnel_vpn : (scenario : Scenario) (fec : Fec) → (vpn_of scenario fec ≡ 0) ⊎ TunnelVpn scenario fec (vpn_of scenario fec)
 tunnel_vpn scenario fec = by (position (is_own_tunnel scenario fec) scenario.vrfs) refl
   where
-    number : (at : ℕ) → position (is_own_tunnel scenario fec) scenario.vrfs ≡ Some at → (o : Option ℕ) → position (λ (v : Vrf). same v.targets (targets_of scenario (record { 0 = at }))) scenario.vrfs ≡ o
-        → (elim o as (λ _. ℕ) [ None ↦ 0 | Some place ↦ place + 2 ] ≡ 0) ⊎ TunnelVpn scenario fec (elim o as (λ _. ℕ) [ None ↦ 0 | Some place ↦ place + 2 ])
+    number : (at : ℕ) → position (is_own_tunnel scenario fec) scenario.vrfs ≡ Some at → (o : Option ℕ)
+        → position (λ (v : Vrf). same v.targets (targets_of scenario (record { 0 = at }))) scenario.vrfs ≡ o
+        → (elim o as (λ _. ℕ) [ None ↦ 0 | Some place ↦ place + 2 ] ≡ 0)
+        ⊎ TunnelVpn scenario fec (elim o as (λ _. ℕ) [ None ↦ 0 | Some place ↦ place + 2 ])
     number at e None found = inl refl
     number at e (Some place) found =
         let first = first_at (is_own_tunnel scenario fec) scenario.vrfs at e in
@@ -73,11 +75,14 @@ tunnel_vpn scenario fec = by (position (is_own_tunnel scenario fec) scenario.vrf
           known = first.at;
           own = first.passes;
           place = place;
-          found = ap (λ (ts : List Target). position (λ (v : Vrf). same v.targets ts) scenario.vrfs) (sym (targets_at scenario id first.value first.at)) ∙ found;
+          found = ap (λ (ts : List Target). position (λ (v : Vrf). same v.targets ts) scenario.vrfs)
+              (sym (targets_at scenario id first.value first.at)) ∙ found;
           is = refl;
         })
 
-    by : (o : Option ℕ) → position (is_own_tunnel scenario fec) scenario.vrfs ≡ o → (elim o as (λ _. ℕ) [ None ↦ 0 | Some at ↦ vpn_number scenario (targets_of scenario (record { 0 = at })) 0 ] ≡ 0) ⊎ TunnelVpn scenario fec (elim o as (λ _. ℕ) [ None ↦ 0 | Some at ↦ vpn_number scenario (targets_of scenario (record { 0 = at })) 0 ])
+    by : (o : Option ℕ) → position (is_own_tunnel scenario fec) scenario.vrfs ≡ o
+        → (elim o as (λ _. ℕ) [ None ↦ 0 | Some at ↦ vpn_number scenario (targets_of scenario (record { 0 = at })) 0 ] ≡ 0)
+        ⊎ TunnelVpn scenario fec (elim o as (λ _. ℕ) [ None ↦ 0 | Some at ↦ vpn_number scenario (targets_of scenario (record { 0 = at })) 0 ])
     by None e = inl refl
     by (Some at) e = number at e (position (λ (v : Vrf). same v.targets (targets_of scenario (record { 0 = at }))) scenario.vrfs) refl
 
@@ -93,9 +98,19 @@ datagram_vpn : (scenario : Scenario) (o : Option Datagram) (place : ℕ) → vpn
 datagram_vpn scenario None place e = absurd (omega (arith, e))
 datagram_vpn scenario (Some datagram) place e = by (vrf_of_site scenario datagram.site) refl e
   where
-    by : (v : Option VrfId) → vrf_of_site scenario datagram.site ≡ v → elim v as (λ _. ℕ) [ None ↦ 1 | Some vrf ↦ vpn_number scenario (targets_of scenario vrf) 1 ] ≡ place + 2 → DatagramVpn scenario (Some datagram) place
+    by : (v : Option VrfId) → vrf_of_site scenario datagram.site ≡ v
+        → elim v as (λ _. ℕ) [ None ↦ 1 | Some vrf ↦ vpn_number scenario (targets_of scenario vrf) 1 ] ≡ place + 2
+        → DatagramVpn scenario (Some datagram) place
     by None is h = absurd (omega (arith, h))
-    by (Some vpn) is h = record { datagram = datagram; sent = refl; vpn = vpn; of_site = is; found = some_number (position (λ (v : Vrf). same v.targets (targets_of scenario vpn)) scenario.vrfs) 1 place h (omega arith) }
+    by (Some vpn) is h =
+        record {
+          datagram = datagram;
+          sent = refl;
+          vpn = vpn;
+          of_site = is;
+          found =
+              some_number (position (λ (v : Vrf). same v.targets (targets_of scenario vpn)) scenario.vrfs) 1 place h (omega arith);
+        }
 
 never_none : (scenario : Scenario) (o : Option Datagram) → vpn_of_datagram scenario o ≡ 0 → ⊥
 never_none scenario None e = omega (arith, e)
@@ -109,7 +124,8 @@ never_none scenario (Some datagram) e = by (vrf_of_site scenario datagram.site) 
     by None h = omega (arith, h)
     by (Some vrf) h = at (position (λ (v : Vrf). same v.targets (targets_of scenario vrf)) scenario.vrfs) h
 
-pub tunnel_for : (world : World) (fec : Fec) (number : ℕ) → vpn_of (scenario_of world) fec ≡ origin (scenario_of world) world.datagrams number → IsTunnelFor world number fec
+pub tunnel_for : (world : World) (fec : Fec) (number : ℕ) → vpn_of (scenario_of world) fec ≡ origin (scenario_of world) world.datagrams number
+    → IsTunnelFor world number fec
 tunnel_for world fec number e = elim (tunnel_vpn (scenario_of world) fec) [
   | inl none ↦ absurd (never_none (scenario_of world) (datagram_at world number) (sym e ∙ none))
   | inr t ↦
@@ -119,7 +135,9 @@ tunnel_for world fec number e = elim (tunnel_vpn (scenario_of world) fec) [
       let theirs = first_at (λ (v : Vrf). same v.targets (targets_of scenario d.vpn)) scenario.vrfs t.place d.found in
       let one : mine.value ≡ theirs.value = same_Some mine.value theirs.value (sym mine.at ∙ theirs.at) in
       let there : same theirs.value.targets t.vrf.targets ≡ true = sym (ap (λ (v : Vrf). same v.targets t.vrf.targets) one) ∙ mine.passes in
-      let both : same (targets_of scenario d.vpn) t.vrf.targets ≡ true = same_through (targets_of scenario d.vpn) theirs.value.targets t.vrf.targets (same_back theirs.value.targets (targets_of scenario d.vpn) theirs.passes) there in
+      let both : same (targets_of scenario d.vpn) t.vrf.targets ≡ true =
+      same_through (targets_of scenario d.vpn) theirs.value.targets t.vrf.targets
+      (same_back theirs.value.targets (targets_of scenario d.vpn) theirs.passes) there in
       let own = own_tunnel scenario fec t.vrf t.own in
       let from = own.from in
       let below = own.below in
@@ -142,15 +160,19 @@ tunnel_for world fec number e = elim (tunnel_vpn (scenario_of world) fec) [
 
 -- ---- copies
 
-copy_case : (world : World) (pending : Direction → List SessionMessage) (u n : NodeId) (copy : LinkCopy) → rules.CopyCase (label_network (seen world.network pending) world.copies (world.datagrams ++ [])) u n (packet_copy copy) → CopyCase world u n copy
+copy_case : (world : World) (pending : Direction → List SessionMessage) (u n : NodeId) (copy : LinkCopy)
+    → rules.CopyCase (label_network (seen world.network pending) world.copies (world.datagrams ++ [])) u n (packet_copy copy)
+    → CopyCase world u n copy
 copy_case world pending u n copy (rules.is_mapped fec up used vpn) =
-    is_mapped fec up used (tunnel_for world fec copy.number (vpn ∙ ap (λ (ds : List Datagram). origin (scenario_of world) ds copy.number) (append-nil world.datagrams)))
+    is_mapped fec up used (tunnel_for world fec copy.number
+    (vpn ∙ ap (λ (ds : List Datagram). origin (scenario_of world) ds copy.number) (append-nil world.datagrams)))
 copy_case world pending u n copy (rules.is_leaving fec up used) = is_leaving fec up used
 copy_case world pending u n copy (rules.is_resting until used late) = is_resting until used late
 copy_case world pending u n copy (rules.is_down off) = is_down off
 copy_case world pending u n copy (rules.is_unheld end up since unheld) = is_unheld end up since unheld
 
-of_map : {X Y : Type 0} (f : X → Y) (P : Y → Type 0) (Q : X → Type 0) → ((x : X) → P (f x) → Q x) → (xs : List X) → AllByRecursion P (map f xs) → AllByRecursion Q xs
+of_map : {X Y : Type 0} (f : X → Y) (P : Y → Type 0) (Q : X → Type 0) → ((x : X) → P (f x) → Q x) → (xs : List X) → AllByRecursion P (map f xs)
+    → AllByRecursion Q xs
 of_map f P Q h [] all = tt
 of_map f P Q h (x ∷ xs) all = (h x all.0, of_map f P Q h xs all.1)
 
@@ -185,26 +207,42 @@ contains_one p [] m e = absurd cc
 contains_one p (x ∷ xs) m e = by (p x) (λ h. contains_one p xs m h) e
   where
     by : (b : Bool) → (filter p xs ≡ m ∷ [] → Contains xs m) → cond b (x ∷ filter p xs) (filter p xs) ≡ m ∷ [] → Contains (x ∷ xs) m
-    by true others h = let same : x ≡ m = cc in subst (λ (y : LabelMessage). Contains (x ∷ xs) y) same (Contains-append_left (x ∷ []) xs x (Contains-push [] x))
+    by true others h = let same : x ≡ m = cc in
+        subst (λ (y : LabelMessage). Contains (x ∷ xs) y) same (Contains-append_left (x ∷ []) xs x (Contains-push [] x))
     by false others h = Contains-append_right (x ∷ []) xs m (others h)
 
 pub no_pdu : NoUnit SpellsPdu []
 no_pdu ms text after spells e =
     let rest : List ℕ = to_be_bytes w16 (6 + length spells.body) ++ (spells.ident ++ spells.body) in
-    let whole : [] ≡ to_be_bytes w16 1 ++ (rest ++ after) = e ∙ ap (λ (os : List ℕ). os ++ after) spells.parts ∙ append_assoc (to_be_bytes w16 1) rest after in
+    let whole : [] ≡ to_be_bytes w16 1 ++ (rest ++ after) =
+    e ∙ ap (λ (os : List ℕ). os ++ after) spells.parts ∙ append_assoc (to_be_bytes w16 1) rest after in
     let none : length {A = ℕ} [] ≡ length (to_be_bytes w16 1 ++ (rest ++ after)) = ap (λ (os : List ℕ). length os) whole in
     absurd (omega (arith, none))
 
-withdrawn_to : (world : World) (pending : Direction → List SessionMessage) (u n : NodeId) (fec : Fec) (label : ℕ) → Carried kinds.Ldp (world.network.stream (direction kinds.Ldp n u)) (world.network.transit (direction kinds.Ldp n u)) (pending (direction kinds.Ldp n u))
-    → filter (is_of_owner label) (labels_in (pending (direction kinds.Ldp n u))) ≡ messages.Withdraw fec label ∷ [] → IsWithdrawnTo world u n fec label
+withdrawn_to : (world : World) (pending : Direction → List SessionMessage) (u n : NodeId) (fec : Fec) (label : ℕ)
+    → Carried kinds.Ldp (world.network.stream (direction kinds.Ldp n u)) (world.network.transit (direction kinds.Ldp n u))
+    (pending (direction kinds.Ldp n u))
+    → filter (is_of_owner label) (labels_in (pending (direction kinds.Ldp n u))) ≡ messages.Withdraw fec label ∷ []
+    → IsWithdrawnTo world u n fec label
 withdrawn_to world pending u n fec label c e =
     let p = plain_units c.units c.each in
     let all : List LabelMessage = messages_of p.plain in
     let same : labels_in (pending (direction kinds.Ldp n u)) ≡ all = ap labels_in c.messages ∙ p.messages in
     record {
       all = all;
-      octets = AllWhole [] (record { begins = record { units = p.plain; each = p.each; parts = c.octets ∙ p.octets ∙ sym (append-nil (octets_of p.plain)); carried = refl }; no_unit = no_pdu }) (no_fault pdu_front SpellsPdu PduFault 4100 pdu_format [] (λ i. omega arith) pdu_format.stream.framing.empty);
-      among = subst (λ (ms : List LabelMessage). Contains ms (messages.Withdraw fec label)) same (contains_one (is_of_owner label) (labels_in (pending (direction kinds.Ldp n u))) (messages.Withdraw fec label) e);
+      octets = AllWhole [] (record {
+        begins = record {
+          units = p.plain;
+          each = p.each;
+          parts =
+              c.octets ∙ p.octets ∙ sym (append-nil (octets_of p.plain));
+          carried = refl;
+        };
+        no_unit = no_pdu;
+      })
+          (no_fault pdu_front SpellsPdu PduFault 4100 pdu_format [] (λ i. omega arith) pdu_format.stream.framing.empty);
+      among = subst (λ (ms : List LabelMessage). Contains ms (messages.Withdraw fec label)) same
+          (contains_one (is_of_owner label) (labels_in (pending (direction kinds.Ldp n u))) (messages.Withdraw fec label) e);
     }
 
 -- ---- the rule
@@ -217,19 +255,23 @@ LabelsOf world pending = label_network (seen world.network pending) world.copies
 abbrev pub AreAlike : World → Type 0
 AreAlike world = (u n : NodeId) → u ≢ n → world.network.joined (direction kinds.Ldp u n) ≡ world.network.joined (direction kinds.Ldp n u)
 
-pub rule_of : (world : World) (pending : Direction → List SessionMessage) → AreLines world.network pending → rules.LabelRule (LabelsOf world pending) → AreAlike world → LabelRule world
+pub rule_of : (world : World) (pending : Direction → List SessionMessage) → AreLines world.network pending → rules.LabelRule (LabelsOf world pending)
+    → AreAlike world → LabelRule world
 rule_of world pending are full alike =
     let w : LabelNetwork = LabelsOf world pending in
     record {
-      copies = λ u n ne. of_map packet_copy (rules.CopyCase w u n) (CopyCase world u n) (copy_case world pending u n) (world.copies u n) (full.copies u n ne);
-      young = λ u n ne. of_map packet_copy (λ (copy : PacketCopy). clock_of world ≤ copy.put_at + (scenario_of world).life) (λ (copy : LinkCopy). clock_of world ≤ copy.put_at + (scenario_of world).life) (λ copy h. h) (world.copies u n) (full.young u n ne);
+      copies = λ u n ne. of_map packet_copy (rules.CopyCase w u n) (CopyCase world u n) (copy_case world pending u n) (world.copies u n)
+          (full.copies u n ne);
+      young = λ u n ne. of_map packet_copy (λ (copy : PacketCopy). clock_of world ≤ copy.put_at + (scenario_of world).life)
+          (λ (copy : LinkCopy). clock_of world ≤ copy.put_at + (scenario_of world).life) (λ copy h. h) (world.copies u n) (full.young u n ne);
       branch_up = λ u n fec label ne has. full.branch_up u n label fec ne has;
       joined = λ u n fec label ne joined has. elim (full.joined u n label fec ne joined has) [
         | inl mapped ↦ inl mapped
         | inr leaving ↦
             let back : world.network.joined (direction kinds.Ldp n u) ≡ true = sym (alike u n ne) ∙ joined in
             let over : Direction = direction kinds.Ldp n u in
-            let carried : Carried kinds.Ldp (world.network.stream over) (world.network.transit over) (pending over) = subst (λ (b : Bool). IsLine kinds.Ldp b (world.network.stream over) (world.network.transit over) (pending over)) back (are over) in
+            let carried : Carried kinds.Ldp (world.network.stream over) (world.network.transit over) (pending over) =
+            subst (λ (b : Bool). IsLine kinds.Ldp b (world.network.stream over) (world.network.transit over) (pending over)) back (are over) in
             inr (leaving.0, withdrawn_to world pending u n fec label carried leaving.1)
       ];
       unjoined = λ u n fec label ne off has. full.unjoined u n label fec ne off has;

@@ -41,7 +41,8 @@ number_within used (suc count) number =
 run_numbers : (delay now : ℕ) (old : FinMap pattern_cmp Selected) → Each IsSmall old → Each IsSmall (selections_run delay now old)
 run_numbers delay now old h =
     made_meets pattern_total pattern_exact IsSmall (map (λ entry. (entry.0, selection_run delay now entry.1)) (maps.entries old))
-    (each_map (λ entry. IsSmall entry.0 entry.1) (λ entry. (entry.0, selection_run delay now entry.1)) (maps.entries old) (all_entries pattern_total IsSmall old h))
+    (each_map (λ entry. IsSmall entry.0 entry.1) (λ entry. (entry.0, selection_run delay now entry.1)) (maps.entries old)
+    (all_entries pattern_total IsSmall old h))
 
 updated_numbers : (now : ℕ) (peer : NodeId) (message : Message) (old : Control) (o : Option Taken) → NumbersOk old → NumbersOk (elim o [
   | None ↦ old
@@ -50,7 +51,8 @@ updated_numbers : (now : ℕ) (peer : NodeId) (message : Message) (old : Control
 updated_numbers now peer message old None h = h
 updated_numbers now peer message old (Some taken) h = h
 
-effect_numbers : (place : EdgePlace) (now : ℕ) (old : Control) (call : steps.Call) → HasRoom old call → NumbersOk old → NumbersOk (effect place now old call)
+effect_numbers : (place : EdgePlace) (now : ℕ) (old : Control) (call : steps.Call) → HasRoom old call → NumbersOk old
+    → NumbersOk (effect place now old call)
 effect_numbers place now old (steps.Update peer message) room h = updated_numbers now peer message old (maps.get old.peers peer) h
 effect_numbers place now old (steps.Label neighbour message) room h = h
 effect_numbers place now old (steps.Pim iface message) room h = h
@@ -59,8 +61,10 @@ effect_numbers place now old (steps.Idle iface source group) room h = h
 effect_numbers place now old (steps.Select vrf pattern) room h =
     let used = λ (number : ℕ). list_any (is_used vrf number) (maps.entries old.selections) in
     let within = number_within used (maps.len old.selections) 1 in
-    put_meets pattern_total pattern_exact IsSmall old.selections (record { vrf = vrf; pattern = pattern }) (record { number = free_number used (maps.len old.selections) 1; since = now; run = false }) h (omega (arith, within, room))
-effect_numbers place now old (steps.Unselect vrf pattern) room h = cut_meets pattern_total pattern_exact IsSmall old.selections (record { vrf = vrf; pattern = pattern }) h
+    put_meets pattern_total pattern_exact IsSmall old.selections (record { vrf = vrf; pattern = pattern })
+    (record { number = free_number used (maps.len old.selections) 1; since = now; run = false }) h (omega (arith, within, room))
+effect_numbers place now old (steps.Unselect vrf pattern) room h =
+    cut_meets pattern_total pattern_exact IsSmall old.selections (record { vrf = vrf; pattern = pattern }) h
 effect_numbers place now old (steps.Raised kinds.Bgp peer) room h = h
 effect_numbers place now old (steps.Raised kinds.Ldp peer) room h = h
 effect_numbers place now old (steps.Noticed kinds.Bgp peer) room h = h
@@ -72,8 +76,10 @@ stepped_numbers : (place : EdgePlace) (now : ℕ) (own : Control) (vrf : Bool) �
 stepped_numbers place now own true h = h
 stepped_numbers place now own false h = h
 
-pub step_numbers : (place : EdgePlace) (now : ℕ) (old : Control) (call : steps.Call) → HasRoom old call → NumbersOk old → NumbersOk (control_step place now old call)
-step_numbers place now old call room h = stepped_numbers place now (effect place now old call) (is_vrf_step call) (effect_numbers place now old call room h)
+pub step_numbers : (place : EdgePlace) (now : ℕ) (old : Control) (call : steps.Call) → HasRoom old call → NumbersOk old
+    → NumbersOk (control_step place now old call)
+step_numbers place now old call room h =
+    stepped_numbers place now (effect place now old call) (is_vrf_step call) (effect_numbers place now old call room h)
 
 pub no_numbers : NumbersOk no_control
 no_numbers key selected e = absurd (none-some selected (sym (maps.get-empty pattern_cmp key) ∙ e))

@@ -53,7 +53,9 @@ raises_plain all kind a b = by (find (is_session_of kind a b) all)
     by (Some session) = (tt, (tt, tt))
 
 notices_plain : (world : World) (session : Session) (n peer : NodeId) → AllByRecursion IsPlain (notices world session n peer)
-notices_plain world session n peer = elim (is_end world session.kind n peer) as (λ t. AllByRecursion IsPlain (cond t (Notice session.kind n peer ∷ []) [])) [ true ↦ (tt, tt) | false ↦ tt ]
+notices_plain world session n peer =
+    elim (is_end world session.kind n peer) as (λ t. AllByRecursion IsPlain (cond t (Notice session.kind n peer ∷ []) []))
+    [ true ↦ (tt, tt) | false ↦ tt ]
 
 -- ---- what each act of an outcome does
 
@@ -70,14 +72,16 @@ module _ (Q : Happened → Type 0) where
   then_do (Halted acts node) next s h = s
   then_do (Done acts world) next s h = by (next world) (h world)
     where
-      by : (o : Outcome) → AllDo o → AllDo (elim o [ Done behind new ↦ Done (acts ++ behind) new | Halted behind node ↦ Halted (acts ++ behind) node ])
+      by : (o : Outcome) → AllDo o → AllDo (elim o
+          [ Done behind new ↦ Done (acts ++ behind) new | Halted behind node ↦ Halted (acts ++ behind) node ])
       by (Done behind new) t = each_append Q acts behind s t
       by (Halted behind node) t = each_append Q acts behind s t
 
   one_does : (world : World) (one : Act) → Does one (act world one) → AllDo (one_act world one)
   one_does world one s = by (act world one) s
     where
-      by : (o : Result Acted NodeId) → Does one o → AllDo (elim o [ Ok new ↦ Done (record { act = Some one; lines = new.lines } ∷ []) new.world | Err node ↦ Halted [] node ])
+      by : (o : Result Acted NodeId) → Does one o → AllDo
+          (elim o [ Ok new ↦ Done (record { act = Some one; lines = new.lines } ∷ []) new.world | Err node ↦ Halted [] node ])
       by (Err node) t = tt
       by (Ok new) t = (t, tt)
 
@@ -85,7 +89,8 @@ module _ (Q : Happened → Type 0) where
   row_does [] does world = tt
   row_does (one ∷ more) does world = then_do (one_act world one) (row more) (one_does world one (does.0 world)) (λ next. row_does more does.1 next)
 
-  pub each_does : {A : Type 0} (turn : A → World → Outcome) → ((x : A) (world : World) → AllDo (turn x world)) → (all : List A) (world : World) → AllDo (each turn all world)
+  pub each_does : {A : Type 0} (turn : A → World → Outcome) → ((x : A) (world : World) → AllDo (turn x world)) → (all : List A) (world : World)
+      → AllDo (each turn all world)
   each_does turn does [] world = tt
   each_does turn does (x ∷ more) world = then_do (turn x world) (each turn more) (does x world) (λ next. each_does turn does more next)
 
@@ -105,11 +110,14 @@ module _ (Q : Happened → Type 0) (plain : (one : Act) → IsPlain one → (wor
       acts : List Act
       acts = notices world session session.a session.b ++ (notices world session session.b session.a ++ raise_acts session)
 
-      by : (t : Bool) → AllDo Q (cond t (Done [] world) (row (notices world session session.a session.b ++ (notices world session session.b session.a ++ raise_acts session)) world))
+      by : (t : Bool) → AllDo Q (cond t (Done [] world)
+          (row (notices world session session.a session.b ++ (notices world session session.b session.a ++ raise_acts session)) world))
       by true = tt
       by false = plain_row acts
-          (each_append IsPlain (notices world session session.a session.b) (notices world session session.b session.a ++ raise_acts session) (notices_plain world session session.a session.b)
-          (each_append IsPlain (notices world session session.b session.a) (raise_acts session) (notices_plain world session session.b session.a) (tt, (tt, tt)))) world
+          (each_append IsPlain (notices world session session.a session.b) (notices world session session.b session.a ++ raise_acts session)
+          (notices_plain world session session.a session.b)
+          (each_append IsPlain (notices world session session.b session.a) (raise_acts session) (notices_plain world session session.b session.a)
+          (tt, (tt, tt)))) world
 
   pub heal_does : (world : World) → AllDo Q (done world events.Heal)
   heal_does world = each_does Q healed healed_does (sessions (scenario_of world)) world
@@ -117,7 +125,11 @@ module _ (Q : Happened → Type 0) (plain : (one : Act) → IsPlain one → (wor
   turn_does : (over : Direction) (world : World) → AllDo Q (turn over world)
   turn_does over world = by (world.network.transit over)
     where
-      by : (all : List ℕ) → AllDo Q (elim all [ [] ↦ Done [] world | octet ∷ more ↦ row (Move over.kind over.from over.to (length (octet ∷ more)) ∷ []) world ])
+      by : (all : List ℕ) → AllDo Q (elim all [
+        | [] ↦ Done [] world
+        | octet ∷ more ↦
+            row (Move over.kind over.from over.to (length (octet ∷ more)) ∷ []) world
+      ])
       by [] = tt
       by (octet ∷ more) = plain_row (Move over.kind over.from over.to (length (octet ∷ more)) ∷ []) (tt, tt) world
 
@@ -125,8 +137,10 @@ module _ (Q : Happened → Type 0) (plain : (one : Act) → IsPlain one → (wor
   settle_does world =
       let all = map (λ n. Timers n) (all_nodes (scenario_of world)) in
       then_do Q (row all world) (times (each turn (directions (scenario_of world))) (length (scenario_of world).nodes + 3))
-      (plain_row all (each_map IsPlain (λ n. Timers n) (all_nodes (scenario_of world)) (each_of (λ (n : NodeId). Unit {0}) (λ n. tt) (all_nodes (scenario_of world)))) world)
-      (λ next. times_do Q (each turn (directions (scenario_of world))) (λ one. each_does Q turn turn_does (directions (scenario_of world)) one) (length (scenario_of world).nodes + 3) next)
+      (plain_row all (each_map IsPlain (λ n. Timers n) (all_nodes (scenario_of world))
+      (each_of (λ (n : NodeId). Unit {0}) (λ n. tt) (all_nodes (scenario_of world)))) world)
+      (λ next. times_do Q (each turn (directions (scenario_of world))) (λ one. each_does Q turn turn_does (directions (scenario_of world)) one)
+      (length (scenario_of world).nodes + 3) next)
 
   pub edge_does : (o : Option NodeId) (call : steps.Call) (world : World) → AllDo Q (at_edge o call world)
   edge_does None call world = tt
@@ -163,16 +177,21 @@ sent_ends : (world : World) (ids : List VrfId) → Ends (row (map (λ vrf. Enter
 sent_ends world [] = tt
 sent_ends world (id ∷ more) = then_ends (one_act world (Enter id)) (row (map (λ vrf. Enter vrf) more)) tt (λ next. sent_ends next more)
 
-landings_end : (world : World) (ways : List (NodeId × NodeId)) → AllByRecursion (λ one. (old : World) → Ends (one_act old one)) (flat_map (landings world) ways)
+landings_end : (world : World) (ways : List (NodeId × NodeId))
+    → AllByRecursion (λ one. (old : World) → Ends (one_act old one)) (flat_map (landings world) ways)
 landings_end world [] = tt
-landings_end world (way ∷ more) = each_append (λ (one : Act). (old : World) → Ends (one_act old one)) (landings world way) (flat_map (landings world) more) (by (length (world.copies way.0 way.1))) (landings_end world more)
+landings_end world (way ∷ more) =
+    each_append (λ (one : Act). (old : World) → Ends (one_act old one)) (landings world way) (flat_map (landings world) more)
+    (by (length (world.copies way.0 way.1))) (landings_end world more)
   where
     by : (count : ℕ) → AllByRecursion (λ one. (old : World) → Ends (one_act old one)) (replicate count (Land way.0 way.1 1))
     by zero = tt
     by (suc count) = (λ old. tt, by count)
 
 drain_ends : (world : World) → Ends (done world events.Drain)
-drain_ends world = times_end drain_round (λ old. row_ends (flat_map (landings old) (link_ways (scenario_of old))) (landings_end old (link_ways (scenario_of old))) old) 255 world
+drain_ends world =
+    times_end drain_round (λ old. row_ends (flat_map (landings old) (link_ways (scenario_of old))) (landings_end old (link_ways (scenario_of old)))
+    old) 255 world
 
 -- ---- lines of plain acts
 
@@ -184,7 +203,8 @@ IsPlainLine (lines.State bytes copies buffers due unready) = ⊤
 IsPlainLine other = ⊥
 
 -- what holds of such lines
-pub of_plain : (P : ReportLine → Type 0) → ((kind : Kind) (from to : NodeId) (bytes : List ℕ) → P (lines.Put kind from to bytes)) → ((kind : Kind) (from to : NodeId) (bytes : List ℕ) → P (lines.Take kind from to bytes))
+pub of_plain : (P : ReportLine → Type 0) → ((kind : Kind) (from to : NodeId) (bytes : List ℕ) → P (lines.Put kind from to bytes))
+    → ((kind : Kind) (from to : NodeId) (bytes : List ℕ) → P (lines.Take kind from to bytes))
     → ((bytes copies buffers due unready : ℕ) → P (lines.State bytes copies buffers due unready)) → (line : ReportLine) → IsPlainLine line → P line
 of_plain P put take state (lines.Put kind from to bytes) p = put kind from to bytes
 of_plain P put take state (lines.Take kind from to bytes) p = take kind from to bytes
@@ -202,24 +222,37 @@ put_plain puts over = by (octets_over over puts)
     by [] = tt
     by (octet ∷ more) = (tt, tt)
 
-network_plain : (world : World) (before : List ReportLine) (found : Option (Behind (OctetNetwork Nodes))) (node : NodeId) → AllByRecursion IsPlainLine before → Says IsPlainLine (with_network world before found node)
+network_plain : (world : World) (before : List ReportLine) (found : Option (Behind (OctetNetwork Nodes))) (node : NodeId)
+    → AllByRecursion IsPlainLine before → Says IsPlainLine (with_network world before found node)
 network_plain world before None node b = tt
 network_plain world before (Some new) node b =
-    each_append IsPlainLine before (put_lines (scenario_of world) new.puts) b (each_flat IsPlainLine (put_line new.puts) (directions (scenario_of world)) (each_of (λ over. AllByRecursion IsPlainLine (put_line new.puts over)) (put_plain new.puts) (directions (scenario_of world))))
+    each_append IsPlainLine before (put_lines (scenario_of world) new.puts) b
+    (each_flat IsPlainLine (put_line new.puts) (directions (scenario_of world))
+    (each_of (λ over. AllByRecursion IsPlainLine (put_line new.puts over)) (put_plain new.puts) (directions (scenario_of world))))
 
 aged_plain : (found : Result Acted NodeId) → Says IsPlainLine found → Says IsPlainLine (with_aged found)
 aged_plain (Err node) s = tt
 aged_plain (Ok new) s = s
 
 pub act_plain : (one : Act) → IsPlain one → (world : World) → Says IsPlainLine (act world one)
-act_plain (Tick ticks) plain world = aged_plain (at_node world (record { 0 = 0 }) [] (octets.Call (Elapse ticks) ∷ [])) (network_plain world [] (octet_run system world.network (octets.Call (Elapse ticks) ∷ [])) (record { 0 = 0 }) tt)
+act_plain (Tick ticks) plain world =
+    aged_plain (at_node world (record { 0 = 0 }) [] (octets.Call (Elapse ticks) ∷ []))
+    (network_plain world [] (octet_run system world.network (octets.Call (Elapse ticks) ∷ [])) (record { 0 = 0 }) tt)
 act_plain (Timers n) plain world = network_plain world [] (octet_run system world.network (octets.Call (Own n steps.Timers) ∷ [])) n tt
-act_plain (Move kind from to count) plain world = network_plain world (lines.Take kind from to (take count (world.network.transit (direction kind from to))) ∷ []) (octet_run system world.network (octets.Move (direction kind from to) count ∷ [])) to (tt, tt)
+act_plain (Move kind from to count) plain world =
+    network_plain world (lines.Take kind from to (take count (world.network.transit (direction kind from to))) ∷ [])
+    (octet_run system world.network (octets.Move (direction kind from to) count ∷ [])) to (tt, tt)
 act_plain (Lose kind a b) plain world = network_plain world [] (octet_run system world.network (octets.Lose (is_of_session kind a b) ∷ [])) a tt
-act_plain (Notice kind a b) plain world = network_plain world [] (octet_run system world.network (octets.Forget (is_from_peer kind a b) ∷ octets.Call (Own a (steps.Noticed kind b)) ∷ [])) a tt
-act_plain (RaiseFirst kind a b) plain world = network_plain world [] (octet_run system world.network (octets.Join (is_of_session kind a b) ∷ octets.Call (Own a (steps.Raised kind b)) ∷ [])) a tt
-act_plain (RaiseSecond kind a b) plain world = network_plain world [] (octet_run system world.network (octets.Call (Own b (steps.Raised kind a)) ∷ [])) b tt
-act_plain (Restart n) plain world = network_plain world [] (octet_run system world.network (octets.Lose (is_at n) ∷ octets.Forget (leads_to n) ∷ octets.Call (Reset n) ∷ [])) n tt
+act_plain (Notice kind a b) plain world =
+    network_plain world [] (octet_run system world.network (octets.Forget (is_from_peer kind a b) ∷ octets.Call (Own a (steps.Noticed kind b)) ∷ []))
+    a tt
+act_plain (RaiseFirst kind a b) plain world =
+    network_plain world [] (octet_run system world.network (octets.Join (is_of_session kind a b) ∷ octets.Call (Own a (steps.Raised kind b)) ∷ [])) a
+    tt
+act_plain (RaiseSecond kind a b) plain world =
+    network_plain world [] (octet_run system world.network (octets.Call (Own b (steps.Raised kind a)) ∷ [])) b tt
+act_plain (Restart n) plain world =
+    network_plain world [] (octet_run system world.network (octets.Lose (is_at n) ∷ octets.Forget (leads_to n) ∷ octets.Call (Reset n) ∷ [])) n tt
 act_plain (At n call) plain world = network_plain world [] (octet_run system world.network (octets.Call (Own n call) ∷ [])) n tt
 act_plain (Enter vrf) plain world = absurd plain
 act_plain (Land from to place) plain world = absurd plain
@@ -247,7 +280,8 @@ plain_quiet one plain world = by (act world one) (act_plain one plain world)
     by (Ok new) s = record { plain = plain; lines = s }
 
 pub costs_plain : (scenario : Scenario) (a b : NodeId) (cost : ℕ) → AllByRecursion IsPlain (cost_acts scenario a b cost)
-costs_plain scenario a b cost = (tt, each_map IsPlain (λ n. Reroute n) (all_nodes scenario) (each_of (λ n. IsPlain (Reroute n)) (λ n. tt) (all_nodes scenario)))
+costs_plain scenario a b cost =
+    (tt, each_map IsPlain (λ n. Reroute n) (all_nodes scenario) (each_of (λ n. IsPlain (Reroute n)) (λ n. tt) (all_nodes scenario)))
 
 -- where it lacks a label, its acts are quiet
 abbrev HaltsQuiet : Outcome → Type 0
@@ -272,7 +306,10 @@ message_halts : (world : World) (o : Option Given) → HaltsQuiet (with_message 
 message_halts world o = as_all (with_message o world) (message_does IsQuiet plain_quiet o world)
 
 sent_halts : (world : World) (site : SiteId) (source group : Addr) (bytes : List ℕ) → HaltsQuiet (sent site source group bytes world)
-sent_halts world site source group bytes = as_ends (sent site source group bytes world) (sent_ends (record world { datagrams = world.datagrams ++ record { site = site; source = source; group = group; octets = bytes } ∷ [] }) (entered (scenario_of world) site))
+sent_halts world site source group bytes =
+    as_ends (sent site source group bytes world)
+    (sent_ends (record world { datagrams = world.datagrams ++ record { site = site; source = source; group = group; octets = bytes } ∷ [] })
+    (entered (scenario_of world) site))
 
 done_halts : (world : World) (event : Event) → HaltsQuiet (done world event)
 done_halts world (events.Tick count) = plain_halts world (Tick count ∷ []) (tt, tt)
@@ -281,7 +318,8 @@ done_halts world (events.Restart node) = plain_halts world (Restart node ∷ [])
 done_halts world (events.Move kind from to count) = plain_halts world (Move kind from to count ∷ []) (tt, tt)
 done_halts world (events.Lose kind a b) = plain_halts world (Lose kind a b ∷ []) (tt, tt)
 done_halts world (events.Notice kind a b) = plain_halts world (Notice kind a b ∷ []) (tt, tt)
-done_halts world (events.Raise kind a b) = plain_halts world (raises (sessions (scenario_of world)) kind a b) (raises_plain (sessions (scenario_of world)) kind a b)
+done_halts world (events.Raise kind a b) =
+    plain_halts world (raises (sessions (scenario_of world)) kind a b) (raises_plain (sessions (scenario_of world)) kind a b)
 done_halts world (events.Join iface entry) = message_halts world (message_of (scenario_of world) (events.Join iface entry))
 done_halts world (events.Prune iface entry) = message_halts world (message_of (scenario_of world) (events.Prune iface entry))
 done_halts world (events.Pim iface bytes) = message_halts world (message_of (scenario_of world) (events.Pim iface bytes))
@@ -291,7 +329,8 @@ done_halts world (events.Send site source group payload) = sent_halts world site
 done_halts world (events.Packet site bytes) = sent_halts world site (source_in bytes) (group_in bytes) bytes
 done_halts world (events.Select vrf pattern) = edge_halts world (edge_of_vrf (scenario_of world) vrf) (steps.Select vrf pattern)
 done_halts world (events.Unselect vrf pattern) = edge_halts world (edge_of_vrf (scenario_of world) vrf) (steps.Unselect vrf pattern)
-done_halts world (events.Hop from to place) = as_ends (done world (events.Hop from to place)) (row_ends (Land from to place ∷ []) (λ old. tt, tt) world)
+done_halts world (events.Hop from to place) =
+    as_ends (done world (events.Hop from to place)) (row_ends (Land from to place ∷ []) (λ old. tt, tt) world)
 done_halts world (events.DropCopy from to place) = plain_halts world (Drop from to place ∷ []) (tt, tt)
 done_halts world events.Heal = as_all (done world events.Heal) (heal_does IsQuiet plain_quiet world)
 done_halts world events.Settle = as_all (settled world) (settle_does IsQuiet plain_quiet world)
@@ -300,9 +339,11 @@ done_halts world (events.Cost a b cost) = plain_halts world (cost_acts (scenario
 done_halts world events.State = plain_halts world (Tell ∷ []) (tt, tt)
 
 -- By the acts of an event that lacks a label no copy lands and no datagram enters.
-pub halts_quiet : (world : World) (timed : Timed) (acts : List Happened) (node : NodeId) → outcome world timed ≡ Halted acts node → AllByRecursion IsQuiet acts
+pub halts_quiet : (world : World) (timed : Timed) (acts : List Happened) (node : NodeId) → outcome world timed ≡ Halted acts node
+    → AllByRecursion IsQuiet acts
 halts_quiet world timed acts node e = subst HaltsQuiet e (by (refusal world timed.event))
   where
-    by : (o : Option Refusal) → HaltsQuiet (elim o [ None ↦ done world timed.event | Some reason ↦ Done (record { act = None; lines = lines.Refused timed.line reason ∷ [] } ∷ []) world ])
+    by : (o : Option Refusal) → HaltsQuiet (elim o
+        [ None ↦ done world timed.event | Some reason ↦ Done (record { act = None; lines = lines.Refused timed.line reason ∷ [] } ∷ []) world ])
     by None = done_halts world timed.event
     by (Some reason) = tt

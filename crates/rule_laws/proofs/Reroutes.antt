@@ -34,7 +34,8 @@ use Rattle.rule_laws.proofs.Sessions.{silent_step}
 
 -- ---- a link gets another cost
 
-pub price_good : (scenario : Scenario) (network : MessageNetwork Nodes) (copies : Copies) (datagrams : List Datagram) (links : List Link) → Good scenario network copies datagrams → Sound scenario (record network.state { links = links })
+pub price_good : (scenario : Scenario) (network : MessageNetwork Nodes) (copies : Copies) (datagrams : List Datagram) (links : List Link)
+    → Good scenario network copies datagrams → Sound scenario (record network.state { links = links })
     → Good scenario (with_messages network (unchanged (record network.state { links = links }))) copies datagrams
 price_good scenario network copies datagrams links good sound =
     subst (λ (v : MessageNetwork Nodes). Good scenario v copies datagrams) (silent_step network (record network.state { links = links })) (record {
@@ -45,7 +46,8 @@ price_good scenario network copies datagrams links good sound =
 
 -- ---- a node takes over the present costs
 
-module _ (scenario : Scenario) (network : MessageNetwork Nodes) (copies : Copies) (datagrams : List Datagram) (n : NodeId) (good : Good scenario network copies datagrams) where
+module _ (scenario : Scenario) (network : MessageNetwork Nodes) (copies : Copies) (datagrams : List Datagram) (n : NodeId)
+    (good : Good scenario network copies datagrams) where
   abbrev turned : MessageNetwork Nodes
   turned = record network { state = following network.state n }
 
@@ -69,7 +71,8 @@ module _ (scenario : Scenario) (network : MessageNetwork Nodes) (copies : Copies
   next = upstream network.state.scenario new_core n
 
   aim : (m : NodeId) (b : Bool) → (m.0 == n.0) ≡ b
-      → cond b next (upstream network.state.scenario (core_at network.state m) m) ≡ upstream network.state.scenario (network.state.cores (cond b network.state.links (network.state.known m))) m
+      → cond b next (upstream network.state.scenario (core_at network.state m) m)
+      ≡ upstream network.state.scenario (network.state.cores (cond b network.state.links (network.state.known m))) m
   aim m true t = ap (upstream network.state.scenario new_core) (sym (node_equal m n t))
   aim m false t = refl
 
@@ -80,11 +83,15 @@ module _ (scenario : Scenario) (network : MessageNetwork Nodes) (copies : Copies
   first_kept later =
       let w : LabelNetwork = label_network network copies (datagrams ++ later) in
       let v : LabelNetwork = with_upstream w n next in
-      let P : LabelNetwork → Type 0 = λ x. (first : settling.Stepped) → label_step (label_nodes.place_of x n) x.clock (x.node n) labels.Rerouted ≡ Some first → Kept (behind x n first) in
-      subst P (aimed (datagrams ++ later)) (λ first e. act_gives w (Reroute n next) (behind v n first) (ap (option_map (behind v n)) e) (good.kept later))
+      let P : LabelNetwork → Type 0 =
+      λ x. (first : settling.Stepped) → label_step (label_nodes.place_of x n) x.clock (x.node n) labels.Rerouted ≡ Some first
+      → Kept (behind x n first) in
+      subst P (aimed (datagrams ++ later)) (λ first e. act_gives w (Reroute n next) (behind v n first) (ap (option_map (behind v n)) e)
+      (good.kept later))
 
   -- the edge knows the core by the present costs
-  cored : (b : Bool) (links others : List Link) → cond b (network.state.cores links) (network.state.cores others) ≡ network.state.cores (cond b links others)
+  cored : (b : Bool) (links others : List Link)
+      → cond b (network.state.cores links) (network.state.cores others) ≡ network.state.cores (cond b links others)
   cored true links others = refl
   cored false links others = refl
 
@@ -96,11 +103,14 @@ module _ (scenario : Scenario) (network : MessageNetwork Nodes) (copies : Copies
       let w : EdgeNetwork = edge_network network good.edges.0 in
       let rule : EdgeRule (edge_network turned good.edges.0) = subst EdgeRule same_edges (cored_both w n new_core good.edges.2) in
       let step : EdgeRule (edge_acts.stepped (edge_network turned good.edges.0) n steps.Rerouted) =
-      subst (λ (x : EdgeNetwork). EdgeRule (edge_acts.stepped x n steps.Rerouted)) same_edges (act_both w (edge_acts.Reroute n new_core) tt good.edges.2) in
+      subst (λ (x : EdgeNetwork). EdgeRule (edge_acts.stepped x n steps.Rerouted)) same_edges
+      (act_both w (edge_acts.Reroute n new_core) tt good.edges.2) in
       (good.edges.0, good.edges.1, rule_behind turned good.edges.0 n steps.Rerouted rule step)
 
   up_there : UpWhereJoined turned n (part_of (turned.state.node n)) steps.Rerouted
   up_there to joined = joined_up scenario network copies datagrams good n to joined
 
-  pub follow_good : (new : Stepped Nodes) → node_called turned.state n (turned.state.node n) steps.Rerouted ≡ Some new → Sound scenario new.state → Good scenario (with_messages network new) copies datagrams
-  follow_good new e sound = call_good scenario turned copies datagrams base_turned n steps.Rerouted new e rerouted_is_good tt sound up_there first_kept edges_next
+  pub follow_good : (new : Stepped Nodes) → node_called turned.state n (turned.state.node n) steps.Rerouted ≡ Some new → Sound scenario new.state
+      → Good scenario (with_messages network new) copies datagrams
+  follow_good new e sound =
+      call_good scenario turned copies datagrams base_turned n steps.Rerouted new e rerouted_is_good tt sound up_there first_kept edges_next

@@ -34,7 +34,8 @@ none_up : (o : Option End) → is_some o ≡ false → o ≡ None
 none_up None e = refl
 none_up (Some end) e = absurd cc
 
-module _ (w : LabelNetwork) (b a : NodeId) (part : LabelData) (now : ℕ) (at : w.node b ≡ part) (off : is_up part a ≡ false) (no_branch : (fec : Fec) (label : ℕ) → sets.contains part.branches (branch_to a fec label) ≡ true → ⊥) where
+module _ (w : LabelNetwork) (b a : NodeId) (part : LabelData) (now : ℕ) (at : w.node b ≡ part) (off : is_up part a ≡ false)
+    (no_branch : (fec : Fec) (label : ℕ) → sets.contains part.branches (branch_to a fec label) ≡ true → ⊥) where
   abbrev up : LabelNetwork
   up = behind w b (quiet (risen part a now))
 
@@ -47,7 +48,8 @@ module _ (w : LabelNetwork) (b a : NodeId) (part : LabelData) (now : ℕ) (at : 
   own n same = ap w.node (node_equal n b same) ∙ at
 
   -- what is read of a node
-  alike_at : {X : Type 0} (read : LabelData → X) (n : NodeId) (t : Bool) → (n.0 == b.0) ≡ t → (t ≡ true → read (risen part a now) ≡ read part) → read (cond t (risen part a now) (w.node n)) ≡ read (w.node n)
+  alike_at : {X : Type 0} (read : LabelData → X) (n : NodeId) (t : Bool) → (n.0 == b.0) ≡ t → (t ≡ true → read (risen part a now) ≡ read part)
+      → read (cond t (risen part a now) (w.node n)) ≡ read (w.node n)
   alike_at read n true e h = h refl ∙ ap read (sym (own n e))
   alike_at read n false e h = refl
 
@@ -58,7 +60,8 @@ module _ (w : LabelNetwork) (b a : NodeId) (part : LabelData) (now : ℕ) (at : 
   branches_alike n branch = alike_at (λ d. sets.contains d.branches branch) n (n.0 == b.0) refl (λ t. refl)
 
   ends_alike : (n u : NodeId) → is_that n u ≡ false → end_of (up.node n) u ≡ end_of (w.node n) u
-  ends_alike n u other = alike_at (λ d. end_of d u) n (n.0 == b.0) refl (λ here. put_other node_cmp_total node_cmp_exact part.ends a (raised_end now) u (λ same.
+  ends_alike n u other =
+      alike_at (λ d. end_of d u) n (n.0 == b.0) refl (λ here. put_other node_cmp_total node_cmp_exact part.ends a (raised_end now) u (λ same.
       let both : is_that n u ≡ true = (λ i. here i && node_itself u a same i) in
       let x : true ≡ false = sym both ∙ other in absurd cc))
 
@@ -82,8 +85,10 @@ module _ (w : LabelNetwork) (b a : NodeId) (part : LabelData) (now : ℕ) (at : 
     where
       by : (t : Bool) → is_that n u ≡ t → CopyCase up u n copy → CopyCase w u n copy
       by true that c = is_down (that_down n u that)
-      by false other (is_mapped fec here used vpn) = is_mapped fec (ap is_some (sym (ends_alike n u other)) ∙ here) (sym (uses_alike n copy.label) ∙ used) vpn
-      by false other (is_leaving fec here used) = is_leaving fec (ap is_some (sym (ends_alike n u other)) ∙ here) (sym (uses_alike n copy.label) ∙ used)
+      by false other (is_mapped fec here used vpn) =
+          is_mapped fec (ap is_some (sym (ends_alike n u other)) ∙ here) (sym (uses_alike n copy.label) ∙ used) vpn
+      by false other (is_leaving fec here used) =
+          is_leaving fec (ap is_some (sym (ends_alike n u other)) ∙ here) (sym (uses_alike n copy.label) ∙ used)
       by false other (is_resting until used late) = is_resting until (sym (uses_alike n copy.label) ∙ used) late
       by false other (is_down none) = is_down (sym (ends_alike n u other) ∙ none)
       by false other (is_unheld end here since unheld) = is_unheld end (sym (ends_alike n u other) ∙ here) since unheld

@@ -63,7 +63,9 @@ same_cond false x y h = refl
 
 -- a node that stays as it is, and puts nothing
 pub behind_idle : (w : LabelNetwork) (n : NodeId) → w ≡ behind w n (record { part = w.node n; puts = [] })
-behind_idle w n = (λ i. record w { node = λ m. same_cond (m.0 == n.0) (w.node n) (w.node m) (λ e. ap w.node (sym (node_equal m n e))) i }) ∙ behind_silent w n (w.node n)
+behind_idle w n =
+    (λ i. record w { node = λ m. same_cond (m.0 == n.0) (w.node n) (w.node m) (λ e. ap w.node (sym (node_equal m n e))) i })
+    ∙ behind_silent w n (w.node n)
 
 -- ---- calls for leaves
 
@@ -81,11 +83,22 @@ pub record RowOf (place : EdgePlace) (now : ℕ) (part : LabelData) (call : labe
   pub others : label_row place now new.part more ≡ Some rest
   pub parts : row ≡ record { old = part; call = call; new = new } ∷ rest
 
-pub row_of : (place : EdgePlace) (now : ℕ) (part : LabelData) (call : labels.Call) (more : List labels.Call) (row : List LabelStep) → label_row place now part (call ∷ more) ≡ Some row → RowOf place now part call more row
+pub row_of : (place : EdgePlace) (now : ℕ) (part : LabelData) (call : labels.Call) (more : List labels.Call) (row : List LabelStep)
+    → label_row place now part (call ∷ more) ≡ Some row → RowOf place now part call more row
 row_of place now part call more row e =
-    let first = bind_some (label_step (label_place place.scenario place.core place.me) now part call) (λ new. label_row place now new.part more >>? λ behind. Some (record { old = part; call = call; new = new } ∷ behind)) row e in
-    let rest = bind_some (label_row place now first.0.part more) (λ behind. Some (record { old = part; call = call; new = first.0 } ∷ behind)) row first.2 in
-    record { new = first.0; made = first.1; rest = rest.0; others = rest.1; parts = sym (same_Some (record { old = part; call = call; new = first.0 } ∷ rest.0) row rest.2) }
+    let first =
+    bind_some (label_step (label_place place.scenario place.core place.me) now part call)
+    (λ new. label_row place now new.part more >>? λ behind. Some (record { old = part; call = call; new = new } ∷ behind)) row e in
+    let rest =
+    bind_some (label_row place now first.0.part more) (λ behind. Some (record { old = part; call = call; new = first.0 } ∷ behind)) row first.2 in
+    record {
+      new = first.0;
+      made = first.1;
+      rest = rest.0;
+      others = rest.1;
+      parts =
+          sym (same_Some (record { old = part; call = call; new = first.0 } ∷ rest.0) row rest.2);
+    }
 
 -- ---- a row in the network
 
@@ -100,41 +113,52 @@ module _ (network : MessageNetwork Nodes) (copies : Copies) (datagrams : List Da
   abbrev own_place : Place
   own_place = label_place network.state.scenario (core_at network.state n) n
 
-  step_is : (s new : settling.Stepped) (call : labels.Call) → label_step own_place network.state.clock s.part call ≡ Some new → stepped (behind w n s) n call ≡ Some (behind w n (record { part = new.part; puts = s.puts ++ new.puts }))
+  step_is : (s new : settling.Stepped) (call : labels.Call) → label_step own_place network.state.clock s.part call ≡ Some new
+      → stepped (behind w n s) n call ≡ Some (behind w n (record { part = new.part; puts = s.puts ++ new.puts }))
   step_is s new call e =
       let v : LabelNetwork = behind w n s in
-      ap (λ (d : LabelData). option_map (behind v n) (label_step own_place network.state.clock d call)) (node_here n s.part w.node) ∙ ap (option_map (behind v n)) e
+      ap (λ (d : LabelData). option_map (behind v n) (label_step own_place network.state.clock d call)) (node_here n s.part w.node)
+      ∙ ap (option_map (behind v n)) e
       ∙ ap (λ (x : LabelNetwork). Some x) (behind_again w n s.part new.part s.puts new.puts)
 
-  want_kept : (s new : settling.Stepped) (call : labels.Call) → IsWant network.state.scenario call → label_step own_place network.state.clock s.part call ≡ Some new → Kept (behind w n s) → Kept (behind w n (record { part = new.part; puts = s.puts ++ new.puts }))
+  want_kept : (s new : settling.Stepped) (call : labels.Call) → IsWant network.state.scenario call
+      → label_step own_place network.state.clock s.part call ≡ Some new → Kept (behind w n s)
+      → Kept (behind w n (record { part = new.part; puts = s.puts ++ new.puts }))
   want_kept s new (labels.Want fec) is e k =
       let v : LabelNetwork = behind w n s in
-      act_gives v (Want n fec) (behind w n (record { part = new.part; puts = s.puts ++ new.puts })) (ap (wanted v n fec) is ∙ step_is s new (labels.Want fec) e) k
-  want_kept s new (labels.Unwant fec) is e k = act_gives (behind w n s) (Unwant n fec) (behind w n (record { part = new.part; puts = s.puts ++ new.puts })) (step_is s new (labels.Unwant fec) e) k
+      act_gives v (Want n fec) (behind w n (record { part = new.part; puts = s.puts ++ new.puts }))
+      (ap (wanted v n fec) is ∙ step_is s new (labels.Want fec) e) k
+  want_kept s new (labels.Unwant fec) is e k =
+      act_gives (behind w n s) (Unwant n fec) (behind w n (record { part = new.part; puts = s.puts ++ new.puts }))
+      (step_is s new (labels.Unwant fec) e) k
   want_kept s new (labels.Taken from message) is e k = absurd is
   want_kept s new (labels.Raised peer) is e k = absurd is
   want_kept s new (labels.Noticed peer) is e k = absurd is
   want_kept s new labels.Timers is e k = absurd is
   want_kept s new labels.Rerouted is e k = absurd is
 
-  pub wants_kept : (calls : List labels.Call) → AllByRecursion (IsWant network.state.scenario) calls → (s : settling.Stepped) (row : List LabelStep) → label_row (place_of network.state n) network.state.clock s.part calls ≡ Some row → Kept (behind w n s)
+  pub wants_kept : (calls : List labels.Call) → AllByRecursion (IsWant network.state.scenario) calls → (s : settling.Stepped) (row : List LabelStep)
+      → label_row (place_of network.state n) network.state.clock s.part calls ≡ Some row → Kept (behind w n s)
       → Kept (behind w n (record { part = part_after s.part row; puts = s.puts ++ row_puts row }))
   wants_kept [] are s row e k =
       let P : List LabelStep → Type 0 = λ r. Kept (behind w n (record { part = part_after s.part r; puts = s.puts ++ row_puts r })) in
-      subst P (same_Some [] row e) (subst (λ (ps : List put.Put). Kept (behind w n (record { part = s.part; puts = ps }))) (sym (append-nil s.puts)) k)
+      subst P (same_Some [] row e) (subst (λ (ps : List put.Put). Kept (behind w n (record { part = s.part; puts = ps }))) (sym (append-nil s.puts))
+      k)
   wants_kept (call ∷ more) are s row e k =
       let r = row_of (place_of network.state n) network.state.clock s.part call more row e in
       let next : settling.Stepped = record { part = r.new.part; puts = s.puts ++ r.new.puts } in
       let rest = wants_kept more are.1 next r.rest r.others (want_kept s r.new call are.0 r.made k) in
       let P : List LabelStep → Type 0 = λ x. Kept (behind w n (record { part = part_after s.part x; puts = s.puts ++ row_puts x })) in
-      subst P (sym r.parts) (subst (λ (ps : List put.Put). Kept (behind w n (record { part = part_after r.new.part r.rest; puts = ps }))) (append_assoc s.puts r.new.puts (row_puts r.rest)) rest)
+      subst P (sym r.parts) (subst (λ (ps : List put.Put). Kept (behind w n (record { part = part_after r.new.part r.rest; puts = ps })))
+      (append_assoc s.puts r.new.puts (row_puts r.rest)) rest)
 
   -- what the label step of the call itself gives keeps the rule
   abbrev pub FirstKept : Option labels.Call → Type 0
   FirstKept None = Kept w
   FirstKept (Some call) = (first : settling.Stepped) → label_step own_place network.state.clock (w.node n) call ≡ Some first → Kept (behind w n first)
 
-  pub row_kept : (own : Option labels.Call) (wants : List labels.Call) → AllByRecursion (IsWant network.state.scenario) wants → FirstKept own → (row : List LabelStep) → label_row (place_of network.state n) network.state.clock (w.node n) (one_call own ++ wants) ≡ Some row
+  pub row_kept : (own : Option labels.Call) (wants : List labels.Call) → AllByRecursion (IsWant network.state.scenario) wants → FirstKept own
+      → (row : List LabelStep) → label_row (place_of network.state n) network.state.clock (w.node n) (one_call own ++ wants) ≡ Some row
       → Kept (behind w n (sum (w.node n) row))
   row_kept None wants are first row e = wants_kept wants are (record { part = w.node n; puts = [] }) row e (subst Kept (behind_idle w n) first)
   row_kept (Some call) wants are first row e =
@@ -145,19 +169,26 @@ module _ (network : MessageNetwork Nodes) (copies : Copies) (datagrams : List Da
 -- ---- ends that are up
 
 -- the ends behind a step are those behind its effect
-step_ups : (place : Place) (now : ℕ) (part : LabelData) (call : labels.Call) (new : settling.Stepped) (to : NodeId) → label_step place now part call ≡ Some new → is_up new.part to ≡ is_up (effect place now part call).0.part to
-step_ups place now part call new to e = ap (λ (ends : FinMap node_cmp End). is_some (maps.get ends to)) (step_ends place now part call new e) ∙ up_after (effect place now part call).0.part.ends new.puts to
+step_ups : (place : Place) (now : ℕ) (part : LabelData) (call : labels.Call) (new : settling.Stepped) (to : NodeId)
+    → label_step place now part call ≡ Some new → is_up new.part to ≡ is_up (effect place now part call).0.part to
+step_ups place now part call new to e =
+    ap (λ (ends : FinMap node_cmp End). is_some (maps.get ends to)) (step_ends place now part call new e)
+    ∙ up_after (effect place now part call).0.part.ends new.puts to
 
-wants_up : (place : EdgePlace) (now : ℕ) (to : NodeId) (calls : List labels.Call) → AllByRecursion (IsWant place.scenario) calls → (part : LabelData) (row : List LabelStep) → label_row place now part calls ≡ Some row
+wants_up : (place : EdgePlace) (now : ℕ) (to : NodeId) (calls : List labels.Call) → AllByRecursion (IsWant place.scenario) calls
+    → (part : LabelData) (row : List LabelStep) → label_row place now part calls ≡ Some row
     → is_up part to ≡ true → RowIsUp (label_place place.scenario place.core place.me) now to row
-wants_up place now to [] are part row e up = subst (λ (x : List LabelStep). RowIsUp (label_place place.scenario place.core place.me) now to x) (same_Some [] row e) tt
+wants_up place now to [] are part row e up =
+    subst (λ (x : List LabelStep). RowIsUp (label_place place.scenario place.core place.me) now to x) (same_Some [] row e) tt
 wants_up place now to (call ∷ more) are part row e up =
     let own = label_place place.scenario place.core place.me in
     let r = row_of place now part call more row e in
     let same = same_up call are.0 in
-    subst (λ (x : List LabelStep). RowIsUp own now to x) (sym r.parts) (same ∙ up, wants_up place now to more are.1 r.new.part r.rest r.others (step_ups own now part call r.new to r.made ∙ same ∙ up))
+    subst (λ (x : List LabelStep). RowIsUp own now to x) (sym r.parts)
+    (same ∙ up, wants_up place now to more are.1 r.new.part r.rest r.others (step_ups own now part call r.new to r.made ∙ same ∙ up))
   where
-    same_up : (one : labels.Call) → IsWant place.scenario one → is_up (effect (label_place place.scenario place.core place.me) now part one).0.part to ≡ is_up part to
+    same_up : (one : labels.Call) → IsWant place.scenario one
+        → is_up (effect (label_place place.scenario place.core place.me) now part one).0.part to ≡ is_up part to
     same_up (labels.Want fec) is = refl
     same_up (labels.Unwant fec) is = refl
     same_up (labels.Taken from message) is = absurd is
@@ -171,13 +202,16 @@ abbrev pub own_effect : Place → ℕ → LabelData → Option labels.Call → L
 own_effect place now part None = part
 own_effect place now part (Some call) = (effect place now part call).0.part
 
-pub row_ups : (place : EdgePlace) (now : ℕ) (own : Option labels.Call) (wants : List labels.Call) → AllByRecursion (IsWant place.scenario) wants → (part : LabelData) (row : List LabelStep) → label_row place now part (one_call own ++ wants) ≡ Some row
-    → (to : NodeId) → is_up (own_effect (label_place place.scenario place.core place.me) now part own) to ≡ true → RowIsUp (label_place place.scenario place.core place.me) now to row
+pub row_ups : (place : EdgePlace) (now : ℕ) (own : Option labels.Call) (wants : List labels.Call) → AllByRecursion (IsWant place.scenario) wants
+    → (part : LabelData) (row : List LabelStep) → label_row place now part (one_call own ++ wants) ≡ Some row
+    → (to : NodeId) → is_up (own_effect (label_place place.scenario place.core place.me) now part own) to ≡ true
+    → RowIsUp (label_place place.scenario place.core place.me) now to row
 row_ups place now None wants are part row e to up = wants_up place now to wants are part row e up
 row_ups place now (Some call) wants are part row e to up =
     let own = label_place place.scenario place.core place.me in
     let r = row_of place now part call wants row e in
-    subst (λ (x : List LabelStep). RowIsUp own now to x) (sym r.parts) (up, wants_up place now to wants are r.new.part r.rest r.others (step_ups own now part call r.new to r.made ∙ up))
+    subst (λ (x : List LabelStep). RowIsUp own now to x) (sym r.parts)
+    (up, wants_up place now to wants are r.new.part r.rest r.others (step_ups own now part call r.new to r.made ∙ up))
 
 -- ---- what a step of a node is
 
@@ -208,34 +242,47 @@ pub record CalledRow (nodes : Nodes) (n : NodeId) (old : NodeState) (call : step
   pub control : control_of node ≡ control_behind nodes n old call
   pub kind : IsEdgeNode old → IsEdgeNode node
   pub bgp : (u to : NodeId) → over_bgp u to new.puts ≡ over_bgp u to (bgp_behind nodes n old call)
-  pub over : (u to : NodeId) → over_ldp u to new.puts ≡ over_ldp u to (flat_map (label_puts n (addr_of nodes.scenario n) (label_place nodes.scenario (core_at nodes n) n) nodes.clock) row)
+  pub over : (u to : NodeId) → over_ldp u to new.puts
+      ≡ over_ldp u to (flat_map (label_puts n (addr_of nodes.scenario n) (label_place nodes.scenario (core_at nodes n) n) nodes.clock) row)
 
 -- each leaf is one of a tree
 abbrev pub LeavesAreTrees : EdgePlace → Control → Type 0
 LeavesAreTrees place control = (fec : Fec) → sets.contains (leaves place control) fec ≡ true → is_tree place.scenario fec ≡ true
 
-want_is : (scenario : Scenario) (fec : Fec) (t : Bool) → (t ≡ true → is_tree scenario fec ≡ true) → IsWant scenario (cond t (labels.Want fec) (labels.Unwant fec))
+want_is : (scenario : Scenario) (fec : Fec) (t : Bool) → (t ≡ true → is_tree scenario fec ≡ true)
+    → IsWant scenario (cond t (labels.Want fec) (labels.Unwant fec))
 want_is scenario fec true h = h refl
 want_is scenario fec false h = tt
 
-wants_are : (scenario : Scenario) (new : FinSet fec_cmp) → ((fec : Fec) → sets.contains new fec ≡ true → is_tree scenario fec ≡ true) → (fecs : List Fec) → AllByRecursion (λ fec. IsWant scenario (cond (sets.contains new fec) (labels.Want fec) (labels.Unwant fec))) fecs
+wants_are : (scenario : Scenario) (new : FinSet fec_cmp) → ((fec : Fec) → sets.contains new fec ≡ true → is_tree scenario fec ≡ true)
+    → (fecs : List Fec) → AllByRecursion (λ fec. IsWant scenario (cond (sets.contains new fec) (labels.Want fec) (labels.Unwant fec))) fecs
 wants_are scenario new h [] = tt
 wants_are scenario new h (fec ∷ more) = (want_is scenario fec (sets.contains new fec) (h fec), wants_are scenario new h more)
 
-pub changed_are : (place : EdgePlace) (old new : FinSet fec_cmp) → ((fec : Fec) → sets.contains new fec ≡ true → is_tree place.scenario fec ≡ true) → AllByRecursion (IsWant place.scenario) (changed_leaves old new)
+pub changed_are : (place : EdgePlace) (old new : FinSet fec_cmp) → ((fec : Fec) → sets.contains new fec ≡ true → is_tree place.scenario fec ≡ true)
+    → AllByRecursion (IsWant place.scenario) (changed_leaves old new)
 changed_are place old new h =
     let some : List Fec = filter (λ fec. not (sets.contains old fec && sets.contains new fec)) (in_order (sets.union old new)) in
-    each_map (IsWant place.scenario) (λ fec. cond (sets.contains new fec) (labels.Want fec) (labels.Unwant fec)) some (wants_are place.scenario new h some)
+    each_map (IsWant place.scenario) (λ fec. cond (sets.contains new fec) (labels.Want fec) (labels.Unwant fec)) some
+    (wants_are place.scenario new h some)
 
-edge_row : (nodes : Nodes) (n : NodeId) (edge : EdgeData) (call : steps.Call) (new : Stepped Nodes) → LeavesAreTrees (place_of nodes n) (control_step (place_of nodes n) nodes.clock edge.control call) → edge_stepped nodes n edge call ≡ Some new → CalledRow nodes n (Edge edge) call new
+edge_row : (nodes : Nodes) (n : NodeId) (edge : EdgeData) (call : steps.Call) (new : Stepped Nodes)
+    → LeavesAreTrees (place_of nodes n) (control_step (place_of nodes n) nodes.clock edge.control call) → edge_stepped nodes n edge call ≡ Some new
+    → CalledRow nodes n (Edge edge) call new
 edge_row nodes n edge call new trees e =
     let place : EdgePlace = place_of nodes n in
     let control : Control = control_step place nodes.clock edge.control call in
     let stepped : EdgeStepped → Stepped Nodes = λ made. record {
       state = with_node nodes n (Edge made.edge);
-      puts = bgp_puts place edge.control made.edge.control ++ flat_map (label_puts n (addr_of nodes.scenario n) (label_place nodes.scenario (core_at nodes n) n) nodes.clock) made.row;
+      puts = bgp_puts place edge.control made.edge.control
+          ++ flat_map (label_puts n (addr_of nodes.scenario n) (label_place nodes.scenario (core_at nodes n) n) nodes.clock) made.row;
     } in
-    let behind_row : List LabelStep → EdgeStepped = λ row. record { edge = record { control = control; part = part_after edge.part row; raised = raised_after nodes.clock edge.raised call }; row = row } in
+    let behind_row : List LabelStep → EdgeStepped =
+    λ row. record {
+      edge =
+          record { control = control; part = part_after edge.part row; raised = raised_after nodes.clock edge.raised call };
+      row = row;
+    } in
     let wants : List labels.Call = changed_leaves (leaves place edge.control) (leaves place control) in
     let calls : List labels.Call = one_call (own_label_call call) ++ wants in
     let x = bind_some (edge_step place nodes.clock edge call) (λ made. Some (stepped made)) new e in
@@ -255,19 +302,24 @@ edge_row nodes n edge call new trees e =
           let puts = flat_map (label_puts n (addr_of nodes.scenario n) (label_place nodes.scenario (core_at nodes n) n) nodes.clock) y.0 in
           sym (ap (λ (s : Stepped Nodes). over_bgp u to s.puts) same)
           ∙ over_both (direction kinds.Bgp u to) (bgp_puts place edge.control control) puts
-          ∙ ap (λ (ms : List SessionMessage). over_bgp u to (bgp_puts place edge.control control) ++ ms) (row_none u to n (addr_of nodes.scenario n) (label_place nodes.scenario (core_at nodes n) n) nodes.clock y.0)
+          ∙ ap (λ (ms : List SessionMessage). over_bgp u to (bgp_puts place edge.control control) ++ ms)
+          (row_none u to n (addr_of nodes.scenario n) (label_place nodes.scenario (core_at nodes n) n) nodes.clock y.0)
           ∙ append-nil (over_bgp u to (bgp_puts place edge.control control));
       over = λ u to.
           sym (ap (λ (s : Stepped Nodes). over_ldp u to s.puts) same)
-          ∙ over_ldp_both u to (bgp_puts place edge.control control) (flat_map (label_puts n (addr_of nodes.scenario n) (label_place nodes.scenario (core_at nodes n) n) nodes.clock) y.0)
-          ∙ ap (λ (ms : List LabelMessage). ms ++ over_ldp u to (flat_map (label_puts n (addr_of nodes.scenario n) (label_place nodes.scenario (core_at nodes n) n) nodes.clock) y.0)) (bgp_puts_no_labels place edge.control control u to);
+          ∙ over_ldp_both u to (bgp_puts place edge.control control)
+          (flat_map (label_puts n (addr_of nodes.scenario n) (label_place nodes.scenario (core_at nodes n) n) nodes.clock) y.0)
+          ∙ ap (λ (ms : List LabelMessage). ms ++ over_ldp u to
+          (flat_map (label_puts n (addr_of nodes.scenario n) (label_place nodes.scenario (core_at nodes n) n) nodes.clock) y.0))
+          (bgp_puts_no_labels place edge.control control u to);
     }
 
 itself : (b : Bool) (x y : NodeState) → (b ≡ true → y ≡ x) → y ≡ cond b x y
 itself true x y h = h refl
 itself false x y h = refl
 
-core_row : (nodes : Nodes) (n : NodeId) (part : LabelData) (call : steps.Call) (new : Stepped Nodes) (own : Option labels.Call) → nodes.node n ≡ CoreNode part → own_label_call call ≡ own → core_called nodes n part own ≡ Some new → CalledRow nodes n (CoreNode part) call new
+core_row : (nodes : Nodes) (n : NodeId) (part : LabelData) (call : steps.Call) (new : Stepped Nodes) (own : Option labels.Call)
+    → nodes.node n ≡ CoreNode part → own_label_call call ≡ own → core_called nodes n part own ≡ Some new → CalledRow nodes n (CoreNode part) call new
 core_row nodes n part call new None at is e =
     let same = same_Some (record { state = nodes; puts = [] }) new e in
     record {
@@ -276,7 +328,8 @@ core_row nodes n part call new None at is e =
       row = [];
       made = ap (λ (o : Option labels.Call). label_row (place_of nodes n) nodes.clock part (one_call o ++ [])) is;
       node = CoreNode part;
-      state = sym (ap (λ (s : Stepped Nodes). s.state) same) ∙ (λ i. record nodes { node = λ m. itself (m.0 == n.0) (CoreNode part) (nodes.node m) (λ t. ap nodes.node (node_equal m n t) ∙ at) i });
+      state = sym (ap (λ (s : Stepped Nodes). s.state) same)
+          ∙ (λ i. record nodes { node = λ m. itself (m.0 == n.0) (CoreNode part) (nodes.node m) (λ t. ap nodes.node (node_equal m n t) ∙ at) i });
       part = refl;
       control = refl;
       kind = λ k. k;
@@ -297,7 +350,8 @@ core_row nodes n part call new (Some own) at is e =
       are = tt;
       row = made x.0 ∷ [];
       made = ap (λ (o : Option labels.Call). label_row (place_of nodes n) nodes.clock part (one_call o ++ [])) is
-          ∙ ap (λ (o : Option settling.Stepped). o >>? λ first. label_row (place_of nodes n) nodes.clock first.part [] >>? λ behind. Some (made first ∷ behind)) x.1;
+          ∙ ap (λ (o : Option settling.Stepped). o >>? λ first. label_row (place_of nodes n) nodes.clock first.part [] >>? λ behind. Some
+          (made first ∷ behind)) x.1;
       node = CoreNode x.0.part;
       state = sym (ap (λ (s : Stepped Nodes). s.state) same);
       part = refl;
@@ -314,16 +368,19 @@ abbrev pub TreesBehind : Nodes → NodeId → NodeState → steps.Call → Type 
 TreesBehind nodes n (Edge edge) call = LeavesAreTrees (place_of nodes n) (control_step (place_of nodes n) nodes.clock edge.control call)
 TreesBehind nodes n (CoreNode part) call = Unit {0}
 
-pub called_row : (nodes : Nodes) (n : NodeId) (old : NodeState) (call : steps.Call) (new : Stepped Nodes) → nodes.node n ≡ old → TreesBehind nodes n old call → node_called nodes n old call ≡ Some new → CalledRow nodes n old call new
+pub called_row : (nodes : Nodes) (n : NodeId) (old : NodeState) (call : steps.Call) (new : Stepped Nodes) → nodes.node n ≡ old
+    → TreesBehind nodes n old call → node_called nodes n old call ≡ Some new → CalledRow nodes n old call new
 called_row nodes n (Edge edge) call new at trees e = edge_row nodes n edge call new trees e
 called_row nodes n (CoreNode part) call new at trees e = core_row nodes n part call new (own_label_call call) at refl e
 
 -- ---- the network behind a step of a node
 
-transit_is : (here joined : Bool) (old over : List SessionMessage) (to : List LabelMessage) → (here ≡ true → joined ≡ true → labels_in over ≡ to) → (here ≡ false → labels_in over ≡ []) → labels_in (cond joined (old ++ over) old) ≡ cond (here && joined) (labels_in old ++ to) (labels_in old)
+transit_is : (here joined : Bool) (old over : List SessionMessage) (to : List LabelMessage) → (here ≡ true → joined ≡ true → labels_in over ≡ to)
+    → (here ≡ false → labels_in over ≡ []) → labels_in (cond joined (old ++ over) old) ≡ cond (here && joined) (labels_in old ++ to) (labels_in old)
 transit_is true true old over to h k = labels_both old over ∙ ap (λ (ms : List LabelMessage). labels_in old ++ ms) (h refl refl)
 transit_is true false old over to h k = refl
-transit_is false true old over to h k = labels_both old over ∙ ap (λ (ms : List LabelMessage). labels_in old ++ ms) (k refl) ∙ append-nil (labels_in old)
+transit_is false true old over to h k =
+    labels_both old over ∙ ap (λ (ms : List LabelMessage). labels_in old ++ ms) (k refl) ∙ append-nil (labels_in old)
 transit_is false false old over to h k = refl
 
 pub part_cond : (b : Bool) (x y : NodeState) (part : LabelData) → part_of x ≡ part → part_of (cond b x y) ≡ cond b part (part_of y)
@@ -339,11 +396,14 @@ turned u n e = elim (cases_Bool (n.0 == u.0)) [
 -- To each neighbour to which a session is joined the end is up behind the effect of the call itself.
 abbrev pub UpWhereJoined : MessageNetwork Nodes → NodeId → LabelData → steps.Call → Type 0
 UpWhereJoined network n part call =
-    (to : NodeId) → network.joined (direction kinds.Ldp n to) ≡ true → is_up (own_effect (label_place network.state.scenario (core_at network.state n) n) network.state.clock part (own_label_call call)) to ≡ true
+    (to : NodeId) → network.joined (direction kinds.Ldp n to) ≡ true
+    → is_up (own_effect (label_place network.state.scenario (core_at network.state n) n) network.state.clock part (own_label_call call)) to ≡ true
 
-pub called_is : (network : MessageNetwork Nodes) (copies : Copies) (datagrams : List Datagram) (n : NodeId) (call : steps.Call) (new : Stepped Nodes) (c : CalledRow network.state n (network.state.node n) call new)
+pub called_is : (network : MessageNetwork Nodes) (copies : Copies) (datagrams : List Datagram) (n : NodeId) (call : steps.Call) (new : Stepped Nodes)
+    (c : CalledRow network.state n (network.state.node n) call new)
     → UpWhereJoined network n (part_of (network.state.node n)) call
-    → label_network (with_messages network new) copies datagrams ≡ behind (label_network network copies datagrams) n (sum (part_of (network.state.node n)) c.row)
+    → label_network (with_messages network new) copies datagrams
+    ≡ behind (label_network network copies datagrams) n (sum (part_of (network.state.node n)) c.row)
 called_is network copies datagrams n call new c up =
     let nodes : Nodes = network.state in
     let old : LabelData = part_of (nodes.node n) in
@@ -351,12 +411,16 @@ called_is network copies datagrams n call new c up =
     let place : Place = label_place nodes.scenario (core_at nodes n) n in
     let ups = row_ups (place_of nodes n) nodes.clock (own_label_call call) c.wants c.are old c.row c.made in
     let net : Nodes → MessageNetwork Nodes = λ state. record (with_messages network new) { state = state } in
-    let transit : (u m : NodeId) → labels_in (cond (network.joined (direction kinds.Ldp u m)) (network.transit (direction kinds.Ldp u m) ++ messages_over (direction kinds.Ldp u m) new.puts) (network.transit (direction kinds.Ldp u m))) ≡ sent n (row_puts c.row) w.direction u m = λ u m.
-    transit_is (u.0 == n.0) (network.joined (direction kinds.Ldp u m)) (network.transit (direction kinds.Ldp u m)) (messages_over (direction kinds.Ldp u m) new.puts) (messages_to m (row_puts c.row))
+    let transit : (u m : NodeId) → labels_in (cond (network.joined (direction kinds.Ldp u m))
+    (network.transit (direction kinds.Ldp u m) ++ messages_over (direction kinds.Ldp u m) new.puts) (network.transit (direction kinds.Ldp u m)))
+    ≡ sent n (row_puts c.row) w.direction u m = λ u m.
+    transit_is (u.0 == n.0) (network.joined (direction kinds.Ldp u m)) (network.transit (direction kinds.Ldp u m))
+    (messages_over (direction kinds.Ldp u m) new.puts) (messages_to m (row_puts c.row))
     (λ t joined.
     let same : u ≡ n = node_equal u n t in
     c.over u m ∙ ap (λ (x : NodeId). over_ldp x m (flat_map (label_puts n (addr_of nodes.scenario n) place nodes.clock) c.row)) same
-    ∙ row_here n m (addr_of nodes.scenario n) place nodes.clock c.row (ups m (up m (sym (ap (λ (x : NodeId). network.joined (direction kinds.Ldp x m)) same) ∙ joined))))
+    ∙ row_here n m (addr_of nodes.scenario n) place nodes.clock c.row
+    (ups m (up m (sym (ap (λ (x : NodeId). network.joined (direction kinds.Ldp x m)) same) ∙ joined))))
     (λ f. c.over u m ∙ row_elsewhere n u m (addr_of nodes.scenario n) place nodes.clock c.row (turned u n f)) in
     ap (λ (state : Nodes). label_network (net state) copies datagrams) c.state
     ∙ (λ i. record w {

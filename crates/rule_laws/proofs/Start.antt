@@ -43,30 +43,56 @@ start_in_step scenario cores sound = (
   (λ over. []),
   (λ over. (refl, refl)),
   record {
-    base = record { sound = start_sound scenario cores sound; apart = λ n. refl; numbers = fresh_numbers scenario; peers = λ u n j. absurd cc; kinds = fresh_kind scenario };
+    base = record {
+      sound = start_sound scenario cores sound;
+      apart = λ n. refl;
+      numbers = fresh_numbers scenario;
+      peers = λ u n j. absurd cc;
+      kinds =
+          fresh_kind scenario;
+    };
     edges = (
       (λ u n. []),
       (λ u n. refl),
-      (let w : EdgeNetwork = record { clock = 0; scenario = scenario; core = λ n. cores scenario.links; node = λ n. no_control; direction = λ a b. record { joined = false; transit = [] } } in
-          subst EdgeRule (λ i. record w { node = λ n. sym (fresh_control scenario n) i }) (record { rule = start_rule scenario (λ n. cores scenario.links) sound.rules; honest = start_honest scenario (λ n. cores scenario.links) })),
+      (let w : EdgeNetwork =
+          record {
+            clock = 0;
+            scenario = scenario;
+            core = λ n. cores scenario.links;
+            node = λ n. no_control;
+            direction =
+                λ a b. record { joined = false; transit = [] };
+          } in
+          subst EdgeRule (λ i. record w { node = λ n. sym (fresh_control scenario n) i })
+          (record {
+            rule = start_rule scenario (λ n. cores scenario.links) sound.rules;
+            honest =
+                start_honest scenario (λ n. cores scenario.links);
+          })),
     );
     kept = λ later.
         let next : NodeId → Fec → Option NodeId = upstream scenario (cores scenario.links) in
         let w : LabelNetwork = at_start scenario.life (λ n. scenario.labels) (is_tree scenario) next (vpn_of scenario) (origin scenario later) in
-        subst Kept (λ i. record w { node = λ n. sym (fresh_part scenario n) i }) (start_kept scenario.life (λ n. scenario.labels) (is_tree scenario) next (vpn_of scenario) (origin scenario later));
+        subst Kept (λ i. record w { node = λ n. sym (fresh_part scenario n) i })
+        (start_kept scenario.life (λ n. scenario.labels) (is_tree scenario) next (vpn_of scenario) (origin scenario later));
   },
 )
 
-pub run_keeps_rule : (scenario : Scenario) (cores : Cores) (all : List Timed) (trace : List Traced) (new : World) → SoundScenario scenario → AllByRecursion (λ timed. IsSoundEvent scenario timed.event) all
+pub run_keeps_rule : (scenario : Scenario) (cores : Cores) (all : List Timed) (trace : List Traced) (new : World) → SoundScenario scenario
+    → AllByRecursion (λ timed. IsSoundEvent scenario timed.event) all
     → Runs (start scenario cores) 0 all trace new → LabelRule new
-run_keeps_rule scenario cores all trace new lines sound run = world_rule scenario new (runs_in_step enters scenario all sound (start scenario cores) 0 trace new (start_in_step scenario cores lines) run)
+run_keeps_rule scenario cores all trace new lines sound run =
+    world_rule scenario new (runs_in_step enters scenario all sound (start scenario cores) 0 trace new (start_in_step scenario cores lines) run)
 
 -- all that is kept, behind a run
-pub run_in_step : (scenario : Scenario) (cores : Cores) (all : List Timed) (trace : List Traced) (new : World) → SoundScenario scenario → AllByRecursion (λ timed. IsSoundEvent scenario timed.event) all
+pub run_in_step : (scenario : Scenario) (cores : Cores) (all : List Timed) (trace : List Traced) (new : World) → SoundScenario scenario
+    → AllByRecursion (λ timed. IsSoundEvent scenario timed.event) all
     → Runs (start scenario cores) 0 all trace new → InStep scenario new
-run_in_step scenario cores all trace new lines sound run = runs_in_step enters scenario all sound (start scenario cores) 0 trace new (start_in_step scenario cores lines) run
+run_in_step scenario cores all trace new lines sound run =
+    runs_in_step enters scenario all sound (start scenario cores) 0 trace new (start_in_step scenario cores lines) run
 
-pub run_is_networks : (scenario : Scenario) (cores : Cores) (all : List Timed) (trace : List Traced) (new : World) → SoundScenario scenario → AllByRecursion (λ timed. IsSoundEvent scenario timed.event) all
+pub run_is_networks : (scenario : Scenario) (cores : Cores) (all : List Timed) (trace : List Traced) (new : World) → SoundScenario scenario
+    → AllByRecursion (λ timed. IsSoundEvent scenario timed.event) all
     → Runs (start scenario cores) 0 all trace new → AreNetworks new
 run_is_networks scenario cores all trace new lines sound run =
     let s = run_in_step scenario cores all trace new lines sound run in
@@ -79,9 +105,12 @@ run_is_networks scenario cores all trace new lines sound run =
       edges = s.2.edges.2.rule;
     }
 
-pub run_says : (scenario : Scenario) (cores : Cores) (all : List Timed) (trace : List Traced) (new : World) → SoundScenario scenario → AllByRecursion (λ timed. IsSoundEvent scenario timed.event) all
-    → Runs (start scenario cores) 0 all trace new → AllByRecursion (λ (step : Traced). AllByRecursion (IsAdmittedLine scenario new.datagrams) step.happened.lines) trace
-run_says scenario cores all trace new lines sound run = (runs_say scenario all sound (start scenario cores) 0 trace new (start_in_step scenario cores lines) run).2
+pub run_says : (scenario : Scenario) (cores : Cores) (all : List Timed) (trace : List Traced) (new : World) → SoundScenario scenario
+    → AllByRecursion (λ timed. IsSoundEvent scenario timed.event) all
+    → Runs (start scenario cores) 0 all trace new
+    → AllByRecursion (λ (step : Traced). AllByRecursion (IsAdmittedLine scenario new.datagrams) step.happened.lines) trace
+run_says scenario cores all trace new lines sound run =
+    (runs_say scenario all sound (start scenario cores) 0 trace new (start_in_step scenario cores lines) run).2
 
 -- ---- throughout events
 
@@ -103,19 +132,24 @@ event_of P K old (Halted acts node) g =
     let same : last.datagrams ≡ g.0 = throughout_datagrams P acts (record old { datagrams = g.0 }) last g.1.2 in
     (last, g.1.1, subst (λ (datagrams : List Datagram). Throughout P (record old { datagrams = datagrams }) acts last) (sym same) g.1.2, g.1.3)
 
-events_throughout : (scenario : Scenario) (all : List Timed) → AllByRecursion (λ (timed : Timed). IsSoundEvent scenario timed.event) all → (old : World) → InStep scenario old → ThroughoutEvents LabelRule old all
+events_throughout : (scenario : Scenario) (all : List Timed) → AllByRecursion (λ (timed : Timed). IsSoundEvent scenario timed.event) all
+    → (old : World) → InStep scenario old → ThroughoutEvents LabelRule old all
 events_throughout scenario [] sound old s = world_rule scenario old s
 events_throughout scenario (timed ∷ more) sound old s = (
   world_rule scenario old s,
   event_of LabelRule (InStep scenario) old (outcome old timed) (outcome_goes enters scenario old s timed sound.0),
-  by (outcome old timed) (λ acts next e. events_throughout scenario more sound.1 next (turned_in_step enters scenario old s timed sound.0 acts next e)),
+  by (outcome old timed) (λ acts next e. events_throughout scenario more sound.1 next
+      (turned_in_step enters scenario old s timed sound.0 acts next e)),
 )
   where
-    by : (o : Outcome) → ((acts : List Happened) (next : World) → o ≡ Done acts next → ThroughoutEvents LabelRule next more) → elim o as (λ _. Type 0) [ Done acts next ↦ ThroughoutEvents LabelRule next more | Halted acts node ↦ ⊤ ]
+    by : (o : Outcome) → ((acts : List Happened) (next : World) → o ≡ Done acts next → ThroughoutEvents LabelRule next more)
+        → elim o as (λ _. Type 0) [ Done acts next ↦ ThroughoutEvents LabelRule next more | Halted acts node ↦ ⊤ ]
     by (Done acts next) rest = rest acts next refl
     by (Halted acts node) rest = tt
 
 -- So it does after a run.
-pub run_throughout : (scenario : Scenario) (cores : Cores) (all more : List Timed) (trace : List Traced) (new : World) → SoundScenario scenario → AllByRecursion (λ timed. IsSoundEvent scenario timed.event) all → AllByRecursion (λ timed. IsSoundEvent scenario timed.event) more
+pub run_throughout : (scenario : Scenario) (cores : Cores) (all more : List Timed) (trace : List Traced) (new : World) → SoundScenario scenario
+    → AllByRecursion (λ timed. IsSoundEvent scenario timed.event) all → AllByRecursion (λ timed. IsSoundEvent scenario timed.event) more
     → Runs (start scenario cores) 0 all trace new → ThroughoutEvents LabelRule new more
-run_throughout scenario cores all more trace new lines sound then_sound run = events_throughout scenario more then_sound new (run_in_step scenario cores all trace new lines sound run)
+run_throughout scenario cores all more trace new lines sound then_sound run =
+    events_throughout scenario more then_sound new (run_in_step scenario cores all trace new lines sound run)

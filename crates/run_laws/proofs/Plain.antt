@@ -27,7 +27,8 @@ module _ {X : Type 0} where
 
   filter_there : (test : X → Bool) (xs : List X) (x : X) → test x ≡ true → Contains xs x → Contains (filter test xs) x
   filter_there test [] x passes h = h
-  filter_there test (y ∷ xs) x passes (zero, less, e) = subst (λ (b : Bool). Contains (cond b (y ∷ filter test xs) (filter test xs)) x) (sym (ap test e ∙ passes)) (here x y (filter test xs) e)
+  filter_there test (y ∷ xs) x passes (zero, less, e) =
+      subst (λ (b : Bool). Contains (cond b (y ∷ filter test xs) (filter test xs)) x) (sym (ap test e ∙ passes)) (here x y (filter test xs) e)
   filter_there test (y ∷ xs) x passes (suc k, less, e) =
       let rest : Contains (filter test xs) x = filter_there test xs x passes (k, omega (arith, less), e) in
       elim (test y) as (λ b. Contains (cond b (y ∷ filter test xs) (filter test xs)) x) [
@@ -59,8 +60,10 @@ module _ {X : Type 0} where
       (rest.0, deeper rest.0 x xs rest.1, rest.2)
 
   -- a test that passes only what is kept
-  twice_by : (test : X → Bool) (x : X) (xs ys : List X) (a b : Bool) → test x ≡ a → (a ≡ true → b ≡ true) → filter test xs ≡ filter test ys → filter test (cond b (x ∷ xs) xs) ≡ cond a (x ∷ filter test ys) (filter test ys)
-  twice_by test x xs ys a true is kept rest = ap (λ (t : Bool). cond t (x ∷ filter test xs) (filter test xs)) is ∙ ap (λ (l : List X). cond a (x ∷ l) l) rest
+  twice_by : (test : X → Bool) (x : X) (xs ys : List X) (a b : Bool) → test x ≡ a → (a ≡ true → b ≡ true) → filter test xs ≡ filter test ys
+      → filter test (cond b (x ∷ xs) xs) ≡ cond a (x ∷ filter test ys) (filter test ys)
+  twice_by test x xs ys a true is kept rest =
+      ap (λ (t : Bool). cond t (x ∷ filter test xs) (filter test xs)) is ∙ ap (λ (l : List X). cond a (x ∷ l) l) rest
   twice_by test x xs ys true false is kept rest = absurd (true≢false (sym (kept refl)))
   twice_by test x xs ys false false is kept rest = rest
 
@@ -69,19 +72,23 @@ module _ {X : Type 0} where
   filter_twice test keeps kept (x ∷ xs) = twice_by test x (filter keeps xs) xs (test x) (keeps x) refl (kept x) (filter_twice test keeps kept xs)
 
   -- what says nothing of an element that is not kept
-  flat_by : {Y : Type 0} (f : X → List Y) (x : X) (xs ys : List X) (b : Bool) → (b ≡ false → f x ≡ []) → flat_map f xs ≡ flat_map f ys → flat_map f (cond b (x ∷ xs) xs) ≡ f x ++ flat_map f ys
+  flat_by : {Y : Type 0} (f : X → List Y) (x : X) (xs ys : List X) (b : Bool) → (b ≡ false → f x ≡ []) → flat_map f xs ≡ flat_map f ys
+      → flat_map f (cond b (x ∷ xs) xs) ≡ f x ++ flat_map f ys
   flat_by f x xs ys true none rest = ap (λ l. f x ++ l) rest
   flat_by f x xs ys false none rest = rest ∙ ap (λ l. l ++ flat_map f ys) (sym (none refl))
 
-  flat_kept : {Y : Type 0} (f : X → List Y) (keeps : X → Bool) → ((x : X) → keeps x ≡ false → f x ≡ []) → (xs : List X) → flat_map f (filter keeps xs) ≡ flat_map f xs
+  flat_kept : {Y : Type 0} (f : X → List Y) (keeps : X → Bool) → ((x : X) → keeps x ≡ false → f x ≡ []) → (xs : List X)
+      → flat_map f (filter keeps xs) ≡ flat_map f xs
   flat_kept f keeps none [] = refl
   flat_kept f keeps none (x ∷ xs) = flat_by f x (filter keeps xs) xs (keeps x) (none x) (flat_kept f keeps none xs)
 
-  unfiltered_by : (P : X → Type 0) (x : X) (xs ys : List X) (b : Bool) → (b ≡ false → P x) → (AllByRecursion P xs → AllByRecursion P ys) → AllByRecursion P (cond b (x ∷ xs) xs) → P x × AllByRecursion P ys
+  unfiltered_by : (P : X → Type 0) (x : X) (xs ys : List X) (b : Bool) → (b ≡ false → P x) → (AllByRecursion P xs → AllByRecursion P ys)
+      → AllByRecursion P (cond b (x ∷ xs) xs) → P x × AllByRecursion P ys
   unfiltered_by P x xs ys true other rest h = (h.0, rest h.1)
   unfiltered_by P x xs ys false other rest h = (other refl, rest h)
 
-  each_unfiltered : (P : X → Type 0) (keeps : X → Bool) → ((x : X) → keeps x ≡ false → P x) → (xs : List X) → AllByRecursion P (filter keeps xs) → AllByRecursion P xs
+  each_unfiltered : (P : X → Type 0) (keeps : X → Bool) → ((x : X) → keeps x ≡ false → P x) → (xs : List X) → AllByRecursion P (filter keeps xs)
+      → AllByRecursion P xs
   each_unfiltered P keeps other [] h = h
   each_unfiltered P keeps other (x ∷ xs) h = unfiltered_by P x (filter keeps xs) xs (keeps x) (other x) (each_unfiltered P keeps other xs) h
 
@@ -89,9 +96,11 @@ module _ {X : Type 0} where
 
 pub plain_lines : (report : List Entry) → lines_of (plain report) ≡ filter is_plain (lines_of report)
 plain_lines [] = refl
-plain_lines (entry ∷ report) = ap (λ (l : List ReportLine). filter is_plain entry.lines ++ l) (plain_lines report) ∙ sym (filter-append is_plain entry.lines (lines_of report))
+plain_lines (entry ∷ report) =
+    ap (λ (l : List ReportLine). filter is_plain entry.lines ++ l) (plain_lines report) ∙ sym (filter-append is_plain entry.lines (lines_of report))
 
-pub kept_lines : (test : ReportLine → Bool) → ((line : ReportLine) → test line ≡ true → is_plain line ≡ true) → (report : List Entry) → filter test (lines_of (plain report)) ≡ filter test (lines_of report)
+pub kept_lines : (test : ReportLine → Bool) → ((line : ReportLine) → test line ≡ true → is_plain line ≡ true) → (report : List Entry)
+    → filter test (lines_of (plain report)) ≡ filter test (lines_of report)
 kept_lines test kept report = ap (filter test) (plain_lines report) ∙ filter_twice test is_plain kept (lines_of report)
 
 refuses_none : (line : ReportLine) → is_plain line ≡ false → refused_line line ≡ []
@@ -122,14 +131,19 @@ module _ (scenario : Scenario) (refused : List ℕ) where
 
   safe_there : (events : List Timed) (report : List Entry) → Safe scenario events refused report → Safe scenario events refused (plain report)
   safe_there events [] h = h
-  safe_there events (entry ∷ report) h = (each_filter (IsSafeLine scenario (take (entry.event + 1) events) refused) is_plain entry.lines h.0, safe_there events report h.1)
+  safe_there events (entry ∷ report) h =
+      (each_filter (IsSafeLine scenario (take (entry.event + 1) events) refused) is_plain entry.lines h.0, safe_there events report h.1)
 
   safe_back : (events : List Timed) (report : List Entry) → Safe scenario events refused (plain report) → Safe scenario events refused report
   safe_back events [] h = h
-  safe_back events (entry ∷ report) h =
-      (each_unfiltered (IsSafeLine scenario (take (entry.event + 1) events) refused) is_plain (other_safe (take (entry.event + 1) events)) entry.lines h.0, safe_back events report h.1)
+  safe_back events (entry ∷ report) h = (
+    each_unfiltered (IsSafeLine scenario (take (entry.event + 1) events) refused) is_plain (other_safe (take (entry.event + 1) events)) entry.lines
+        h.0,
+    safe_back events report h.1,
+  )
 
-pub same_safe : (scenario : Scenario) (events : List Timed) (refused : List ℕ) (report : List Entry) → Safe scenario events refused (plain report) ↔ Safe scenario events refused report
+pub same_safe : (scenario : Scenario) (events : List Timed) (refused : List ℕ) (report : List Entry)
+    → Safe scenario events refused (plain report) ↔ Safe scenario events refused report
 same_safe scenario events refused report = (safe_back scenario refused events report, safe_there scenario refused events report)
 
 -- ---- once
@@ -151,7 +165,8 @@ same_outs report number iface =
     ∙ length-filter (is_out_at number iface) (lines_of report)
 
 module _ (events : List Timed) (report : List Entry) where
-  state_there : (place bytes copies buffers due unready : ℕ) → TellsState events report place bytes copies buffers due unready → TellsState events (plain report) place bytes copies buffers due unready
+  state_there : (place bytes copies buffers due unready : ℕ) → TellsState events report place bytes copies buffers due unready
+      → TellsState events (plain report) place bytes copies buffers due unready
   state_there place bytes copies buffers due unready tells = record {
     line = tells.line;
     at = tells.at;
@@ -161,9 +176,11 @@ module _ (events : List Timed) (report : List Entry) where
     told = filter_there is_plain tells.entry.lines (lines.State bytes copies buffers due unready) refl tells.told;
   }
 
-  state_back : (place bytes copies buffers due unready : ℕ) → TellsState events (plain report) place bytes copies buffers due unready → TellsState events report place bytes copies buffers due unready
+  state_back : (place bytes copies buffers due unready : ℕ) → TellsState events (plain report) place bytes copies buffers due unready
+      → TellsState events report place bytes copies buffers due unready
   state_back place bytes copies buffers due unready tells =
-      let from : (entry : Entry) × Contains report entry × (plain_entry entry ≡ tells.entry) = map_back plain_entry report tells.entry tells.reported in
+      let from : (entry : Entry) × Contains report entry × (plain_entry entry ≡ tells.entry) =
+      map_back plain_entry report tells.entry tells.reported in
       let state : ReportLine = lines.State bytes copies buffers due unready in
       record {
         line = tells.line;
@@ -176,23 +193,43 @@ module _ (events : List Timed) (report : List Entry) where
 
   ends_there : (place : ℕ) → EndsWindow events report place → EndsWindow events (plain report) place
   ends_there place (inl drains) = inl drains
-  ends_there place (inr (bytes, buffers, due, unready, tells)) = inr (bytes, buffers, due, unready, state_there place bytes 0 buffers due unready tells)
+  ends_there place (inr (bytes, buffers, due, unready, tells)) =
+      inr (bytes, buffers, due, unready, state_there place bytes 0 buffers due unready tells)
 
   ends_back : (place : ℕ) → EndsWindow events (plain report) place → EndsWindow events report place
   ends_back place (inl drains) = inl drains
   ends_back place (inr (bytes, buffers, due, unready, tells)) = inr (bytes, buffers, due, unready, state_back place bytes 0 buffers due unready tells)
 
   window_there : (refused : List ℕ) (first last : ℕ) → IsWindow events refused report first last → IsWindow events refused (plain report) first last
-  window_there refused first last is = record { calm = is.calm; opens = is.opens; is_calm = state_there is.calm 0 0 0 0 0 is.is_calm; closes = ends_there last is.closes; within = is.within }
+  window_there refused first last is =
+      record {
+        calm = is.calm;
+        opens = is.opens;
+        is_calm = state_there is.calm 0 0 0 0 0 is.is_calm;
+        closes = ends_there last is.closes;
+        within =
+            is.within;
+      }
 
   window_back : (refused : List ℕ) (first last : ℕ) → IsWindow events refused (plain report) first last → IsWindow events refused report first last
-  window_back refused first last is = record { calm = is.calm; opens = is.opens; is_calm = state_back is.calm 0 0 0 0 0 is.is_calm; closes = ends_back last is.closes; within = is.within }
+  window_back refused first last is =
+      record {
+        calm = is.calm;
+        opens = is.opens;
+        is_calm = state_back is.calm 0 0 0 0 0 is.is_calm;
+        closes = ends_back last is.closes;
+        within =
+            is.within;
+      }
 
-pub same_once : (scenario : Scenario) (events : List Timed) (refused : List ℕ) (report : List Entry) → Once scenario events refused (plain report) ↔ Once scenario events refused report
+pub same_once : (scenario : Scenario) (events : List Timed) (refused : List ℕ) (report : List Entry)
+    → Once scenario events refused (plain report) ↔ Once scenario events refused report
 same_once scenario events refused report = (back, there)
   where
     back : Once scenario events refused (plain report) → Once scenario events refused report
-    back once first last is place datagram at low high iface = sym (same_outs report (place + 1) iface) ∙ once first last (window_there events report refused first last is) place datagram at low high iface
+    back once first last is place datagram at low high iface =
+        sym (same_outs report (place + 1) iface) ∙ once first last (window_there events report refused first last is) place datagram at low high iface
 
     there : Once scenario events refused report → Once scenario events refused (plain report)
-    there once first last is place datagram at low high iface = same_outs report (place + 1) iface ∙ once first last (window_back events report refused first last is) place datagram at low high iface
+    there once first last is place datagram at low high iface =
+        same_outs report (place + 1) iface ∙ once first last (window_back events report refused first last is) place datagram at low high iface

@@ -70,22 +70,26 @@ words_alike None group one = tt
 words_alike (Some source) None one = tt
 words_alike (Some source) (Some group) one = alike source group one
 
-words_sound : (pattern : Pattern) → IsPattern pattern → AllByRecursion IsOctets (word_octets pattern.source ++ word_octets pattern.group) → SoundPattern pattern
+words_sound : (pattern : Pattern) → IsPattern pattern → AllByRecursion IsOctets (word_octets pattern.source ++ word_octets pattern.group)
+    → SoundPattern pattern
 words_sound pattern is octets =
     let each = each_of pattern.source pattern.group octets in
     (any_customer pattern.source is.source each.0, any_group pattern.group is.group each.1, words_alike pattern.source pattern.group is.family)
   where
-    each_of : (source group : Option Addr) → AllByRecursion IsOctets (word_octets source ++ word_octets group) → AllByRecursion IsOctets (word_octets source) × AllByRecursion IsOctets (word_octets group)
+    each_of : (source group : Option Addr) → AllByRecursion IsOctets (word_octets source ++ word_octets group)
+        → AllByRecursion IsOctets (word_octets source) × AllByRecursion IsOctets (word_octets group)
     each_of None group octets = (tt, octets)
     each_of (Some addr) group octets = ((octets.0, tt), octets.1)
 
 -- ---- events
 
-within_by : (scenario : Scenario) → IsTopology (length scenario.nodes) scenario.links → (kind : Kind) (a b : NodeId) → HaveSession scenario kind a b → a.0 < length scenario.nodes
+within_by : (scenario : Scenario) → IsTopology (length scenario.nodes) scenario.links → (kind : Kind) (a b : NodeId) → HaveSession scenario kind a b
+    → a.0 < length scenario.nodes
 within_by scenario topology kinds.Bgp a b (edge, other, apart) = slice_get_within scenario.nodes a.0 edge.node edge.at
 within_by scenario topology kinds.Ldp a b (cost, linked) = (good (length scenario.nodes) scenario.links a.0 b.0 cost topology linked).a_within
 
-sound_by : (scenario : Scenario) → IsTopology (length scenario.nodes) scenario.links → (event : Event) → IsEventOf scenario event → EventHasOctets event → IsSoundEvent scenario event
+sound_by : (scenario : Scenario) → IsTopology (length scenario.nodes) scenario.links → (event : Event) → IsEventOf scenario event
+    → EventHasOctets event → IsSoundEvent scenario event
 sound_by scenario topology (events.Tick count) is octets = tt
 sound_by scenario topology (events.Timers node) is octets = is
 sound_by scenario topology (events.Restart node) is octets = tt
@@ -102,31 +106,39 @@ sound_by scenario topology (events.Send site source group payload) is octets = t
 sound_by scenario topology (events.Packet site bytes) is octets = tt
 sound_by scenario topology (events.Select vrf pattern) is octets = words_sound pattern is.1 octets
 sound_by scenario topology (events.Unselect vrf pattern) is octets = tt
-sound_by scenario topology (events.Hop from to place) ((cost, linked), counted, few) octets = record { cost = cost; linked = linked; counted = counted }
-sound_by scenario topology (events.DropCopy from to place) ((cost, linked), counted, few) octets = record { cost = cost; linked = linked; counted = counted }
+sound_by scenario topology (events.Hop from to place) ((cost, linked), counted, few) octets =
+    record { cost = cost; linked = linked; counted = counted }
+sound_by scenario topology (events.DropCopy from to place) ((cost, linked), counted, few) octets =
+    record { cost = cost; linked = linked; counted = counted }
 sound_by scenario topology events.Heal is octets = tt
 sound_by scenario topology events.Settle is octets = tt
 sound_by scenario topology events.Drain is octets = tt
 sound_by scenario topology events.State is octets = tt
 sound_by scenario topology (events.Cost a b cost) is octets = (is.1, is.2)
 
-pub sound_event : (scenario : Scenario) (event : Event) → Rules scenario → IsEventOf scenario event → EventHasOctets event → IsSoundEvent scenario event
+pub sound_event : (scenario : Scenario) (event : Event) → Rules scenario → IsEventOf scenario event → EventHasOctets event
+    → IsSoundEvent scenario event
 sound_event scenario event rules is octets = sound_by scenario rules.core.topology event is octets
 
 -- ---- scripts
 
-all_sound : (scenario : Scenario) → Rules scenario → (row : List Timed) → AllByRecursion (λ (timed : Timed). IsEventOf scenario timed.event) row → AllByRecursion (λ (timed : Timed). EventHasOctets timed.event) row
+all_sound : (scenario : Scenario) → Rules scenario → (row : List Timed) → AllByRecursion (λ (timed : Timed). IsEventOf scenario timed.event) row
+    → AllByRecursion (λ (timed : Timed). EventHasOctets timed.event) row
     → AllByRecursion (λ (timed : Timed). IsSoundEvent scenario timed.event) row
 all_sound scenario rules [] is octets = tt
-all_sound scenario rules (timed ∷ more) is octets = (sound_event scenario timed.event rules is.0 octets.0, all_sound scenario rules more is.1 octets.1)
+all_sound scenario rules (timed ∷ more) is octets =
+    (sound_event scenario timed.event rules is.0 octets.0, all_sound scenario rules more is.1 octets.1)
 
-pub sound_first : (script : Script) (count : ℕ) → ScriptRules script → ScriptHasOctets script → AllByRecursion (λ (timed : Timed). IsSoundEvent script.scenario timed.event) (take count script.events)
+pub sound_first : (script : Script) (count : ℕ) → ScriptRules script → ScriptHasOctets script
+    → AllByRecursion (λ (timed : Timed). IsSoundEvent script.scenario timed.event) (take count script.events)
 sound_first script count rules octets =
-    let all : AllByRecursion (λ (timed : Timed). IsSoundEvent script.scenario timed.event) script.events = all_sound script.scenario rules.scenario script.events rules.events octets.events in
+    let all : AllByRecursion (λ (timed : Timed). IsSoundEvent script.scenario timed.event) script.events =
+    all_sound script.scenario rules.scenario script.events rules.events octets.events in
     each_front (λ (timed : Timed). IsSoundEvent script.scenario timed.event) (take count script.events) (drop count script.events)
     (subst (AllByRecursion (λ (timed : Timed). IsSoundEvent script.scenario timed.event)) (cut_in_two count script.events) all)
 
-pub sound_run : (cores : Cores) (script : Script) (count : ℕ) (trace : List Traced) (new : World) → ScriptRules script → ScriptHasOctets script → AreCoresOf script.scenario cores → Run cores script (take count script.events) trace new
+pub sound_run : (cores : Cores) (script : Script) (count : ℕ) (trace : List Traced) (new : World) → ScriptRules script → ScriptHasOctets script
+    → AreCoresOf script.scenario cores → Run cores script (take count script.events) trace new
     → SoundRun cores script (take count script.events) trace new
 sound_run cores script count trace new rules octets of_scenario run = record {
   scenario = record { rules = rules.scenario; octets = octets.scenario };

@@ -28,7 +28,8 @@ before_more : (number : ℕ) (events : List Timed) → AreBefore number events �
 before_more number [] h = tt
 before_more number (timed ∷ more) h = (omega (arith, h.0), before_more number more h.1)
 
-rises_snoc : (first : ℕ) (events : List Timed) (last : Timed) → first < last.line → AreBefore last.line events → Rises first events → Rises first (events ++ last ∷ [])
+rises_snoc : (first : ℕ) (events : List Timed) (last : Timed) → first < last.line → AreBefore last.line events → Rises first events
+    → Rises first (events ++ last ∷ [])
 rises_snoc first [] last l b h = (l, tt)
 rises_snoc first (timed ∷ more) last l b h = (h.0, rises_snoc timed.line more last b.0 b.1 h.1)
 
@@ -44,10 +45,22 @@ pub record Holds (draft : Drafted) (number : ℕ) : Type 0 where
   pub counted : 0 < number
 
 pub empty_holds : Holds empty_draft 1
-empty_holds = record { kept = kept_empty; connected = λ b. absurd cc; quiet = λ b. refl; events = tt; lines = tt; before = tt; few = omega arith; counted = omega arith }
+empty_holds =
+    record {
+      kept = kept_empty;
+      connected = λ b. absurd cc;
+      quiet = λ b. refl;
+      events = tt;
+      lines = tt;
+      before = tt;
+      few = omega arith;
+      counted =
+          omega arith;
+    }
 
 -- A line of the scenario, behind which no event stands yet.
-quiet_holds : (draft new : Drafted) (number : ℕ) → Holds draft number → draft.begun ≡ false → new.begun ≡ false → new.events ≡ draft.events → Kept new → Holds new (number + 1)
+quiet_holds : (draft new : Drafted) (number : ℕ) → Holds draft number → draft.begun ≡ false → new.begun ≡ false → new.events ≡ draft.events → Kept new
+    → Holds new (number + 1)
 quiet_holds draft new number h b same events kept =
     let none : new.events ≡ [] = events ∙ h.quiet b in
     record {
@@ -61,13 +74,16 @@ quiet_holds draft new number h b same events kept =
       counted = omega arith;
     }
 
-declared_holds : (draft : Drafted) (number : ℕ) (said : Line) → Holds draft number → draft.begun ≡ false → IsDeclared draft said → Holds (added draft number said) (number + 1)
-declared_holds draft number (says.Setting setting value) h b d = quiet_holds draft _ number h b b refl (kept_added draft number (says.Setting setting value) h.kept d)
+declared_holds : (draft : Drafted) (number : ℕ) (said : Line) → Holds draft number → draft.begun ≡ false → IsDeclared draft said
+    → Holds (added draft number said) (number + 1)
+declared_holds draft number (says.Setting setting value) h b d =
+    quiet_holds draft _ number h b b refl (kept_added draft number (says.Setting setting value) h.kept d)
 declared_holds draft number (says.Node id node) h b d = quiet_holds draft _ number h b b refl (kept_added draft number (says.Node id node) h.kept d)
 declared_holds draft number (says.Link link) h b d = quiet_holds draft _ number h b b refl (kept_added draft number (says.Link link) h.kept d)
 declared_holds draft number (says.Vrf id vrf) h b d = quiet_holds draft _ number h b b refl (kept_added draft number (says.Vrf id vrf) h.kept d)
 declared_holds draft number (says.Site id site) h b d = quiet_holds draft _ number h b b refl (kept_added draft number (says.Site id site) h.kept d)
-declared_holds draft number (says.Iface id iface) h b d = quiet_holds draft _ number h b b refl (kept_added draft number (says.Iface id iface) h.kept d)
+declared_holds draft number (says.Iface id iface) h b d =
+    quiet_holds draft _ number h b b refl (kept_added draft number (says.Iface id iface) h.kept d)
 declared_holds draft number says.Events h b d = record {
   kept = kept_added draft number says.Events h.kept d;
   connected = λ _. d;
@@ -81,7 +97,8 @@ declared_holds draft number says.Events h b d = record {
 declared_holds draft number says.Blank h b d = absurd d
 declared_holds draft number (says.Event event) h b d = absurd d
 
-told_holds : (draft : Drafted) (number : ℕ) (said : Line) → Holds draft number → draft.begun ≡ true → IsToldBelow draft said → Holds (added draft number said) (number + 1)
+told_holds : (draft : Drafted) (number : ℕ) (said : Line) → Holds draft number → draft.begun ≡ true → IsToldBelow draft said
+    → Holds (added draft number said) (number + 1)
 told_holds draft number (says.Event event) h b f =
     let timed : Timed = record { line = number; event = event } in
     let last : timed.line < number + 1 = omega arith in
@@ -125,9 +142,11 @@ pub sound : (draft : Drafted) (number : ℕ) → Holds draft number → IsSound 
 sound draft number h = h.kept.core.topology
 
 -- A line that is without fault keeps that.
-pub line_holds : (draft : Drafted) (number : ℕ) (octets : List ℕ) (said : Line) → Holds draft number → line_of draft number octets ≡ Ok said → Holds (added draft number said) (number + 1)
+pub line_holds : (draft : Drafted) (number : ℕ) (octets : List ℕ) (said : Line) → Holds draft number → line_of draft number octets ≡ Ok said
+    → Holds (added draft number said) (number + 1)
 line_holds draft number octets said h e = said_holds draft number said h ((line_meets draft number octets (sound draft number h)).holds said e)
 
 -- The script meets the rules once the scenario has ended.
 pub script_rules : (draft : Drafted) (number : ℕ) → Holds draft number → draft.begun ≡ true → ScriptRules (script_at draft number)
-script_rules draft number h b = record { scenario = rules_of_kept draft h.kept (h.connected b); events = h.events; lines = h.lines; last = h.before; few = h.few }
+script_rules draft number h b =
+    record { scenario = rules_of_kept draft h.kept (h.connected b); events = h.events; lines = h.lines; last = h.before; few = h.few }

@@ -117,7 +117,8 @@ any_filter : {X : Type 0} (p q : X → Bool) (xs : List X) → list_any p (filte
 any_filter p q [] = refl
 any_filter p q (x ∷ xs) = by (q x) (any_filter p q xs)
   where
-    by : (b : Bool) → list_any p (filter q xs) ≡ list_any (λ y. q y && p y) xs → list_any p (cond b (x ∷ filter q xs) (filter q xs)) ≡ ((b && p x) || list_any (λ y. q y && p y) xs)
+    by : (b : Bool) → list_any p (filter q xs) ≡ list_any (λ y. q y && p y) xs
+        → list_any p (cond b (x ∷ filter q xs) (filter q xs)) ≡ ((b && p x) || list_any (λ y. q y && p y) xs)
     by true h = ap (λ (b : Bool). p x || b) h
     by false h = h
 
@@ -140,7 +141,8 @@ filter_map : {X Y : Type 0} (p : Y → Bool) (f : X → Y) (xs : List X) → fil
 filter_map p f [] = refl
 filter_map {Y = Y} p f (x ∷ xs) = by (p (f x)) (filter_map p f xs)
   where
-    by : (b : Bool) → filter p (map f xs) ≡ map f (filter (λ y. p (f y)) xs) → cond b (f x ∷ filter p (map f xs)) (filter p (map f xs)) ≡ map f (cond b (x ∷ filter (λ y. p (f y)) xs) (filter (λ y. p (f y)) xs))
+    by : (b : Bool) → filter p (map f xs) ≡ map f (filter (λ y. p (f y)) xs)
+        → cond b (f x ∷ filter p (map f xs)) (filter p (map f xs)) ≡ map f (cond b (x ∷ filter (λ y. p (f y)) xs) (filter (λ y. p (f y)) xs))
     by true h = ap (λ (l : List Y). f x ∷ l) h
     by false h = h
 
@@ -148,7 +150,8 @@ filter_filter : {X : Type 0} (p q : X → Bool) (xs : List X) → filter p (filt
 filter_filter p q [] = refl
 filter_filter p q (x ∷ xs) = by (q x) (filter_filter p q xs)
   where
-    by : (b : Bool) → filter p (filter q xs) ≡ filter (λ y. q y && p y) xs → filter p (cond b (x ∷ filter q xs) (filter q xs)) ≡ cond (b && p x) (x ∷ filter (λ y. q y && p y) xs) (filter (λ y. q y && p y) xs)
+    by : (b : Bool) → filter p (filter q xs) ≡ filter (λ y. q y && p y) xs
+        → filter p (cond b (x ∷ filter q xs) (filter q xs)) ≡ cond (b && p x) (x ∷ filter (λ y. q y && p y) xs) (filter (λ y. q y && p y) xs)
     by true h = λ i. cond (p x) (x ∷ h i) (h i)
     by false h = h
 
@@ -170,7 +173,8 @@ map_map p (x ∷ xs) = ap (λ (l : List Fec). x.1.fec ∷ l) (map_map p xs)
 abbrev NoneBehind : (Entry → Bool) → (Entry → Bool) → Type 0
 NoneBehind t u = (e f : Entry) → u e ≡ true → t f ≡ true → route_cmp e.0 f.0 ≡ Less → ⊥
 
-none_left : (t u : Entry → Bool) → NoneBehind t u → (e : Entry) → u e ≡ true → (es : List Entry) → AllByRecursion (λ y. route_cmp e.0 y ≡ Less) (keys_of es) → filter t es ≡ []
+none_left : (t u : Entry → Bool) → NoneBehind t u → (e : Entry) → u e ≡ true → (es : List Entry)
+    → AllByRecursion (λ y. route_cmp e.0 y ≡ Less) (keys_of es) → filter t es ≡ []
 none_left t u apart e h [] a = refl
 none_left t u apart e h (f ∷ fs) a = by (t f) refl (none_left t u apart e h fs a.1)
   where
@@ -178,18 +182,21 @@ none_left t u apart e h (f ∷ fs) a = by (t f) refl (none_left t u apart e h fs
     by true k rest = absurd (apart e f h k a.0)
     by false k rest = rest
 
-split : (t u : Entry → Bool) → NoneBehind t u → ((e : Entry) → t e ≡ true → u e ≡ true → ⊥) → (es : List Entry) → Sorted es → filter (λ e. t e || u e) es ≡ filter t es ++ filter u es
+split : (t u : Entry → Bool) → NoneBehind t u → ((e : Entry) → t e ≡ true → u e ≡ true → ⊥) → (es : List Entry) → Sorted es
+    → filter (λ e. t e || u e) es ≡ filter t es ++ filter u es
 unfolding IsStrictlySortedBy
 split t u apart one [] a = refl
 split t u apart one (e ∷ es) a = by (t e) (u e) refl refl (split t u apart one es a.1)
   where
     by : (b c : Bool) → t e ≡ b → u e ≡ c → filter (λ f. t f || u f) es ≡ filter t es ++ filter u es
-        → cond (b || c) (e ∷ filter (λ f. t f || u f) es) (filter (λ f. t f || u f) es) ≡ cond b (e ∷ filter t es) (filter t es) ++ cond c (e ∷ filter u es) (filter u es)
+        → cond (b || c) (e ∷ filter (λ f. t f || u f) es) (filter (λ f. t f || u f) es) ≡ cond b (e ∷ filter t es) (filter t es)
+        ++ cond c (e ∷ filter u es) (filter u es)
     by true true h k rest = absurd (one e h k)
     by true false h k rest = ap (λ (l : List Entry). e ∷ l) rest
     by false true h k rest =
         let none = none_left t u apart e k es a.0 in
-        ap (λ (l : List Entry). e ∷ l) (rest ∙ ap (λ (l : List Entry). l ++ filter u es) none) ∙ ap (λ (l : List Entry). l ++ (e ∷ filter u es)) (sym none)
+        ap (λ (l : List Entry). e ∷ l) (rest ∙ ap (λ (l : List Entry). l ++ filter u es) none)
+        ∙ ap (λ (l : List Entry). l ++ (e ∷ filter u es)) (sym none)
     by false false h k rest = rest
 
 -- of one peer the ranks fall
@@ -238,7 +245,8 @@ module _ (peer : NodeId) (es : List Entry) where
   or_parts true b h = inl refl
   or_parts false b h = inr h
 
-  found_low : (n : ℕ) (patterns : List Pattern) → AllBelow n patterns → (e : Entry) → is_found patterns e ≡ true → (rank e.0.pattern < n) × (e.0.peer.0 ≡ peer.0)
+  found_low : (n : ℕ) (patterns : List Pattern) → AllBelow n patterns → (e : Entry) → is_found patterns e ≡ true
+      → (rank e.0.pattern < n) × (e.0.peer.0 ≡ peer.0)
   found_low n [] low e h = absurd (opposite false h refl)
   found_low n (pattern ∷ more) low e h = elim (or_parts (at pattern e) (not (ran pattern) && is_found more e) h) [
     | inl own ↦ (
@@ -264,7 +272,8 @@ module _ (peer : NodeId) (es : List Entry) where
       ap (λ (l : List Fec). map fec_of (routes_at peer pattern es) ++ l) (by (ran pattern) (until_found more fall.1 a))
       ∙ (sym (map_append fec_of (filter t es) (filter u es)) ∙ ap (map fec_of) (sym (split t u apart one es a)))
     where
-      by : (b : Bool) → until_run peer more es ≡ map fec_of (filter (is_found more) es) → cond b [] (until_run peer more es) ≡ map fec_of (filter (λ e. not b && is_found more e) es)
+      by : (b : Bool) → until_run peer more es ≡ map fec_of (filter (is_found more) es)
+          → cond b [] (until_run peer more es) ≡ map fec_of (filter (λ e. not b && is_found more e) es)
       by true h = sym (ap (map fec_of) (filter_none es))
       by false h = h
 
@@ -318,29 +327,36 @@ module _ (peer : NodeId) (source group : Addr) (es : List Entry) where
   level4 None (Some y) = and_false (same_addr y group)
   level4 None None = refl
 
-  level3 : (sw gw : Option Addr) → ((allows sw source && allows gw group) && nat_lt 3 (rank_of sw gw)) ≡ (((allows sw source && allows gw group) && nat_lt 4 (rank_of sw gw)) || (option_eq same_addr sw (Some source) && option_eq same_addr gw (Some group)))
+  level3 : (sw gw : Option Addr) → ((allows sw source && allows gw group) && nat_lt 3 (rank_of sw gw))
+      ≡ (((allows sw source && allows gw group) && nat_lt 4 (rank_of sw gw))
+      || (option_eq same_addr sw (Some source) && option_eq same_addr gw (Some group)))
   level3 (Some x) (Some y) = enters (same_addr x source && same_addr y group)
   level3 (Some x) None = stays_out (same_addr x source && true) (same_addr x source && false) (and_false (same_addr x source))
   level3 None (Some y) = stays_out (same_addr y group) false refl
   level3 None None = refl
 
-  level2 : (sw gw : Option Addr) → ((allows sw source && allows gw group) && nat_lt 2 (rank_of sw gw)) ≡ (((allows sw source && allows gw group) && nat_lt 3 (rank_of sw gw)) || (option_eq same_addr sw (Some source) && option_eq same_addr gw None))
+  level2 : (sw gw : Option Addr) → ((allows sw source && allows gw group) && nat_lt 2 (rank_of sw gw))
+      ≡ (((allows sw source && allows gw group) && nat_lt 3 (rank_of sw gw)) || (option_eq same_addr sw (Some source) && option_eq same_addr gw None))
   level2 (Some x) (Some y) = stays_in (same_addr x source && same_addr y group) (same_addr x source && false) (and_false (same_addr x source))
   level2 (Some x) None = enters (same_addr x source && true)
   level2 None (Some y) = stays_out (same_addr y group) false refl
   level2 None None = refl
 
-  level1 : (sw gw : Option Addr) → ((allows sw source && allows gw group) && nat_lt 1 (rank_of sw gw)) ≡ (((allows sw source && allows gw group) && nat_lt 2 (rank_of sw gw)) || (option_eq same_addr sw None && option_eq same_addr gw (Some group)))
+  level1 : (sw gw : Option Addr) → ((allows sw source && allows gw group) && nat_lt 1 (rank_of sw gw))
+      ≡ (((allows sw source && allows gw group) && nat_lt 2 (rank_of sw gw)) || (option_eq same_addr sw None && option_eq same_addr gw (Some group)))
   level1 (Some x) (Some y) = stays_in (same_addr x source && same_addr y group) false refl
   level1 (Some x) None = stays_in (same_addr x source && true) false refl
   level1 None (Some y) = enters (same_addr y group)
   level1 None None = refl
 
-  over_step : (k : ℕ) (pattern : Pattern) → ((e : Entry) → (matches e.0.pattern source group && nat_lt k (rank e.0.pattern)) ≡ ((matches e.0.pattern source group && nat_lt (suc k) (rank e.0.pattern)) || same_pattern e.0.pattern pattern))
+  over_step : (k : ℕ) (pattern : Pattern) → ((e : Entry)
+      → (matches e.0.pattern source group && nat_lt k (rank e.0.pattern))
+      ≡ ((matches e.0.pattern source group && nat_lt (suc k) (rank e.0.pattern)) || same_pattern e.0.pattern pattern))
       → over k ≡ (over (suc k) || ran_at pattern)
   over_step k pattern h =
       any_or (higher k) (higher (suc k)) (λ e. at_it pattern e && was_run e)
-      (λ e. spread (is_of_peer peer e) e.1.run (matches e.0.pattern source group && nat_lt k (rank e.0.pattern)) (matches e.0.pattern source group && nat_lt (suc k) (rank e.0.pattern)) (same_pattern e.0.pattern pattern) (h e)) es
+      (λ e. spread (is_of_peer peer e) e.1.run (matches e.0.pattern source group && nat_lt k (rank e.0.pattern))
+      (matches e.0.pattern source group && nat_lt (suc k) (rank e.0.pattern)) (same_pattern e.0.pattern pattern) (h e)) es
       ∙ ap (λ (b : Bool). over (suc k) || b) (sym (any_filter was_run (at_it pattern) es))
 
   over4 : over 4 ≡ false
@@ -400,7 +416,8 @@ module _ (peer : NodeId) (source group : Addr) (es : List Entry) where
   overtaken e = any_map (overtakes source group (learned_route e)) learned_route (filter (is_of_peer peer) es)
       ∙ any_filter (λ (x : Entry). overtakes source group (learned_route e) (learned_route x)) (is_of_peer peer) es
 
-  is_wanted_here : (e : Entry) → (is_of_peer peer e && is_wanted routes source group (learned_route e)) ≡ is_found peer es (patterns_of source group) e
+  is_wanted_here : (e : Entry) → (is_of_peer peer e && is_wanted routes source group (learned_route e))
+      ≡ is_found peer es (patterns_of source group) e
   is_wanted_here e =
       ap (λ (t : Bool). is_of_peer peer e && (matches e.0.pattern source group && not t)) (overtaken e)
       ∙ found_by (is_of_peer peer e) e.0.pattern.source e.0.pattern.group
@@ -409,13 +426,15 @@ module _ (peer : NodeId) (source group : Addr) (es : List Entry) where
   wanted_found a =
       until_found peer es (patterns_of source group) ((lit< tt, (lit< tt, (lit< tt, tt))), ((lit< tt, (lit< tt, tt)), ((lit< tt, tt), (tt, tt)))) a
       ∙ (ap (map fec_of) (sym (filter_filter (λ (e : Entry). is_wanted routes source group (learned_route e)) (is_of_peer peer) es
-      ∙ filter_alike (λ (e : Entry). is_of_peer peer e && is_wanted routes source group (learned_route e)) (is_found peer es (patterns_of source group)) is_wanted_here es))
+      ∙ filter_alike (λ (e : Entry). is_of_peer peer e && is_wanted routes source group (learned_route e))
+      (is_found peer es (patterns_of source group)) is_wanted_here es))
       ∙ (sym (map_map (λ e. true) (filter (λ (e : Entry). is_wanted routes source group (learned_route e)) (filter (is_of_peer peer) es)))
       ∙ ap (map (λ (r : LearnedRoute). r.fec)) (sym (filter_map (is_wanted routes source group) learned_route (filter (is_of_peer peer) es)))))
 
 -- ---- the order of a peer's routes
 
-among_less : (x : RouteKey) (es : List Entry) → AllByRecursion (λ y. route_cmp x y ≡ Less) (keys_of es) → (f : Entry) → Among f es → route_cmp x f.0 ≡ Less
+among_less : (x : RouteKey) (es : List Entry) → AllByRecursion (λ y. route_cmp x y ≡ Less) (keys_of es) → (f : Entry) → Among f es
+    → route_cmp x f.0 ≡ Less
 among_less x [] a f m = absurd m
 among_less x (e ∷ es) a f (inl same) = ap (λ (g : Entry). route_cmp x g.0) same ∙ a.0
 among_less x (e ∷ es) a f (inr m) = among_less x es a.1 f m
@@ -444,7 +463,8 @@ unfolding IsStrictlySortedBy
 ordered peer [] a = tt
 ordered peer (e ∷ es) a = by (is_of_peer peer e) refl (ordered peer es a.1)
   where
-    by : (b : Bool) → is_of_peer peer e ≡ b → InOrder (filter (is_of_peer peer) es) → InOrder (cond b (e ∷ filter (is_of_peer peer) es) (filter (is_of_peer peer) es))
+    by : (b : Bool) → is_of_peer peer e ≡ b → InOrder (filter (is_of_peer peer) es)
+        → InOrder (cond b (e ∷ filter (is_of_peer peer) es) (filter (is_of_peer peer) es))
     by true h rest = (
       λ f m. let own = filtered (is_of_peer peer) f es m in
           before e f (eqb-true e.0.peer.0 peer.0 h ∙ sym (eqb-true f.0.peer.0 peer.0 own.1)) (among_less e.0 es a.0 f own.0),

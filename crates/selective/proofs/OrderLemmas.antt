@@ -73,7 +73,8 @@ Sorted es = IsStrictlySortedBy route_cmp (keys_of es)
 
 -- ---- the range of a peer and a pattern
 
-ends : (place : Place) → (is_le (slice_cmp nat_cmp (place_part First) (place_part place)) && not (is_lt (slice_cmp nat_cmp (place_part Last) (place_part place)))) ≡ true
+ends : (place : Place) → (is_le (slice_cmp nat_cmp (place_part First) (place_part place))
+    && not (is_lt (slice_cmp nat_cmp (place_part Last) (place_part place)))) ≡ true
 ends First = refl
 ends (Of rd) = refl
 ends Last = refl
@@ -94,8 +95,10 @@ forward peer pattern =
     let high = high_end peer pattern in
     through (nat_cmp peer.0 peer.0) (by_rank low high) (tied_itself nat_cmp_total peer.0)
     (through (nat_cmp (rank pattern) (rank pattern)) (by_source low high) (tied_itself nat_cmp_total (rank pattern))
-    (through (slice_cmp nat_cmp (word_part pattern.source) (word_part pattern.source)) (by_group low high) (tied_itself nat_list_cmp_total (word_part pattern.source))
-    (through (slice_cmp nat_cmp (word_part pattern.group) (word_part pattern.group)) (by_place low high) (tied_itself nat_list_cmp_total (word_part pattern.group)) refl)))
+    (through (slice_cmp nat_cmp (word_part pattern.source) (word_part pattern.source)) (by_group low high)
+    (tied_itself nat_list_cmp_total (word_part pattern.source))
+    (through (slice_cmp nat_cmp (word_part pattern.group) (word_part pattern.group)) (by_place low high)
+    (tied_itself nat_list_cmp_total (word_part pattern.group)) refl)))
 
 module _ (peer : NodeId) (pattern : Pattern) (q : RouteKey) where
   abbrev lower : RouteKey
@@ -116,41 +119,55 @@ module _ (peer : NodeId) (pattern : Pattern) (q : RouteKey) where
   abbrev groups : Ordering
   groups = slice_cmp nat_cmp (word_part pattern.group) (word_part q.pattern.group)
 
-  in_levels : range_contains route_cmp (Included lower) (Included upper) q ≡ (is_eq peers && (is_eq ranks && (is_eq sources && (is_eq groups && true))))
+  in_levels : range_contains route_cmp (Included lower) (Included upper) q
+      ≡ (is_eq peers && (is_eq ranks && (is_eq sources && (is_eq groups && true))))
   in_levels =
       level peers (by_rank lower q) (by_rank upper q) _
       (level ranks (by_source lower q) (by_source upper q) _
       (level sources (by_group lower q) (by_group upper q) _
       (level groups (by_place lower q) (by_place upper q) true (ends q.place))))
 
-  to : (is_eq peers && (is_eq ranks && (is_eq sources && (is_eq groups && true)))) ≡ true → ((q.peer.0 == peer.0) && same_pattern q.pattern pattern) ≡ true
+  to : (is_eq peers && (is_eq ranks && (is_eq sources && (is_eq groups && true)))) ≡ true
+      → ((q.peer.0 == peer.0) && same_pattern q.pattern pattern) ≡ true
   to h =
       let a = and_parts (is_eq peers) (is_eq ranks && (is_eq sources && (is_eq groups && true))) h in
       let b = and_parts (is_eq ranks) (is_eq sources && (is_eq groups && true)) a.1 in
       let c = and_parts (is_eq sources) (is_eq groups && true) b.1 in
       let d = and_parts (is_eq groups) true c.1 in
       let one = nat_cmp-IsAntisymmetric peer.0 q.peer.0 ((Equal-is peers).0 a.0) in
-      let source = one_word pattern.source q.pattern.source (numbers_exact (word_part pattern.source) (word_part q.pattern.source) ((Equal-is sources).0 c.0)) in
-      let group = one_word pattern.group q.pattern.group (numbers_exact (word_part pattern.group) (word_part q.pattern.group) ((Equal-is groups).0 d.0)) in
+      let source =
+      one_word pattern.source q.pattern.source (numbers_exact (word_part pattern.source) (word_part q.pattern.source) ((Equal-is sources).0 c.0))
+      in
+      let group =
+      one_word pattern.group q.pattern.group (numbers_exact (word_part pattern.group) (word_part q.pattern.group) ((Equal-is groups).0 d.0)) in
       let same : pattern ≡ q.pattern = λ i. record { source = source i; group = group i } in
-      both_true (q.peer.0 == peer.0) (same_pattern q.pattern pattern) (eq-eqb q.peer.0 peer.0 (sym one)) (subst (λ (p : Pattern). same_pattern q.pattern p ≡ true) (sym same) (pattern_itself q.pattern))
+      both_true (q.peer.0 == peer.0) (same_pattern q.pattern pattern) (eq-eqb q.peer.0 peer.0 (sym one))
+      (subst (λ (p : Pattern). same_pattern q.pattern p ≡ true) (sym same) (pattern_itself q.pattern))
 
-  from : ((q.peer.0 == peer.0) && same_pattern q.pattern pattern) ≡ true → (is_eq peers && (is_eq ranks && (is_eq sources && (is_eq groups && true)))) ≡ true
+  from : ((q.peer.0 == peer.0) && same_pattern q.pattern pattern) ≡ true
+      → (is_eq peers && (is_eq ranks && (is_eq sources && (is_eq groups && true)))) ≡ true
   from h =
       let both = and_parts (q.peer.0 == peer.0) (same_pattern q.pattern pattern) h in
       let same = one_pattern q.pattern pattern both.1 in
-      both_true (is_eq peers) (is_eq ranks && (is_eq sources && (is_eq groups && true))) (tied_numbers peer.0 q.peer.0 (sym (eqb-true q.peer.0 peer.0 both.0)))
+      both_true (is_eq peers) (is_eq ranks && (is_eq sources && (is_eq groups && true)))
+      (tied_numbers peer.0 q.peer.0 (sym (eqb-true q.peer.0 peer.0 both.0)))
       (both_true (is_eq ranks) (is_eq sources && (is_eq groups && true)) (tied_numbers (rank q.pattern) (rank pattern) (ap rank same))
-      (both_true (is_eq sources) (is_eq groups && true) (tied (word_part pattern.source) (word_part q.pattern.source) (ap (λ (p : Pattern). word_part p.source) (sym same)))
-      (both_true (is_eq groups) true (tied (word_part pattern.group) (word_part q.pattern.group) (ap (λ (p : Pattern). word_part p.group) (sym same))) refl)))
+      (both_true (is_eq sources) (is_eq groups && true)
+      (tied (word_part pattern.source) (word_part q.pattern.source) (ap (λ (p : Pattern). word_part p.source) (sym same)))
+      (both_true (is_eq groups) true (tied (word_part pattern.group) (word_part q.pattern.group) (ap (λ (p : Pattern). word_part p.group) (sym same)))
+      refl)))
 
   pub in_range : range_contains route_cmp (Included lower) (Included upper) q ≡ ((q.peer.0 == peer.0) && same_pattern q.pattern pattern)
-  in_range = in_levels ∙ same_bool (is_eq peers && (is_eq ranks && (is_eq sources && (is_eq groups && true)))) ((q.peer.0 == peer.0) && same_pattern q.pattern pattern) to from
+  in_range =
+      in_levels ∙ same_bool (is_eq peers && (is_eq ranks && (is_eq sources && (is_eq groups && true))))
+      ((q.peer.0 == peer.0) && same_pattern q.pattern pattern) to from
 
 pub filter_alike : {X : Type 0} (p q : X → Bool) → ((x : X) → p x ≡ q x) → (xs : List X) → filter p xs ≡ filter q xs
 filter_alike p q h [] = refl
 filter_alike p q h (x ∷ xs) = λ i. cond (h x i) (x ∷ filter_alike p q h xs i) (filter_alike p q h xs i)
 
-pub range_at : (peer : NodeId) (pattern : Pattern) (es : List (RouteKey × Learned)) → entries_between route_cmp (Included (low_end peer pattern)) (Included (high_end peer pattern)) es ≡ routes_at peer pattern es
+pub range_at : (peer : NodeId) (pattern : Pattern) (es : List (RouteKey × Learned))
+    → entries_between route_cmp (Included (low_end peer pattern)) (Included (high_end peer pattern)) es ≡ routes_at peer pattern es
 range_at peer pattern es =
-    filter_alike (λ (e : RouteKey × Learned). range_contains route_cmp (Included (low_end peer pattern)) (Included (high_end peer pattern)) e.0) (λ (e : RouteKey × Learned). is_of_peer peer e && same_pattern e.0.pattern pattern) (λ e. in_range peer pattern e.0) es
+    filter_alike (λ (e : RouteKey × Learned). range_contains route_cmp (Included (low_end peer pattern)) (Included (high_end peer pattern)) e.0)
+    (λ (e : RouteKey × Learned). is_of_peer peer e && same_pattern e.0.pattern pattern) (λ e. in_range peer pattern e.0) es

@@ -47,7 +47,8 @@ one_pattern a b h =
     λ i. record { source = sources i; group = groups i }
 
 pub pattern_itself : (a : Pattern) → same_pattern a a ≡ true
-pattern_itself a = both_true (option_eq same_addr a.source a.source) (option_eq same_addr a.group a.group) (word_itself a.source) (word_itself a.group)
+pattern_itself a =
+    both_true (option_eq same_addr a.source a.source) (option_eq same_addr a.group a.group) (word_itself a.source) (word_itself a.group)
 
 -- ---- the selection of a pattern
 
@@ -63,7 +64,8 @@ pub FoundIs : Pattern → List Selection → Option Selection → Type 0
 FoundIs pattern xs None = IsSelected pattern xs → ⊥
 FoundIs pattern xs (Some x) = IsFound pattern xs x
 
-found_one : (pattern : Pattern) (y : Selection) (ys : List Selection) (b : Bool) → is_of pattern y ≡ b → (o : Option Selection) → FoundIs pattern ys o → FoundIs pattern (y ∷ ys) (cond b (Some y) o)
+found_one : (pattern : Pattern) (y : Selection) (ys : List Selection) (b : Bool) → is_of pattern y ≡ b → (o : Option Selection) → FoundIs pattern ys o
+    → FoundIs pattern (y ∷ ys) (cond b (Some y) o)
 unfolding FoundIs
 found_one pattern y ys true h o f = record { among = inl refl; own = one_pattern y.pattern pattern h }
 found_one pattern y ys false h (Some x) f = record { among = inr f.among; own = f.own }
@@ -78,7 +80,8 @@ unfolding FoundIs
 found pattern [] = λ s. absurd s.1
 found pattern (x ∷ xs) = found_one pattern x xs (is_of pattern x) refl (find (is_of pattern) xs) (found pattern xs)
 
-selected_by : (pattern : Pattern) (xs : List Selection) (o : Option Selection) → FoundIs pattern xs o → (is_some (option_map (λ (s : Selection). s.number) o) ≡ true) ↔ IsSelected pattern xs
+selected_by : (pattern : Pattern) (xs : List Selection) (o : Option Selection) → FoundIs pattern xs o
+    → (is_some (option_map (λ (s : Selection). s.number) o) ≡ true) ↔ IsSelected pattern xs
 unfolding FoundIs
 selected_by pattern xs None f = (λ e. absurd (opposite false e refl), λ s. absurd (f s))
 selected_by pattern xs (Some x) f = (λ e. (x, f.among, f.own), λ s. refl)
@@ -86,17 +89,21 @@ selected_by pattern xs (Some x) f = (λ e. (x, f.among, f.own), λ s. refl)
 pub is_selected : (pattern : Pattern) (xs : List Selection) → (is_some (number_at pattern xs) ≡ true) ↔ IsSelected pattern xs
 is_selected pattern xs = selected_by pattern xs (find (is_of pattern) xs) (found pattern xs)
 
-within_by : (pattern : Pattern) (xs : List Selection) → AreSelections xs → (o : Option Selection) → FoundIs pattern xs o → IfSome (option_map (λ (s : Selection). s.number) o) (λ n. n < 2 ^ 20)
+within_by : (pattern : Pattern) (xs : List Selection) → AreSelections xs → (o : Option Selection) → FoundIs pattern xs o
+    → IfSome (option_map (λ (s : Selection). s.number) o) (λ n. n < 2 ^ 20)
 unfolding FoundIs
 within_by pattern xs k None f = tt
 within_by pattern xs k (Some x) f = (k.within x f.among).1
 
-pub number_within : (pattern : Pattern) (xs : List Selection) (o : Option ℕ) → o ≡ number_at pattern xs → AreSelections xs → IfSome o (λ n. n < 2 ^ 20)
-number_within pattern xs o e k = subst (λ (p : Option ℕ). IfSome p (λ n. n < 2 ^ 20)) (sym e) (within_by pattern xs k (find (is_of pattern) xs) (found pattern xs))
+pub number_within : (pattern : Pattern) (xs : List Selection) (o : Option ℕ) → o ≡ number_at pattern xs → AreSelections xs
+    → IfSome o (λ n. n < 2 ^ 20)
+number_within pattern xs o e k =
+    subst (λ (p : Option ℕ). IfSome p (λ n. n < 2 ^ 20)) (sym e) (within_by pattern xs k (find (is_of pattern) xs) (found pattern xs))
 
 -- ---- the tunnel of a flow
 
-added_by : (xs : List Selection) (source group : Addr) → AreSelections xs → (o : Option Selection) → transmitted xs source group ≡ o → added o < 2 ^ 20
+added_by : (xs : List Selection) (source group : Addr) → AreSelections xs → (o : Option Selection) → transmitted xs source group ≡ o
+    → added o < 2 ^ 20
 added_by xs source group k None e = omega arith
 added_by xs source group k (Some x) e = (k.within x (best_of xs source group x e).among).1
 
@@ -120,11 +127,19 @@ filter_kept p xs k = record {
 filter_fewer : (p : Selection → Bool) (xs : List Selection) → length (filter p xs) ≤ length xs
 filter_fewer p xs = omega (arith, length-filter_both p (λ x. not (p x)) (λ _. refl) xs)
 
-pub filter_root : (number delay : ℕ) (p : Selection → Bool) (xs ys : List Selection) → ys ≡ filter p xs → IsRoot number delay xs → IsRoot number delay ys
+pub filter_root : (number delay : ℕ) (p : Selection → Bool) (xs ys : List Selection) → ys ≡ filter p xs → IsRoot number delay xs
+    → IsRoot number delay ys
 filter_root number delay p xs ys e r =
     let fewer : length (filter p xs) ≤ length xs = filter_fewer p xs in
     let few : length xs ≤ 256 = r.few in
-    subst (IsRoot number delay) (sym e) (record { least = r.least; most = r.most; short = r.short; few = omega (arith, fewer, few); kept = filter_kept p xs r.kept })
+    subst (IsRoot number delay) (sym e) (record {
+      least = r.least;
+      most = r.most;
+      short = r.short;
+      few = omega (arith, fewer, few);
+      kept =
+          filter_kept p xs r.kept;
+    })
 
 -- what a changed list has comes from what the list has
 mapped : (f : Selection → Selection) (x : Selection) (xs : List Selection) → Among x (map f xs) → (y : Selection) × (Among y xs) × (x ≡ f y)
@@ -147,7 +162,8 @@ module _ (delay now : ℕ) (xs : List Selection) (k : AreSelections xs) where
           let same = k.patterns m.0 n.0 m.1 n.1 (ap (λ (s : Selection). s.pattern) (sym m.2) ∙ (e ∙ ap (λ (s : Selection). s.pattern) n.2)) in
           m.2 ∙ (ap (run_due delay now) same ∙ sym n.2)
 
-      numbers : (one other : Selection) → Among one (map (run_due delay now) xs) → Among other (map (run_due delay now) xs) → one.number ≡ other.number → one ≡ other
+      numbers : (one other : Selection) → Among one (map (run_due delay now) xs) → Among other (map (run_due delay now) xs)
+          → one.number ≡ other.number → one ≡ other
       numbers one other a b e =
           let m = mapped (run_due delay now) one xs a in
           let n = mapped (run_due delay now) other xs b in
@@ -163,9 +179,17 @@ pub run_root : (number delay now : ℕ) (xs ys : List Selection) → ys ≡ map 
 run_root number delay now xs ys e r =
     let same : length (map (run_due delay now) xs) ≡ length xs = length-mapped (run_due delay now) xs in
     let few : length xs ≤ 256 = r.few in
-    subst (IsRoot number delay) (sym e) (record { least = r.least; most = r.most; short = r.short; few = omega (arith, same, few); kept = run_kept delay now xs r.kept })
+    subst (IsRoot number delay) (sym e) (record {
+      least = r.least;
+      most = r.most;
+      short = r.short;
+      few = omega (arith, same, few);
+      kept =
+          run_kept delay now xs r.kept;
+    })
 
-pub run_more : (delay now : ℕ) (xs ys : List Selection) (i : ℕ) (d new : Selection) → length ys ≡ length xs → i < length xs → ys ≡ map (run_due delay now) (take i xs) ++ drop i xs → new ≡ run_due delay now (get_or ys i d)
+pub run_more : (delay now : ℕ) (xs ys : List Selection) (i : ℕ) (d new : Selection) → length ys ≡ length xs → i < length xs
+    → ys ≡ map (run_due delay now) (take i xs) ++ drop i xs → new ≡ run_due delay now (get_or ys i d)
     → set ys i new ≡ map (run_due delay now) (take (i + 1) xs) ++ drop (i + 1) xs
 run_more delay now xs ys i d new same low so e =
     let within : i < length ys = omega (arith, same, low) in
@@ -181,7 +205,8 @@ length-pushed : (y : Selection) (xs : List Selection) → length (xs ++ y ∷ []
 length-pushed y [] = refl
 length-pushed y (x ∷ xs) = let more : length (xs ++ y ∷ []) ≡ length xs + 1 = length-pushed y xs in omega (arith, more)
 
-module _ (xs : List Selection) (k : AreSelections xs) (few : length xs < 256) (y : Selection) (new : IsSelected y.pattern xs → ⊥) (number : y.number ≡ next_number xs) where
+module _ (xs : List Selection) (k : AreSelections xs) (few : length xs < 256) (y : Selection) (new : IsSelected y.pattern xs → ⊥)
+    (number : y.number ≡ next_number xs) where
   is_least : IsLeastNumber xs y.number
   is_least = subst (IsLeastNumber xs) (sym number) (least_number xs)
 
@@ -222,10 +247,18 @@ module _ (xs : List Selection) (k : AreSelections xs) (few : length xs < 256) (y
             (omega (arith, same, low), omega (arith, same, high, few)))
       ]
 
-pub push_root : (vrf delay : ℕ) (xs ys : List Selection) (y : Selection) → ys ≡ xs ++ y ∷ [] → IsRoot vrf delay xs → length xs < 256 → (IsSelected y.pattern xs → ⊥) → y.number ≡ next_number xs → IsRoot vrf delay ys
+pub push_root : (vrf delay : ℕ) (xs ys : List Selection) (y : Selection) → ys ≡ xs ++ y ∷ [] → IsRoot vrf delay xs → length xs < 256
+    → (IsSelected y.pattern xs → ⊥) → y.number ≡ next_number xs → IsRoot vrf delay ys
 push_root vrf delay xs ys y e r few new number =
     let more : length (xs ++ y ∷ []) ≡ length xs + 1 = length-pushed y xs in
-    subst (IsRoot vrf delay) (sym e) (record { least = r.least; most = r.most; short = r.short; few = omega (arith, more, few); kept = push_kept xs r.kept few y new number })
+    subst (IsRoot vrf delay) (sym e) (record {
+      least = r.least;
+      most = r.most;
+      short = r.short;
+      few = omega (arith, more, few);
+      kept =
+          push_kept xs r.kept few y new number;
+    })
 
 pub next_within : (xs : List Selection) (n : ℕ) → n ≡ next_number xs → length xs < 256 → n < 2 ^ 20
 next_within xs n e few =
@@ -234,7 +267,8 @@ next_within xs n e few =
 
 -- ---- the search for a number
 
-pub free_next : (used : ℕ → Bool) (count number : ℕ) → used number ≡ true → 0 < count → free_number used count number ≡ free_number used (count - 1) (number + 1)
+pub free_next : (used : ℕ → Bool) (count number : ℕ) → used number ≡ true → 0 < count
+    → free_number used count number ≡ free_number used (count - 1) (number + 1)
 free_next used count number h some = by (count - 1) (omega arith)
   where
     by : (c : ℕ) → count ≡ suc c → free_number used count number ≡ free_number used c (number + 1)

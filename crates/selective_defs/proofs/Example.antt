@@ -14,8 +14,10 @@ apart source group e = absurd (let bad : false ≡ true = ap (λ (p : Pattern). 
 
 distinct : (source group : Addr) → AreDistinct (selections source group)
 distinct source group one other (inl a) (inl b) e = a ∙ sym b
-distinct source group one other (inl a) (inr (inl b)) e = absurd (apart source group (sym (ap (λ (s : Selection). s.pattern) a) ∙ e ∙ ap (λ (s : Selection). s.pattern) b))
-distinct source group one other (inr (inl a)) (inl b) e = absurd (apart source group (sym (ap (λ (s : Selection). s.pattern) b) ∙ sym e ∙ ap (λ (s : Selection). s.pattern) a))
+distinct source group one other (inl a) (inr (inl b)) e =
+    absurd (apart source group (sym (ap (λ (s : Selection). s.pattern) a) ∙ e ∙ ap (λ (s : Selection). s.pattern) b))
+distinct source group one other (inr (inl a)) (inl b) e =
+    absurd (apart source group (sym (ap (λ (s : Selection). s.pattern) b) ∙ sym e ∙ ap (λ (s : Selection). s.pattern) a))
 distinct source group one other (inr (inl a)) (inr (inl b)) e = a ∙ sym b
 distinct source group one other (inl a) (inr (inr none)) e = absurd none
 distinct source group one other (inr (inl a)) (inr (inr none)) e = absurd none
@@ -24,19 +26,23 @@ distinct source group one other (inr (inr none)) b e = absurd none
 in_step : (source group : Addr) (first second : Fec) → InStep 5 12 (selections source group) (routes source group first second)
 in_step source group first second = record { learned = learned; selected = selected; later = later; over = over; run = run }
   where
-    learned : (s : Selection) → Among s (selections source group) → (route : LearnedRoute) × (Among route (routes source group first second)) × (route.pattern ≡ s.pattern)
+    learned : (s : Selection) → Among s (selections source group)
+        → (route : LearnedRoute) × (Among route (routes source group first second)) × (route.pattern ≡ s.pattern)
     learned s (inl a) = (wide_route source first, inl refl, sym (ap (λ (x : Selection). x.pattern) a))
     learned s (inr (inl a)) = (narrow_route source group second, inr (inl refl), sym (ap (λ (x : Selection). x.pattern) a))
     learned s (inr (inr none)) = absurd none
 
-    selected : (r : LearnedRoute) → Among r (routes source group first second) → (s : Selection) × (Among s (selections source group)) × (s.pattern ≡ r.pattern)
+    selected : (r : LearnedRoute) → Among r (routes source group first second)
+        → (s : Selection) × (Among s (selections source group)) × (s.pattern ≡ r.pattern)
     selected r (inl a) = (wide source, inl refl, sym (ap (λ (x : LearnedRoute). x.pattern) a))
     selected r (inr (inl a)) = (narrow source group, inr (inl refl), sym (ap (λ (x : LearnedRoute). x.pattern) a))
     selected r (inr (inr none)) = absurd none
 
-    later : (s : Selection) (r : LearnedRoute) → Among s (selections source group) → Among r (routes source group first second) → s.pattern ≡ r.pattern → s.since ≤ r.since
+    later : (s : Selection) (r : LearnedRoute) → Among s (selections source group) → Among r (routes source group first second)
+        → s.pattern ≡ r.pattern → s.since ≤ r.since
     later s r (inl a) b e = let at : s.since ≡ 0 = ap (λ (x : Selection). x.since) a in omega (arith, at)
-    later s r (inr (inl a)) (inl b) e = absurd (apart source group (sym (ap (λ (x : LearnedRoute). x.pattern) b) ∙ sym e ∙ ap (λ (x : Selection). x.pattern) a))
+    later s r (inr (inl a)) (inl b) e =
+        absurd (apart source group (sym (ap (λ (x : LearnedRoute). x.pattern) b) ∙ sym e ∙ ap (λ (x : Selection). x.pattern) a))
     later s r (inr (inl a)) (inr (inl b)) e =
         let at : s.since ≡ 10 = ap (λ (x : Selection). x.since) a in
         let then_at : r.since ≡ 11 = ap (λ (x : LearnedRoute). x.since) b in
@@ -57,7 +63,8 @@ in_step source group first second = record { learned = learned; selected = selec
 transmits_by : (source group : Addr) → same_addr source source ≡ true → transmitted (selections source group) source group ≡ Some (wide source)
 transmits_by source group s = rw s refl
 
-wants_by : (source group : Addr) (first second : Fec) → same_addr source source ≡ true → same_addr group group ≡ true → wanted (routes source group first second) source group ≡ routes source group first second
+wants_by : (source group : Addr) (first second : Fec) → same_addr source source ≡ true → same_addr group group ≡ true
+    → wanted (routes source group first second) source group ≡ routes source group first second
 wants_by source group first second s g = rw s (rw g refl)
 
 pub overlap : (source group : Addr) (first second : Fec) → Overlap source group first second

@@ -52,10 +52,12 @@ record Walked (used : ℕ → Bool) (count number found : ℕ) : Type 0 where
   end : (used found ≡ false) ⊎ (found ≡ number + count)
 
 walked : (used : ℕ → Bool) (count number : ℕ) → Walked used count number (free_number used count number)
-walked used zero number = record { from = omega arith; upto = omega arith; passed = λ k low high. absurd (omega (arith, low, high)); end = inr (omega arith) }
+walked used zero number =
+    record { from = omega arith; upto = omega arith; passed = λ k low high. absurd (omega (arith, low, high)); end = inr (omega arith) }
 walked used (suc count) number = by (used number) refl (walked used count (number + 1))
   where
-    by : (b : Bool) → used number ≡ b → Walked used count (number + 1) (free_number used count (number + 1)) → Walked used (suc count) number (cond b (free_number used count (number + 1)) number)
+    by : (b : Bool) → used number ≡ b → Walked used count (number + 1) (free_number used count (number + 1))
+        → Walked used (suc count) number (cond b (free_number used count (number + 1)) number)
     by false h rest = record { from = omega arith; upto = omega arith; passed = λ k low high. absurd (omega (arith, low, high)); end = inl h }
     by true h rest =
         let low : number + 1 ≤ free_number used count (number + 1) = rest.from in
@@ -94,7 +96,8 @@ among_lowered q n (m ∷ ms) (inl same) e =
 among_lowered q n (m ∷ ms) (inr a) e =
     elim (eqb q (m - 1)) as (λ (b : Bool). (b || list_any (eqb q) (lowered ms)) ≡ true) [ true ↦ refl | false ↦ among_lowered q n ms a e ]
 
-module _ (used : ℕ → Bool) (numbers_used : List ℕ) (count : ℕ) (among : (number : ℕ) → used number ≡ true → Among number numbers_used) (enough : length numbers_used ≤ count) where
+module _ (used : ℕ → Bool) (numbers_used : List ℕ) (count : ℕ) (among : (number : ℕ) → used number ≡ true → Among number numbers_used)
+    (enough : length numbers_used ≤ count) where
   -- where all from 1 up to a number are used, there are as many
   up_to : (number : ℕ) → ((k : ℕ) → 1 ≤ k → k ≤ number → used k ≡ true) → number ≤ length numbers_used
   up_to number each =
@@ -118,7 +121,8 @@ module _ (used : ℕ → Bool) (numbers_used : List ℕ) (count : ℕ) (among : 
       | inr last ↦ (
           let each : (k : ℕ) → 1 ≤ k → k ≤ number → used k ≡ true = λ k low high. elim (cases_Bool (eqb k number)) [
             | inl same ↦ subst (λ (n : ℕ). used n ≡ true) (sym (eqb-true k number same)) taken
-            | inr apart ↦ (let differs : k ≢ number = λ e. opposite (eqb k number) (eq-eqb k number e) apart in w.passed k low (omega (arith, high, differs)))
+            | inr apart ↦ (let differs : k ≢ number = λ e. opposite (eqb k number) (eq-eqb k number e) apart in
+                w.passed k low (omega (arith, high, differs)))
           ] in
           let many = up_to number each in
           absurd (omega (arith, many, last, enough)))

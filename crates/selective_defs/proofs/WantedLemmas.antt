@@ -13,7 +13,8 @@ use Rattle.selective_defs.proofs.TransmittedLemmas.{best_of, ready_parts, is_rea
 
 -- ---- lists
 
-among_one : {X : Type 0} (p : X → Bool) (x y : X) (ys : List X) (t : Bool) → p y ≡ t → (Among x (filter p ys) → Among x ys × (p x ≡ true)) → Among x (cond t (y ∷ filter p ys) (filter p ys)) → Among x (y ∷ ys) × (p x ≡ true)
+among_one : {X : Type 0} (p : X → Bool) (x y : X) (ys : List X) (t : Bool) → p y ≡ t → (Among x (filter p ys) → Among x ys × (p x ≡ true))
+    → Among x (cond t (y ∷ filter p ys) (filter p ys)) → Among x (y ∷ ys) × (p x ≡ true)
 among_one p x y ys true h k (inl e) = (inl e, ap p e ∙ h)
 among_one p x y ys true h k (inr a) = let both = k a in (inr both.0, both.1)
 among_one p x y ys false h k a = let both = k a in (inr both.0, both.1)
@@ -22,7 +23,8 @@ pub filtered : {X : Type 0} (p : X → Bool) (x : X) (xs : List X) → Among x (
 filtered p x [] a = absurd a
 filtered p x (y ∷ ys) a = among_one p x y ys (p y) refl (filtered p x ys) a
 
-keeps_one : {X : Type 0} (p : X → Bool) (x y : X) (ys : List X) (t : Bool) → p y ≡ t → p x ≡ true → (Among x ys → Among x (filter p ys)) → Among x (y ∷ ys) → Among x (cond t (y ∷ filter p ys) (filter p ys))
+keeps_one : {X : Type 0} (p : X → Bool) (x y : X) (ys : List X) (t : Bool) → p y ≡ t → p x ≡ true → (Among x ys → Among x (filter p ys))
+    → Among x (y ∷ ys) → Among x (cond t (y ∷ filter p ys) (filter p ys))
 keeps_one p x y ys true h r k (inl e) = inl e
 keeps_one p x y ys true h r k (inr a) = inr (k a)
 keeps_one p x y ys false h r k (inl e) = absurd (opposite (p y) (ap p (sym e) ∙ r) h)
@@ -51,15 +53,18 @@ not_true false h = refl
 
 -- ---- routes
 
-not_run : (source group : Addr) (route other : LearnedRoute) → overtakes source group route other ≡ false → Matches other.pattern source group → rank route.pattern < rank other.pattern → other.run ≡ false
+not_run : (source group : Addr) (route other : LearnedRoute) → overtakes source group route other ≡ false → Matches other.pattern source group
+    → rank route.pattern < rank other.pattern → other.run ≡ false
 not_run source group route other h m less = elim (cases_Bool other.run) [
   | inl t ↦ absurd (opposite (overtakes source group route other)
       (both_true other.run (matches other.pattern source group && nat_lt (rank route.pattern) (rank other.pattern)) t
-      (both_true (matches other.pattern source group) (nat_lt (rank route.pattern) (rank other.pattern)) (matching other.pattern source group m) (lt-ltb (rank route.pattern) (rank other.pattern) less))) h)
+      (both_true (matches other.pattern source group) (nat_lt (rank route.pattern) (rank other.pattern)) (matching other.pattern source group m)
+      (lt-ltb (rank route.pattern) (rank other.pattern) less))) h)
   | inr f ↦ f
 ]
 
-not_over : (source group : Addr) (route other : LearnedRoute) → (Matches other.pattern source group → rank route.pattern < rank other.pattern → other.run ≡ false) → overtakes source group route other ≡ false
+not_over : (source group : Addr) (route other : LearnedRoute)
+    → (Matches other.pattern source group → rank route.pattern < rank other.pattern → other.run ≡ false) → overtakes source group route other ≡ false
 not_over source group route other h = elim (cases_Bool (overtakes source group route other)) [
   | inr f ↦ f
   | inl t ↦
@@ -68,7 +73,8 @@ not_over source group route other h = elim (cases_Bool (overtakes source group r
       absurd (opposite other.run run.0 (h (matched other.pattern source group rest.0) (ltb-true (rank route.pattern) (rank other.pattern) rest.1)))
 ]
 
-wanted_so : (routes : List LearnedRoute) (source group : Addr) (route : LearnedRoute) → Among route (wanted routes source group) → IsWanted routes source group route
+wanted_so : (routes : List LearnedRoute) (source group : Addr) (route : LearnedRoute) → Among route (wanted routes source group)
+    → IsWanted routes source group route
 wanted_so routes source group route a =
     let own = filtered (is_wanted routes source group) route routes a in
     let both = and_parts (matches route.pattern source group) (not (list_any (overtakes source group route) routes)) own.1 in
@@ -79,18 +85,22 @@ wanted_so routes source group route a =
       kept = λ other b m less. not_run source group route other (none_passes (overtakes source group route) routes none other b) m less;
     }
 
-pub so_wanted : (routes : List LearnedRoute) (source group : Addr) (route : LearnedRoute) → IsWanted routes source group route → Among route (wanted routes source group)
+pub so_wanted : (routes : List LearnedRoute) (source group : Addr) (route : LearnedRoute) → IsWanted routes source group route
+    → Among route (wanted routes source group)
 so_wanted routes source group route w =
     kept (is_wanted routes source group) route routes
-    (both_true (matches route.pattern source group) (not (list_any (overtakes source group route) routes)) (matching route.pattern source group w.matches)
+    (both_true (matches route.pattern source group) (not (list_any (overtakes source group route) routes))
+    (matching route.pattern source group w.matches)
     (ap not (no_one (overtakes source group route) routes (λ other b. not_over source group route other (w.kept other b))))) w.among
 
-pub wanted_when : (routes : List LearnedRoute) (source group : Addr) (route : LearnedRoute) → Among route (wanted routes source group) ↔ IsWanted routes source group route
+pub wanted_when : (routes : List LearnedRoute) (source group : Addr) (route : LearnedRoute)
+    → Among route (wanted routes source group) ↔ IsWanted routes source group route
 wanted_when routes source group route = (wanted_so routes source group route, so_wanted routes source group route)
 
 -- ---- a root and an egress
 
-pub each_wanted : (delay now : ℕ) (selections : List Selection) (routes : List LearnedRoute) (source group : Addr) (s : Selection) (route : LearnedRoute) → InStep delay now selections routes → transmitted selections source group ≡ Some s
+pub each_wanted : (delay now : ℕ) (selections : List Selection) (routes : List LearnedRoute) (source group : Addr) (s : Selection)
+    (route : LearnedRoute) → InStep delay now selections routes → transmitted selections source group ≡ Some s
     → Among route routes → route.pattern ≡ s.pattern → Among route (wanted routes source group)
 each_wanted delay now selections routes source group s route i e a same =
     let b = best_of selections source group s e in
@@ -113,7 +123,8 @@ each_wanted delay now selections routes source group s route i e a same =
       ];
     })
 
-pub some_wanted : (delay now : ℕ) (selections : List Selection) (routes : List LearnedRoute) (source group : Addr) (s : Selection) → InStep delay now selections routes → transmitted selections source group ≡ Some s
+pub some_wanted : (delay now : ℕ) (selections : List Selection) (routes : List LearnedRoute) (source group : Addr) (s : Selection)
+    → InStep delay now selections routes → transmitted selections source group ≡ Some s
     → (route : LearnedRoute) × (route.pattern ≡ s.pattern) × Among route (wanted routes source group)
 some_wanted delay now selections routes source group s i e =
     let own = i.learned s (best_of selections source group s e).among in

@@ -25,8 +25,19 @@ use std::marker::Model;
 use std::process::Abort;
 
 /// E1 has the VRF V1 with the interface X1 to the site X, and E2 the VRF V2 with the interface Y1 to the site Y.
-const TEXT: &[u8] =
-    b"edge E1 192.0.2.1\nedge E2 192.0.2.2\ncore C 192.0.2.9\nlink E1 C 1\nlink E2 C 1\nvrf V1 E1 1 65000:1 65000:1 highest\nvrf V2 E2 1 65000:1 65000:1 highest\nsite X 10.1.0.0/24\nsite Y 10.2.0.0/24\niface X1 V1 X 10.1.0.1\niface Y1 V2 Y 10.2.0.1\nevents\n";
+const TEXT: &[u8] = b"edge E1 192.0.2.1\n\
+    edge E2 192.0.2.2\n\
+    core C 192.0.2.9\n\
+    link E1 C 1\n\
+    link E2 C 1\n\
+    vrf V1 E1 1 65000:1 65000:1 highest\n\
+    vrf V2 E2 1 65000:1 65000:1 highest\n\
+    site X 10.1.0.0/24\n\
+    site Y 10.2.0.0/24\n\
+    iface X1 V1 X 10.1.0.1\n\
+    iface Y1 V2 Y 10.2.0.1\n\
+    events\n\
+    ";
 
 pub(crate) const E2: NodeId = NodeId(1);
 

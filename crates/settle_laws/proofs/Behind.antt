@@ -41,7 +41,8 @@ pub record Through (old : World) (number : ℕ) (before : List Timed) (timed : T
   pub parts : trace ≡ first ++ rest
   pub run : Runs old number (before ++ timed ∷ []) first next
 
-pub through : (before : List Timed) (timed : Timed) (behind : List Timed) (old : World) (number : ℕ) (trace : List Traced) (new : World) → Runs old number (before ++ timed ∷ behind) trace new → Through old number before timed trace
+pub through : (before : List Timed) (timed : Timed) (behind : List Timed) (old : World) (number : ℕ) (trace : List Traced) (new : World)
+    → Runs old number (before ++ timed ∷ behind) trace new → Through old number before timed trace
 through [] timed behind old number trace new (acts, next, rest, done, parts, more) = record {
   middle = old;
   before_trace = [];
@@ -71,7 +72,8 @@ through (one ∷ before) timed behind old number trace new (acts, next, rest, do
 
 -- ---- behind a run
 
-pub run_settles : (cores : Cores) (script : Script) (all : List Timed) (trace : List Traced) (old new : World) (line : ℕ) (acts : List Happened) → SoundRun cores script all trace old
+pub run_settles : (cores : Cores) (script : Script) (all : List Timed) (trace : List Traced) (old new : World) (line : ℕ) (acts : List Happened)
+    → SoundRun cores script all trace old
     → outcome old (record { line = line; event = events.Settle }) ≡ Done acts new → IsSettled new
 run_settles cores script all trace old new line acts sound_run e =
     let scenario = script.scenario in
@@ -83,10 +85,13 @@ run_settles cores script all trace old new line acts sound_run e =
       known = stays.0.known;
       present = know.present;
     } in
-    settle_settles scenario (costs_of old.network.state) sound_run.scenario present old (run_in_step scenario cores all trace old sound_run.scenario sound_run.sound_events sound_run.run)
-    (record { streams = runs_streams all (start scenario cores) 0 trace old (start_streams scenario cores) sound_run.run; costs_are = refl }) line acts new e
+    settle_settles scenario (costs_of old.network.state) sound_run.scenario present old
+    (run_in_step scenario cores all trace old sound_run.scenario sound_run.sound_events sound_run.run)
+    (record { streams = runs_streams all (start scenario cores) 0 trace old (start_streams scenario cores) sound_run.run; costs_are = refl }) line
+    acts new e
 
-pub run_drains : (scenario : Scenario) (cores : Cores) (all : List Timed) (trace : List Traced) (old new : World) (line : ℕ) (acts : List Happened) → Runs (start scenario cores) 0 all trace old → outcome old (record { line = line; event = events.Drain }) ≡ Done acts new → IsDrained new
+pub run_drains : (scenario : Scenario) (cores : Cores) (all : List Timed) (trace : List Traced) (old new : World) (line : ℕ) (acts : List Happened)
+    → Runs (start scenario cores) 0 all trace old → outcome old (record { line = line; event = events.Drain }) ≡ Done acts new → IsDrained new
 run_drains scenario cores all trace old new line acts run e = drain_drains old (run_alive scenario cores all trace old run) line acts new e
 
 -- ---- a drain touches no session and no node
@@ -94,19 +99,25 @@ run_drains scenario cores all trace old new line acts run e = drain_drains old (
 abbrev NetSettled : OctetNetwork Nodes → Type 0
 NetSettled network = IsSettled (record { network = network; copies = λ u n. []; datagrams = [] })
 
-landings_keep : (P : OctetNetwork Nodes → Type 0) (world : World) (ways : List (NodeId × NodeId)) → AllByRecursion (λ one. (old : World) → P old.network → Gives (λ new. P new.network) (act old one)) (flat_map (landings world) ways)
+landings_keep : (P : OctetNetwork Nodes → Type 0) (world : World) (ways : List (NodeId × NodeId))
+    → AllByRecursion (λ one. (old : World) → P old.network → Gives (λ new. P new.network) (act old one)) (flat_map (landings world) ways)
 landings_keep P world [] = tt
 landings_keep P world (way ∷ others) = each (length (world.copies way.0 way.1)) (landings_keep P world others)
   where
-    each : (count : ℕ) → AllByRecursion (λ one. (old : World) → P old.network → Gives (λ new. P new.network) (act old one)) (flat_map (landings world) others)
-        → AllByRecursion (λ one. (old : World) → P old.network → Gives (λ new. P new.network) (act old one)) (replicate count (Land way.0 way.1 1) ++ flat_map (landings world) others)
+    each : (count : ℕ) → AllByRecursion (λ one. (old : World) → P old.network → Gives (λ new. P new.network) (act old one))
+        (flat_map (landings world) others)
+        → AllByRecursion (λ one. (old : World) → P old.network → Gives (λ new. P new.network) (act old one))
+        (replicate count (Land way.0 way.1 1) ++ flat_map (landings world) others)
     each zero rest = rest
     each (suc count) rest = ((λ old p. land_keeps P old way.0 way.1 1 p), each count rest)
 
-pub drain_keeps : (world : World) (line : ℕ) (acts : List Happened) (next : World) → IsSettled world → outcome world (record { line = line; event = events.Drain }) ≡ Done acts next → IsSettled next
+pub drain_keeps : (world : World) (line : ℕ) (acts : List Happened) (next : World) → IsSettled world
+    → outcome world (record { line = line; event = events.Drain }) ≡ Done acts next → IsSettled next
 drain_keeps world line acts next settled e =
     subst (Comes (λ new. NetSettled new.network)) e
-    (times_keeps (λ new. NetSettled new.network) drain_round (λ one p. row_keeps (λ new. NetSettled new.network) (flat_map (landings one) (link_ways (scenario_of one))) (landings_keep NetSettled one (link_ways (scenario_of one))) one p) 255 world settled)
+    (times_keeps (λ new. NetSettled new.network) drain_round
+    (λ one p. row_keeps (λ new. NetSettled new.network) (flat_map (landings one) (link_ways (scenario_of one)))
+    (landings_keep NetSettled one (link_ways (scenario_of one))) one p) 255 world settled)
 
 -- ---- what is told then
 
@@ -114,10 +125,14 @@ no_datagrams : (count : ℕ) → datagrams_with_copy [] count ≡ 0
 no_datagrams zero = refl
 no_datagrams (suc count) = let x = no_datagrams count in omega (arith, x)
 
-pub settled_line : (world : World) → IsSettled world → state_line world ≡ lines.State 0 (length (all_copies world)) (datagrams_with_copy (all_copies world) (length world.datagrams)) 0 (unready world)
-settled_line world settled = λ i. lines.State (settled.0 i) (length (all_copies world)) (datagrams_with_copy (all_copies world) (length world.datagrams)) (settled.1 i) (unready world)
+pub settled_line : (world : World) → IsSettled world
+    → state_line world ≡ lines.State 0 (length (all_copies world)) (datagrams_with_copy (all_copies world) (length world.datagrams)) 0 (unready world)
+settled_line world settled =
+    λ i. lines.State (settled.0 i) (length (all_copies world)) (datagrams_with_copy (all_copies world) (length world.datagrams)) (settled.1 i)
+    (unready world)
 
 pub drained_line : (world : World) → IsDrained world → state_line world ≡ lines.State (octets_in_transit world) 0 0 (due_timers world) (unready world)
 drained_line world none =
-    (λ i. lines.State (octets_in_transit world) (length (none i)) (datagrams_with_copy (none i) (length world.datagrams)) (due_timers world) (unready world))
+    (λ i. lines.State (octets_in_transit world) (length (none i)) (datagrams_with_copy (none i) (length world.datagrams)) (due_timers world)
+    (unready world))
     ∙ ap (λ (k : ℕ). lines.State (octets_in_transit world) 0 k (due_timers world) (unready world)) (no_datagrams (length world.datagrams))

@@ -57,31 +57,41 @@ PassesJoins f = (key : Key) (route : TakenRoute) → kind_of key ≡ 7 → f (ke
 any_route : TakenRoute
 any_route = record { value = record { next_hop = V4 []; comms = []; pmsi = None }; since = 0; run = false }
 
-change_found : {B : Type 0} (f : Key × TakenRoute → Option B) → PassesJoins f → (now : ℕ) (taken : Taken) (change : Change) → kind_of (key_of change) ≡ 7 → found_in f (maps.entries (taken_change now taken change)) ≡ found_in f (maps.entries taken)
+change_found : {B : Type 0} (f : Key × TakenRoute → Option B) → PassesJoins f → (now : ℕ) (taken : Taken) (change : Change)
+    → kind_of (key_of change) ≡ 7 → found_in f (maps.entries (taken_change now taken change)) ≡ found_in f (maps.entries taken)
 change_found f none now taken (updates.Reach advert) is =
-    found_insert key_total key_exact f taken advert.key (learned now (record { next_hop = advert.next_hop; comms = advert.comms; pmsi = advert.pmsi }) (maps.get taken advert.key)) (λ w. none advert.key w is)
+    found_insert key_total key_exact f taken advert.key
+    (learned now (record { next_hop = advert.next_hop; comms = advert.comms; pmsi = advert.pmsi }) (maps.get taken advert.key))
+    (λ w. none advert.key w is)
 change_found f none now taken (updates.Unreach key) is = found_remove key_total key_exact f taken key any_route (λ w. none key w is)
 
 apart : (rd : Rd) (prefix : Prefix) (key : Key) → kind_of key ≡ 7 → eq_by_cmp key_cmp (Unicast rd prefix) key ≡ false
 apart rd prefix key is = other_key key_exact (Unicast rd prefix) key (λ same. let bad : 0 ≡ 7 = ap kind_of same ∙ is in absurd cc)
 
-change_get : (now : ℕ) (taken : Taken) (change : Change) → kind_of (key_of change) ≡ 7 → (rd : Rd) (prefix : Prefix) → maps.get (taken_change now taken change) (Unicast rd prefix) ≡ maps.get taken (Unicast rd prefix)
+change_get : (now : ℕ) (taken : Taken) (change : Change) → kind_of (key_of change) ≡ 7 → (rd : Rd) (prefix : Prefix)
+    → maps.get (taken_change now taken change) (Unicast rd prefix) ≡ maps.get taken (Unicast rd prefix)
 change_get now taken (updates.Reach advert) is rd prefix =
     let route = learned now (record { next_hop = advert.next_hop; comms = advert.comms; pmsi = advert.pmsi }) (maps.get taken advert.key) in
-    get-insert key_total taken advert.key route (Unicast rd prefix) ∙ ap (λ (b : Bool). cond b (Some route) (maps.get taken (Unicast rd prefix))) (apart rd prefix advert.key is)
+    get-insert key_total taken advert.key route (Unicast rd prefix)
+    ∙ ap (λ (b : Bool). cond b (Some route) (maps.get taken (Unicast rd prefix))) (apart rd prefix advert.key is)
 change_get now taken (updates.Unreach key) is rd prefix =
     get-remove key_total taken key (Unicast rd prefix) ∙ ap (λ (b : Bool). cond b None (maps.get taken (Unicast rd prefix))) (apart rd prefix key is)
 
 is_join : (change : Change) (more : List Change) → joins_only (change ∷ more) ≡ true → (kind_of (key_of change) ≡ 7) × (joins_only more ≡ true)
-is_join change more h = let parts = and_parts (kind_of (key_of change) == 7) (joins_only more) h in (eqb-true (kind_of (key_of change)) 7 parts.0, parts.1)
+is_join change more h = let parts = and_parts (kind_of (key_of change) == 7) (joins_only more) h in
+    (eqb-true (kind_of (key_of change)) 7 parts.0, parts.1)
 
-all_found : {B : Type 0} (f : Key × TakenRoute → Option B) → PassesJoins f → (now : ℕ) (all : List Change) (taken : Taken) → joins_only all ≡ true → found_in f (maps.entries (fold (taken_change now) taken all)) ≡ found_in f (maps.entries taken)
+all_found : {B : Type 0} (f : Key × TakenRoute → Option B) → PassesJoins f → (now : ℕ) (all : List Change) (taken : Taken) → joins_only all ≡ true
+    → found_in f (maps.entries (fold (taken_change now) taken all)) ≡ found_in f (maps.entries taken)
 all_found f none now [] taken is = refl
-all_found f none now (change ∷ more) taken is = let j = is_join change more is in all_found f none now more (taken_change now taken change) j.1 ∙ change_found f none now taken change j.0
+all_found f none now (change ∷ more) taken is = let j = is_join change more is in
+    all_found f none now more (taken_change now taken change) j.1 ∙ change_found f none now taken change j.0
 
-all_get : (now : ℕ) (all : List Change) (taken : Taken) → joins_only all ≡ true → (rd : Rd) (prefix : Prefix) → maps.get (fold (taken_change now) taken all) (Unicast rd prefix) ≡ maps.get taken (Unicast rd prefix)
+all_get : (now : ℕ) (all : List Change) (taken : Taken) → joins_only all ≡ true → (rd : Rd) (prefix : Prefix)
+    → maps.get (fold (taken_change now) taken all) (Unicast rd prefix) ≡ maps.get taken (Unicast rd prefix)
 all_get now [] taken is rd prefix = refl
-all_get now (change ∷ more) taken is rd prefix = let j = is_join change more is in all_get now more (taken_change now taken change) j.1 rd prefix ∙ change_get now taken change j.0 rd prefix
+all_get now (change ∷ more) taken is rd prefix = let j = is_join change more is in
+    all_get now more (taken_change now taken change) j.1 rd prefix ∙ change_get now taken change j.0 rd prefix
 
 -- ---- what is not read of joins
 
@@ -130,7 +140,13 @@ no_selective own peer (Mcast afi (routes.Other kind octets)) route is = absurd (
 no_learned : (place : EdgePlace) (own : OwnVrf) (peer : NodeId) → PassesJoins (learned_route place own peer)
 no_learned place own peer key route is = ap (λ (o : Option _). elim o [
   | None ↦ None
-  | Some imported ↦ Some (record { pattern = record { source = imported.route.source; group = imported.route.group }; fec = imported.fec; since = route.since; run = route.run })
+  | Some imported ↦ Some (record {
+    pattern = record { source = imported.route.source; group = imported.route.group };
+    fec = imported.fec;
+    since =
+        route.since;
+    run = route.run;
+  })
 ]) (no_selective own (addr_of place.scenario peer) key route is)
 
 -- ---- a join that is taken
@@ -139,7 +155,8 @@ no_learned place own peer key route is = ap (λ (o : Option _). elim o [
 abbrev pub with_taken : Control → NodeId → Taken → Control
 with_taken old peer taken = record old { peers = maps.insert old.peers peer taken }
 
-module _ (place : EdgePlace) (now : ℕ) (old : Control) (peer : NodeId) (taken : Taken) (all : List Change) (at : maps.get old.peers peer ≡ Some taken) (joins : joins_only all ≡ true) where
+module _ (place : EdgePlace) (now : ℕ) (old : Control) (peer : NodeId) (taken : Taken) (all : List Change) (at : maps.get old.peers peer ≡ Some taken)
+    (joins : joins_only all ≡ true) where
   abbrev new : Taken
   new = fold (taken_change now) taken all
 
@@ -153,17 +170,22 @@ module _ (place : EdgePlace) (now : ℕ) (old : Control) (peer : NodeId) (taken 
   after = with_taken old peer new
 
   -- what is read peer by peer
-  reads : {B : Type 0} (g : NodeId × Taken → List B) → g (peer, new) ≡ g (peer, taken) → flat_map g (maps.entries after.peers) ≡ flat_map g (maps.entries old.peers)
+  reads : {B : Type 0} (g : NodeId × Taken → List B) → g (peer, new) ≡ g (peer, taken)
+      → flat_map g (maps.entries after.peers) ≡ flat_map g (maps.entries old.peers)
   reads g same = read_insert node_cmp_total node_cmp_exact g old.peers peer new taken at same
 
   active_same : (own : OwnVrf) → flat_map (active_from own) (maps.entries after.peers) ≡ flat_map (active_from own) (maps.entries old.peers)
   active_same own = reads (active_from own) (found (imported_active own.vrf) (no_active own))
 
-  known_same : (own : OwnVrf) → flat_map (known_from place own.vrf) (maps.entries after.peers) ≡ flat_map (known_from place own.vrf) (maps.entries old.peers)
+  known_same : (own : OwnVrf) → flat_map (known_from place own.vrf) (maps.entries after.peers)
+      ≡ flat_map (known_from place own.vrf) (maps.entries old.peers)
   known_same own = reads (known_from place own.vrf) (found (known_route place own.vrf peer) (no_known place own peer))
 
-  inclusive_same : (own : OwnVrf) → flat_map (inclusive_tunnels place own) (maps.entries after.peers) ≡ flat_map (inclusive_tunnels place own) (maps.entries old.peers)
-  inclusive_same own = reads (inclusive_tunnels place own) (found (imported_inclusive own.vrf (addr_of place.scenario peer)) (no_inclusive own (addr_of place.scenario peer)))
+  inclusive_same : (own : OwnVrf) → flat_map (inclusive_tunnels place own) (maps.entries after.peers)
+      ≡ flat_map (inclusive_tunnels place own) (maps.entries old.peers)
+  inclusive_same own =
+      reads (inclusive_tunnels place own) (found (imported_inclusive own.vrf (addr_of place.scenario peer))
+      (no_inclusive own (addr_of place.scenario peer)))
 
   abbrev or_none : Option Taken → Taken
   or_none o = elim o [ None ↦ maps.empty | Some own ↦ own ]
@@ -175,18 +197,22 @@ module _ (place : EdgePlace) (now : ℕ) (old : Control) (peer : NodeId) (taken 
       by : (b : Bool) → eq_by_cmp node_cmp q peer ≡ b → h (taken_from after q) ≡ h (taken_from old q)
       by true e =
           let one : q ≡ peer = one_key node_cmp_exact q peer e in
-          let here : maps.get after.peers q ≡ Some new = get-insert node_cmp_total old.peers peer new q ∙ ap (λ (b : Bool). cond b (Some new) (maps.get old.peers q)) e in
+          let here : maps.get after.peers q ≡ Some new =
+          get-insert node_cmp_total old.peers peer new q ∙ ap (λ (b : Bool). cond b (Some new) (maps.get old.peers q)) e in
           let there : maps.get old.peers q ≡ Some taken = ap (maps.get old.peers) one ∙ at in
           ap (λ (o : Option Taken). h (or_none o)) here ∙ same ∙ sym (ap (λ (o : Option Taken). h (or_none o)) there)
       by false e =
-          let here : maps.get after.peers q ≡ maps.get old.peers q = get-insert node_cmp_total old.peers peer new q ∙ ap (λ (b : Bool). cond b (Some new) (maps.get old.peers q)) e in
+          let here : maps.get after.peers q ≡ maps.get old.peers q =
+          get-insert node_cmp_total old.peers peer new q ∙ ap (λ (b : Bool). cond b (Some new) (maps.get old.peers q)) e in
           ap (λ (o : Option Taken). h (or_none o)) here
 
-  get_same : (q : NodeId) (rd : Rd) (prefix : Prefix) → maps.get (taken_from after q) (Unicast rd prefix) ≡ maps.get (taken_from old q) (Unicast rd prefix)
+  get_same : (q : NodeId) (rd : Rd) (prefix : Prefix)
+      → maps.get (taken_from after q) (Unicast rd prefix) ≡ maps.get (taken_from old q) (Unicast rd prefix)
   get_same q rd prefix = of_table (λ (t : Taken). maps.get t (Unicast rd prefix)) (gets rd prefix) q
 
   learned_same : (own : OwnVrf) (q : NodeId) → learned_routes place after own q ≡ learned_routes place old own q
-  learned_same own q = of_table (λ (t : Taken). found_in (learned_route place own q) (maps.entries t)) (found (learned_route place own q) (no_learned place own q)) q
+  learned_same own q =
+      of_table (λ (t : Taken). found_in (learned_route place own q) (maps.entries t)) (found (learned_route place own q) (no_learned place own q)) q
 
   -- what an edge is known to be up, it still is
   up_same : (q : NodeId) → is_some (maps.get after.peers q) ≡ is_some (maps.get old.peers q)
@@ -195,7 +221,8 @@ module _ (place : EdgePlace) (now : ℕ) (old : Control) (peer : NodeId) (taken 
       by : (b : Bool) → eq_by_cmp node_cmp q peer ≡ b → is_some (maps.get after.peers q) ≡ is_some (maps.get old.peers q)
       by true e =
           let one : q ≡ peer = one_key node_cmp_exact q peer e in
-          let here : maps.get after.peers q ≡ Some new = get-insert node_cmp_total old.peers peer new q ∙ ap (λ (b : Bool). cond b (Some new) (maps.get old.peers q)) e in
+          let here : maps.get after.peers q ≡ Some new =
+          get-insert node_cmp_total old.peers peer new q ∙ ap (λ (b : Bool). cond b (Some new) (maps.get old.peers q)) e in
           let there : maps.get old.peers q ≡ Some taken = ap (maps.get old.peers) one ∙ at in
           ap is_some here ∙ sym (ap is_some there)
       by false e = ap is_some (get-insert node_cmp_total old.peers peer new q ∙ ap (λ (b : Bool). cond b (Some new) (maps.get old.peers q)) e)
@@ -219,7 +246,8 @@ module _ (place : EdgePlace) (now : ℕ) (old : Control) (peer : NodeId) (taken 
   flows_with own known up =
       let active = map noted_flow (notes_of place old own.id) ++ known in
       map (λ flow. (record { vrf = own.id; source = flow.source; group = flow.group }, up flow.source flow.group))
-      (filter (λ flow. list_any (λ iface. asks old.entries iface flow.source flow.group (list_any (same_flow flow.source flow.group) active) now) (ifaces_of place own))
+      (filter (λ flow. list_any (λ iface. asks old.entries iface flow.source flow.group (list_any (same_flow flow.source flow.group) active) now)
+      (ifaces_of place own))
       (found_in (joined_by place own) (maps.keys old.entries) ++ active))
 
   vrf_same : (own : OwnVrf) → vrf_flows place now after own ≡ vrf_flows place now old own
@@ -232,7 +260,8 @@ module _ (place : EdgePlace) (now : ℕ) (old : Control) (peer : NodeId) (taken 
   tunnels_same : (own : OwnVrf) (entry : VrfFlow × Option Upstream) → flow_tunnels place after own entry ≡ flow_tunnels place old own entry
   tunnels_same own (flow, None) = refl
   tunnels_same own (flow, Some (Site site)) = refl
-  tunnels_same own (flow, Some (Remote edge rd import source_as)) = ap (λ (l : List LearnedRoute). map (λ route. route.fec) (wanted l flow.source flow.group)) (learned_same own edge)
+  tunnels_same own (flow, Some (Remote edge rd import source_as)) =
+      ap (λ (l : List LearnedRoute). map (λ route. route.fec) (wanted l flow.source flow.group)) (learned_same own edge)
 
   abbrev later : Control
   later = refreshed place now after
@@ -246,7 +275,8 @@ module _ (place : EdgePlace) (now : ℕ) (old : Control) (peer : NodeId) (taken 
         (filter (λ (entry : VrfFlow × Option Upstream). entry.0.vrf.0 == own.id.0) (maps.entries (sym still i)))) (own_vrfs place))
 
     told_same : (q : NodeId) → told place later q ≡ told place old q
-    told_same q = λ i. cond (up_same q i) (maps.from_entries (originated place old ++ found_in (join_route place q) (maps.entries (still i)))) maps.empty
+    told_same q =
+        λ i. cond (up_same q i) (maps.from_entries (originated place old ++ found_in (join_route place q) (maps.entries (still i)))) maps.empty
 
 none_put : (b : Bool) (table other : Table) → other ≡ table → cond b (changes same_value table other) [] ≡ []
 none_put true table other same = ap (changes same_value table) same ∙ none_are key_total key_exact same_value value_exact table
@@ -259,7 +289,8 @@ pub record IsQuiet (place : EdgePlace) (old new : Control) : Type 0 where
 
 pub itself_quiet : (place : EdgePlace) (old new : Control) → old ≡ new → IsQuiet place old new
 itself_quiet place old new same = record {
-  puts = λ peer. none_put (is_some (maps.get new.peers peer)) (told place old peer) (told place new peer) (ap (λ (c : Control). told place c peer) (sym same));
+  puts = λ peer. none_put (is_some (maps.get new.peers peer)) (told place old peer) (told place new peer)
+      (ap (λ (c : Control). told place c peer) (sym same));
   leaves = ap (leaves place) same;
 }
 
@@ -268,11 +299,13 @@ pub refreshed_itself : (place : EdgePlace) (now : ℕ) (old : Control) → IsFre
 refreshed_itself place now old fresh = λ i. record old { flows = fresh i }
 
 -- A label message that is taken changes nothing of what an edge keeps of customers and of BGP.
-pub label_quiet : (place : EdgePlace) (now : ℕ) (old : Control) (from : NodeId) (message : LabelMessage) → IsFresh place now old → IsQuiet place old (control_step place now old (steps.Label from message))
+pub label_quiet : (place : EdgePlace) (now : ℕ) (old : Control) (from : NodeId) (message : LabelMessage) → IsFresh place now old
+    → IsQuiet place old (control_step place now old (steps.Label from message))
 label_quiet place now old from message fresh = itself_quiet place old (refreshed place now old) (refreshed_itself place now old fresh)
 
 -- Joins that are taken are answered by nothing.
-pub joins_quiet : (place : EdgePlace) (now : ℕ) (old : Control) (peer : NodeId) (message : Message) → IsFresh place now old → joins_only (changes_of message) ≡ true → IsQuiet place old (control_step place now old (steps.Update peer message))
+pub joins_quiet : (place : EdgePlace) (now : ℕ) (old : Control) (peer : NodeId) (message : Message) → IsFresh place now old
+    → joins_only (changes_of message) ≡ true → IsQuiet place old (control_step place now old (steps.Update peer message))
 joins_quiet place now old peer message fresh joins = by (maps.get old.peers peer) refl
   where
     by : (o : Option Taken) → maps.get old.peers peer ≡ o → IsQuiet place old (refreshed place now (elim o [
@@ -281,6 +314,8 @@ joins_quiet place now old peer message fresh joins = by (maps.get old.peers peer
     ]))
     by None at = itself_quiet place old (refreshed place now old) (refreshed_itself place now old fresh)
     by (Some taken) at = record {
-      puts = λ q. none_put (is_some (maps.get (later place now old peer taken (changes_of message) at joins).peers q)) (told place old q) (told place (later place now old peer taken (changes_of message) at joins) q) (told_same place now old peer taken (changes_of message) at joins fresh q);
+      puts = λ q. none_put (is_some (maps.get (later place now old peer taken (changes_of message) at joins).peers q)) (told place old q)
+          (told place (later place now old peer taken (changes_of message) at joins) q)
+          (told_same place now old peer taken (changes_of message) at joins fresh q);
       leaves = leaves_same place now old peer taken (changes_of message) at joins fresh;
     }

@@ -36,11 +36,14 @@ none_at : {X : Type 0} (b : Bool) (x : X) (xs : List X) → cond b (x ∷ xs) xs
 none_at true x xs e = absurd cc
 none_at false x xs e = e
 
-all_within : (P : Key → Type 0) (all : List (Change Key Value)) → ((key : Key) → (values_at key_cmp key all ≡ []) ⊎ P key) → AllByRecursion (λ change. P (key_of change)) all
+all_within : (P : Key → Type 0) (all : List (Change Key Value)) → ((key : Key) → (values_at key_cmp key all ≡ []) ⊎ P key)
+    → AllByRecursion (λ change. P (key_of change)) all
 all_within P [] h = tt
 all_within P (change ∷ more) h = (
   elim (h (key_of change)) [
-    | inl none ↦ absurd (let bad : value_of change ∷ values_at key_cmp (key_of change) more ≡ [] = ap (λ (b : Bool). cond b (value_of change ∷ values_at key_cmp (key_of change) more) (values_at key_cmp (key_of change) more)) (sym (own_key key_total (key_of change))) ∙ none in cc)
+    | inl none ↦ absurd (let bad : value_of change ∷ values_at key_cmp (key_of change) more ≡ [] =
+        ap (λ (b : Bool). cond b (value_of change ∷ values_at key_cmp (key_of change) more) (values_at key_cmp (key_of change) more))
+        (sym (own_key key_total (key_of change))) ∙ none in cc)
     | inr is ↦ is
   ],
   all_within P more (λ key. elim (h key) [
@@ -56,7 +59,8 @@ same_values (Some value) = (value_exact value value).1 refl
 no_difference : (old new : Option Value) → old ≡ new → difference same_value old new ≡ []
 no_difference old new same = ap (difference same_value old) (sym same) ∙ ap (λ (b : Bool). cond b [] (old ∷ [])) (same_values old)
 
-changes_within : (P : Key → Type 0) (old new : Table) → ((key : Key) → (maps.get old key ≡ maps.get new key) ⊎ P key) → AllByRecursion (λ change. P (key_of change)) (changes same_value old new)
+changes_within : (P : Key → Type 0) (old new : Table) → ((key : Key) → (maps.get old key ≡ maps.get new key) ⊎ P key)
+    → AllByRecursion (λ change. P (key_of change)) (changes same_value old new)
 changes_within P old new h = all_within P (changes same_value old new) (λ key. elim (h key) [
   | inl same ↦ inl (values_at-changes key_total same_value old new key ∙ no_difference (maps.get old key) (maps.get new key) same)
   | inr is ↦ inr is
@@ -64,22 +68,34 @@ changes_within P old new h = all_within P (changes same_value old new) (λ key. 
 
 -- ---- tables for peers
 
-joins_all : (place : EdgePlace) (peer : NodeId) (flows : List (VrfFlow × Option Upstream)) → AllByRecursion (λ (entry : Key × Value). kind_of entry.0 ≡ 7) (found_in (join_route place peer) flows)
+joins_all : (place : EdgePlace) (peer : NodeId) (flows : List (VrfFlow × Option Upstream))
+    → AllByRecursion (λ (entry : Key × Value). kind_of entry.0 ≡ 7) (found_in (join_route place peer) flows)
 joins_all place peer [] = tt
 joins_all place peer ((flow, None) ∷ more) = joins_all place peer more
 joins_all place peer ((flow, Some (Site site)) ∷ more) = joins_all place peer more
 joins_all place peer ((flow, Some (Remote edge rd import source_as)) ∷ more) =
     let rest = joins_all place peer more in
-    let entry : Key × Value = (Mcast (afi_of flow.source) (routes.SourceJoin rd source_as flow.source flow.group), record { next_hop = own_addr place; comms = import_target import ∷ []; pmsi = None }) in
-    elim (edge.0 == peer.0) as (λ b. AllByRecursion (λ (entry : Key × Value). kind_of entry.0 ≡ 7) (elim (cond b (Some entry) None) [ None ↦ found_in (join_route place peer) more | Some found ↦ found ∷ found_in (join_route place peer) more ])) [
+    let entry : Key × Value = (
+      Mcast (afi_of flow.source) (routes.SourceJoin rd source_as flow.source flow.group),
+      record { next_hop = own_addr place; comms = import_target import ∷ []; pmsi = None },
+    ) in
+    elim (edge.0 == peer.0) as (λ b. AllByRecursion (λ (entry : Key × Value). kind_of entry.0 ≡ 7)
+    (elim (cond b (Some entry) None) [
+      | None ↦ found_in (join_route place peer) more
+      | Some found ↦
+          found ∷ found_in (join_route place peer) more
+    ])) [
       | true ↦ (refl, rest)
       | false ↦ rest
     ]
 
 other : (key own : Key) → (kind_of key == 7) ≡ false → kind_of own ≡ 7 → eq_by_cmp key_cmp key own ≡ false
-other key own not is = other_key key_exact key own (λ same. let x : (kind_of key == 7) ≡ true = ap (λ (n : ℕ). n == 7) (ap kind_of same ∙ is) in let bad : true ≡ false = sym x ∙ not in absurd cc)
+other key own not is =
+    other_key key_exact key own (λ same. let x : (kind_of key == 7) ≡ true = ap (λ (n : ℕ). n == 7) (ap kind_of same ∙ is) in let bad : true ≡ false =
+    sym x ∙ not in absurd cc)
 
-not_found : (key : Key) → (kind_of key == 7) ≡ false → (es : List (Key × Value)) → AllByRecursion (λ (entry : Key × Value). kind_of entry.0 ≡ 7) es → find key_cmp key es ≡ None
+not_found : (key : Key) → (kind_of key == 7) ≡ false → (es : List (Key × Value)) → AllByRecursion (λ (entry : Key × Value). kind_of entry.0 ≡ 7) es
+    → find key_cmp key es ≡ None
 not_found key not [] all = refl
 not_found key not (e ∷ es) all = ap (λ (b : Bool). cond b (Some e.1) (find key_cmp key es)) (other key e.0 not all.0) ∙ not_found key not es all.1
 
@@ -88,25 +104,31 @@ find_front key [] ys none = none
 find_front key (x ∷ xs) ys none = ap (cond (eq_by_cmp key_cmp key x.0) (Some x.1)) (find_front key xs ys none)
 
 -- what is held at a key that is no join
-held_at : (place : EdgePlace) (control : Control) (peer : NodeId) (key : Key) → (kind_of key == 7) ≡ false → maps.get (held_for place control peer) key ≡ find key_cmp key (originated place control)
+held_at : (place : EdgePlace) (control : Control) (peer : NodeId) (key : Key) → (kind_of key == 7) ≡ false
+    → maps.get (held_for place control peer) key ≡ find key_cmp key (originated place control)
 held_at place control peer key not =
     get-from_entries key_total (originated place control ++ join_routes place control peer) key
-    ∙ find_front key (originated place control) (join_routes place control peer) (not_found key not (join_routes place control peer) (joins_all place peer (maps.entries control.flows)))
+    ∙ find_front key (originated place control) (join_routes place control peer)
+    (not_found key not (join_routes place control peer) (joins_all place peer (maps.entries control.flows)))
 
-both_tables : (b c : Bool) (x y : Table) (key : Key) → b ≡ c → maps.get x key ≡ maps.get y key → maps.get (cond b x maps.empty) key ≡ maps.get (cond c y maps.empty) key
+both_tables : (b c : Bool) (x y : Table) (key : Key) → b ≡ c → maps.get x key ≡ maps.get y key
+    → maps.get (cond b x maps.empty) key ≡ maps.get (cond c y maps.empty) key
 both_tables true true x y key e h = h
 both_tables false false x y key e h = refl
 both_tables true false x y key e h = absurd cc
 both_tables false true x y key e h = absurd cc
 
 -- two controls that originate the same, with the same peers up, differ in joins alone
-pub told_apart : (place : EdgePlace) (old new : Control) (peer : NodeId) → is_some (maps.get old.peers peer) ≡ is_some (maps.get new.peers peer) → originated place old ≡ originated place new → AllByRecursion IsJoin (put_to place old new peer)
+pub told_apart : (place : EdgePlace) (old new : Control) (peer : NodeId) → is_some (maps.get old.peers peer) ≡ is_some (maps.get new.peers peer)
+    → originated place old ≡ originated place new → AllByRecursion IsJoin (put_to place old new peer)
 told_apart place old new peer ups same =
-    elim (is_some (maps.get new.peers peer)) as (λ b. AllByRecursion IsJoin (cond b (changes same_value (told place old peer) (told place new peer)) [])) [
+    elim (is_some (maps.get new.peers peer)) as (λ b. AllByRecursion IsJoin
+    (cond b (changes same_value (told place old peer) (told place new peer)) [])) [
       | false ↦ tt
       | true ↦ changes_within (λ key. kind_of key ≡ 7) (told place old peer) (told place new peer) (λ key. elim (cases_Bool (kind_of key == 7)) [
         | inl is ↦ inr (eqb-true (kind_of key) 7 is)
-        | inr not ↦ inl (both_tables (is_some (maps.get old.peers peer)) (is_some (maps.get new.peers peer)) (held_for place old peer) (held_for place new peer) key ups
+        | inr not ↦ inl (both_tables (is_some (maps.get old.peers peer)) (is_some (maps.get new.peers peer)) (held_for place old peer)
+            (held_for place new peer) key ups
             (held_at place old peer key not ∙ ap (find key_cmp key) same ∙ sym (held_at place new peer key not)))
       ])
     ]
@@ -115,12 +137,15 @@ put_up : (b : Bool) (taken : Taken) (o : Option Taken) → (b ≡ true → is_so
 put_up true taken o h = h refl
 put_up false taken o h = refl
 
-up_kept : (peers : FinMap node_cmp Taken) (peer : NodeId) (old new : Taken) → maps.get peers peer ≡ Some old → (q : NodeId) → is_some (maps.get peers q) ≡ is_some (maps.get (maps.insert peers peer new) q)
+up_kept : (peers : FinMap node_cmp Taken) (peer : NodeId) (old new : Taken) → maps.get peers peer ≡ Some old → (q : NodeId)
+    → is_some (maps.get peers q) ≡ is_some (maps.get (maps.insert peers peer new) q)
 up_kept peers peer old new at q =
-    put_up (eq_by_cmp node_cmp q peer) new (maps.get peers q) (λ e. ap is_some (ap (maps.get peers) (one_key node_cmp_exact q peer e) ∙ at)) ∙ ap is_some (sym (get-insert node_cmp_total peers peer new q))
+    put_up (eq_by_cmp node_cmp q peer) new (maps.get peers q) (λ e. ap is_some (ap (maps.get peers) (one_key node_cmp_exact q peer e) ∙ at))
+    ∙ ap is_some (sym (get-insert node_cmp_total peers peer new q))
 
 -- A route that is taken is answered over BGP by joins alone.
-pub routes_answered : (place : EdgePlace) (now : ℕ) (old : Control) (peer : NodeId) (message : Message) (to : NodeId) → AllByRecursion IsJoin (put_to place old (control_step place now old (steps.Update peer message)) to)
+pub routes_answered : (place : EdgePlace) (now : ℕ) (old : Control) (peer : NodeId) (message : Message) (to : NodeId)
+    → AllByRecursion IsJoin (put_to place old (control_step place now old (steps.Update peer message)) to)
 routes_answered place now old peer message to = by (maps.get old.peers peer) refl
   where
     by : (o : Option Taken) → maps.get old.peers peer ≡ o → AllByRecursion IsJoin (put_to place old (refreshed place now (elim o [
@@ -130,4 +155,5 @@ routes_answered place now old peer message to = by (maps.get old.peers peer) ref
     by None at = told_apart place old (refreshed place now old) to refl refl
     by (Some taken) at =
         let new : Taken = fold (taken_change now) taken (changes_of message) in
-        told_apart place old (refreshed place now (record old { peers = maps.insert old.peers peer new })) to (up_kept old.peers peer taken new at to) refl
+        told_apart place old (refreshed place now (record old { peers = maps.insert old.peers peer new })) to (up_kept old.peers peer taken new at to)
+        refl

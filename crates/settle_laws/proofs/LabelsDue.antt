@@ -51,7 +51,8 @@ pub record Rested (life now : ℕ) (part : LabelData) : Type 0 where
 
 pub none_due : (place : Place) (now : ℕ) (part : LabelData) → Rested place.life now part → due place now part ≡ 0
 none_due place now part r =
-    let labels = count_zero (is_rested now) part.labels (λ usage a. each_among (λ (u : LabelUse). is_rested now u ≡ false) part.labels r.labels usage a) in
+    let labels =
+    count_zero (is_rested now) part.labels (λ usage a. each_among (λ (u : LabelUse). is_rested now u ≡ false) part.labels r.labels usage a) in
     let holds = count_zero (is_hold_due place.life now) (maps.values part.ends) (λ end a.
     let by = map_among (λ (e : NodeId × End). e.1) end (maps.entries part.ends) a in
     ap (is_hold_due place.life now) by.2 ∙ r.holds by.0.0 by.0.1 (entry_get node_cmp_total part.ends by.0.0 by.0.1 by.1)) in
@@ -66,9 +67,11 @@ later now life = by (nat_le (now + life + 1) now) refl
     by true e = let le = leb-true (now + life + 1) now e in absurd (omega (arith, le))
     by false e = refl
 
-release_rests : (now life : ℕ) (from : NodeId) (fec : Fec) (usage : LabelUse) → is_rested now usage ≡ false → is_rested now (released from fec (now + life + 1) usage) ≡ false
+release_rests : (now life : ℕ) (from : NodeId) (fec : Fec) (usage : LabelUse) → is_rested now usage ≡ false
+    → is_rested now (released from fec (now + life + 1) usage) ≡ false
 release_rests now life from fec (uses.Leaving own upstream) h =
-    elim (same_fec own fec && upstream.0 == from.0) as (λ b. is_rested now (cond b (uses.Resting (now + life + 1)) (uses.Leaving own upstream)) ≡ false) [
+    elim (same_fec own fec && upstream.0 == from.0) as
+    (λ b. is_rested now (cond b (uses.Resting (now + life + 1)) (uses.Leaving own upstream)) ≡ false) [
       | true ↦ later now life
       | false ↦ refl
     ]
@@ -76,14 +79,18 @@ release_rests now life from fec uses.Free h = h
 release_rests now life from fec (uses.Mapped own upstream) h = h
 release_rests now life from fec (uses.Resting until) h = h
 
-used_rests : (now label : ℕ) (labels : List LabelUse) (low : Bool) (usage : LabelUse) → AllByRecursion (λ (u : LabelUse). is_rested now u ≡ false) labels → cond low None (slice_get labels (label - 16)) ≡ Some usage → is_rested now usage ≡ false
+used_rests : (now label : ℕ) (labels : List LabelUse) (low : Bool) (usage : LabelUse)
+    → AllByRecursion (λ (u : LabelUse). is_rested now u ≡ false) labels → cond low None (slice_get labels (label - 16)) ≡ Some usage
+    → is_rested now usage ≡ false
 used_rests now label labels true usage all e = absurd cc
 used_rests now label labels false usage all e = each_at (λ (u : LabelUse). is_rested now u ≡ false) labels (label - 16) usage all e
 
-release_kept : (life now : ℕ) (part : LabelData) (from : NodeId) (fec : Fec) (label : ℕ) → Rested life now part → Rested life now (with_release part from fec label (now + life + 1))
+release_kept : (life now : ℕ) (part : LabelData) (from : NodeId) (fec : Fec) (label : ℕ) → Rested life now part
+    → Rested life now (with_release part from fec label (now + life + 1))
 release_kept life now part from fec label r = by (use_of part label) refl
   where
-    by : (o : Option LabelUse) → use_of part label ≡ o → Rested life now (elim o [ None ↦ part | Some usage ↦ with_use part label (released from fec (now + life + 1) usage) ])
+    by : (o : Option LabelUse) → use_of part label ≡ o
+        → Rested life now (elim o [ None ↦ part | Some usage ↦ with_use part label (released from fec (now + life + 1) usage) ])
     by None e = r
     by (Some usage) e = record {
       labels = each_set (λ (u : LabelUse). is_rested now u ≡ false) part.labels (label - 16) (released from fec (now + life + 1) usage) r.labels
@@ -91,20 +98,26 @@ release_kept life now part from fec label r = by (use_of part label) refl
       holds = r.holds;
     }
 
-taken_kept : (place : Place) (now : ℕ) (part : LabelData) (from : NodeId) (message : LabelMessage) → Rested place.life now part → Rested place.life now (taken place now part from message)
+taken_kept : (place : Place) (now : ℕ) (part : LabelData) (from : NodeId) (message : LabelMessage) → Rested place.life now part
+    → Rested place.life now (taken place now part from message)
 taken_kept place now part from (messages.Mapping fec label) r =
-    elim (place.is_tree fec) as (λ b. Rested place.life now (cond b (record part { branches = sets.insert part.branches (branch_to from fec label) }) part)) [ true ↦ record { labels = r.labels; holds = r.holds } | false ↦ r ]
+    elim (place.is_tree fec) as (λ b. Rested place.life now
+    (cond b (record part { branches = sets.insert part.branches (branch_to from fec label) }) part))
+    [ true ↦ record { labels = r.labels; holds = r.holds } | false ↦ r ]
 taken_kept place now part from (messages.Withdraw fec label) r = record { labels = r.labels; holds = r.holds }
 taken_kept place now part from (messages.Release fec label) r = release_kept place.life now part from fec label r
 taken_kept place now part from (messages.Ignored kind) r = r
 
 -- a tree that settles makes no label rest, and touches no hold
-turn_kept : (place : Place) (now : ℕ) (old : LabelData) (puts : List Put) (fec : Fec) (next : LabelData) (more : List Put) → Turn place old fec next more → Rested place.life now old → Rested place.life now next
+turn_kept : (place : Place) (now : ℕ) (old : LabelData) (puts : List Put) (fec : Fec) (next : LabelData) (more : List Put)
+    → Turn place old fec next more → Rested place.life now old → Rested place.life now next
 turn_kept place now old puts fec next more t r = record {
   labels = elim t.how [
     | inl q ↦ subst (AllByRecursion (λ (u : LabelUse). is_rested now u ≡ false)) (sym q.labels) r.labels
-    | inr (inl m) ↦ subst (AllByRecursion (λ (u : LabelUse). is_rested now u ≡ false)) (sym m.labels) (each_set (λ (u : LabelUse). is_rested now u ≡ false) old.labels (m.label - 16) (uses.Mapped fec m.to) r.labels refl)
-    | inr (inr g) ↦ subst (AllByRecursion (λ (u : LabelUse). is_rested now u ≡ false)) (sym g.labels) (each_set (λ (u : LabelUse). is_rested now u ≡ false) old.labels (g.label - 16) (uses.Leaving fec g.to) r.labels refl)
+    | inr (inl m) ↦ subst (AllByRecursion (λ (u : LabelUse). is_rested now u ≡ false)) (sym m.labels)
+        (each_set (λ (u : LabelUse). is_rested now u ≡ false) old.labels (m.label - 16) (uses.Mapped fec m.to) r.labels refl)
+    | inr (inr g) ↦ subst (AllByRecursion (λ (u : LabelUse). is_rested now u ≡ false)) (sym g.labels)
+        (each_set (λ (u : LabelUse). is_rested now u ≡ false) old.labels (g.label - 16) (uses.Leaving fec g.to) r.labels refl)
   ];
   holds = λ node end e. r.holds node end (sym (ap (λ (ends : _). maps.get ends node) t.rest.ends) ∙ e);
 }
@@ -114,17 +127,25 @@ passed_due : (life now : ℕ) (node : NodeId) (puts : List Put) (end : End) → 
 passed_due life now node puts end = λ i. not (passed_held node puts end i) && nat_le (passed_raised node puts end i + life + 1) now
 
 counted_rests : (life now : ℕ) (old : Stepped) → Rested life now old.part → Rested life now (counted old).part
-counted_rests life now old h = record { labels = h.labels; holds = λ node end e. by node end (maps.get old.part.ends node) refl (sym (get_after old.part.ends old.puts node) ∙ e) }
+counted_rests life now old h =
+    record {
+      labels = h.labels;
+      holds =
+          λ node end e. by node end (maps.get old.part.ends node) refl (sym (get_after old.part.ends old.puts node) ∙ e);
+    }
   where
-    by : (node : NodeId) (end : End) (o : Option End) → maps.get old.part.ends node ≡ o → option_map (passed node old.puts) o ≡ Some end → is_hold_due life now end ≡ false
+    by : (node : NodeId) (end : End) (o : Option End) → maps.get old.part.ends node ≡ o → option_map (passed node old.puts) o ≡ Some end
+        → is_hold_due life now end ≡ false
     by node end None was e = absurd cc
     by node end (Some own) was e =
         let same : passed node old.puts own ≡ end = cc in
         subst (λ (x : End). is_hold_due life now x ≡ false) same (passed_due life now node old.puts own ∙ h.holds node own was)
 
-step_kept : (place : Place) (now : ℕ) (part : LabelData) (call : Call) (new : Stepped) → Rested place.life now (effect place now part call).0.part → label_step place now part call ≡ Some new → Rested place.life now new.part
+step_kept : (place : Place) (now : ℕ) (part : LabelData) (call : Call) (new : Stepped) → Rested place.life now (effect place now part call).0.part
+    → label_step place now part call ≡ Some new → Rested place.life now new.part
 step_kept place now part call new r e =
-    step_keeps place now part call new (λ p puts. Rested place.life now p) (λ old puts fec next more t h. turn_kept place now old puts fec next more t h) (λ old h. counted_rests place.life now old h) r e
+    step_keeps place now part call new (λ p puts. Rested place.life now p)
+    (λ old puts fec next more t h. turn_kept place now old puts fec next more t h) (λ old h. counted_rests place.life now old h) r e
 
 -- a message that is taken, and a tree of which the node becomes or stops being a leaf
 abbrev pub IsInner : Call → Type 0
@@ -133,8 +154,10 @@ IsInner (Want fec) = Unit {0}
 IsInner (Unwant fec) = Unit {0}
 IsInner other = ⊥
 
-pub inner_rests : (place : Place) (now : ℕ) (part : LabelData) (call : Call) (new : Stepped) → IsInner call → Rested place.life now part → label_step place now part call ≡ Some new → Rested place.life now new.part
-inner_rests place now part (Taken from message) new is r e = step_kept place now part (Taken from message) new (taken_kept place now part from message r) e
+pub inner_rests : (place : Place) (now : ℕ) (part : LabelData) (call : Call) (new : Stepped) → IsInner call → Rested place.life now part
+    → label_step place now part call ≡ Some new → Rested place.life now new.part
+inner_rests place now part (Taken from message) new is r e =
+    step_kept place now part (Taken from message) new (taken_kept place now part from message r) e
 inner_rests place now part (Want fec) new is r e = step_kept place now part (Want fec) new (record { labels = r.labels; holds = r.holds }) e
 inner_rests place now part (Unwant fec) new is r e = step_kept place now part (Unwant fec) new (record { labels = r.labels; holds = r.holds }) e
 inner_rests place now part (Raised peer) new is r e = absurd is
@@ -169,7 +192,8 @@ was_run life now (Some old) end e =
     let same : hold_run life now old ≡ end = cc in
     subst (λ (x : End). is_hold_due life now x ≡ false) same (run_rests old.held (nat_le (old.raised + life + 1) now))
 
-pub timers_rest : (place : Place) (now : ℕ) (part : LabelData) (new : Stepped) → label_step place now part Timers ≡ Some new → Rested place.life now new.part
+pub timers_rest : (place : Place) (now : ℕ) (part : LabelData) (new : Stepped) → label_step place now part Timers ≡ Some new
+    → Rested place.life now new.part
 timers_rest place now part new e =
     step_kept place now part Timers new (record {
       labels = all_woken now part.labels;

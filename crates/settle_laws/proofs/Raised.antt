@@ -51,7 +51,8 @@ past_run life now (Some (Taken from message)) peer old h = h
 past_run life now (Some (Want fec)) peer old h = h
 past_run life now (Some (Unwant fec)) peer old h = h
 past_run life now (Some Rerouted) peer old h = h
-past_run life now (Some (labels.Raised own)) peer old h = past_either now (peer.0 == own.0) (Some (record { raised = now; held = false })) old (omega arith) h
+past_run life now (Some (labels.Raised own)) peer old h =
+    past_either now (peer.0 == own.0) (Some (record { raised = now; held = false })) old (omega arith) h
 past_run life now (Some (labels.Noticed own)) peer old h = past_either now (peer.0 == own.0) None old tt h
 past_run life now (Some labels.Timers) peer None h = tt
 past_run life now (Some labels.Timers) peer (Some end) h = h
@@ -62,7 +63,8 @@ ArePast standing = (n peer : NodeId) → IsPast standing.clock (standing.end kin
 
 past_call : (scenario : Scenario) (n : NodeId) (call : steps.Call) (old : SessionsStand) → ArePast old → ArePast (call_stand scenario n call old)
 past_call scenario n call old h m peer =
-    past_either old.clock (m.0 == n.0) (end_with scenario.life old.clock (own_label_call call) peer (old.end kinds.Ldp m peer)) (old.end kinds.Ldp m peer)
+    past_either old.clock (m.0 == n.0) (end_with scenario.life old.clock (own_label_call call) peer (old.end kinds.Ldp m peer))
+    (old.end kinds.Ldp m peer)
     (past_run scenario.life old.clock (own_label_call call) peer (old.end kinds.Ldp m peer) (h m peer)) (h m peer)
 
 past_act : (scenario : Scenario) (one : Act) (old : SessionsStand) → ArePast old → ArePast (act_stand scenario one old)
@@ -87,15 +89,20 @@ abbrev EndsPast : World → Type 0
 EndsPast world = ArePast (stands_at world)
 
 act_past : (one : Act) (world : World) → EndsPast world → Gives EndsPast (act world one)
-act_past one world h = by (act world one) (act_gives (scenario_of world) (stands_at world) world one (record { nodes = record { place = refl; clock = refl; ends = λ n peer. refl }; joined = λ kind a b. refl }))
+act_past one world h =
+    by (act world one) (act_gives (scenario_of world) (stands_at world) world one
+    (record { nodes = record { place = refl; clock = refl; ends = λ n peer. refl }; joined = λ kind a b. refl }))
   where
-    by : (o : Result Acted NodeId) → stand.Gives (WorldStands (scenario_of world) (act_stand (scenario_of world) one (stands_at world))) o → Gives EndsPast o
+    by : (o : Result Acted NodeId) → stand.Gives (WorldStands (scenario_of world) (act_stand (scenario_of world) one (stands_at world))) o
+        → Gives EndsPast o
     by (Err node) g = tt
     by (Ok new) g = λ n peer.
         subst (λ (o : Option UpEnd). IsPast (clock_of new.world) o) (sym (g.1.nodes.ends n peer))
-        (subst (λ (now : ℕ). IsPast now ((act_stand (scenario_of world) one (stands_at world)).end kinds.Ldp n peer)) (sym g.1.nodes.clock) (past_act (scenario_of world) one (stands_at world) h n peer))
+        (subst (λ (now : ℕ). IsPast now ((act_stand (scenario_of world) one (stands_at world)).end kinds.Ldp n peer)) (sym g.1.nodes.clock)
+        (past_act (scenario_of world) one (stands_at world) h n peer))
 
-run_past : (scenario : Scenario) (cores : Cores) (all : List Timed) (trace : List Traced) (new : World) → Runs (start scenario cores) 0 all trace new → EndsPast new
+run_past : (scenario : Scenario) (cores : Cores) (all : List Timed) (trace : List Traced) (new : World) → Runs (start scenario cores) 0 all trace new
+    → EndsPast new
 run_past scenario cores all trace new run =
     runs_holds EndsPast act_past (λ world datagrams h. h) all (start scenario cores) 0 trace new
     (λ n peer. subst (λ (o : Option UpEnd). IsPast 0 o) (sym (fresh_end scenario n peer)) tt) run
@@ -113,12 +120,17 @@ up_there now (Some end) up h = h
 
 -- Both ends of a session over LDP are up where it is joined, and came up at the clock or before.
 abbrev pub BothUp : SessionsStand → NodeId → NodeId → Type 0
-BothUp standing a b = standing.joined kinds.Ldp a b ≡ true → IsUpBy standing.clock (standing.end kinds.Ldp a b) × IsUpBy standing.clock (standing.end kinds.Ldp b a)
+BothUp standing a b =
+    standing.joined kinds.Ldp a b ≡ true → IsUpBy standing.clock (standing.end kinds.Ldp a b) × IsUpBy standing.clock (standing.end kinds.Ldp b a)
 
-pub run_up : (scenario : Scenario) (cores : Cores) (all : List Timed) (trace : List Traced) (new : World) → Runs (start scenario cores) 0 all trace new → InStep scenario new → (a b : NodeId) → BothUp (stands_at new) a b
+pub run_up : (scenario : Scenario) (cores : Cores) (all : List Timed) (trace : List Traced) (new : World)
+    → Runs (start scenario cores) 0 all trace new → InStep scenario new → (a b : NodeId) → BothUp (stands_at new) a b
 run_up scenario cores all trace new run (pending, are, good) a b joined =
     let past = run_past scenario cores all trace new run in
-    let back : new.network.joined (direction kinds.Ldp b a) ≡ true = sym ((good.kept []).rule.session a b (joined_apart scenario _ good.base a b joined)).alike ∙ joined in (
-      up_there (clock_of new) (maps.get (part_of (new.network.state.node a)).ends b) (joined_up scenario _ new.copies new.datagrams good a b joined) (past a b),
-      up_there (clock_of new) (maps.get (part_of (new.network.state.node b)).ends a) (joined_up scenario _ new.copies new.datagrams good b a back) (past b a),
+    let back : new.network.joined (direction kinds.Ldp b a) ≡ true =
+    sym ((good.kept []).rule.session a b (joined_apart scenario _ good.base a b joined)).alike ∙ joined in (
+      up_there (clock_of new) (maps.get (part_of (new.network.state.node a)).ends b) (joined_up scenario _ new.copies new.datagrams good a b joined)
+          (past a b),
+      up_there (clock_of new) (maps.get (part_of (new.network.state.node b)).ends a) (joined_up scenario _ new.copies new.datagrams good b a back)
+          (past b a),
     )

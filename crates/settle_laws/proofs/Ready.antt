@@ -17,7 +17,8 @@ use Rattle.settle_laws.proofs.Raised.{IsUpBy, BothUp}
 
 -- ---- heal
 
-up_either : (now : ℕ) (t : Bool) (old : Option UpEnd) → (t ≡ false → IsUpBy now old) → IsUpBy now (cond t (Some (record { raised = now; held = false })) old)
+up_either : (now : ℕ) (t : Bool) (old : Option UpEnd) → (t ≡ false → IsUpBy now old)
+    → IsUpBy now (cond t (Some (record { raised = now; held = false })) old)
 up_either now true old h = omega arith
 up_either now false old h = h refl
 
@@ -29,9 +30,11 @@ was_joined false false e f = e
 -- A raise brings both its ends up, and leaves the others.
 raised_up : (kind : Kind) (a b : NodeId) (old : SessionsStand) (u n : NodeId) → BothUp old u n → BothUp (raised kind a b old) u n
 raised_up kind a b old u n up joined =
-    let before : is_that kind a b kinds.Ldp u n ≡ false → old.joined kinds.Ldp u n ≡ true = was_joined (old.joined kinds.Ldp u n) (is_that kind a b kinds.Ldp u n) joined in (
+    let before : is_that kind a b kinds.Ldp u n ≡ false → old.joined kinds.Ldp u n ≡ true =
+    was_joined (old.joined kinds.Ldp u n) (is_that kind a b kinds.Ldp u n) joined in (
       up_either old.clock (is_that kind a b kinds.Ldp u n) (old.end kinds.Ldp u n) (λ e. (up (before e)).0),
-      up_either old.clock (is_that kind a b kinds.Ldp n u) (old.end kinds.Ldp n u) (λ e. (up (before (sym (other_way kind a b kinds.Ldp u n) ∙ e))).1),
+      up_either old.clock (is_that kind a b kinds.Ldp n u) (old.end kinds.Ldp n u)
+          (λ e. (up (before (sym (other_way kind a b kinds.Ldp u n) ∙ e))).1),
     )
 
 -- the session of two nodes is joined
@@ -69,7 +72,8 @@ all_stay (own ∷ others) old session joined = all_stay others (healed old own) 
 
 all_join : (all : List Session) (old : SessionsStand) (session : Session) → IsIn session all → IsJoined (fold healed old all) session
 all_join [] old session is = absurd is
-all_join (own ∷ others) old session (inl e) = all_stay others (healed old own) session (subst (IsJoined (healed old own)) (sym e) (healed_joins old own))
+all_join (own ∷ others) old session (inl e) =
+    all_stay others (healed old own) session (subst (IsJoined (healed old own)) (sym e) (healed_joins old own))
 all_join (own ∷ others) old session (inr is) = all_join others (healed old own) session is
 
 -- ---- timers and time
@@ -80,13 +84,16 @@ run_up life clock now None up = absurd up
 run_up life clock now (Some end) up = up
 
 -- the timers run a hold that is due
-run_held : (life before count : ℕ) (o : Option UpEnd) → life < count → IsUpBy before o → is_held (elim o [ None ↦ None | Some end ↦ Some (hold_run life (before + count) end) ]) ≡ true
+run_held : (life before count : ℕ) (o : Option UpEnd) → life < count → IsUpBy before o
+    → is_held (elim o [ None ↦ None | Some end ↦ Some (hold_run life (before + count) end) ]) ≡ true
 run_held life before count None lt up = absurd up
-run_held life before count (Some end) lt up = or_right end.held (nat_le (end.raised + life + 1) (before + count)) (le-leb (end.raised + life + 1) (before + count) (omega (arith, lt, up)))
+run_held life before count (Some end) lt up =
+    or_right end.held (nat_le (end.raised + life + 1) (before + count)) (le-leb (end.raised + life + 1) (before + count) (omega (arith, lt, up)))
 
 -- Where the sessions stand behind these events.
 abbrev pub calmed : Scenario → ℕ → SessionsStand → SessionsStand
-calmed scenario count old = behind scenario (behind scenario (behind scenario (behind scenario old events.Heal) events.Settle) (events.Tick count)) events.Settle
+calmed scenario count old =
+    behind scenario (behind scenario (behind scenario (behind scenario old events.Heal) events.Settle) (events.Tick count)) events.Settle
 
 -- A session is joined, and the holds of both ends over LDP were run.
 pub record StandsReady (standing : SessionsStand) (session : Session) : Type 0 where
@@ -94,14 +101,19 @@ pub record StandsReady (standing : SessionsStand) (session : Session) : Type 0 w
   pub near : session.kind ≡ kinds.Ldp → is_held (standing.end kinds.Ldp session.a session.b) ≡ true
   pub far : session.kind ≡ kinds.Ldp → is_held (standing.end kinds.Ldp session.b session.a) ≡ true
 
-pub calmed_ready : (scenario : Scenario) (count : ℕ) (old : SessionsStand) → scenario.life < count → ((a b : NodeId) → BothUp old a b) → (session : Session) → IsIn session (sessions scenario) → StandsReady (calmed scenario count old) session
+pub calmed_ready : (scenario : Scenario) (count : ℕ) (old : SessionsStand) → scenario.life < count → ((a b : NodeId) → BothUp old a b)
+    → (session : Session) → IsIn session (sessions scenario) → StandsReady (calmed scenario count old) session
 calmed_ready scenario count old lt up session is =
     let all = behind scenario old events.Heal in
     let joined = all_join (sessions scenario) old session is in
-    let both : session.kind ≡ kinds.Ldp → IsUpBy all.clock (all.end kinds.Ldp session.a session.b) × IsUpBy all.clock (all.end kinds.Ldp session.b session.a) = λ k.
-    all_up (sessions scenario) old session.a session.b (up session.a session.b) (subst (λ (kind : Kind). all.joined kind session.a session.b ≡ true) k joined) in
+    let both : session.kind ≡ kinds.Ldp → IsUpBy all.clock (all.end kinds.Ldp session.a session.b)
+    × IsUpBy all.clock (all.end kinds.Ldp session.b session.a) = λ k.
+    all_up (sessions scenario) old session.a session.b (up session.a session.b)
+    (subst (λ (kind : Kind). all.joined kind session.a session.b ≡ true) k joined) in
     record {
       joined = joined;
-      near = λ k. run_held scenario.life all.clock count _ lt (run_up scenario.life all.clock all.clock (all.end kinds.Ldp session.a session.b) (both k).0);
-      far = λ k. run_held scenario.life all.clock count _ lt (run_up scenario.life all.clock all.clock (all.end kinds.Ldp session.b session.a) (both k).1);
+      near = λ k. run_held scenario.life all.clock count _ lt
+          (run_up scenario.life all.clock all.clock (all.end kinds.Ldp session.a session.b) (both k).0);
+      far = λ k. run_held scenario.life all.clock count _ lt
+          (run_up scenario.life all.clock all.clock (all.end kinds.Ldp session.b session.a) (both k).1);
     }

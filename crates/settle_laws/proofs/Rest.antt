@@ -57,7 +57,8 @@ in_among session (own ∷ others) (inl e) = inl e
 in_among session (own ∷ others) (inr a) = inr (in_among session others a)
 
 has_nodes : (scenario : Scenario) → SoundScenario scenario → HasNodes scenario
-has_nodes scenario sound session is k = each_among (nodes.HasNodes scenario) (sessions scenario) (sessions_within scenario sound) session (among_in session (sessions scenario) is)
+has_nodes scenario sound session is k =
+    each_among (nodes.HasNodes scenario) (sessions scenario) (sessions_within scenario sound) session (among_in session (sessions scenario) is)
 
 -- ---- where the sessions of the network stand
 
@@ -70,17 +71,20 @@ tells_itself scenario world same = record {
 }
 
 -- behind an event that is not refused
-done_tells : (scenario : Scenario) → HasNodes scenario → (told : SessionsStand) (world : World) → Tells scenario told world → (event : Event) (acts : List Happened) (next : World) → done world event ≡ Done acts next → Tells scenario (behind scenario told event) next
+done_tells : (scenario : Scenario) → HasNodes scenario → (told : SessionsStand) (world : World) → Tells scenario told world
+    → (event : Event) (acts : List Happened) (next : World) → done world event ≡ Done acts next → Tells scenario (behind scenario told event) next
 done_tells scenario has told world t event acts next e =
     (subst (Comes (Tells scenario (behind scenario told event))) e
-    (subst (λ (own : Scenario). HasNodes own → Tells own told world → Comes (Tells own (behind own told event)) (done world event)) t.stands.nodes.place (λ own tells. event_tells told world own tells event) has t)).1
+    (subst (λ (own : Scenario). HasNodes own → Tells own told world → Comes (Tells own (behind own told event)) (done world event))
+    t.stands.nodes.place (λ own tells. event_tells told world own tells event) has t)).1
 
 held_by : (o : Option End) → is_held (option_map up_end o) ≡ true → elim o [ None ↦ false | Some end ↦ end.held ] ≡ true
 held_by None h = h
 held_by (Some end) h = h
 
 -- A session that stands ready is ready in the network.
-ready_by : (scenario : Scenario) (told : SessionsStand) (world : World) → Tells scenario told world → (session : Session) → IsIn session (sessions scenario) → StandsReady told session → is_ready world session ≡ true
+ready_by : (scenario : Scenario) (told : SessionsStand) (world : World) → Tells scenario told world → (session : Session)
+    → IsIn session (sessions scenario) → StandsReady told session → is_ready world session ≡ true
 ready_by scenario told world t session is ready = by session.kind refl
   where
     joined : is_joined world session ≡ true
@@ -95,17 +99,29 @@ ready_by scenario told world t session is ready = by session.kind refl
         let second = held_by (maps.get (part_of (world.network.state.node session.b)).ends session.a) far in
         λ i. joined i && (first i && second i)
 
-none_unready : (scenario : Scenario) (told : SessionsStand) (world : World) → Tells scenario told world → ((session : Session) → IsIn session (sessions scenario) → StandsReady told session) → unready world ≡ 0
+none_unready : (scenario : Scenario) (told : SessionsStand) (world : World) → Tells scenario told world
+    → ((session : Session) → IsIn session (sessions scenario) → StandsReady told session) → unready world ≡ 0
 none_unready scenario told world t ready =
     count_zero (λ session. not (is_ready world session)) (sessions (scenario_of world))
-    (λ session a. ap not (let is = subst (λ (own : Scenario). IsIn session (sessions own)) t.stands.nodes.place (in_among session (sessions (scenario_of world)) a) in ready_by scenario told world t session is (ready session is)))
+    (λ session a. ap not (let is = subst (λ (own : Scenario). IsIn session (sessions own)) t.stands.nodes.place
+    (in_among session (sessions (scenario_of world)) a) in ready_by scenario told world t session is (ready session is)))
 
 -- ---- one event more
 
-one_more : (before : List Timed) (timed : Timed) (old : World) (number : ℕ) (trace : List Traced) (middle : World) (acts : List Happened) (next : World) → Runs old number before trace middle → outcome middle timed ≡ Done acts next
+one_more : (before : List Timed) (timed : Timed) (old : World) (number : ℕ) (trace : List Traced) (middle : World) (acts : List Happened)
+    (next : World) → Runs old number before trace middle → outcome middle timed ≡ Done acts next
     → (after : List Traced) × Runs old number (before ++ timed ∷ []) after next
-one_more [] timed old number trace middle acts next run e =
-    (traced number acts, (acts, next, [], subst (λ (world : World). outcome world timed ≡ Done acts next) run.1 e, sym (append-nil (traced number acts)), (refl, refl)))
+one_more [] timed old number trace middle acts next run e = (
+  traced number acts,
+  (
+    acts,
+    next,
+    [],
+    subst (λ (world : World). outcome world timed ≡ Done acts next) run.1 e,
+    sym (append-nil (traced number acts)),
+    (refl, refl),
+  ),
+)
 one_more (first ∷ others) timed old number trace middle acts next (own, world, rest, is, parts, more) e =
     let x = one_more others timed world (number + 1) rest middle acts next more e in
     (traced number own ++ x.0, (own, world, x.0, is, refl, x.1))
@@ -116,7 +132,8 @@ record Reached (cores : Cores) (script : Script) (world : World) : Type 0 where
   trace : List Traced
   run : SoundRun cores script all trace world
 
-reached_more : (cores : Cores) (script : Script) (old : World) → Reached cores script old → (timed : Timed) → IsSoundEvent script.scenario timed.event → (acts : List Happened) (next : World) → outcome old timed ≡ Done acts next → Reached cores script next
+reached_more : (cores : Cores) (script : Script) (old : World) → Reached cores script old → (timed : Timed) → IsSoundEvent script.scenario timed.event
+    → (acts : List Happened) (next : World) → outcome old timed ≡ Done acts next → Reached cores script next
 reached_more cores script old r timed sound acts next e =
     let x = one_more r.all timed (start script.scenario cores) 0 r.trace old acts next r.run.run e in
     record {
@@ -132,7 +149,8 @@ reached_more cores script old r timed sound acts next e =
 
 -- ---- at rest
 
-module _ (cores : Cores) (script : Script) (old healed settled later new : World) (first second third fourth count : ℕ) (r : Reached cores script old) (lt : script.scenario.life < count)
+module _ (cores : Cores) (script : Script) (old healed settled later new : World) (first second third fourth count : ℕ) (r : Reached cores script old)
+    (lt : script.scenario.life < count)
     (healing settling waiting acts : List Happened)
     (heal : outcome old (heal_at first) ≡ Done healing healed) (settle : outcome healed (settle_at second) ≡ Done settling settled)
     (tick : outcome settled (tick_at third count) ≡ Done waiting later) (again : outcome later (settle_at fourth) ≡ Done acts new) where
@@ -152,7 +170,9 @@ module _ (cores : Cores) (script : Script) (old healed settled later new : World
   is_settled = run_settles cores script later_reached.all later_reached.trace later new fourth acts later_reached.run again
 
   is_drained : IsDrained new
-  is_drained = settle_drains later fourth acts new (run_ticks scenario cores settled_reached.all settled_reached.trace settled later third count waiting settled_reached.run.run lt tick) again
+  is_drained =
+      settle_drains later fourth acts new (run_ticks scenario cores settled_reached.all settled_reached.trace settled later third count waiting
+      settled_reached.run.run lt tick) again
 
   is_unready : unready new ≡ 0
   is_unready =
@@ -162,15 +182,32 @@ module _ (cores : Cores) (script : Script) (old healed settled later new : World
       let two = done_tells scenario has _ healed one events.Settle settling settled settle in
       let three = done_tells scenario has _ settled two (events.Tick count) waiting later tick in
       let four = done_tells scenario has _ later three events.Settle acts new again in
-      none_unready scenario (calmed scenario count (stands_at old)) new four (calmed_ready scenario count (stands_at old) lt (run_up scenario cores r.all r.trace old r.run.run in_step))
+      none_unready scenario (calmed scenario count (stands_at old)) new four
+      (calmed_ready scenario count (stands_at old) lt (run_up scenario cores r.all r.trace old r.run.run in_step))
 
   rests : IsAtRest new
   rests = (is_settled, is_drained, is_unready)
 
-pub run_rests : (cores : Cores) (script : Script) (all : List Timed) (trace after : List Traced) (old new : World) (number first second third fourth count : ℕ) → SoundRun cores script all trace old → script.scenario.life < count
+pub run_rests : (cores : Cores) (script : Script) (all : List Timed) (trace after : List Traced) (old new : World)
+    (number first second third fourth count : ℕ) → SoundRun cores script all trace old → script.scenario.life < count
     → Runs old number (calming first second third fourth count) after new → IsAtRest new
-run_rests cores script all trace after old new number first second third fourth count run lt (healing, healed, rest_one, heal, parts_one, (settling, settled, rest_two, settle, parts_two, (waiting, later, rest_three, tick, parts_three, (acts, last, rest_four, again, parts_four, ended)))) =
-    subst IsAtRest (sym ended.1) (rests cores script old healed settled later last first second third fourth count (record { all = all; trace = trace; run = run }) lt healing settling waiting acts heal settle tick again)
+run_rests cores script all trace after old new number first second third fourth count run lt (
+  healing,
+  healed,
+  rest_one,
+  heal,
+  parts_one,
+  (
+    settling,
+    settled,
+    rest_two,
+    settle,
+    parts_two,
+    (waiting, later, rest_three, tick, parts_three, (acts, last, rest_four, again, parts_four, ended)),
+  ),
+) =
+    subst IsAtRest (sym ended.1) (rests cores script old healed settled later last first second third fourth count
+    (record { all = all; trace = trace; run = run }) lt healing settling waiting acts heal settle tick again)
 
 -- ---- within a run
 
@@ -184,8 +221,10 @@ record Parted (old : World) (number : ℕ) (before behind : List Timed) (trace :
   first : Runs old number before early middle
   rest : Runs middle place behind late new
 
-parted : (before behind : List Timed) (old : World) (number : ℕ) (trace : List Traced) (new : World) → Runs old number (before ++ behind) trace new → Parted old number before behind trace new
-parted [] behind old number trace new run = record { middle = old; place = number; early = []; late = trace; parts = refl; first = (refl, refl); rest = run }
+parted : (before behind : List Timed) (old : World) (number : ℕ) (trace : List Traced) (new : World) → Runs old number (before ++ behind) trace new
+    → Parted old number before behind trace new
+parted [] behind old number trace new run =
+    record { middle = old; place = number; early = []; late = trace; parts = refl; first = (refl, refl); rest = run }
 parted (one ∷ before) behind old number trace new (acts, next, others, is, parts, more) =
     let x = parted before behind next (number + 1) others new more in
     record {
@@ -198,7 +237,8 @@ parted (one ∷ before) behind old number trace new (acts, next, others, is, par
       rest = x.rest;
     }
 
-pub rests_within : (cores : Cores) (script : Script) (before after : List Timed) (trace : List Traced) (new : World) (first second third fourth count : ℕ) → SoundRun cores script (before ++ calming first second third fourth count ++ after) trace new
+pub rests_within : (cores : Cores) (script : Script) (before after : List Timed) (trace : List Traced) (new : World)
+    (first second third fourth count : ℕ) → SoundRun cores script (before ++ calming first second third fourth count ++ after) trace new
     → script.scenario.life < count → IsBehind cores script (before ++ calming first second third fourth count) trace IsAtRest
 rests_within cores script before after trace new first second third fourth count s lt =
     let own = calming first second third fourth count in
@@ -206,7 +246,8 @@ rests_within cores script before after trace new first second third fourth count
     let y = parted before own (start script.scenario cores) 0 x.early x.middle x.first in
     let are_sound : List Timed → Type 0 = AllByRecursion (λ (timed : Timed). IsSoundEvent script.scenario timed.event) in
     let sound : are_sound before = each_front _ before own (each_front _ (before ++ own) after s.sound_events) in
-    let front : SoundRun cores script before y.early y.middle = record { scenario = s.scenario; of_scenario = s.of_scenario; sound_events = sound; run = y.first } in
+    let front : SoundRun cores script before y.early y.middle =
+    record { scenario = s.scenario; of_scenario = s.of_scenario; sound_events = sound; run = y.first } in
     record {
       world = x.middle;
       first = x.early;
@@ -221,5 +262,6 @@ rests_within cores script before after trace new first second third fourth count
 pub rest_line : (world : World) → IsAtRest world → state_line world ≡ lines.State 0 0 0 0 0
 rest_line world rest = drained_line world rest.1 ∙ (λ i. lines.State (rest.0.0 i) 0 0 (rest.0.1 i) (rest.2 i))
 
-pub rest_told : (world : World) (line : ℕ) → IsAtRest world → outcome world (state_at line) ≡ Done (record { act = Some Tell; lines = lines.State 0 0 0 0 0 ∷ [] } ∷ []) world
+pub rest_told : (world : World) (line : ℕ) → IsAtRest world
+    → outcome world (state_at line) ≡ Done (record { act = Some Tell; lines = lines.State 0 0 0 0 0 ∷ [] } ∷ []) world
 rest_told world line rest = λ i. Done (record { act = Some Tell; lines = rest_line world rest i ∷ [] } ∷ []) world

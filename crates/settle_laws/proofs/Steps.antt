@@ -63,22 +63,29 @@ use Rattle.settle_laws.proofs.Due.{ControlRests, taken_control_rests, timed_cont
 
 -- The flows of an edge are those that are asked for, and no timer of the node is due.
 abbrev pub IsStill : Nodes → NodeId → NodeState → Type 0
-IsStill nodes n (Edge edge) = IsFresh (place_of nodes n) nodes.clock edge.control × ControlRests (place_of nodes n) nodes.clock edge.control × Rested nodes.scenario.life nodes.clock edge.part
+IsStill nodes n (Edge edge) =
+    IsFresh (place_of nodes n) nodes.clock edge.control × ControlRests (place_of nodes n) nodes.clock edge.control
+    × Rested nodes.scenario.life nodes.clock edge.part
 IsStill nodes n (CoreNode part) = Rested nodes.scenario.life nodes.clock part
 
 -- ---- the leaves that change
 
 no_filter : (p : Fec → Bool) (fecs : List Fec) → ((fec : Fec) → Among fec fecs → p fec ≡ false) → filter p fecs ≡ []
 no_filter p [] h = refl
-no_filter p (fec ∷ more) h = ap (λ (b : Bool). cond b (fec ∷ filter p more) (filter p more)) (h fec (inl refl)) ∙ no_filter p more (λ x a. h x (inr a))
+no_filter p (fec ∷ more) h =
+    ap (λ (b : Bool). cond b (fec ∷ filter p more) (filter p more)) (h fec (inl refl)) ∙ no_filter p more (λ x a. h x (inr a))
 
 either_same : (b : Bool) → (b || b) ≡ true → b ≡ true
 either_same true e = e
 either_same false e = e
 
 pub none_changed : (old new : FinSet fec_cmp) → old ≡ new → changed_leaves old new ≡ []
-none_changed old new same = ap (changed_leaves old) (sym same) ∙ ap (map (λ fec. cond (sets.contains old fec) (labels.Want fec) (labels.Unwant fec))) (no_filter (λ fec. not (sets.contains old fec && sets.contains old fec)) (in_order (sets.union old old)) (λ fec a.
-    let there : sets.contains (sets.union old old) fec ≡ true = contains_in_order fec_cmp_total (sets.union old old) fec ∙ any_from (eq_by_cmp fec_cmp fec) fec (in_order (sets.union old old)) a (own_key fec_cmp_total fec) in
+none_changed old new same =
+    ap (changed_leaves old) (sym same) ∙ ap (map (λ fec. cond (sets.contains old fec) (labels.Want fec) (labels.Unwant fec)))
+    (no_filter (λ fec. not (sets.contains old fec && sets.contains old fec)) (in_order (sets.union old old)) (λ fec a.
+    let there : sets.contains (sets.union old old) fec ≡ true =
+    contains_in_order fec_cmp_total (sets.union old old) fec
+    ∙ any_from (eq_by_cmp fec_cmp fec) fec (in_order (sets.union old old)) a (own_key fec_cmp_total fec) in
     let own : sets.contains old fec ≡ true = either_same (sets.contains old fec) (sym (sets.contains-union fec_cmp_total old old fec) ∙ there) in
     ap (λ (b : Bool). not (b && b)) own))
 
@@ -89,18 +96,23 @@ leaf_inner false fec = tt
 changed_inner : (old new : FinSet fec_cmp) → AllByRecursion IsInner (changed_leaves old new)
 changed_inner old new =
     let some : List Fec = filter (λ fec. not (sets.contains old fec && sets.contains new fec)) (in_order (sets.union old new)) in
-    each_map IsInner (λ fec. cond (sets.contains new fec) (labels.Want fec) (labels.Unwant fec)) some (each_of (λ fec. IsInner (cond (sets.contains new fec) (labels.Want fec) (labels.Unwant fec))) (λ fec. leaf_inner (sets.contains new fec) fec) some)
+    each_map IsInner (λ fec. cond (sets.contains new fec) (labels.Want fec) (labels.Unwant fec)) some
+    (each_of (λ fec. IsInner (cond (sets.contains new fec) (labels.Want fec) (labels.Unwant fec))) (λ fec. leaf_inner (sets.contains new fec) fec)
+    some)
 
 -- ---- a row of label steps
 
-row_rests : (place : EdgePlace) (now : ℕ) (calls : List labels.Call) → AllByRecursion IsInner calls → (part : LabelData) (row : List LabelStep) → label_row place now part calls ≡ Some row → Rested place.scenario.life now part → Rested place.scenario.life now (part_after part row)
+row_rests : (place : EdgePlace) (now : ℕ) (calls : List labels.Call) → AllByRecursion IsInner calls → (part : LabelData) (row : List LabelStep)
+    → label_row place now part calls ≡ Some row → Rested place.scenario.life now part → Rested place.scenario.life now (part_after part row)
 row_rests place now [] are part row e r = subst (λ (x : List LabelStep). Rested place.scenario.life now (part_after part x)) (same_Some [] row e) r
 row_rests place now (call ∷ more) are part row e r =
     let x = row_of place now part call more row e in
     subst (λ (y : List LabelStep). Rested place.scenario.life now (part_after part y)) (sym x.parts)
-    (row_rests place now more are.1 x.new.part x.rest x.others (inner_rests (label_place place.scenario place.core place.me) now part call x.new are.0 r x.made))
+    (row_rests place now more are.1 x.new.part x.rest x.others
+    (inner_rests (label_place place.scenario place.core place.me) now part call x.new are.0 r x.made))
 
-timers_row_rests : (place : EdgePlace) (now : ℕ) (more : List labels.Call) → AllByRecursion IsInner more → (part : LabelData) (row : List LabelStep) → label_row place now part (labels.Timers ∷ more) ≡ Some row → Rested place.scenario.life now (part_after part row)
+timers_row_rests : (place : EdgePlace) (now : ℕ) (more : List labels.Call) → AllByRecursion IsInner more → (part : LabelData) (row : List LabelStep)
+    → label_row place now part (labels.Timers ∷ more) ≡ Some row → Rested place.scenario.life now (part_after part row)
 timers_row_rests place now more are part row e =
     let x = row_of place now part labels.Timers more row e in
     subst (λ (y : List LabelStep). Rested place.scenario.life now (part_after part y)) (sym x.parts)
@@ -113,32 +125,52 @@ abbrev pub edge_behind : Nodes → NodeId → EdgeData → steps.Call → List L
 edge_behind nodes n edge call row =
     let control = control_step (place_of nodes n) nodes.clock edge.control call in
     record {
-      state = with_node nodes n (Edge (record { control = control; part = part_after edge.part row; raised = raised_after nodes.clock edge.raised call }));
-      puts = bgp_puts (place_of nodes n) edge.control control ++ flat_map (puts_of n (addr_of nodes.scenario n) (label_place_of nodes n) nodes.clock) row;
+      state = with_node nodes n (Edge (record {
+        control = control;
+        part = part_after edge.part row;
+        raised =
+            raised_after nodes.clock edge.raised call;
+      }));
+      puts = bgp_puts (place_of nodes n) edge.control control
+          ++ flat_map (puts_of n (addr_of nodes.scenario n) (label_place_of nodes n) nodes.clock) row;
     }
 
 pub record EdgeRow (nodes : Nodes) (n : NodeId) (edge : EdgeData) (call : steps.Call) (new : Stepped Nodes) : Type 0 where
   pub row : List LabelStep
-  pub made : label_row (place_of nodes n) nodes.clock edge.part (one_call (own_label_call call) ++ changed_leaves (leaves (place_of nodes n) edge.control) (leaves (place_of nodes n) (control_step (place_of nodes n) nodes.clock edge.control call))) ≡ Some row
+  pub made : label_row (place_of nodes n) nodes.clock edge.part
+      (one_call (own_label_call call) ++ changed_leaves (leaves (place_of nodes n) edge.control)
+      (leaves (place_of nodes n) (control_step (place_of nodes n) nodes.clock edge.control call))) ≡ Some row
   pub same : edge_behind nodes n edge call row ≡ new
 
-pub edge_row : (nodes : Nodes) (n : NodeId) (edge : EdgeData) (call : steps.Call) (new : Stepped Nodes) → edge_stepped nodes n edge call ≡ Some new → EdgeRow nodes n edge call new
+pub edge_row : (nodes : Nodes) (n : NodeId) (edge : EdgeData) (call : steps.Call) (new : Stepped Nodes) → edge_stepped nodes n edge call ≡ Some new
+    → EdgeRow nodes n edge call new
 edge_row nodes n edge call new e =
     let place : EdgePlace = place_of nodes n in
     let control : Control = control_step place nodes.clock edge.control call in
     let stepped : EdgeStepped → Stepped Nodes = λ made. record {
       state = with_node nodes n (Edge made.edge);
-      puts = bgp_puts place edge.control made.edge.control ++ flat_map (puts_of n (addr_of nodes.scenario n) (label_place_of nodes n) nodes.clock) made.row;
+      puts = bgp_puts place edge.control made.edge.control
+          ++ flat_map (puts_of n (addr_of nodes.scenario n) (label_place_of nodes n) nodes.clock) made.row;
     } in
-    let behind_row : List LabelStep → EdgeStepped = λ row. record { edge = record { control = control; part = part_after edge.part row; raised = raised_after nodes.clock edge.raised call }; row = row } in
+    let behind_row : List LabelStep → EdgeStepped =
+    λ row. record {
+      edge =
+          record { control = control; part = part_after edge.part row; raised = raised_after nodes.clock edge.raised call };
+      row = row;
+    } in
     let calls : List labels.Call = one_call (own_label_call call) ++ changed_leaves (leaves place edge.control) (leaves place control) in
     let x = bind_some (edge_step place nodes.clock edge call) (λ made. Some (stepped made)) new e in
     let y = bind_some (label_row place nodes.clock edge.part calls) (λ row. Some (behind_row row)) x.0 x.1 in
     record { row = y.0; made = y.1; same = ap stepped (same_Some (behind_row y.0) x.0 y.2) ∙ same_Some (stepped x.0) new x.2 }
 
-core_made : (nodes : Nodes) (n : NodeId) (part : LabelData) (call : labels.Call) (new : Stepped Nodes) → core_called nodes n part (Some call) ≡ Some new
+core_made : (nodes : Nodes) (n : NodeId) (part : LabelData) (call : labels.Call) (new : Stepped Nodes)
+    → core_called nodes n part (Some call) ≡ Some new
     → (first : settling.Stepped) × (label_step (label_place_of nodes n) nodes.clock part call ≡ Some first)
-    × (record { state = with_node nodes n (CoreNode first.part); puts = puts_of n (addr_of nodes.scenario n) (label_place_of nodes n) nodes.clock (record { old = part; call = call; new = first }) } ≡ new)
+    × (record {
+      state = with_node nodes n (CoreNode first.part);
+      puts =
+          puts_of n (addr_of nodes.scenario n) (label_place_of nodes n) nodes.clock (record { old = part; call = call; new = first });
+    } ≡ new)
 core_made nodes n part call new e =
     let stepped : settling.Stepped → Stepped Nodes = λ first. record {
       state = with_node nodes n (CoreNode first.part);
@@ -157,12 +189,14 @@ module _ (depth : NodeId → Fec → ℕ) (most : ℕ) where
   abbrev pub AreBelow : ℕ → List Put → Type 0
   AreBelow bound puts = AllByRecursion (IsBelow bound) puts
 
-  numbered_below : (bound : ℕ) (me : NodeId) (addr : Addr) (ends : FinMap node_cmp End) (puts : List label_puts.Put) → PutsBelow depth bound puts → AreBelow bound (map (label_put me addr) (numbered ends puts))
+  numbered_below : (bound : ℕ) (me : NodeId) (addr : Addr) (ends : FinMap node_cmp End) (puts : List label_puts.Put) → PutsBelow depth bound puts
+      → AreBelow bound (map (label_put me addr) (numbered ends puts))
   numbered_below bound me addr ends [] h = tt
   numbered_below bound me addr ends (put ∷ more) h = by (λ ends'. numbered_below bound me addr ends' more h.1) (maps.get ends put.to)
     where
       by : ((ends' : FinMap node_cmp End) → AreBelow bound (map (label_put me addr) (numbered ends' more))) → (o : Option End)
-          → AreBelow bound (map (label_put me addr) (elim o [ None ↦ numbered ends more | Some end ↦ record { id = end.next; put = put } ∷ numbered (maps.insert ends put.to (told end)) more ]))
+          → AreBelow bound (map (label_put me addr) (elim o
+          [ None ↦ numbered ends more | Some end ↦ record { id = end.next; put = put } ∷ numbered (maps.insert ends put.to (told end)) more ]))
       by rest None = rest ends
       by rest (Some end) = ((h.0, tt), rest (maps.insert ends put.to (told end)))
 
@@ -173,11 +207,15 @@ module _ (depth : NodeId → Fec → ℕ) (most : ℕ) where
   label_low low n (messages.Ignored kind) = omega arith
 
   any_below : ((n : NodeId) (fec : Fec) → depth n fec < most) → (puts : List label_puts.Put) → PutsBelow depth (most + 1) puts
-  any_below low puts = each_of (λ (put : label_puts.Put). label_rounds.rank depth put.to put.message < most + 1) (λ put. label_low low put.to put.message) puts
+  any_below low puts =
+      each_of (λ (put : label_puts.Put). label_rounds.rank depth put.to put.message < most + 1) (λ put. label_low low put.to put.message) puts
 
-  row_below : ((n : NodeId) (fec : Fec) → depth n fec < most) → (me : NodeId) (addr : Addr) (place : Place) (now : ℕ) (row : List LabelStep) → AreBelow (most + 1) (flat_map (puts_of me addr place now) row)
+  row_below : ((n : NodeId) (fec : Fec) → depth n fec < most) → (me : NodeId) (addr : Addr) (place : Place) (now : ℕ) (row : List LabelStep)
+      → AreBelow (most + 1) (flat_map (puts_of me addr place now) row)
   row_below low me addr place now row = each_flat (IsBelow (most + 1)) (puts_of me addr place now) row
-      (each_of (λ (step : LabelStep). AreBelow (most + 1) (puts_of me addr place now step)) (λ step. numbered_below (most + 1) me addr (effect place now step.old step.call).0.part.ends step.new.puts (any_below low step.new.puts)) row)
+      (each_of (λ (step : LabelStep). AreBelow (most + 1) (puts_of me addr place now step))
+      (λ step. numbered_below (most + 1) me addr (effect place now step.old step.call).0.part.ends step.new.puts (any_below low step.new.puts))
+      row)
 
   join_message : (change : Change Key Value) → IsJoin change → joins_only (changes_of (bgp_messages.Update (update_of (as_update change)))) ≡ true
   join_message (Reach key value) is = ap (λ (k : ℕ). (k == 7) && true) is
@@ -185,16 +223,23 @@ module _ (depth : NodeId → Fec → ℕ) (most : ℕ) where
 
   join_below : (me to : NodeId) (change : Change Key Value) → IsJoin change → IsBelow (most + 1) (bgp_put me to change)
   join_below me to change is =
-      let none : rank depth most to (Bgp (bgp_messages.Update (update_of (as_update change)))) ≡ 0 = ap (λ (b : Bool). cond b 0 (most + 1)) (join_message change is) in
+      let none : rank depth most to (Bgp (bgp_messages.Update (update_of (as_update change)))) ≡ 0 =
+      ap (λ (b : Bool). cond b 0 (most + 1)) (join_message change is) in
       (omega (arith, none), tt)
 
-  joins_below : (place : EdgePlace) (old new : Control) → ((to : NodeId) → AllByRecursion IsJoin (put_to place old new to)) → AreBelow (most + 1) (bgp_puts place old new)
-  joins_below place old new joins = each_flat (IsBelow (most + 1)) (λ peer. map (bgp_put place.me peer) (put_to place old new peer)) (edges place.scenario)
+  joins_below : (place : EdgePlace) (old new : Control) → ((to : NodeId) → AllByRecursion IsJoin (put_to place old new to))
+      → AreBelow (most + 1) (bgp_puts place old new)
+  joins_below place old new joins =
+      each_flat (IsBelow (most + 1)) (λ peer. map (bgp_put place.me peer) (put_to place old new peer)) (edges place.scenario)
       (each_of (λ peer. AreBelow (most + 1) (map (bgp_put place.me peer) (put_to place old new peer))) (λ peer.
-      each_map (IsBelow (most + 1)) (bgp_put place.me peer) (put_to place old new peer) (each_weaker IsJoin (λ change. IsBelow (most + 1) (bgp_put place.me peer change)) (λ change is. join_below place.me peer change is) (put_to place old new peer) (joins peer))) (edges place.scenario))
+      each_map (IsBelow (most + 1)) (bgp_put place.me peer) (put_to place old new peer)
+      (each_weaker IsJoin (λ change. IsBelow (most + 1) (bgp_put place.me peer change)) (λ change is. join_below place.me peer change is)
+      (put_to place old new peer) (joins peer))) (edges place.scenario))
 
   quiet_puts : (place : EdgePlace) (old new : Control) → ((to : NodeId) → put_to place old new to ≡ []) → bgp_puts place old new ≡ []
-  quiet_puts place old new none = flat_none (λ peer. map (bgp_put place.me peer) (put_to place old new peer)) (λ peer. ap (map (bgp_put place.me peer)) (none peer)) (edges place.scenario)
+  quiet_puts place old new none =
+      flat_none (λ peer. map (bgp_put place.me peer) (put_to place old new peer)) (λ peer. ap (map (bgp_put place.me peer)) (none peer))
+      (edges place.scenario)
 
   -- ---- a message that is taken
 
@@ -205,7 +250,9 @@ module _ (depth : NodeId → Fec → ℕ) (most : ℕ) where
     pub still : IsStill nodes b node
     pub puts : AreBelow bound new.puts
 
-  module _ (nodes : Nodes) (a b : NodeId) (low : (n : NodeId) (fec : Fec) → depth n fec < most) (nearer : (n v : NodeId) (fec : Fec) → (label_place_of nodes n).upstream fec ≡ Some v → depth v fec < depth n fec) (delay : 1 ≤ nodes.scenario.delay) where
+  module _ (nodes : Nodes) (a b : NodeId) (low : (n : NodeId) (fec : Fec) → depth n fec < most)
+      (nearer : (n v : NodeId) (fec : Fec) → (label_place_of nodes n).upstream fec ≡ Some v → depth v fec < depth n fec)
+      (delay : 1 ≤ nodes.scenario.delay) where
     abbrev place : EdgePlace
     place = place_of nodes b
 
@@ -213,23 +260,34 @@ module _ (depth : NodeId → Fec → ℕ) (most : ℕ) where
     own_place = label_place_of nodes b
 
     -- a label message at an edge
-    label_at_edge : (edge : EdgeData) (message : LabelMessage) (new : Stepped Nodes) → AllSettled own_place edge.part → IsStill nodes b (Edge edge) → edge_stepped nodes b edge (steps.Label a message) ≡ Some new → Answered nodes b (rank depth most b (Label message)) new
+    label_at_edge : (edge : EdgeData) (message : LabelMessage) (new : Stepped Nodes) → AllSettled own_place edge.part → IsStill nodes b (Edge edge)
+        → edge_stepped nodes b edge (steps.Label a message) ≡ Some new → Answered nodes b (rank depth most b (Label message)) new
     label_at_edge edge message new settled still e =
         let r = edge_row nodes b edge (steps.Label a message) new e in
         let control : Control = control_step place nodes.clock edge.control (steps.Label a message) in
         let quiet = label_quiet place nodes.clock edge.control a message still.0 in
-        let none : changed_leaves (leaves place edge.control) (leaves place control) ≡ [] = none_changed (leaves place edge.control) (leaves place control) quiet.leaves in
-        let made : label_row place nodes.clock edge.part (labels.Taken a message ∷ []) ≡ Some r.row = ap (λ (calls : List labels.Call). label_row place nodes.clock edge.part (labels.Taken a message ∷ calls)) (sym none) ∙ r.made in
+        let none : changed_leaves (leaves place edge.control) (leaves place control) ≡ [] =
+        none_changed (leaves place edge.control) (leaves place control) quiet.leaves in
+        let made : label_row place nodes.clock edge.part (labels.Taken a message ∷ []) ≡ Some r.row =
+        ap (λ (calls : List labels.Call). label_row place nodes.clock edge.part (labels.Taken a message ∷ calls)) (sym none) ∙ r.made in
         let x = row_of place nodes.clock edge.part (labels.Taken a message) [] r.row made in
-        let one : r.row ≡ record { old = edge.part; call = labels.Taken a message; new = x.new } ∷ [] = x.parts ∙ ap (λ (rest : List LabelStep). record { old = edge.part; call = labels.Taken a message; new = x.new } ∷ rest) (sym (same_Some [] x.rest x.others)) in
+        let one : r.row ≡ record { old = edge.part; call = labels.Taken a message; new = x.new } ∷ [] =
+        x.parts ∙ ap (λ (rest : List LabelStep). record { old = edge.part; call = labels.Taken a message; new = x.new } ∷ rest)
+        (sym (same_Some [] x.rest x.others)) in
         let bound : ℕ = rank depth most b (Label message) in
         let puts : List LabelStep → List Put = flat_map (puts_of b (addr_of nodes.scenario b) own_place nodes.clock) in
         let answers : AreBelow bound (puts (record { old = edge.part; call = labels.Taken a message; new = x.new } ∷ [])) =
-        each_append (IsBelow bound) (puts_of b (addr_of nodes.scenario b) own_place nodes.clock (record { old = edge.part; call = labels.Taken a message; new = x.new })) []
+        each_append (IsBelow bound) (puts_of b (addr_of nodes.scenario b) own_place nodes.clock
+        (record { old = edge.part; call = labels.Taken a message; new = x.new })) []
         (numbered_below bound b (addr_of nodes.scenario b) (effect own_place nodes.clock edge.part (labels.Taken a message)).0.part.ends x.new.puts
         (answers_below own_place nodes.clock edge.part depth a b settled (λ v fec up. nearer b v fec up) message x.new x.made)) tt in
         record {
-          node = Edge (record { control = control; part = part_after edge.part r.row; raised = raised_after nodes.clock edge.raised (steps.Label a message) });
+          node = Edge (record {
+            control = control;
+            part = part_after edge.part r.row;
+            raised =
+                raised_after nodes.clock edge.raised (steps.Label a message);
+          });
           state = sym (ap (λ (s : Stepped Nodes). s.state) r.same);
           still = (
             refl,
@@ -237,10 +295,12 @@ module _ (depth : NodeId → Fec → ℕ) (most : ℕ) where
             row_rests place nodes.clock (labels.Taken a message ∷ []) (tt, tt) edge.part r.row made still.2,
           );
           puts = subst (λ (s : Stepped Nodes). AreBelow bound s.puts) r.same
-              (subst (λ (ps : List Put). AreBelow bound (ps ++ puts r.row)) (sym (quiet_puts place edge.control control quiet.puts)) (subst (λ (row : List LabelStep). AreBelow bound (puts row)) (sym one) answers));
+              (subst (λ (ps : List Put). AreBelow bound (ps ++ puts r.row)) (sym (quiet_puts place edge.control control quiet.puts))
+              (subst (λ (row : List LabelStep). AreBelow bound (puts row)) (sym one) answers));
         }
 
-    label_at_core : (part : LabelData) (message : LabelMessage) (new : Stepped Nodes) → AllSettled own_place part → IsStill nodes b (CoreNode part) → core_called nodes b part (Some (labels.Taken a message)) ≡ Some new → Answered nodes b (rank depth most b (Label message)) new
+    label_at_core : (part : LabelData) (message : LabelMessage) (new : Stepped Nodes) → AllSettled own_place part → IsStill nodes b (CoreNode part)
+        → core_called nodes b part (Some (labels.Taken a message)) ≡ Some new → Answered nodes b (rank depth most b (Label message)) new
     label_at_core part message new settled still e =
         let x = core_made nodes b part (labels.Taken a message) new e in
         let bound : ℕ = rank depth most b (Label message) in
@@ -254,16 +314,23 @@ module _ (depth : NodeId → Fec → ℕ) (most : ℕ) where
         }
 
     -- joins at an edge
-    joins_at_edge : (edge : EdgeData) (message : Message) (new : Stepped Nodes) → joins_only (changes_of message) ≡ true → IsStill nodes b (Edge edge) → edge_stepped nodes b edge (steps.Update a message) ≡ Some new → Answered nodes b 0 new
+    joins_at_edge : (edge : EdgeData) (message : Message) (new : Stepped Nodes) → joins_only (changes_of message) ≡ true → IsStill nodes b (Edge edge)
+        → edge_stepped nodes b edge (steps.Update a message) ≡ Some new → Answered nodes b 0 new
     joins_at_edge edge message new joins still e =
         let r = edge_row nodes b edge (steps.Update a message) new e in
         let control : Control = control_step place nodes.clock edge.control (steps.Update a message) in
         let quiet = joins_quiet place nodes.clock edge.control a message still.0 joins in
-        let none : changed_leaves (leaves place edge.control) (leaves place control) ≡ [] = none_changed (leaves place edge.control) (leaves place control) quiet.leaves in
+        let none : changed_leaves (leaves place edge.control) (leaves place control) ≡ [] =
+        none_changed (leaves place edge.control) (leaves place control) quiet.leaves in
         let made : Some [] ≡ Some r.row = ap (λ (calls : List labels.Call). label_row place nodes.clock edge.part calls) (sym none) ∙ r.made in
         let row : [] ≡ r.row = same_Some [] r.row made in
         record {
-          node = Edge (record { control = control; part = part_after edge.part r.row; raised = raised_after nodes.clock edge.raised (steps.Update a message) });
+          node = Edge (record {
+            control = control;
+            part = part_after edge.part r.row;
+            raised =
+                raised_after nodes.clock edge.raised (steps.Update a message);
+          });
           state = sym (ap (λ (s : Stepped Nodes). s.state) r.same);
           still = (
             refl,
@@ -271,29 +338,40 @@ module _ (depth : NodeId → Fec → ℕ) (most : ℕ) where
             subst (λ (x : List LabelStep). Rested nodes.scenario.life nodes.clock (part_after edge.part x)) row still.2,
           );
           puts = subst (λ (s : Stepped Nodes). AreBelow 0 s.puts) r.same
-              (subst (λ (ps : List Put). AreBelow 0 (ps ++ flat_map (puts_of b (addr_of nodes.scenario b) own_place nodes.clock) r.row)) (sym (quiet_puts place edge.control control quiet.puts))
+              (subst (λ (ps : List Put). AreBelow 0 (ps ++ flat_map (puts_of b (addr_of nodes.scenario b) own_place nodes.clock) r.row))
+              (sym (quiet_puts place edge.control control quiet.puts))
               (subst (λ (x : List LabelStep). AreBelow 0 (flat_map (puts_of b (addr_of nodes.scenario b) own_place nodes.clock) x)) row tt));
         }
 
     -- a route at an edge
-    route_at_edge : (edge : EdgeData) (message : Message) (new : Stepped Nodes) → IsStill nodes b (Edge edge) → edge_stepped nodes b edge (steps.Update a message) ≡ Some new → Answered nodes b (most + 1) new
+    route_at_edge : (edge : EdgeData) (message : Message) (new : Stepped Nodes) → IsStill nodes b (Edge edge)
+        → edge_stepped nodes b edge (steps.Update a message) ≡ Some new → Answered nodes b (most + 1) new
     route_at_edge edge message new still e =
         let r = edge_row nodes b edge (steps.Update a message) new e in
         let control : Control = control_step place nodes.clock edge.control (steps.Update a message) in
         record {
-          node = Edge (record { control = control; part = part_after edge.part r.row; raised = raised_after nodes.clock edge.raised (steps.Update a message) });
+          node = Edge (record {
+            control = control;
+            part = part_after edge.part r.row;
+            raised =
+                raised_after nodes.clock edge.raised (steps.Update a message);
+          });
           state = sym (ap (λ (s : Stepped Nodes). s.state) r.same);
           still = (
             refl,
             taken_control_rests place nodes.clock edge.control a message delay still.1,
-            row_rests place nodes.clock (changed_leaves (leaves place edge.control) (leaves place control)) (changed_inner (leaves place edge.control) (leaves place control)) edge.part r.row r.made still.2,
+            row_rests place nodes.clock (changed_leaves (leaves place edge.control) (leaves place control))
+                (changed_inner (leaves place edge.control) (leaves place control)) edge.part r.row r.made still.2,
           );
           puts = subst (λ (s : Stepped Nodes). AreBelow (most + 1) s.puts) r.same
-              (each_append (IsBelow (most + 1)) (bgp_puts place edge.control control) (flat_map (puts_of b (addr_of nodes.scenario b) own_place nodes.clock) r.row)
-              (joins_below place edge.control control (λ to. routes_answered place nodes.clock edge.control a message to)) (row_below low b (addr_of nodes.scenario b) own_place nodes.clock r.row));
+              (each_append (IsBelow (most + 1)) (bgp_puts place edge.control control)
+              (flat_map (puts_of b (addr_of nodes.scenario b) own_place nodes.clock) r.row)
+              (joins_below place edge.control control (λ to. routes_answered place nodes.clock edge.control a message to))
+              (row_below low b (addr_of nodes.scenario b) own_place nodes.clock r.row));
         }
 
-    update_at_edge : (edge : EdgeData) (message : Message) (new : Stepped Nodes) (joins : Bool) → joins_only (changes_of message) ≡ joins → IsStill nodes b (Edge edge) → edge_stepped nodes b edge (steps.Update a message) ≡ Some new → Answered nodes b (cond joins 0 (most + 1)) new
+    update_at_edge : (edge : EdgeData) (message : Message) (new : Stepped Nodes) (joins : Bool) → joins_only (changes_of message) ≡ joins
+        → IsStill nodes b (Edge edge) → edge_stepped nodes b edge (steps.Update a message) ≡ Some new → Answered nodes b (cond joins 0 (most + 1)) new
     update_at_edge edge message new true is still e = joins_at_edge edge message new is still e
     update_at_edge edge message new false is still e = route_at_edge edge message new still e
 
@@ -301,7 +379,8 @@ module _ (depth : NodeId → Fec → ℕ) (most : ℕ) where
     itself true x y h = h refl
     itself false x y h = refl
 
-    pub answered : (old : NodeState) (message : SessionMessage) (new : Stepped Nodes) → nodes.node b ≡ old → AllSettled own_place (part_of old) → IsStill nodes b old → node_called nodes b old (call_of a message) ≡ Some new → Answered nodes b (rank depth most b message) new
+    pub answered : (old : NodeState) (message : SessionMessage) (new : Stepped Nodes) → nodes.node b ≡ old → AllSettled own_place (part_of old)
+        → IsStill nodes b old → node_called nodes b old (call_of a message) ≡ Some new → Answered nodes b (rank depth most b message) new
     answered (Edge edge) (Label message) new at settled still e = label_at_edge edge message new settled still e
     answered (CoreNode part) (Label message) new at settled still e = label_at_core part message new settled still e
     answered (Edge edge) (Bgp message) new at settled still e = update_at_edge edge message new (joins_only (changes_of message)) refl still e
@@ -309,7 +388,8 @@ module _ (depth : NodeId → Fec → ℕ) (most : ℕ) where
         let same = same_Some (record { state = nodes; puts = [] }) new e in
         record {
           node = CoreNode part;
-          state = sym (ap (λ (s : Stepped Nodes). s.state) same) ∙ (λ i. record nodes { node = λ m. itself (m.0 == b.0) (CoreNode part) (nodes.node m) (λ t. ap nodes.node (node_equal m b t) ∙ at) i });
+          state = sym (ap (λ (s : Stepped Nodes). s.state) same)
+              ∙ (λ i. record nodes { node = λ m. itself (m.0 == b.0) (CoreNode part) (nodes.node m) (λ t. ap nodes.node (node_equal m b t) ∙ at) i });
           still = still;
           puts = subst (λ (s : Stepped Nodes). AreBelow (rank depth most b (Bgp message)) s.puts) same tt;
         }
@@ -322,7 +402,8 @@ pub record TimersRun (nodes : Nodes) (n : NodeId) (new : Stepped Nodes) : Type 0
   pub state : new.state ≡ with_node nodes n node
   pub still : IsStill nodes n node
 
-pub timers_run : (nodes : Nodes) (n : NodeId) (old : NodeState) (new : Stepped Nodes) → node_called nodes n old steps.Timers ≡ Some new → TimersRun nodes n new
+pub timers_run : (nodes : Nodes) (n : NodeId) (old : NodeState) (new : Stepped Nodes) → node_called nodes n old steps.Timers ≡ Some new
+    → TimersRun nodes n new
 timers_run nodes n (Edge edge) new e =
     let r = edge_row nodes n edge steps.Timers new e in
     let control : Control = control_step (place_of nodes n) nodes.clock edge.control steps.Timers in
@@ -331,8 +412,18 @@ timers_run nodes n (Edge edge) new e =
     record {
       node = Edge (record { control = control; part = part_after edge.part r.row; raised = raised_after nodes.clock edge.raised steps.Timers });
       state = sym (ap (λ (s : Stepped Nodes). s.state) r.same);
-      still = (refl, timed_control_rests (place_of nodes n) nodes.clock edge.control, timers_row_rests (place_of nodes n) nodes.clock (changed_leaves old_leaves new_leaves) (changed_inner old_leaves new_leaves) edge.part r.row r.made);
+      still = (
+        refl,
+        timed_control_rests (place_of nodes n) nodes.clock edge.control,
+        timers_row_rests (place_of nodes n) nodes.clock (changed_leaves old_leaves new_leaves) (changed_inner old_leaves new_leaves) edge.part r.row
+            r.made,
+      );
     }
 timers_run nodes n (CoreNode part) new e =
     let x = core_made nodes n part labels.Timers new e in
-    record { node = CoreNode x.0.part; state = sym (ap (λ (s : Stepped Nodes). s.state) x.2); still = timers_rest (label_place_of nodes n) nodes.clock part x.0 x.1 }
+    record {
+      node = CoreNode x.0.part;
+      state = sym (ap (λ (s : Stepped Nodes). s.state) x.2);
+      still =
+          timers_rest (label_place_of nodes n) nodes.clock part x.0 x.1;
+    }

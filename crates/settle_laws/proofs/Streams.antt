@@ -32,22 +32,39 @@ use Rattle.settle_laws.proofs.Everywhere.{runs_holds}
 
 -- ---- what is held back
 
-cut_partial : {M E : Type 0} (front : List ℕ → Front M E) → front [] ≡ more → (xs : List ℕ) (place passed : ℕ) → (cut_at front place passed xs).fault ≡ None → front (cut_at front place passed xs).rest ≡ more
+cut_partial : {M E : Type 0} (front : List ℕ → Front M E) → front [] ≡ more → (xs : List ℕ) (place passed : ℕ)
+    → (cut_at front place passed xs).fault ≡ None → front (cut_at front place passed xs).rest ≡ more
 unfolding cut_at
 cut_partial front empty [] place passed e = empty
 cut_partial front empty (b ∷ bs) place (suc passed) e = cut_partial front empty bs (place + 1) passed e
 cut_partial {M} {E} front empty (b ∷ bs) place zero e = by (λ k f. cut_partial front empty bs (place + 1) k f) (front (b ∷ bs)) refl e
   where
-    by : ((k : ℕ) → (cut_at front (place + 1) k bs).fault ≡ None → front (cut_at front (place + 1) k bs).rest ≡ more) → (o : Front M E) → front (b ∷ bs) ≡ o → (elim o as (λ _. Cut M E) [ more ↦ record { messages = []; rest = b ∷ bs; fault = None } | whole n ms ↦ with_front ms (cut_at front (place + 1) (n - 1) bs) | bad ms offset e ↦ record { messages = ms; rest = b ∷ bs; fault = Some (place + offset, e) } ]).fault ≡ None → front (elim o as (λ _. Cut M E) [ more ↦ record { messages = []; rest = b ∷ bs; fault = None } | whole n ms ↦ with_front ms (cut_at front (place + 1) (n - 1) bs) | bad ms offset e ↦ record { messages = ms; rest = b ∷ bs; fault = Some (place + offset, e) } ]).rest ≡ more
+    by : ((k : ℕ) → (cut_at front (place + 1) k bs).fault ≡ None → front (cut_at front (place + 1) k bs).rest ≡ more) → (o : Front M E)
+        → front (b ∷ bs) ≡ o → (elim o as (λ _. Cut M E) [
+          | more ↦ record { messages = []; rest = b ∷ bs; fault = None }
+          | whole n ms ↦
+              with_front ms (cut_at front (place + 1) (n - 1) bs)
+          | bad ms offset e ↦
+              record { messages = ms; rest = b ∷ bs; fault = Some (place + offset, e) }
+        ]).fault ≡ None
+        → front (elim o as (λ _. Cut M E) [
+          | more ↦ record { messages = []; rest = b ∷ bs; fault = None }
+          | whole n ms ↦
+              with_front ms (cut_at front (place + 1) (n - 1) bs)
+          | bad ms offset e ↦
+              record { messages = ms; rest = b ∷ bs; fault = Some (place + offset, e) }
+        ]).rest ≡ more
     by rest more is f = is
     by rest (whole n ms) is f = rest (n - 1) f
     by rest (bad ms offset fault) is f = absurd cc
 
-held_partial : {M E : Type 0} (front : List ℕ → Front M E) → front [] ≡ more → (c : Cut M E) → (c.fault ≡ None → front c.rest ≡ more) → (o : Option (ℕ × E)) → c.fault ≡ o → front (held_of o c.rest) ≡ more
+held_partial : {M E : Type 0} (front : List ℕ → Front M E) → front [] ≡ more → (c : Cut M E) → (c.fault ≡ None → front c.rest ≡ more)
+    → (o : Option (ℕ × E)) → c.fault ≡ o → front (held_of o c.rest) ≡ more
 held_partial front empty c h None e = h e
 held_partial front empty c h (Some fault) e = empty
 
-fed_partial : {M E : Type 0} (front : List ℕ → Front M E) → front [] ≡ more → (old : Fed M E) (piece : List ℕ) (o : Option (ℕ × E)) → front old.held ≡ more → front (fed_unless front o old piece).held ≡ more
+fed_partial : {M E : Type 0} (front : List ℕ → Front M E) → front [] ≡ more → (old : Fed M E) (piece : List ℕ) (o : Option (ℕ × E))
+    → front old.held ≡ more → front (fed_unless front o old piece).held ≡ more
 fed_partial front empty old piece (Some fault) h = h
 fed_partial front empty old piece None h =
     let c = cut_at front 0 0 (old.held ++ piece) in
@@ -71,17 +88,20 @@ earlier_streams : (puts : List _) (o : Option (Behind (OctetNetwork Nodes))) →
 earlier_streams puts None s = tt
 earlier_streams puts (Some new) s = s
 
-on_streams : (o : Option (Behind (OctetNetwork Nodes))) (f : OctetNetwork Nodes → Option (Behind (OctetNetwork Nodes))) → StreamsBehind o → ((next : OctetNetwork Nodes) → Streams next → StreamsBehind (f next)) → StreamsBehind (o >>? λ next. with_earlier next.puts (f next.network))
+on_streams : (o : Option (Behind (OctetNetwork Nodes))) (f : OctetNetwork Nodes → Option (Behind (OctetNetwork Nodes))) → StreamsBehind o
+    → ((next : OctetNetwork Nodes) → Streams next → StreamsBehind (f next)) → StreamsBehind (o >>? λ next. with_earlier next.puts (f next.network))
 on_streams None f s h = tt
 on_streams (Some next) f s h = earlier_streams next.puts (f next.network) (h next.network s)
 
-taken_streams : (over : Direction) (messages : List SessionMessage) (old : OctetNetwork Nodes) → Streams old → StreamsBehind (all_taken system old over messages)
+taken_streams : (over : Direction) (messages : List SessionMessage) (old : OctetNetwork Nodes) → Streams old
+    → StreamsBehind (all_taken system old over messages)
 taken_streams over [] old s = s
 taken_streams over (message ∷ others) old s =
     on_streams (with_step old (system.taken over message old.state)) (λ next. all_taken system next over others)
     (stepped_streams old (system.taken over message old.state) s) (λ next n. taken_streams over others next n)
 
-at_stream : (t : Bool) (kind : _) (new old : Stream) → (t ≡ true → front_of kind new.held ≡ more) → front_of kind old.held ≡ more → front_of kind (cond t new old).held ≡ more
+at_stream : (t : Bool) (kind : _) (new old : Stream) → (t ≡ true → front_of kind new.held ≡ more) → front_of kind old.held ≡ more
+    → front_of kind (cond t new old).held ≡ more
 at_stream true kind new old h k = h refl
 at_stream false kind new old h k = k
 
@@ -94,28 +114,39 @@ moved_streams old over count s =
     } in
     taken_streams over new.waiting left (record {
       partial = λ other. at_stream (same_direction other over) other.kind (record new { waiting = [] }) (old.stream other)
-          (λ e. subst (λ (d : Direction). front_of d.kind new.held ≡ more) (sym (direction_is other over e)) (fed_partial (front_of over.kind) (stream_of over.kind).framing.empty (old.stream over) (take count (old.transit over)) (old.stream over).fault (s.partial over)))
+          (λ e. subst (λ (d : Direction). front_of d.kind new.held ≡ more) (sym (direction_is other over e))
+          (fed_partial (front_of over.kind) (stream_of over.kind).framing.empty (old.stream over) (take count (old.transit over))
+          (old.stream over).fault (s.partial over)))
           (s.partial other);
     })
 
 act_streams : (one : OctetAct NodeCall) (old : OctetNetwork Nodes) → Streams old → StreamsBehind (octet_act system old one)
 act_streams (octets.Move over count) old s =
-    elim (old.joined over) as (λ b. StreamsBehind (cond b (moved system old over count) (Some (record { network = old; puts = [] })))) [ true ↦ moved_streams old over count s | false ↦ s ]
+    elim (old.joined over) as (λ b. StreamsBehind (cond b (moved system old over count) (Some (record { network = old; puts = [] }))))
+    [ true ↦ moved_streams old over count s | false ↦ s ]
 act_streams (octets.Call call) old s = stepped_streams old (system.called call old.state) s
 act_streams (octets.Lose hit) old s = record { partial = s.partial }
-act_streams (octets.Forget hit) old s = record { partial = λ over. at_stream (hit over && not (old.joined over)) over.kind unfed (old.stream over) (λ e. (stream_of over.kind).framing.empty) (s.partial over) }
-act_streams (octets.Join hit) old s = record { partial = λ over. at_stream (hit over) over.kind unfed (old.stream over) (λ e. (stream_of over.kind).framing.empty) (s.partial over) }
+act_streams (octets.Forget hit) old s =
+    record {
+      partial =
+          λ over. at_stream (hit over && not (old.joined over)) over.kind unfed (old.stream over) (λ e. (stream_of over.kind).framing.empty)
+          (s.partial over);
+    }
+act_streams (octets.Join hit) old s =
+    record { partial = λ over. at_stream (hit over) over.kind unfed (old.stream over) (λ e. (stream_of over.kind).framing.empty) (s.partial over) }
 
 pub run_streams : (acts : List (OctetAct NodeCall)) (old : OctetNetwork Nodes) → Streams old → StreamsBehind (octet_run system old acts)
 run_streams [] old s = s
-run_streams (one ∷ others) old s = on_streams (octet_act system old one) (λ next. octet_run system next others) (act_streams one old s) (λ next n. run_streams others next n)
+run_streams (one ∷ others) old s =
+    on_streams (octet_act system old one) (λ next. octet_run system next others) (act_streams one old s) (λ next n. run_streams others next n)
 
 -- ---- acts
 
 abbrev pub WorldStreams : World → Type 0
 WorldStreams world = Streams world.network
 
-network_streams : (world : World) (before : List ReportLine) (found : Option (Behind (OctetNetwork Nodes))) (node : NodeId) → StreamsBehind found → Gives (WorldStreams) (with_network world before found node)
+network_streams : (world : World) (before : List ReportLine) (found : Option (Behind (OctetNetwork Nodes))) (node : NodeId) → StreamsBehind found
+    → Gives (WorldStreams) (with_network world before found node)
 network_streams world before None node h = tt
 network_streams world before (Some new) node h = h
 
@@ -123,16 +154,23 @@ aged_streams : (found : Result Acted NodeId) → Gives (WorldStreams) found → 
 aged_streams (Err node) h = tt
 aged_streams (Ok new) h = h
 
-at_streams : (world : World) (node : NodeId) (before : List ReportLine) (acts : List (OctetAct NodeCall)) → WorldStreams world → Gives (WorldStreams) (with_network world before (octet_run system world.network acts) node)
+at_streams : (world : World) (node : NodeId) (before : List ReportLine) (acts : List (OctetAct NodeCall)) → WorldStreams world
+    → Gives (WorldStreams) (with_network world before (octet_run system world.network acts) node)
 at_streams world node before acts s = network_streams world before (octet_run system world.network acts) node (run_streams acts world.network s)
 
 pub world_act_streams : (one : Act) (world : World) → WorldStreams world → Gives (WorldStreams) (act world one)
-world_act_streams (Tick ticks) world s = aged_streams (with_network world [] (octet_run system world.network (octets.Call (Elapse ticks) ∷ [])) (record { 0 = 0 })) (at_streams world (record { 0 = 0 }) [] (octets.Call (Elapse ticks) ∷ []) s)
+world_act_streams (Tick ticks) world s =
+    aged_streams (with_network world [] (octet_run system world.network (octets.Call (Elapse ticks) ∷ [])) (record { 0 = 0 }))
+    (at_streams world (record { 0 = 0 }) [] (octets.Call (Elapse ticks) ∷ []) s)
 world_act_streams (Timers n) world s = at_streams world n [] (octets.Call (Own n steps.Timers) ∷ []) s
-world_act_streams (Move kind from to count) world s = at_streams world to (lines.Take kind from to (take count (world.network.transit (direction kind from to))) ∷ []) (octets.Move (direction kind from to) count ∷ []) s
+world_act_streams (Move kind from to count) world s =
+    at_streams world to (lines.Take kind from to (take count (world.network.transit (direction kind from to))) ∷ [])
+    (octets.Move (direction kind from to) count ∷ []) s
 world_act_streams (Lose kind a b) world s = at_streams world a [] (octets.Lose (is_of_session kind a b) ∷ []) s
-world_act_streams (Notice kind a b) world s = at_streams world a [] (octets.Forget (is_from_peer kind a b) ∷ octets.Call (Own a (steps.Noticed kind b)) ∷ []) s
-world_act_streams (RaiseFirst kind a b) world s = at_streams world a [] (octets.Join (is_of_session kind a b) ∷ octets.Call (Own a (steps.Raised kind b)) ∷ []) s
+world_act_streams (Notice kind a b) world s =
+    at_streams world a [] (octets.Forget (is_from_peer kind a b) ∷ octets.Call (Own a (steps.Noticed kind b)) ∷ []) s
+world_act_streams (RaiseFirst kind a b) world s =
+    at_streams world a [] (octets.Join (is_of_session kind a b) ∷ octets.Call (Own a (steps.Raised kind b)) ∷ []) s
 world_act_streams (RaiseSecond kind a b) world s = at_streams world b [] (octets.Call (Own b (steps.Raised kind a)) ∷ []) s
 world_act_streams (Restart n) world s = at_streams world n [] (octets.Lose (is_at n) ∷ octets.Forget (leads_to n) ∷ octets.Call (Reset n) ∷ []) s
 world_act_streams (At n call) world s = at_streams world n [] (octets.Call (Own n call) ∷ []) s
@@ -145,7 +183,8 @@ world_act_streams (Reroute n) world s = at_streams world n [] (octets.Call (Foll
 
 -- ---- runs
 
-pub runs_streams : (all : List Timed) (old : World) (number : ℕ) (trace : List Traced) (new : World) → WorldStreams old → Runs old number all trace new → WorldStreams new
+pub runs_streams : (all : List Timed) (old : World) (number : ℕ) (trace : List Traced) (new : World) → WorldStreams old
+    → Runs old number all trace new → WorldStreams new
 runs_streams all old number trace new s run =
     runs_holds (WorldStreams) (world_act_streams) (λ world datagrams h. record { partial = h.partial }) all old number trace new s run
 
@@ -167,8 +206,10 @@ both_behind : (costs : Costs) (o : Option (Behind (OctetNetwork Nodes))) → Str
 both_behind costs None s h = tt
 both_behind costs (Some new) s h = record { streams = s; costs_are = h }
 
-pub run_steady : (costs : Costs) (acts : List (OctetAct NodeCall)) → AllByRecursion IsSteadyOctetAct acts → (old : OctetNetwork Nodes) → Steady costs old → SteadyBehind costs (octet_run system old acts)
-run_steady costs acts are old s = both_behind costs (octet_run system old acts) (run_streams acts old s.streams) (run_net costs acts are old s.costs_are)
+pub run_steady : (costs : Costs) (acts : List (OctetAct NodeCall)) → AllByRecursion IsSteadyOctetAct acts → (old : OctetNetwork Nodes)
+    → Steady costs old → SteadyBehind costs (octet_run system old acts)
+run_steady costs acts are old s =
+    both_behind costs (octet_run system old acts) (run_streams acts old s.streams) (run_net costs acts are old s.costs_are)
 
 abbrev pub WorldSteady : Costs → World → Type 0
 WorldSteady costs world = Steady costs world.network

@@ -38,7 +38,8 @@ module _ {K : Type 0} {cmp : K → K → Ordering} where
 
   pub other_key : IsAntisymmetric cmp → (own other : K) → own ≢ other → eq_by_cmp cmp own other ≡ false
   other_key exact own other differs =
-      elim (eq_by_cmp cmp own other) as (λ b. eq_by_cmp cmp own other ≡ b → b ≡ false) [ true ↦ λ e. absurd (differs (one_key exact own other e)) | false ↦ λ e. refl ] refl
+      elim (eq_by_cmp cmp own other) as (λ b. eq_by_cmp cmp own other ≡ b → b ≡ false)
+      [ true ↦ λ e. absurd (differs (one_key exact own other e)) | false ↦ λ e. refl ] refl
 
   -- no two keys are each below the other
   pub not_both : IsTotalOrder cmp → (own other : K) → cmp own other ≡ Less → cmp other own ≢ Less

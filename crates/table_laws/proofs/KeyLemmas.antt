@@ -17,7 +17,9 @@ joined true x xs ys = refl
 joined false x xs ys = refl
 
 -- one value at most, and given by f
-one_at_most : {V X : Type 0} (f : V → X) (b : Bool) (value : V) (rest : Option V) → (b ≡ true → rest ≡ None) → cond b (f value ∷ option_to_list (option_map f rest)) (option_to_list (option_map f rest)) ≡ option_to_list (option_map f (cond b (Some value) rest))
+one_at_most : {V X : Type 0} (f : V → X) (b : Bool) (value : V) (rest : Option V) → (b ≡ true → rest ≡ None)
+    → cond b (f value ∷ option_to_list (option_map f rest)) (option_to_list (option_map f rest))
+    ≡ option_to_list (option_map f (cond b (Some value) rest))
 one_at_most f true value rest none = ap (λ o. f value ∷ option_to_list (option_map f o)) (none refl)
 one_at_most f false value rest none = refl
 
@@ -31,14 +33,16 @@ told : {V : Type 0} (b : Bool) (value : V) → advertised (cond (not b) (Some va
 told true value = refl
 told false value = refl
 
-parts : {V : Type 0} (same : V → V → Bool) (old new : Option V) → withdrawn (cond (is_none new) old None) ++ advertised (cond (not (option_eq same old new)) new None) ≡ difference same old new
+parts : {V : Type 0} (same : V → V → Bool) (old new : Option V)
+    → withdrawn (cond (is_none new) old None) ++ advertised (cond (not (option_eq same old new)) new None) ≡ difference same old new
 parts same None None = refl
 parts same (Some value) None = refl
 parts same None (Some next) = refl
 parts same (Some value) (Some next) = told (same value next) next
 
 module _ {K V : Type 0} (cmp : K → K → Ordering) where
-  pub values_at-append : (key : K) (front behind : List (Change K V)) → values_at cmp key (front ++ behind) ≡ values_at cmp key front ++ values_at cmp key behind
+  pub values_at-append : (key : K) (front behind : List (Change K V))
+      → values_at cmp key (front ++ behind) ≡ values_at cmp key front ++ values_at cmp key behind
   values_at-append key [] behind = refl
   values_at-append key (change ∷ front) behind =
       ap (λ values. cond (eq_by_cmp cmp key (key_of change)) (value_of change ∷ values) values) (values_at-append key front behind)
@@ -58,7 +62,8 @@ module _ {K V : Type 0} {cmp : K → K → Ordering} (total : IsTotalOrder cmp) 
       ap (λ values. cond (eq_by_cmp cmp key e.0) (None ∷ values) values) (withdrawals_at key es (second _ _ h))
       ∙ one_at_most (λ _. None) (eq_by_cmp cmp key e.0) e.1 (find cmp key es) (none_behind key e es h)
 
-  advertisements_at : (key : K) (es : List (K × V)) → T (is_sorted cmp es) → values_at cmp key (map (λ e. Reach e.0 e.1) es) ≡ advertised (find cmp key es)
+  advertisements_at : (key : K) (es : List (K × V)) → T (is_sorted cmp es)
+      → values_at cmp key (map (λ e. Reach e.0 e.1) es) ≡ advertised (find cmp key es)
   advertisements_at key [] h = refl
   advertisements_at key (e ∷ es) h =
       ap (λ values. cond (eq_by_cmp cmp key e.0) (Some e.1 ∷ values) values) (advertisements_at key es (second _ _ h))
@@ -67,20 +72,26 @@ module _ {K V : Type 0} {cmp : K → K → Ordering} (total : IsTotalOrder cmp) 
   get-lost : (old new : FinMap cmp V) (key : K) → get (lost old new) key ≡ cond (is_none (get new key)) (get old key) None
   get-lost old new key = get-retain_keys old (λ own. is_none (get new own)) key (λ own tied. ap is_none (get_tied total new key own tied))
 
-  get-news : (same : V → V → Bool) (old new : FinMap cmp V) (key : K) → get (news same old new) key ≡ cond (not (option_eq same (get old key) (get new key))) (get new key) None
+  get-news : (same : V → V → Bool) (old new : FinMap cmp V) (key : K)
+      → get (news same old new) key ≡ cond (not (option_eq same (get old key) (get new key))) (get new key) None
   get-news same old new key = get-retain_keys new (λ own. not (option_eq same (get old own) (get new own))) key
-      (λ own tied. ap (λ o. not (option_eq same o (get new own))) (get_tied total old key own tied) ∙ ap (λ o. not (option_eq same (get old key) o)) (get_tied total new key own tied))
+      (λ own tied. ap (λ o. not (option_eq same o (get new own))) (get_tied total old key own tied)
+      ∙ ap (λ o. not (option_eq same (get old key) o)) (get_tied total new key own tied))
 
   values_at-withdrawals : (gone : FinMap cmp V) (key : K) → values_at cmp key (withdrawals gone) ≡ withdrawn (get gone key)
   values_at-withdrawals gone key = withdrawals_at key (entries gone) (entries_sorted gone) ∙ ap withdrawn (sym (get-entries gone key))
 
-  pub values_at-advertisements : (new : FinMap cmp V) (key : K) → values_at cmp key (advertisements new) ≡ option_to_list (option_map (λ value. Some value) (get new key))
+  pub values_at-advertisements : (new : FinMap cmp V) (key : K)
+      → values_at cmp key (advertisements new) ≡ option_to_list (option_map (λ value. Some value) (get new key))
   values_at-advertisements new key = advertisements_at key (entries new) (entries_sorted new) ∙ ap advertised (sym (get-entries new key))
 
   -- the changes between two tables give each key the difference of its values
-  pub values_at-changes : (same : V → V → Bool) (old new : FinMap cmp V) (key : K) → values_at cmp key (changes same old new) ≡ difference same (get old key) (get new key)
+  pub values_at-changes : (same : V → V → Bool) (old new : FinMap cmp V) (key : K)
+      → values_at cmp key (changes same old new) ≡ difference same (get old key) (get new key)
   values_at-changes same old new key =
       values_at-append cmp key (withdrawals (lost old new)) (advertisements (news same old new))
-      ∙ ap (λ values. values ++ values_at cmp key (advertisements (news same old new))) (values_at-withdrawals (lost old new) key ∙ ap withdrawn (get-lost old new key))
-      ∙ ap (λ values. withdrawn (cond (is_none (get new key)) (get old key) None) ++ values) (values_at-advertisements (news same old new) key ∙ ap advertised (get-news same old new key))
+      ∙ ap (λ values. values ++ values_at cmp key (advertisements (news same old new)))
+      (values_at-withdrawals (lost old new) key ∙ ap withdrawn (get-lost old new key))
+      ∙ ap (λ values. withdrawn (cond (is_none (get new key)) (get old key) None) ++ values)
+      (values_at-advertisements (news same old new) key ∙ ap advertised (get-news same old new key))
       ∙ parts same (get old key) (get new key)

@@ -10,16 +10,19 @@ use Rattle.mv_base.specs.table_defs.Changes.{key_of, value_of, applied, applied_
 use Rattle.table_laws.specs.Words.{IsBehind}
 use Rattle.table_laws.proofs.CompareLemmas.{own_key, one_key, other_key}
 
-taken_off : {V : Type 0} (b : Bool) (value old : Option V) (rest : List (Option V)) → last_value (cond b value old) rest ≡ last_value old (cond b (value ∷ rest) rest)
+taken_off : {V : Type 0} (b : Bool) (value old : Option V) (rest : List (Option V))
+    → last_value (cond b value old) rest ≡ last_value old (cond b (value ∷ rest) rest)
 taken_off true value old rest = refl
 taken_off false value old rest = refl
 
 module _ {K V : Type 0} {cmp : K → K → Ordering} (total : IsTotalOrder cmp) where
-  pub get-applied : (old : FinMap cmp V) (change : Change K V) (key : K) → get (applied old change) key ≡ cond (eq_by_cmp cmp key (key_of change)) (value_of change) (get old key)
+  pub get-applied : (old : FinMap cmp V) (change : Change K V) (key : K)
+      → get (applied old change) key ≡ cond (eq_by_cmp cmp key (key_of change)) (value_of change) (get old key)
   get-applied old (Reach own value) key = get-insert total old own value key
   get-applied old (Unreach own) key = get-remove total old own key
 
-  pub get-applied_all : (old : FinMap cmp V) (list : List (Change K V)) (key : K) → get (applied_all old list) key ≡ last_value (get old key) (values_at cmp key list)
+  pub get-applied_all : (old : FinMap cmp V) (list : List (Change K V)) (key : K)
+      → get (applied_all old list) key ≡ last_value (get old key) (values_at cmp key list)
   get-applied_all old [] key = refl
   get-applied_all old (change ∷ rest) key =
       get-applied_all (applied old change) rest key
@@ -33,12 +36,15 @@ module _ {K V : Type 0} {cmp : K → K → Ordering} (total : IsTotalOrder cmp) 
       others = λ key apart. get-applied old change key ∙ ap (λ b. cond b (value_of change) (get old key)) (other_key exact key (key_of change) apart);
     }
 
-    behind_at : (old new : FinMap cmp V) (change : Change K V) → IsBehind old change new → (key : K) (b : Bool) → eq_by_cmp cmp key (key_of change) ≡ b → get new key ≡ cond b (value_of change) (get old key)
+    behind_at : (old new : FinMap cmp V) (change : Change K V) → IsBehind old change new → (key : K) (b : Bool)
+        → eq_by_cmp cmp key (key_of change) ≡ b → get new key ≡ cond b (value_of change) (get old key)
     behind_at old new change h key true e = ap (get new) (one_key exact key (key_of change) e) ∙ h.own
-    behind_at old new change h key false e = h.others key (λ same. (let tied = ap (λ own. eq_by_cmp cmp own (key_of change)) same ∙ own_key total (key_of change) in absurd cc))
+    behind_at old new change h key false e =
+        h.others key (λ same. (let tied = ap (λ own. eq_by_cmp cmp own (key_of change)) same ∙ own_key total (key_of change) in absurd cc))
 
     pub behind_is : (old new : FinMap cmp V) (change : Change K V) → IsBehind old change new ↔ (new ≡ applied old change)
     behind_is old new change = (
-      λ h. same_map total exact new (applied old change) (λ key. behind_at old new change h key (eq_by_cmp cmp key (key_of change)) refl ∙ sym (get-applied old change key)),
+      λ h. same_map total exact new (applied old change)
+          (λ key. behind_at old new change h key (eq_by_cmp cmp key (key_of change)) refl ∙ sym (get-applied old change key)),
       λ e. subst (IsBehind old change) (sym e) (behind old change),
     )

@@ -28,7 +28,8 @@ first-label places place k label h = ap label_held (more-other places place k (w
 
 -- ---- one place is ended
 
-pub ready_here : (places : List Place) (place : Place) (space : Space) → AreReady (places ++ place ∷ []) space → IfSome (label_in place.binding) (λ label. IsOwned space label)
+pub ready_here : (places : List Place) (place : Place) (space : Space) → AreReady (places ++ place ∷ []) space
+    → IfSome (label_in place.binding) (λ label. IsOwned space label)
 ready_here places place space h = by (label_in place.binding) refl
   where
     by : (o : Option ℕ) → label_in place.binding ≡ o → IfSome o (λ label. IsOwned space label)
@@ -36,28 +37,34 @@ ready_here places place space h = by (label_in place.binding) refl
     by (Some label) e = h.owned (length places) label (last-label places place ∙ e)
 
 -- the label of the last place is at no other one
-not_last : (places : List Place) (place : Place) (space : Space) (label own : ℕ) (k : ℕ) → label_in place.binding ≡ Some own → AreReady (places ++ place ∷ []) space → label_at places k ≡ Some label → label ≢ own
+not_last : (places : List Place) (place : Place) (space : Space) (label own : ℕ) (k : ℕ) → label_in place.binding ≡ Some own
+    → AreReady (places ++ place ∷ []) space → label_at places k ≡ Some label → label ≢ own
 not_last places place space label own k e h at same =
-    within places k label at (h.apart k (length places) label (first-label places place k label at) (last-label places place ∙ (e ∙ ap (λ (l : ℕ). Some l) (sym same))))
+    within places k label at (h.apart k (length places) label (first-label places place k label at)
+    (last-label places place ∙ (e ∙ ap (λ (l : ℕ). Some l) (sym same))))
 
-ready_with : (places : List Place) (place : Place) (space : Space) (o : Option ℕ) → label_in place.binding ≡ o → AreReady (places ++ place ∷ []) space → AreReady places (with_free space o)
+ready_with : (places : List Place) (place : Place) (space : Space) (o : Option ℕ) → label_in place.binding ≡ o → AreReady (places ++ place ∷ []) space
+    → AreReady places (with_free space o)
 ready_with places place space None e h = record {
   owned = λ i label at. h.owned i label (first-label places place i label at);
   apart = λ i j label at other. h.apart i j label (first-label places place i label at) (first-label places place j label other);
 }
 ready_with places place space (Some own) e h = record {
   owned = λ i label at.
-      owned_still space label own Owned Free (h.owned i label (first-label places place i label at)) (h.owned (length places) own (last-label places place ∙ e)) (not_last places place space label own i e h at);
+      owned_still space label own Owned Free (h.owned i label (first-label places place i label at))
+      (h.owned (length places) own (last-label places place ∙ e)) (not_last places place space label own i e h at);
   apart = λ i j label at other. h.apart i j label (first-label places place i label at) (first-label places place j label other);
 }
 
-pub ready_step : (places : List Place) (place : Place) (space : Space) → AreReady (places ++ place ∷ []) space → AreReady places (with_free space (label_in place.binding))
+pub ready_step : (places : List Place) (place : Place) (space : Space) → AreReady (places ++ place ∷ []) space
+    → AreReady places (with_free space (label_in place.binding))
 ready_step places place space h = ready_with places place space (label_in place.binding) refl h
 
 pub some-same : (a b : ℕ) → Some a ≡ Some b → a ≡ b
 some-same a b e = cc
 
-ended_with : (places : List Place) (place : Place) (space last : Space) (o : Option ℕ) → label_in place.binding ≡ o → AreReady (places ++ place ∷ []) space → AreEnded places (with_free space o) last
+ended_with : (places : List Place) (place : Place) (space last : Space) (o : Option ℕ) → label_in place.binding ≡ o
+    → AreReady (places ++ place ∷ []) space → AreEnded places (with_free space o) last
     → AreEnded (places ++ place ∷ []) space last
 ended_with places place space last None e h ended = record {
   freed = λ i label at. elim (cases_eq i (length places)) [
@@ -74,17 +81,20 @@ ended_with places place space last (Some own) e h ended =
       freed = λ i label at. elim (cases_eq i (length places)) [
         | inl s ↦
             let same : label ≡ own = some-same label own (sym at ∙ (ap (label_at (places ++ place ∷ [])) s ∙ (last-label places place ∙ e))) in
-            ap (state_of last) same ∙ (ended.others own (λ k there. not_last places place space own own k e h there refl) ∙ set-label space own Owned Free owned)
+            ap (state_of last) same ∙ (ended.others own (λ k there. not_last places place space own own k e h there refl)
+            ∙ set-label space own Owned Free owned)
         | inr d ↦ ended.freed i label (sym (ap label_held (more-other places place i d)) ∙ at)
       ];
       others = λ label none.
           ended.others label (λ i at. none i (first-label places place i label at))
-          ∙ set-others space own label Owned Free owned (λ same. none (length places) (last-label places place ∙ (e ∙ ap (λ (l : ℕ). Some l) (sym same))));
+          ∙ set-others space own label Owned Free owned
+          (λ same. none (length places) (last-label places place ∙ (e ∙ ap (λ (l : ℕ). Some l) (sym same))));
       life = ended.life;
       count = ended.count ∙ length-set space.states _ _;
     }
 
-pub ended_step : (places : List Place) (place : Place) (space last : Space) → AreReady (places ++ place ∷ []) space → AreEnded places (with_free space (label_in place.binding)) last
+pub ended_step : (places : List Place) (place : Place) (space last : Space) → AreReady (places ++ place ∷ []) space
+    → AreEnded places (with_free space (label_in place.binding)) last
     → AreEnded (places ++ place ∷ []) space last
 ended_step places place space last h ended = ended_with places place space last (label_in place.binding) refl h ended
 
@@ -118,9 +128,14 @@ under_name places i label h = by (slice_get places i) refl
   where
     by : (o : Option Place) → slice_get places i ≡ o → (g : ℕ) × Carries (named places) (name_at i g) label
     by None e = let none : Some label ≡ None = sym h ∙ ap label_held e in absurd cc
-    by (Some place) e = (place.generation, ap label_in (tells places (name_at i place.generation) ∙ (ap (kept_in place.generation) e ∙ kept_same place.generation place refl)) ∙ (sym (ap label_held e) ∙ h))
+    by (Some place) e = (
+      place.generation,
+      ap label_in (tells places (name_at i place.generation)
+          ∙ (ap (kept_in place.generation) e ∙ kept_same place.generation place refl)) ∙ (sym (ap label_held e) ∙ h),
+    )
 
-pub ready_named : (places : List Place) (space : Space) → ((name : BindingName) (label : ℕ) → Carries (named places) name label → IsOwned space label) → AreApart (named places) → AreReady places space
+pub ready_named : (places : List Place) (space : Space) → ((name : BindingName) (label : ℕ) → Carries (named places) name label → IsOwned space label)
+    → AreApart (named places) → AreReady places space
 ready_named places space owned apart = record {
   owned = λ i label at. let under = under_name places i label at in owned (name_at i under.0) label under.1;
   apart = λ i j label at other.

@@ -42,7 +42,8 @@ tally-most : (p : ℕ → Bool) (n : ℕ) (places : List Place) → tally p n pl
 tally-most p n [] = omega arith
 tally-most p n (x ∷ xs) = omega (arith, tally-most p (suc n) xs, weight-most p n x)
 
-tally-fewer : (p : ℕ → Bool) (n i : ℕ) (places : List Place) (place : Place) → slice_get places i ≡ Some place → is_free (Some place) ≡ false → tally p n places < length places
+tally-fewer : (p : ℕ → Bool) (n i : ℕ) (places : List Place) (place : Place) → slice_get places i ≡ Some place → is_free (Some place) ≡ false
+    → tally p n places < length places
 tally-fewer p n i [] place at e = absurd cc
 tally-fewer p n zero (x ∷ xs) place at e =
     let same : x ≡ place = cc in
@@ -50,7 +51,8 @@ tally-fewer p n zero (x ∷ xs) place at e =
     omega (arith, tally-most p (suc n) xs, none)
 tally-fewer p n (suc i) (x ∷ xs) place at e = omega (arith, tally-fewer p (suc n) i xs place at e, weight-most p n x)
 
-tally-none : (p : ℕ → Bool) (n : ℕ) (places : List Place) → ((k m : ℕ) → m ≡ n + k → is_free (slice_get places k) ≡ true → p m ≡ false) → tally p n places ≡ 0
+tally-none : (p : ℕ → Bool) (n : ℕ) (places : List Place) → ((k m : ℕ) → m ≡ n + k → is_free (slice_get places k) ≡ true → p m ≡ false)
+    → tally p n places ≡ 0
 tally-none p n [] h = refl
 tally-none p n (x ∷ xs) h =
     let rest = tally-none p (suc n) xs (λ k m at free. h (suc k) m (omega (arith, at)) free) in
@@ -60,14 +62,16 @@ tally-none p n (x ∷ xs) h =
     ] in
     omega (arith, rest, here)
 
-tally-more : (p : ℕ → Bool) (n : ℕ) (places : List Place) (place : Place) → is_free (Some place) ≡ false → tally p n (places ++ place ∷ []) ≡ tally p n places
+tally-more : (p : ℕ → Bool) (n : ℕ) (places : List Place) (place : Place) → is_free (Some place) ≡ false
+    → tally p n (places ++ place ∷ []) ≡ tally p n places
 tally-more p n [] place e = let none : weight p n place ≡ 0 = ap (λ (b : Bool). cond b (cond (p n) 1 0) 0) e in omega (arith, none)
 tally-more p n (x ∷ xs) place e = omega (arith, tally-more p (suc n) xs place e)
 
 -- ---- what is true of the places
 
 -- the last of the list is a free place
-pub free-popped : (places : List Place) (free rest : List ℕ) (i capacity : ℕ) → free ≡ rest ++ i ∷ [] → IsWell places free capacity → is_free (slice_get places i) ≡ true
+pub free-popped : (places : List Place) (free rest : List ℕ) (i capacity : ℕ) → free ≡ rest ++ i ∷ [] → IsWell places free capacity
+    → is_free (slice_get places i) ≡ true
 free-popped places free rest i capacity is h = elim (cases_Bool (is_free (slice_get places i))) [
   | inl e ↦ e
   | inr e ↦
@@ -83,13 +87,15 @@ free-popped places free rest i capacity is h = elim (cases_Bool (is_free (slice_
       absurd (omega (arith, none, some, one, all))
 ]
 
-young-set : (places : List Place) (i : ℕ) (place : Place) → i < length places → IsYoung (Some place) → ((k : ℕ) → IsYoung (slice_get places k)) → (k : ℕ) → IsYoung (slice_get (slice_set places i place) k)
+young-set : (places : List Place) (i : ℕ) (place : Place) → i < length places → IsYoung (Some place) → ((k : ℕ) → IsYoung (slice_get places k))
+    → (k : ℕ) → IsYoung (slice_get (slice_set places i place) k)
 young-set places i place within here h k = elim (cases_eq k i) [
   | inl e ↦ subst IsYoung (sym (ap (slice_get (slice_set places i place)) e ∙ get-set_same places i place within)) here
   | inr d ↦ subst IsYoung (sym (get-set_other places i k place d)) (h k)
 ]
 
-pub well-filled : (places : List Place) (free rest : List ℕ) (i g capacity : ℕ) (b : AnyBinding) → free ≡ rest ++ i ∷ [] → slice_get places i ≡ Some (emptied g) → IsWell places free capacity
+pub well-filled : (places : List Place) (free rest : List ℕ) (i g capacity : ℕ) (b : AnyBinding) → free ≡ rest ++ i ∷ []
+    → slice_get places i ≡ Some (emptied g) → IsWell places free capacity
     → IsWell (slice_set places i (holding g b)) rest capacity
 well-filled places free rest i g capacity b is at h =
     let usable : nat_lt g (2 ^ 64 - 1) ≡ true = sym (ap is_free at) ∙ free-popped places free rest i capacity is h in
@@ -107,7 +113,8 @@ well-filled places free rest i g capacity b is at h =
 pub well-more : (places : List Place) (free : List ℕ) (capacity more : ℕ) → capacity ≤ more → IsWell places free capacity → IsWell places free more
 well-more places free capacity more grows h = record { listed = h.listed; room = omega (arith, h.room, grows); young = h.young }
 
-pub well-added : (places : List Place) (free : List ℕ) (capacity more : ℕ) (b : AnyBinding) → length places + 1 ≤ more → IsWell places free capacity → IsWell (places ++ holding 0 b ∷ []) free more
+pub well-added : (places : List Place) (free : List ℕ) (capacity more : ℕ) (b : AnyBinding) → length places + 1 ≤ more → IsWell places free capacity
+    → IsWell (places ++ holding 0 b ∷ []) free more
 well-added places free capacity more b room h = record {
   listed = λ p. h.listed p ∙ sym (tally-more p 0 places (holding 0 b) refl);
   room = omega (arith, room, length-append places (holding 0 b ∷ []));
@@ -118,10 +125,13 @@ well-added places free capacity more b room h = record {
 }
 
 -- where a place holds a binding, there is room for one free place more
-pub room-left : (places : List Place) (free : List ℕ) (capacity i g : ℕ) (b : AnyBinding) → slice_get places i ≡ Some (holding g b) → IsWell places free capacity → length free < capacity
-room-left places free capacity i g b at h = omega (arith, count-all free, h.listed (λ _. true), h.room, tally-fewer (λ _. true) 0 i places (holding g b) at refl)
+pub room-left : (places : List Place) (free : List ℕ) (capacity i g : ℕ) (b : AnyBinding) → slice_get places i ≡ Some (holding g b)
+    → IsWell places free capacity → length free < capacity
+room-left places free capacity i g b at h =
+    omega (arith, count-all free, h.listed (λ _. true), h.room, tally-fewer (λ _. true) 0 i places (holding g b) at refl)
 
-pub well-emptied : (places : List Place) (free : List ℕ) (capacity more i g : ℕ) (b : AnyBinding) → capacity ≤ more → slice_get places i ≡ Some (holding g b) → IsWell places free capacity
+pub well-emptied : (places : List Place) (free : List ℕ) (capacity more i g : ℕ) (b : AnyBinding) → capacity ≤ more
+    → slice_get places i ≡ Some (holding g b) → IsWell places free capacity
     → IsWell (slice_set places i (emptied (g + 1))) (released free i (g + 1)) more
 well-emptied places free capacity more i g b grows at h = record {
   listed = λ p. listed p (nat_lt (g + 1) (2 ^ 64 - 1)) refl;
@@ -129,7 +139,8 @@ well-emptied places free capacity more i g b grows at h = record {
   young = young-set places i (emptied (g + 1)) (slice_get_within places i (holding g b) at) tt h.young;
 }
   where
-    listed : (p : ℕ → Bool) (t : Bool) → nat_lt (g + 1) (2 ^ 64 - 1) ≡ t → count_by p (cond t (free ++ i ∷ []) free) ≡ tally p 0 (slice_set places i (emptied (g + 1)))
+    listed : (p : ℕ → Bool) (t : Bool) → nat_lt (g + 1) (2 ^ 64 - 1) ≡ t
+        → count_by p (cond t (free ++ i ∷ []) free) ≡ tally p 0 (slice_set places i (emptied (g + 1)))
     listed p true e =
         let set = tally-set p 0 i i places (holding g b) (emptied (g + 1)) (omega arith) at in
         let here : weight p i (emptied (g + 1)) ≡ cond (p i) 1 0 = ap (λ (t : Bool). cond t (cond (p i) 1 0) 0) e in

@@ -20,12 +20,14 @@ not_reserved space label s h = elim (cases_Bool (nat_lt label 16)) [
   | inr e ↦ e
 ]
 
-pub set-label : (space : Space) (label : ℕ) (old new : LabelState) → state_of space label ≡ Some old → state_of (set_label space label new) label ≡ Some new
+pub set-label : (space : Space) (label : ℕ) (old new : LabelState) → state_of space label ≡ Some old
+    → state_of (set_label space label new) label ≡ Some new
 set-label space label old new h =
     in_space (set_label space label new) label (not_reserved space label old h)
     ∙ get-set_same space.states (label - 16) new (slice_get_within space.states (label - 16) old (label-at space label old h))
 
-pub set-others : (space : Space) (label other : ℕ) (old new : LabelState) → state_of space label ≡ Some old → other ≢ label → state_of (set_label space label new) other ≡ state_of space other
+pub set-others : (space : Space) (label other : ℕ) (old new : LabelState) → state_of space label ≡ Some old → other ≢ label
+    → state_of (set_label space label new) other ≡ state_of space other
 set-others space label other old new h apart = elim (cases_Bool (nat_lt other 16)) [
   | inl e ↦ reserved (set_label space label new) other e ∙ sym (reserved space other e)
   | inr e ↦
@@ -43,7 +45,8 @@ get-map now (s ∷ ss) (suc k) = get-map now ss k
 pub woken-label : (space : Space) (label now : ℕ) → state_of (wake_all now space) label ≡ option_map (woken now) (state_of space label)
 woken-label space label now = elim (cases_Bool (nat_lt label 16)) [
   | inl e ↦ reserved (wake_all now space) label e ∙ sym (ap (option_map (woken now)) (reserved space label e))
-  | inr e ↦ in_space (wake_all now space) label e ∙ (get-map now space.states (label - 16) ∙ sym (ap (option_map (woken now)) (in_space space label e)))
+  | inr e ↦ in_space (wake_all now space) label e
+      ∙ (get-map now space.states (label - 16) ∙ sym (ap (option_map (woken now)) (in_space space label e)))
 ]
 
 -- ---- labels that are owned
@@ -59,11 +62,14 @@ owned_apart space label taken h least e =
     absurd cc
 
 -- a label that is owned stays so where another one changes
-pub owned_still : (space : Space) (label other : ℕ) (old new : LabelState) → IsOwned space label → state_of space other ≡ Some old → label ≢ other → IsOwned (set_label space other new) label
+pub owned_still : (space : Space) (label other : ℕ) (old new : LabelState) → IsOwned space label → state_of space other ≡ Some old → label ≢ other
+    → IsOwned (set_label space other new) label
 owned_still space label other old new h at apart = set-others space other label old new at apart ∙ h
 
 -- a label that is owned stays so where another one is taken and given back
-pub owned_behind : (space : Space) (label taken : ℕ) → IsOwned space label → IsLeastFree space taken → IsOwned (set_label (set_label space taken Owned) taken Free) label
+pub owned_behind : (space : Space) (label taken : ℕ) → IsOwned space label → IsLeastFree space taken
+    → IsOwned (set_label (set_label space taken Owned) taken Free) label
 owned_behind space label taken h least =
     let apart = owned_apart space label taken h least in
-    owned_still (set_label space taken Owned) label taken Owned Free (owned_still space label taken Free Owned h least.free apart) (owned_taken space taken least) apart
+    owned_still (set_label space taken Owned) label taken Owned Free (owned_still space label taken Free Owned h least.free apart)
+    (owned_taken space taken least) apart

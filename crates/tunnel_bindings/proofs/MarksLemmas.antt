@@ -12,11 +12,15 @@ use Rattle.tunnel_bindings.specs.Marks.{is_marked, marked, unmarked, is_used, Is
 
 pub marked_same : (ws : List ℕ) (n : ℕ) → n < 64 * length ws → is_marked (marked ws n) n ≡ true
 marked_same ws n within =
-    ap (λ b. nat_eq b 1) (ap (λ w. bit_at w (n % 64)) (get_or-set_same ws (n / 64) (bit_or (slice_index ws (n / 64)) (1 * 2 ^ (n % 64) % 2 ^ 64)) 0 (omega arith)) ∙ bit_at_set_same w64 (slice_index ws (n / 64)) (n % 64) (omega arith))
+    ap (λ b. nat_eq b 1) (ap (λ w. bit_at w (n % 64))
+    (get_or-set_same ws (n / 64) (bit_or (slice_index ws (n / 64)) (1 * 2 ^ (n % 64) % 2 ^ 64)) 0 (omega arith))
+    ∙ bit_at_set_same w64 (slice_index ws (n / 64)) (n % 64) (omega arith))
 
 pub unmarked_same : (ws : List ℕ) (n : ℕ) → n < 64 * length ws → is_marked (unmarked ws n) n ≡ false
 unmarked_same ws n within =
-    ap (λ b. nat_eq b 1) (ap (λ w. bit_at w (n % 64)) (get_or-set_same ws (n / 64) (bit_and (slice_index ws (n / 64)) (bit_not w64 (1 * 2 ^ (n % 64) % 2 ^ 64))) 0 (omega arith)) ∙ bit_at_clear_same w64 (slice_index ws (n / 64)) (n % 64) (omega arith))
+    ap (λ b. nat_eq b 1) (ap (λ w. bit_at w (n % 64))
+    (get_or-set_same ws (n / 64) (bit_and (slice_index ws (n / 64)) (bit_not w64 (1 * 2 ^ (n % 64) % 2 ^ 64))) 0 (omega arith))
+    ∙ bit_at_clear_same w64 (slice_index ws (n / 64)) (n % 64) (omega arith))
 
 -- a word that changes at the bit of n alone
 word_other : (ws : List ℕ) (n : ℕ) (x : ℕ) → n < 64 * length ws → ((i : ℕ) → i < 64 → i ≢ n % 64 → bit_at x i ≡ bit_at (slice_index ws (n / 64)) i)
@@ -73,7 +77,8 @@ used-insert ws us n within h =
       ];
     }
 
-pub used-remove : (ws us : List ℕ) (n : ℕ) → n < 64 * length ws → slice_index (unmarked ws n) (n / 64) ≡ 0 → AreUsed ws us → AreUsed (unmarked ws n) (unmarked us (n / 64))
+pub used-remove : (ws us : List ℕ) (n : ℕ) → n < 64 * length ws → slice_index (unmarked ws n) (n / 64) ≡ 0 → AreUsed ws us
+    → AreUsed (unmarked ws n) (unmarked us (n / 64))
 used-remove ws us n within gone h =
     let len = length-set ws (n / 64) (bit_and (slice_index ws (n / 64)) (bit_not w64 (1 * 2 ^ (n % 64) % 2 ^ 64))) in
     let len' = length-set us (n / 64 / 64) (bit_and (slice_index us (n / 64 / 64)) (bit_not w64 (1 * 2 ^ (n / 64 % 64) % 2 ^ 64))) in
@@ -95,7 +100,9 @@ pub used-kept : (ws us : List ℕ) (n : ℕ) → n < 64 * length ws → slice_in
 used-kept ws us n within left h =
     let now = bit_and (slice_index ws (n / 64)) (bit_not w64 (1 * 2 ^ (n % 64) % 2 ^ 64)) in
     let len = length-set ws (n / 64) now in
-    let before : slice_index ws (n / 64) ≢ 0 = λ e. left (get_or-set_same ws (n / 64) now 0 (omega arith) ∙ (ap (λ x. bit_and x (bit_not w64 (1 * 2 ^ (n % 64) % 2 ^ 64))) e ∙ and_zero_l (bit_not w64 (1 * 2 ^ (n % 64) % 2 ^ 64)))) in
+    let before : slice_index ws (n / 64) ≢ 0 =
+    λ e. left (get_or-set_same ws (n / 64) now 0 (omega arith)
+    ∙ (ap (λ x. bit_and x (bit_not w64 (1 * 2 ^ (n % 64) % 2 ^ 64))) e ∙ and_zero_l (bit_not w64 (1 * 2 ^ (n % 64) % 2 ^ 64)))) in
     record {
       few = omega (arith, h.few, len);
       long = omega (arith, h.long, len);
@@ -117,12 +124,14 @@ first_within ws w x h read fits =
     let place : (64 * w + trailing_zeros w64 x) / 64 ≡ w = omega (arith, below64) in
     let bit : (64 * w + trailing_zeros w64 x) % 64 ≡ trailing_zeros w64 x = omega (arith, below64) in
     record {
-      here = ap (λ b. nat_eq b 1) (ap (λ p. bit_at (slice_index ws p) ((64 * w + trailing_zeros w64 x) % 64)) place ∙ (ap (λ b. bit_at (slice_index ws w) b) bit ∙ (ap (λ y. bit_at y (trailing_zeros w64 x)) (sym read) ∙ low.1)));
+      here = ap (λ b. nat_eq b 1) (ap (λ p. bit_at (slice_index ws p) ((64 * w + trailing_zeros w64 x) % 64)) place
+          ∙ (ap (λ b. bit_at (slice_index ws w) b) bit ∙ (ap (λ y. bit_at y (trailing_zeros w64 x)) (sym read) ∙ low.1)));
       below = λ k less. elim (cases_lt (k / 64) w) [
         | inl e ↦ unused_by ws k (h.below (k / 64) e)
         | inr e ↦
             let at : k / 64 ≡ w = omega (arith, e, less, below64) in
-            ap (λ b. nat_eq b 1) (ap (λ p. bit_at (slice_index ws p) (k % 64)) at ∙ (ap (λ y. bit_at y (k % 64)) (sym read) ∙ low.2 (k % 64) (omega (arith, at, less))))
+            ap (λ b. nat_eq b 1) (ap (λ p. bit_at (slice_index ws p) (k % 64)) at
+            ∙ (ap (λ y. bit_at y (k % 64)) (sym read) ∙ low.2 (k % 64) (omega (arith, at, less))))
       ];
     }
 

@@ -24,7 +24,8 @@ get-set_other (x ∷ xs) (suc i) (suc k) y apart = get-set_other xs i k y (λ e.
 
 -- ---- marks of the free numbers
 
-pub set-free : (states : List LabelState) (marks : List ℕ) (n : ℕ) → n < length states → AreMarked states marks → AreMarked (slice_set states n Free) (marked marks n)
+pub set-free : (states : List LabelState) (marks : List ℕ) (n : ℕ) → n < length states → AreMarked states marks
+    → AreMarked (slice_set states n Free) (marked marks n)
 set-free states marks n within h =
     let fits : n < 64 * length marks = omega (arith, within, h.room) in
     record {
@@ -35,7 +36,8 @@ set-free states marks n within h =
       ];
     }
 
-pub set-other : (states : List LabelState) (marks : List ℕ) (n : ℕ) (s : LabelState) → is_free (Some s) ≡ false → n < length states → AreMarked states marks → AreMarked (slice_set states n s) (unmarked marks n)
+pub set-other : (states : List LabelState) (marks : List ℕ) (n : ℕ) (s : LabelState) → is_free (Some s) ≡ false → n < length states
+    → AreMarked states marks → AreMarked (slice_set states n s) (unmarked marks n)
 set-other states marks n s kind within h =
     let fits : n < 64 * length marks = omega (arith, within, h.room) in
     record {
@@ -73,7 +75,8 @@ none-free states marks h none n = is_not _ (sym (h.same n) ∙ none n)
 
 -- ---- so many free numbers
 
-pub more_marked : (marks : List ℕ) (n : ℕ) → n < 64 * length marks → ((k : ℕ) → is_marked marks k ≡ nat_lt k n) → (k : ℕ) → is_marked (marked marks n) k ≡ nat_lt k (n + 1)
+pub more_marked : (marks : List ℕ) (n : ℕ) → n < 64 * length marks → ((k : ℕ) → is_marked marks k ≡ nat_lt k n) → (k : ℕ)
+    → is_marked (marked marks n) k ≡ nat_lt k (n + 1)
 more_marked marks n fits h k = elim (cases_eq k n) [
   | inl e ↦ rw e (marked_same marks n fits ∙ sym (lt-ltb n (n + 1) (omega arith)))
   | inr d ↦ marked_other marks n fits k d ∙ (h k ∙ elim (cases_lt k n) [
@@ -93,7 +96,8 @@ free_in (suc m) (suc k) = same ∙ free_in m k
       | inr more ↦ le-ltb (suc k) (suc m) (omega (arith, more)) ∙ sym (le-ltb k m more)
     ]
 
-pub all-marked : (m : ℕ) (marks : List ℕ) → m ≤ 64 * length marks → length (replicate m Free) ≡ m → ((k : ℕ) → is_marked marks k ≡ nat_lt k m) → AreMarked (replicate m Free) marks
+pub all-marked : (m : ℕ) (marks : List ℕ) → m ≤ 64 * length marks → length (replicate m Free) ≡ m → ((k : ℕ) → is_marked marks k ≡ nat_lt k m)
+    → AreMarked (replicate m Free) marks
 all-marked m marks fits long h = record {
   room = omega (arith, fits, long);
   same = λ k. h k ∙ free_in m k;

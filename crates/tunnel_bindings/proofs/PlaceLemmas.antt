@@ -68,31 +68,39 @@ kept_other g place apart = ap (λ (b : Bool). cond b place.binding None) (ne_eqb
 pub kept_same : (g : ℕ) (place : Place) → place.generation ≡ g → kept_in g (Some place) ≡ place.binding
 kept_same g place e = ap (λ (b : Bool). cond b place.binding None) (eq-eqb place.generation g e)
 
-with-other : (m : FinMap name_cmp AnyBinding) (name q : BindingName) (o : Option AnyBinding) → q ≢ name → maps.get (with_binding m name o) q ≡ maps.get m q
+with-other : (m : FinMap name_cmp AnyBinding) (name q : BindingName) (o : Option AnyBinding) → q ≢ name
+    → maps.get (with_binding m name o) q ≡ maps.get m q
 with-other m name q None apart = refl
-with-other m name q (Some b) apart = maps.get-insert name_cmp_total m name b q ∙ ap (λ (t : Bool). cond t (Some b) (maps.get m q)) (untied q name apart)
+with-other m name q (Some b) apart =
+    maps.get-insert name_cmp_total m name b q ∙ ap (λ (t : Bool). cond t (Some b) (maps.get m q)) (untied q name apart)
 
-with-same : (m : FinMap name_cmp AnyBinding) (name q : BindingName) (o : Option AnyBinding) → q ≡ name → maps.get m q ≡ None → maps.get (with_binding m name o) q ≡ o
+with-same : (m : FinMap name_cmp AnyBinding) (name q : BindingName) (o : Option AnyBinding) → q ≡ name → maps.get m q ≡ None
+    → maps.get (with_binding m name o) q ≡ o
 with-same m name q None e none = none
 with-same m name q (Some b) e none = maps.get-insert name_cmp_total m name b q ∙ ap (λ (t : Bool). cond t (Some b) (maps.get m q)) (tied q name e)
 
 below : (n : ℕ) (places : List Place) (q : BindingName) → q.index < n → maps.get (kept_from n places) q ≡ None
 below n [] q less = maps.get-empty name_cmp q
 below n (place ∷ places) q less =
-    with-other (kept_from (suc n) places) (name_at n place.generation) q place.binding (λ e. let i = ap (λ (name : BindingName). name.index) e in absurd (omega (arith, i, less)))
+    with-other (kept_from (suc n) places) (name_at n place.generation) q place.binding
+    (λ e. let i = ap (λ (name : BindingName). name.index) e in absurd (omega (arith, i, less)))
     ∙ below (suc n) places q (omega (arith, less))
 
-at_from : (n : ℕ) (places : List Place) (q : BindingName) (k : ℕ) → q.index ≡ n + k → maps.get (kept_from n places) q ≡ kept_in q.generation (slice_get places k)
+at_from : (n : ℕ) (places : List Place) (q : BindingName) (k : ℕ) → q.index ≡ n + k
+    → maps.get (kept_from n places) q ≡ kept_in q.generation (slice_get places k)
 at_from n [] q k e = maps.get-empty name_cmp q
 at_from n (place ∷ places) q zero e =
     let none = below (suc n) places q (omega (arith, e)) in
     let here : q.index ≡ n = omega (arith, e) in
     elim (cases_eq q.generation place.generation) [
-      | inl g ↦ with-same (kept_from (suc n) places) (name_at n place.generation) q place.binding (same_name q (name_at n place.generation) here g) none ∙ sym (kept_same q.generation place (sym g))
-      | inr d ↦ with-other (kept_from (suc n) places) (name_at n place.generation) q place.binding (λ s. d (ap (λ (name : BindingName). name.generation) s)) ∙ (none ∙ sym (kept_other q.generation place d))
+      | inl g ↦ with-same (kept_from (suc n) places) (name_at n place.generation) q place.binding (same_name q (name_at n place.generation) here g)
+          none ∙ sym (kept_same q.generation place (sym g))
+      | inr d ↦ with-other (kept_from (suc n) places) (name_at n place.generation) q place.binding
+          (λ s. d (ap (λ (name : BindingName). name.generation) s)) ∙ (none ∙ sym (kept_other q.generation place d))
     ]
 at_from n (place ∷ places) q (suc k) e =
-    with-other (kept_from (suc n) places) (name_at n place.generation) q place.binding (λ s. let i = ap (λ (name : BindingName). name.index) s in absurd (omega (arith, i, e)))
+    with-other (kept_from (suc n) places) (name_at n place.generation) q place.binding
+    (λ s. let i = ap (λ (name : BindingName). name.index) s in absurd (omega (arith, i, e)))
     ∙ at_from (suc n) places q k (omega (arith, e))
 
 -- what the map has under a name
@@ -112,7 +120,8 @@ each_name : (old new : List Place) (name : BindingName) (value : Option AnyBindi
     → (q : BindingName) → kept_at new q ≡ cond (eq_by_cmp name_cmp q name) value (maps.get (kept_from 0 old) q)
 each_name old new name value h q = elim (cases_eq q.index name.index) [
   | inl i ↦ elim (cases_eq q.generation name.generation) [
-    | inl g ↦ ap (kept_at new) (same_name q name i g) ∙ (h.here ∙ sym (ap (λ (t : Bool). cond t value (maps.get (kept_from 0 old) q)) (tied q name (same_name q name i g))))
+    | inl g ↦ ap (kept_at new) (same_name q name i g)
+        ∙ (h.here ∙ sym (ap (λ (t : Bool). cond t value (maps.get (kept_from 0 old) q)) (tied q name (same_name q name i g))))
     | inr d ↦
         ap (λ (k : ℕ). kept_in q.generation (slice_get new k)) i ∙ (h.now q.generation d
         ∙ sym (ap (λ (t : Bool). cond t value (maps.get (kept_from 0 old) q)) (untied q name (λ e. d (ap (λ (n : BindingName). n.generation) e)))
@@ -120,20 +129,29 @@ each_name old new name value h q = elim (cases_eq q.index name.index) [
   ]
   | inr d ↦
       ap (kept_in q.generation) (h.others q.index d)
-      ∙ sym (ap (λ (t : Bool). cond t value (maps.get (kept_from 0 old) q)) (untied q name (λ e. d (ap (λ (n : BindingName). n.index) e))) ∙ tells old q)
+      ∙ sym (ap (λ (t : Bool). cond t value (maps.get (kept_from 0 old) q)) (untied q name (λ e. d (ap (λ (n : BindingName). n.index) e)))
+      ∙ tells old q)
 ]
 
-pub put : (old new : List Place) (name : BindingName) (b : AnyBinding) → Changes old new name (Some b) → kept_from 0 new ≡ maps.insert (kept_from 0 old) name b
-put old new name b h = maps.same_map name_cmp_total name_cmp_exact _ _ (λ q. tells new q ∙ (each_name old new name (Some b) h q ∙ sym (maps.get-insert name_cmp_total (kept_from 0 old) name b q)))
+pub put : (old new : List Place) (name : BindingName) (b : AnyBinding) → Changes old new name (Some b)
+    → kept_from 0 new ≡ maps.insert (kept_from 0 old) name b
+put old new name b h =
+    maps.same_map name_cmp_total name_cmp_exact _ _
+    (λ q. tells new q ∙ (each_name old new name (Some b) h q ∙ sym (maps.get-insert name_cmp_total (kept_from 0 old) name b q)))
 
 pub removed : (old new : List Place) (name : BindingName) → Changes old new name None → kept_from 0 new ≡ maps.remove (kept_from 0 old) name
-removed old new name h = maps.same_map name_cmp_total name_cmp_exact _ _ (λ q. tells new q ∙ (each_name old new name None h q ∙ sym (maps.get-remove name_cmp_total (kept_from 0 old) name q)))
+removed old new name h =
+    maps.same_map name_cmp_total name_cmp_exact _ _
+    (λ q. tells new q ∙ (each_name old new name None h q ∙ sym (maps.get-remove name_cmp_total (kept_from 0 old) name q)))
 
 pub none_removed : (kept : FinMap name_cmp AnyBinding) (name : BindingName) → maps.get kept name ≡ None → kept ≡ maps.remove kept name
-none_removed kept name none = maps.same_map name_cmp_total name_cmp_exact _ _ (λ q. sym (maps.get-remove name_cmp_total kept name q ∙ elim (cases_Bool (eq_by_cmp name_cmp q name)) [
-  | inl e ↦ ap (λ (t : Bool). cond t None (maps.get kept q)) e ∙ sym (ap (maps.get kept) (name_cmp_exact q name ((Equal-is (name_cmp q name)).0 e)) ∙ none)
-  | inr e ↦ ap (λ (t : Bool). cond t None (maps.get kept q)) e
-]))
+none_removed kept name none =
+    maps.same_map name_cmp_total name_cmp_exact _ _
+    (λ q. sym (maps.get-remove name_cmp_total kept name q ∙ elim (cases_Bool (eq_by_cmp name_cmp q name)) [
+      | inl e ↦ ap (λ (t : Bool). cond t None (maps.get kept q)) e
+          ∙ sym (ap (maps.get kept) (name_cmp_exact q name ((Equal-is (name_cmp q name)).0 e)) ∙ none)
+      | inr e ↦ ap (λ (t : Bool). cond t None (maps.get kept q)) e
+    ]))
 
 -- ---- the names given
 
@@ -155,35 +173,43 @@ pub record Gives (old new : List Place) (name : BindingName) : Type 0 where
 pub not_given : (old new : List Place) (name : BindingName) → Gives old new name → WasGiven (named old) name → ⊥
 not_given old new name h given = let is = given-get old name.index ∙ h.was in absurd (omega (arith, given, is))
 
-pub one_given : (old new : List Place) (name : BindingName) → Gives old new name → (other : BindingName) → WasGiven (named new) other ↔ ((other ≡ name) ⊎ WasGiven (named old) other)
+pub one_given : (old new : List Place) (name : BindingName) → Gives old new name → (other : BindingName)
+    → WasGiven (named new) other ↔ ((other ≡ name) ⊎ WasGiven (named old) other)
 one_given old new name h other = (there, back)
   where
     there : WasGiven (named new) other → (other ≡ name) ⊎ WasGiven (named old) other
     there given = elim (cases_eq other.index name.index) [
       | inl i ↦
-          let is : slice_index (map given_of new) other.index ≡ name.generation + 1 = ap (slice_index (map given_of new)) i ∙ (given-get new name.index ∙ h.now) in
-          let before : slice_index (map given_of old) other.index ≡ name.generation = ap (slice_index (map given_of old)) i ∙ (given-get old name.index ∙ h.was) in
+          let is : slice_index (map given_of new) other.index ≡ name.generation + 1 =
+          ap (slice_index (map given_of new)) i ∙ (given-get new name.index ∙ h.now) in
+          let before : slice_index (map given_of old) other.index ≡ name.generation =
+          ap (slice_index (map given_of old)) i ∙ (given-get old name.index ∙ h.was) in
           elim (cases_eq other.generation name.generation) [
             | inl g ↦ inl (same_name other name i g)
             | inr d ↦ inr (omega (arith, given, is, before, d))
           ]
       | inr d ↦
-          let same : slice_index (map given_of new) other.index ≡ slice_index (map given_of old) other.index = given-get new other.index ∙ (ap given_in (h.others other.index d) ∙ sym (given-get old other.index)) in
+          let same : slice_index (map given_of new) other.index ≡ slice_index (map given_of old) other.index =
+          given-get new other.index ∙ (ap given_in (h.others other.index d) ∙ sym (given-get old other.index)) in
           inr (omega (arith, given, same))
     ]
 
     back : (other ≡ name) ⊎ WasGiven (named old) other → WasGiven (named new) other
     back (inl e) =
-        let is : slice_index (map given_of new) other.index ≡ name.generation + 1 = ap (λ (n : BindingName). slice_index (map given_of new) n.index) e ∙ (given-get new name.index ∙ h.now) in
+        let is : slice_index (map given_of new) other.index ≡ name.generation + 1 =
+        ap (λ (n : BindingName). slice_index (map given_of new) n.index) e ∙ (given-get new name.index ∙ h.now) in
         let g = ap (λ (n : BindingName). n.generation) e in
         omega (arith, is, g)
     back (inr given) = elim (cases_eq other.index name.index) [
       | inl i ↦
-          let is : slice_index (map given_of new) other.index ≡ name.generation + 1 = ap (slice_index (map given_of new)) i ∙ (given-get new name.index ∙ h.now) in
-          let before : slice_index (map given_of old) other.index ≡ name.generation = ap (slice_index (map given_of old)) i ∙ (given-get old name.index ∙ h.was) in
+          let is : slice_index (map given_of new) other.index ≡ name.generation + 1 =
+          ap (slice_index (map given_of new)) i ∙ (given-get new name.index ∙ h.now) in
+          let before : slice_index (map given_of old) other.index ≡ name.generation =
+          ap (slice_index (map given_of old)) i ∙ (given-get old name.index ∙ h.was) in
           omega (arith, given, is, before)
       | inr d ↦
-          let same : slice_index (map given_of new) other.index ≡ slice_index (map given_of old) other.index = given-get new other.index ∙ (ap given_in (h.others other.index d) ∙ sym (given-get old other.index)) in
+          let same : slice_index (map given_of new) other.index ≡ slice_index (map given_of old) other.index =
+          given-get new other.index ∙ (ap given_in (h.others other.index d) ∙ sym (given-get old other.index)) in
           omega (arith, given, same)
     ]
 

@@ -68,16 +68,19 @@ count-all : (rs : List Rest) → count_by (λ _. true) rs ≡ length rs
 count-all [] = refl
 count-all (r ∷ rs) = rw (count-cons (λ _. true) r rs) (omega (arith, count-all rs))
 
-pub fewer-resting : (states : List LabelState) (rests : List Rest) (i : ℕ) → AreResting states rests → slice_get states i ≡ Some Owned → length rests < length states
+pub fewer-resting : (states : List LabelState) (rests : List Rest) (i : ℕ) → AreResting states rests → slice_get states i ≡ Some Owned
+    → length rests < length states
 fewer-resting states rests i h e = omega (arith, count-all rests, h (λ _. true), tally-fewer (λ _. true) 0 i states e)
 
 -- ---- numbers within
 
-tally-none : (p : Rest → Bool) (n : ℕ) (states : List LabelState) → ((k u : ℕ) → k < n + length states → p (record { number = k; until = u }) ≡ false) → tally p n states ≡ 0
+tally-none : (p : Rest → Bool) (n : ℕ) (states : List LabelState) → ((k u : ℕ) → k < n + length states → p (record { number = k; until = u }) ≡ false)
+    → tally p n states ≡ 0
 tally-none p n [] h = refl
 tally-none p n (Free ∷ ss) h = omega (arith, tally-none p (suc n) ss (λ k u less. h k u (omega (arith, less))))
 tally-none p n (Owned ∷ ss) h = omega (arith, tally-none p (suc n) ss (λ k u less. h k u (omega (arith, less))))
-tally-none p n (Resting until ∷ ss) h = rw (h n until (omega arith)) (omega (arith, tally-none p (suc n) ss (λ k u less. h k u (omega (arith, less)))))
+tally-none p n (Resting until ∷ ss) h =
+    rw (h n until (omega arith)) (omega (arith, tally-none p (suc n) ss (λ k u less. h k u (omega (arith, less)))))
 
 all-within : (n : ℕ) (rs : List Rest) → count_by (λ r. nat_le n r.number) rs ≡ 0 → All (λ r. r.number < n) rs
 all-within n [] h = All-nil _
@@ -89,13 +92,17 @@ all-within n (r ∷ rs) h =
     ]
 
 pub rests-within : (states : List LabelState) (rests : List Rest) → AreResting states rests → All (λ r. r.number < length states) rests
-rests-within states rests h = all-within (length states) rests (h (λ r. nat_le (length states) r.number) ∙ tally-none (λ r. nat_le (length states) r.number) 0 states (λ k u less. lt-leb (length states) k (omega (arith, less))))
+rests-within states rests h =
+    all-within (length states) rests (h (λ r. nat_le (length states) r.number)
+    ∙ tally-none (λ r. nat_le (length states) r.number) 0 states (λ k u less. lt-leb (length states) k (omega (arith, less))))
 
 -- ---- what is due
 
 pub due-tally : (now n : ℕ) (states : List LabelState) → tally (is_past now) n states ≡ count_by (is_due now) states
 due-tally now n [] = refl
-due-tally now n (s ∷ ss) = sym (sum_by-cons (λ x. cond (is_due now x) 1 0) s ss ∙ (ap (λ m. cond (is_due now s) 1 0 + m) (sym (due-tally now (suc n) ss)) ∙ ap (λ m. m + tally (is_past now) (suc n) ss) (one s)))
+due-tally now n (s ∷ ss) =
+    sym (sum_by-cons (λ x. cond (is_due now x) 1 0) s ss
+    ∙ (ap (λ m. cond (is_due now s) 1 0 + m) (sym (due-tally now (suc n) ss)) ∙ ap (λ m. m + tally (is_past now) (suc n) ss) (one s)))
   where
     one : (s : LabelState) → cond (is_due now s) 1 0 ≡ weight (is_past now) n s
     one Free = refl
@@ -104,7 +111,8 @@ due-tally now n (s ∷ ss) = sym (sum_by-cons (λ x. cond (is_due now x) 1 0) s 
 
 -- ---- the numbers behind a wake
 
-tally-woken : (p : Rest → Bool) (now n : ℕ) (states : List LabelState) → tally p n (map (woken now) states) ≡ tally (λ r. not (is_past now r) && p r) n states
+tally-woken : (p : Rest → Bool) (now n : ℕ) (states : List LabelState)
+    → tally p n (map (woken now) states) ≡ tally (λ r. not (is_past now r) && p r) n states
 tally-woken p now n [] = refl
 tally-woken p now n (Free ∷ ss) = ap (λ m. 0 + m) (tally-woken p now (suc n) ss)
 tally-woken p now n (Owned ∷ ss) = ap (λ m. 0 + m) (tally-woken p now (suc n) ss)
@@ -115,14 +123,16 @@ tally-woken p now n (Resting until ∷ ss) =
       | inr e ↦ rw e (ap (λ m. cond (p (record { number = n; until = until })) 1 0 + m) rest)
     ]
 
-pub woken-resting : (now : ℕ) (states : List LabelState) (rests : List Rest) → AreResting states rests → AreResting (map (woken now) states) (filter (λ r. not (is_past now r)) rests)
+pub woken-resting : (now : ℕ) (states : List LabelState) (rests : List Rest) → AreResting states rests
+    → AreResting (map (woken now) states) (filter (λ r. not (is_past now r)) rests)
 woken-resting now states rests h p = count-filter p (λ r. not (is_past now r)) rests ∙ (h _ ∙ sym (tally-woken p now 0 states))
 
 -- whether the rest is that of number k, and over
 abbrev past_at : ℕ → ℕ → Rest → Bool
 past_at now k r = nat_eq k r.number && is_past now r
 
-freed-other : (now k : ℕ) (rests : List Rest) (states : List LabelState) → count_by (past_at now k) rests ≡ 0 → slice_get (freed now rests states) k ≡ slice_get states k
+freed-other : (now k : ℕ) (rests : List Rest) (states : List LabelState) → count_by (past_at now k) rests ≡ 0
+    → slice_get (freed now rests states) k ≡ slice_get states k
 freed-other now k [] states h = refl
 freed-other now k (r ∷ rs) states h =
     let sum : cond (past_at now k r) 1 0 + count_by (past_at now k) rs ≡ 0 = sym (count-cons (past_at now k) r rs) ∙ h in
@@ -136,7 +146,8 @@ freed-other now k (r ∷ rs) states h =
     ]
 
 -- a number that is free stays free
-freed-free : (now k : ℕ) (rests : List Rest) (states : List LabelState) → slice_get states k ≡ Some Free → slice_get (freed now rests states) k ≡ Some Free
+freed-free : (now k : ℕ) (rests : List Rest) (states : List LabelState) → slice_get states k ≡ Some Free
+    → slice_get (freed now rests states) k ≡ Some Free
 freed-free now k [] states h = h
 freed-free now k (r ∷ rs) states h =
     let within = slice_get_within states k Free h in
@@ -149,16 +160,19 @@ freed-free now k (r ∷ rs) states h =
       | inr e ↦ rw e (freed-free now k rs states h)
     ]
 
-freed-here : (now k : ℕ) (rests : List Rest) (states : List LabelState) → k < length states → 0 < count_by (past_at now k) rests → slice_get (freed now rests states) k ≡ Some Free
+freed-here : (now k : ℕ) (rests : List Rest) (states : List LabelState) → k < length states → 0 < count_by (past_at now k) rests
+    → slice_get (freed now rests states) k ≡ Some Free
 freed-here now k [] states within h = absurd (omega (arith, h))
 freed-here now k (r ∷ rs) states within h =
     let sum : 0 < cond (past_at now k r) 1 0 + count_by (past_at now k) rs = subst (λ m. 0 < m) (count-cons (past_at now k) r rs) h in
-    let later : past_at now k r ≡ false → 0 < count_by (past_at now k) rs = λ f. let s = subst (λ b. 0 < cond b 1 0 + count_by (past_at now k) rs) f sum in omega (arith, s) in
+    let later : past_at now k r ≡ false → 0 < count_by (past_at now k) rs = λ f. let s =
+    subst (λ b. 0 < cond b 1 0 + count_by (past_at now k) rs) f sum in omega (arith, s) in
     elim (cases_Bool (is_past now r)) [
       | inr e ↦ rw e (freed-here now k rs states within (later (and_right (nat_eq k r.number) (is_past now r) e)))
       | inl e ↦ rw e (elim (cases_eq k r.number) [
         | inl same ↦ freed-free now k rs (slice_set states r.number Free) (rw (← same) (get-set_same states k Free within))
-        | inr d ↦ freed-here now k rs (slice_set states r.number Free) (omega (arith, within, length-set states r.number Free)) (later (and_left (nat_eq k r.number) (is_past now r) (ne_eqb k r.number d)))
+        | inr d ↦ freed-here now k rs (slice_set states r.number Free) (omega (arith, within, length-set states r.number Free))
+            (later (and_left (nat_eq k r.number) (is_past now r) (ne_eqb k r.number d)))
       ])
     ]
 
@@ -173,7 +187,8 @@ tally-before : (now k n : ℕ) (states : List LabelState) → k < n → tally (p
 tally-before now k n [] less = refl
 tally-before now k n (Free ∷ ss) less = omega (arith, tally-before now k (suc n) ss (omega (arith, less)))
 tally-before now k n (Owned ∷ ss) less = omega (arith, tally-before now k (suc n) ss (omega (arith, less)))
-tally-before now k n (Resting until ∷ ss) less = rw (ne_eqb k n (λ e. omega (arith, e, less))) (omega (arith, tally-before now k (suc n) ss (omega (arith, less))))
+tally-before now k n (Resting until ∷ ss) less =
+    rw (ne_eqb k n (λ e. omega (arith, e, less))) (omega (arith, tally-before now k (suc n) ss (omega (arith, less))))
 
 tally-at : (now k n i : ℕ) (states : List LabelState) → k ≡ n + i → tally (past_at now k) n states ≡ past_weight now (slice_get states i)
 tally-at now k n i [] at = refl
@@ -182,7 +197,8 @@ tally-at now k n zero (Owned ∷ ss) at = omega (arith, tally-before now k (suc 
 tally-at now k n zero (Resting until ∷ ss) at = rw (eq-eqb k n (omega (arith, at)), tally-before now k (suc n) ss (omega (arith, at))) (omega arith)
 tally-at now k n (suc i) (Free ∷ ss) at = omega (arith, tally-at now k (suc n) i ss (omega (arith, at)))
 tally-at now k n (suc i) (Owned ∷ ss) at = omega (arith, tally-at now k (suc n) i ss (omega (arith, at)))
-tally-at now k n (suc i) (Resting until ∷ ss) at = rw (ne_eqb k n (λ e. omega (arith, e, at))) (omega (arith, tally-at now k (suc n) i ss (omega (arith, at))))
+tally-at now k n (suc i) (Resting until ∷ ss) at =
+    rw (ne_eqb k n (λ e. omega (arith, e, at))) (omega (arith, tally-at now k (suc n) i ss (omega (arith, at))))
 
 abbrev woken_in : ℕ → Option LabelState → Option LabelState
 woken_in now None = None
@@ -208,7 +224,8 @@ freed-all now states rests h = same-gets _ _ (λ k. at k (slice_get states k) re
     often : (k : ℕ) → count_by (past_at now k) rests ≡ past_weight now (slice_get states k)
     often k = h (past_at now k) ∙ tally-at now k 0 k states (omega arith)
 
-    none : (k : ℕ) (o : Option LabelState) → slice_get states k ≡ o → past_weight now o ≡ 0 → woken_in now o ≡ o → slice_get (freed now rests states) k ≡ woken_in now (slice_get states k)
+    none : (k : ℕ) (o : Option LabelState) → slice_get states k ≡ o → past_weight now o ≡ 0 → woken_in now o ≡ o
+        → slice_get (freed now rests states) k ≡ woken_in now (slice_get states k)
     none k o e w same = freed-other now k rests states (often k ∙ (ap (past_weight now) e ∙ w)) ∙ (e ∙ (sym same ∙ ap (woken_in now) (sym e)))
 
     at : (k : ℕ) (o : Option LabelState) → slice_get states k ≡ o → slice_get (freed now rests states) k ≡ woken_in now (slice_get states k)
@@ -218,7 +235,10 @@ freed-all now states rests h = same-gets _ _ (λ k. at k (slice_get states k) re
     at k (Some (Resting until)) e = by (nat_le until now) refl
       where
         by : (b : Bool) → nat_le until now ≡ b → slice_get (freed now rests states) k ≡ woken_in now (slice_get states k)
-        by true d = freed-here now k rests states (slice_get_within states k (Resting until) e) (subst (λ m. 0 < m) (sym (often k ∙ (ap (past_weight now) e ∙ ap (λ b. cond b 1 0) d))) (omega arith)) ∙ sym (ap (woken_in now) e ∙ ap (λ b. Some (cond b Free (Resting until))) d)
+        by true d =
+            freed-here now k rests states (slice_get_within states k (Resting until) e)
+            (subst (λ m. 0 < m) (sym (often k ∙ (ap (past_weight now) e ∙ ap (λ b. cond b 1 0) d))) (omega arith))
+            ∙ sym (ap (woken_in now) e ∙ ap (λ b. Some (cond b Free (Resting until))) d)
         by false d = none k (Some (Resting until)) e (ap (λ b. cond b 1 0) d) (ap (λ b. Some (cond b Free (Resting until))) d)
 
 -- ---- the fields of a label space
@@ -237,7 +257,8 @@ space-made life n capacity short few room = record {
 
 -- a number that does not rest becomes another that does not
 pub space-set : (life : ℕ) (states : List LabelState) (rests : List Rest) (capacity i : ℕ) (old new : LabelState) → slice_get states i ≡ Some old
-    → ((p : Rest → Bool) → weight p i old ≡ 0) → ((p : Rest → Bool) → weight p i new ≡ 0) → IsSpace life states rests capacity → IsSpace life (slice_set states i new) rests capacity
+    → ((p : Rest → Bool) → weight p i old ≡ 0) → ((p : Rest → Bool) → weight p i new ≡ 0) → IsSpace life states rests capacity
+    → IsSpace life (slice_set states i new) rests capacity
 space-set life states rests capacity i old new at before after h = record {
   short = h.short;
   few = omega (arith, h.few, length-set states i new);
@@ -246,16 +267,23 @@ space-set life states rests capacity i old new at before after h = record {
 }
 
 -- an owned number rests, and comes to the list
-pub space-rest : (life : ℕ) (states : List LabelState) (rests : List Rest) (capacity more i until : ℕ) → slice_get states i ≡ Some Owned → capacity ≤ more
+pub space-rest : (life : ℕ) (states : List LabelState) (rests : List Rest) (capacity more i until : ℕ) → slice_get states i ≡ Some Owned
+    → capacity ≤ more
     → IsSpace life states rests capacity → IsSpace life (slice_set states i (Resting until)) (rests ++ record { number = i; until = until } ∷ []) more
 space-rest life states rests capacity more i until at grows h = record {
   short = h.short;
   few = omega (arith, h.few, length-set states i (Resting until));
   room = omega (arith, h.room, grows, length-set states i (Resting until));
-  listed = λ p. omega (arith, h.listed p, tally-set p 0 i i states Owned (Resting until) (omega arith) at, count-push p rests (record { number = i; until = until }));
+  listed = λ p. omega (
+    arith,
+    h.listed p,
+    tally-set p 0 i i states Owned (Resting until) (omega arith) at,
+    count-push p rests (record { number = i; until = until }),
+  );
 }
 
-pub space-woken : (life : ℕ) (states : List LabelState) (rests : List Rest) (capacity now : ℕ) → IsSpace life states rests capacity → IsSpace life (map (woken now) states) (filter (λ r. not (is_past now r)) rests) capacity
+pub space-woken : (life : ℕ) (states : List LabelState) (rests : List Rest) (capacity now : ℕ) → IsSpace life states rests capacity
+    → IsSpace life (map (woken now) states) (filter (λ r. not (is_past now r)) rests) capacity
 space-woken life states rests capacity now h = record {
   short = h.short;
   few = omega (arith, h.few, length-map states (woken now));

@@ -26,16 +26,19 @@ module _ (cost : NodeId → ℕ) where
   abbrev pick : KnownRoute → KnownRoute → KnownRoute
   pick r x = cond (is_better cost x r) x r
 
-  left_is : (r x o : KnownRoute) (a : Bool) → better_of cost true r (cond a (Some o) (Some x)) ≡ cond a (cond (is_better cost o r) (Some o) (Some r)) (cond (is_better cost x r) (Some x) (Some r))
+  left_is : (r x o : KnownRoute) (a : Bool) → better_of cost true r (cond a (Some o) (Some x))
+      ≡ cond a (cond (is_better cost o r) (Some o) (Some r)) (cond (is_better cost x r) (Some x) (Some r))
   left_is r x o true = refl
   left_is r x o false = refl
 
-  right_is : (r x o : KnownRoute) (b : Bool) → better_of cost true (cond b x r) (Some o) ≡ cond b (cond (is_better cost o x) (Some o) (Some x)) (cond (is_better cost o r) (Some o) (Some r))
+  right_is : (r x o : KnownRoute) (b : Bool) → better_of cost true (cond b x r) (Some o)
+      ≡ cond b (cond (is_better cost o x) (Some o) (Some x)) (cond (is_better cost o r) (Some o) (Some r))
   right_is r x o true = refl
   right_is r x o false = refl
 
   chain : (r x o : KnownRoute) → is_better cost o x ≡ true → is_better cost x r ≡ true → is_better cost o r ≡ false → ⊥
-  chain r x o h k l = less_twice (route_cmp cost o r) ((route_total cost).trans o x r (is_less (route_cmp cost o x) h) (is_less (route_cmp cost x r) k)) l
+  chain r x o h k l =
+      less_twice (route_cmp cost o r) ((route_total cost).trans o x r (is_less (route_cmp cost o x) h) (is_less (route_cmp cost x r) k)) l
 
   three : (r x o : KnownRoute) (a b c : Bool) → is_better cost o x ≡ a → is_better cost x r ≡ b → is_better cost o r ≡ c
       → cond a (cond c (Some o) (Some r)) (cond b (Some x) (Some r)) ≡ cond b (cond a (Some o) (Some x)) (cond c (Some o) (Some r))
@@ -87,7 +90,8 @@ module _ (cost : NodeId → ℕ) where
   cand_pick e f true = refl
   cand_pick e f false = refl
 
-  pub best_winner : (e : RouteKey × Held) (es : List (RouteKey × Held)) → best_of (Some (candidate_of cost e)) (map (candidate_of cost) es) ≡ Some (candidate_of cost (winner e es))
+  pub best_winner : (e : RouteKey × Held) (es : List (RouteKey × Held))
+      → best_of (Some (candidate_of cost e)) (map (candidate_of cost) es) ≡ Some (candidate_of cost (winner e es))
   best_winner e [] = refl
   best_winner e (f ∷ fs) =
       ap (λ (c : Candidate). best_of (Some c) (map (candidate_of cost) fs)) (cand_pick e f (wins f e))
@@ -139,10 +143,12 @@ module _ (cost : NodeId → ℕ) where
   Cut bits (Some r) all = (all ≡ Some r) × (r.prefix.bits ≡ bits)
 
   first_longer : (r x : KnownRoute) → r.prefix.bits < x.prefix.bits → is_better cost x r ≡ true
-  first_longer r x h = ap (λ (o : Ordering). is_lt (ordering_then o (origin_cmp cost x.origin r.origin))) (sym (nat_cmp_is r.prefix.bits x.prefix.bits Less h))
+  first_longer r x h =
+      ap (λ (o : Ordering). is_lt (ordering_then o (origin_cmp cost x.origin r.origin))) (sym (nat_cmp_is r.prefix.bits x.prefix.bits Less h))
 
   first_shorter : (r x : KnownRoute) → x.prefix.bits < r.prefix.bits → is_better cost x r ≡ false
-  first_shorter r x h = ap (λ (o : Ordering). is_lt (ordering_then o (origin_cmp cost x.origin r.origin))) (sym (nat_cmp_is r.prefix.bits x.prefix.bits Greater h))
+  first_shorter r x h =
+      ap (λ (o : Ordering). is_lt (ordering_then o (origin_cmp cost x.origin r.origin))) (sym (nat_cmp_is r.prefix.bits x.prefix.bits Greater h))
 
   below : (m n : ℕ) → m ≤ n → (m == n) ≡ false → m < n
   below m n h k = grind (arith, nat_tests)
@@ -151,36 +157,46 @@ module _ (cost : NodeId → ℕ) where
   low_by bits r y h k true = k
   low_by bits r y h k false = h
 
-  shorter : (bits : ℕ) (r : KnownRoute) → r.prefix.bits < bits → (found all : Option KnownRoute) → Cut bits found all → Cut bits found (better_of cost true r all)
+  shorter : (bits : ℕ) (r : KnownRoute) → r.prefix.bits < bits → (found all : Option KnownRoute) → Cut bits found all
+      → Cut bits found (better_of cost true r all)
   shorter bits r h None None c = h
   shorter bits r h None (Some y) c = low_by bits r y h c (is_better cost y r)
   shorter bits r h (Some x) all c = (
-    ap (better_of cost true r) c.0 ∙ ap (λ (t : Bool). cond t (Some x) (Some r)) (first_longer r x (subst (λ (n : ℕ). r.prefix.bits < n) (sym c.1) h)),
+    ap (better_of cost true r) c.0 ∙ ap (λ (t : Bool). cond t (Some x) (Some r))
+        (first_longer r x (subst (λ (n : ℕ). r.prefix.bits < n) (sym c.1) h)),
     c.1,
   )
 
-  cut_by : (bits : ℕ) (r x : KnownRoute) → r.prefix.bits ≡ bits → x.prefix.bits ≡ bits → (all : Option KnownRoute) (t : Bool) → all ≡ cond t (Some x) (Some r) → Cut bits (cond t (Some x) (Some r)) all
+  cut_by : (bits : ℕ) (r x : KnownRoute) → r.prefix.bits ≡ bits → x.prefix.bits ≡ bits → (all : Option KnownRoute) (t : Bool)
+      → all ≡ cond t (Some x) (Some r) → Cut bits (cond t (Some x) (Some r)) all
   cut_by bits r x h k all true e = (e, k)
   cut_by bits r x h k all false e = (e, h)
 
-  level : (bits : ℕ) (r : KnownRoute) → r.prefix.bits ≡ bits → (found all : Option KnownRoute) → Cut bits found all → Cut bits (better_of cost true r found) (better_of cost true r all)
+  level : (bits : ℕ) (r : KnownRoute) → r.prefix.bits ≡ bits → (found all : Option KnownRoute) → Cut bits found all
+      → Cut bits (better_of cost true r found) (better_of cost true r all)
   level bits r h None None c = (refl, h)
-  level bits r h None (Some y) c = (ap (λ (t : Bool). cond t (Some y) (Some r)) (first_shorter r y (subst (λ (n : ℕ). y.prefix.bits < n) (sym h) c)), h)
+  level bits r h None (Some y) c =
+      (ap (λ (t : Bool). cond t (Some y) (Some r)) (first_shorter r y (subst (λ (n : ℕ). y.prefix.bits < n) (sym h) c)), h)
   level bits r h (Some x) all c = cut_by bits r x h c.1 (better_of cost true r all) (is_better cost x r) (ap (better_of cost true r) c.0)
 
-  best_if : (source : Addr) (r : KnownRoute) (xs : List KnownRoute) (t : Bool) → best_route cost (cond t (r ∷ xs) xs) source ≡ cond t (better_of cost (covers r.prefix source) r (best_route cost xs source)) (best_route cost xs source)
+  best_if : (source : Addr) (r : KnownRoute) (xs : List KnownRoute) (t : Bool)
+      → best_route cost (cond t (r ∷ xs) xs) source
+      ≡ cond t (better_of cost (covers r.prefix source) r (best_route cost xs source)) (best_route cost xs source)
   best_if source r xs true = refl
   best_if source r xs false = refl
 
-  pub cut : (bits : ℕ) (source : Addr) (xs : List KnownRoute) → NoneLonger bits source xs → Cut bits (best_route cost (filter (is_candidate bits source) xs) source) (best_route cost xs source)
+  pub cut : (bits : ℕ) (source : Addr) (xs : List KnownRoute) → NoneLonger bits source xs
+      → Cut bits (best_route cost (filter (is_candidate bits source) xs) source) (best_route cost xs source)
   cut bits source [] h = tt
   cut bits source (r ∷ more) h =
       let found = best_route cost (filter (is_candidate bits source) more) source in
       let all = best_route cost more source in
-      subst (λ (o : Option KnownRoute). Cut bits o (better_of cost (covers r.prefix source) r all)) (sym (best_if source r (filter (is_candidate bits source) more) (is_candidate bits source r)))
+      subst (λ (o : Option KnownRoute). Cut bits o (better_of cost (covers r.prefix source) r all))
+      (sym (best_if source r (filter (is_candidate bits source) more) (is_candidate bits source r)))
       (by (covers r.prefix source) (r.prefix.bits == bits) refl refl found all (cut bits source more h.1))
     where
-      by : (c e : Bool) → covers r.prefix source ≡ c → (r.prefix.bits == bits) ≡ e → (found all : Option KnownRoute) → Cut bits found all → Cut bits (cond (c && e) (better_of cost c r found) found) (better_of cost c r all)
+      by : (c e : Bool) → covers r.prefix source ≡ c → (r.prefix.bits == bits) ≡ e → (found all : Option KnownRoute) → Cut bits found all
+          → Cut bits (cond (c && e) (better_of cost c r found) found) (better_of cost c r all)
       by false e p q found all k = k
       by true false p q found all k = shorter bits r (below r.prefix.bits bits (h.0 p) q) found all k
       by true true p q found all k = level bits r (eqb-true r.prefix.bits bits q) found all k
@@ -213,7 +229,8 @@ module _ (cost : NodeId → ℕ) where
   no_better_origin (Local other) site = refl
   no_better_origin (Remote edge address rd) site = refl
 
-  local_stays : (bits : ℕ) (e : RouteKey × SiteId) (rest : Option KnownRoute) → e.0.prefix.bits ≡ bits → OfLength bits rest → better_of cost true (known_here e) rest ≡ Some (known_here e)
+  local_stays : (bits : ℕ) (e : RouteKey × SiteId) (rest : Option KnownRoute) → e.0.prefix.bits ≡ bits → OfLength bits rest
+      → better_of cost true (known_here e) rest ≡ Some (known_here e)
   local_stays bits e None h k = refl
   local_stays bits e (Some y) h k =
       ap (λ (t : Bool). cond t (Some y) (Some (known_here e)))
@@ -221,7 +238,8 @@ module _ (cost : NodeId → ℕ) where
       (subst (λ (n : ℕ). nat_cmp e.0.prefix.bits n ≡ Equal) (h ∙ sym k) (tied_itself nat_cmp_total e.0.prefix.bits))
       ∙ no_better_origin y.origin e.1)
 
-  pub local_first : (bits : ℕ) (source : Addr) (e : RouteKey × SiteId) (more : List KnownRoute) → covers e.0.prefix source ≡ true → e.0.prefix.bits ≡ bits → AllAt bits more
+  pub local_first : (bits : ℕ) (source : Addr) (e : RouteKey × SiteId) (more : List KnownRoute) → covers e.0.prefix source ≡ true
+      → e.0.prefix.bits ≡ bits → AllAt bits more
       → best_route cost (known_here e ∷ more) source ≡ Some (known_here e)
   local_first bits source e more c h k =
       ap (λ (t : Bool). better_of cost t (known_here e) (best_route cost more source)) c

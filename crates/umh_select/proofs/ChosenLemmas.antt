@@ -55,7 +55,8 @@ module _ {X : Type 0} where
   filter_both p [] ys = refl
   filter_both p (x ∷ xs) ys = by (p x) (filter_both p xs ys)
     where
-      by : (t : Bool) → filter p (xs ++ ys) ≡ filter p xs ++ filter p ys → cond t (x ∷ filter p (xs ++ ys)) (filter p (xs ++ ys)) ≡ cond t (x ∷ filter p xs) (filter p xs) ++ filter p ys
+      by : (t : Bool) → filter p (xs ++ ys) ≡ filter p xs ++ filter p ys
+          → cond t (x ∷ filter p (xs ++ ys)) (filter p (xs ++ ys)) ≡ cond t (x ∷ filter p xs) (filter p xs) ++ filter p ys
       by true h = ap (λ (l : List X). x ∷ l) h
       by false h = h
 
@@ -67,14 +68,16 @@ filter_mapped : {X Y : Type 0} (p : Y → Bool) (f : X → Y) (xs : List X) → 
 filter_mapped p f [] = refl
 filter_mapped {X = X} {Y = Y} p f (x ∷ xs) = by (p (f x)) (filter_mapped p f xs)
   where
-    by : (t : Bool) → filter p (map f xs) ≡ map f (filter (λ y. p (f y)) xs) → cond t (f x ∷ filter p (map f xs)) (filter p (map f xs)) ≡ map f (cond t (x ∷ filter (λ y. p (f y)) xs) (filter (λ y. p (f y)) xs))
+    by : (t : Bool) → filter p (map f xs) ≡ map f (filter (λ y. p (f y)) xs)
+        → cond t (f x ∷ filter p (map f xs)) (filter p (map f xs)) ≡ map f (cond t (x ∷ filter (λ y. p (f y)) xs) (filter (λ y. p (f y)) xs))
     by true h = ap (λ (l : List Y). f x ∷ l) h
     by false h = h
 
 pub known_filter : (routes : Routes) (source : Addr) (bits : ℕ) → filter (is_candidate bits source) (known routes) ≡ known_at routes source bits
 known_filter routes source bits =
     filter_both (is_candidate bits source) (map known_here (maps.entries routes.attached)) (map known_from (maps.entries routes.learned))
-    ∙ (λ i. filter_mapped (is_candidate bits source) known_here (maps.entries routes.attached) i ++ filter_mapped (is_candidate bits source) known_from (maps.entries routes.learned) i)
+    ∙ (λ i. filter_mapped (is_candidate bits source) known_here (maps.entries routes.attached) i
+    ++ filter_mapped (is_candidate bits source) known_from (maps.entries routes.learned) i)
 
 -- ---- places
 
@@ -97,7 +100,8 @@ module _ {X : Type 0} (is_place : Place → Bool) (lengths : List Bool) (es : Li
   marked : (e : RouteKey × X) → Among e es → slice_index_or lengths e.0.prefix.bits false ≡ true
   marked e m = elim (cases_Bool (slice_index_or lengths e.0.prefix.bits false)) [ inl h ↦ h | inr h ↦ absurd (there e es m (indexed.marked e.0 h)) ]
 
-  none_by : (source : Addr) (bits : ℕ) (found : List (RouteKey × X)) → ((e : RouteKey × X) → Among e found → (Among e es) × ((covers e.0.prefix source && e.0.prefix.bits == bits) ≡ true))
+  none_by : (source : Addr) (bits : ℕ) (found : List (RouteKey × X))
+      → ((e : RouteKey × X) → Among e found → (Among e es) × ((covers e.0.prefix source && e.0.prefix.bits == bits) ≡ true))
       → ((e : RouteKey × X) → Among e es → e.0.prefix.bits ≡ bits → ⊥) → found ≡ []
   none_by source bits [] h k = refl
   none_by source bits (e ∷ more) h k =
@@ -116,13 +120,18 @@ module _ {X : Type 0} (is_place : Place → Bool) (lengths : List Bool) (es : Li
   none_there : (source : Addr) (bits : ℕ) → ((e : RouteKey × X) → Among e es → e.0.prefix.bits ≡ bits → ⊥) → at_length source bits es ≡ []
   none_there source bits k =
       none_by source bits (at_length source bits es)
-      (λ e m. (among_kept (λ (e : RouteKey × X). covers e.0.prefix source && e.0.prefix.bits == bits) e es m, passes (λ (e : RouteKey × X). covers e.0.prefix source && e.0.prefix.bits == bits) e es m)) k
+      (λ e m. (
+        among_kept (λ (e : RouteKey × X). covers e.0.prefix source && e.0.prefix.bits == bits) e es m,
+        passes (λ (e : RouteKey × X). covers e.0.prefix source && e.0.prefix.bits == bits) e es m,
+      )) k
 
   -- no route is of a length that isn't marked
-  pub unmarked : (source : Addr) (bits : ℕ) → slice_index_or lengths bits false ≡ false → (map : FinMap key_cmp X) → maps.entries map ≡ es → at_length source bits (maps.entries map) ≡ []
+  pub unmarked : (source : Addr) (bits : ℕ) → slice_index_or lengths bits false ≡ false → (map : FinMap key_cmp X) → maps.entries map ≡ es
+      → at_length source bits (maps.entries map) ≡ []
   unmarked source bits k map is =
       ap (at_length source bits) is
-      ∙ none_there source bits (λ e m same. opposite (slice_index_or lengths bits false) (subst (λ (n : ℕ). slice_index_or lengths n false ≡ true) same (marked e m)) k)
+      ∙ none_there source bits (λ e m same. opposite (slice_index_or lengths bits false)
+      (subst (λ (n : ℕ). slice_index_or lengths n false ≡ true) same (marked e m)) k)
 
 -- of lengths that are all unmarked none is marked
 pub none_marked : (count bits : ℕ) → slice_index_or (replicate count false) bits false ≡ false
@@ -130,10 +139,12 @@ none_marked zero bits = refl
 none_marked (suc count) zero = refl
 none_marked (suc count) (suc bits) = none_marked count bits
 
-pub learned_inner : (lengths : List Bool) (es : List (RouteKey × Held)) → IsIndexed is_learned_place lengths es → (e : RouteKey × Held) → Among e es → IsInner e.0.place
+pub learned_inner : (lengths : List Bool) (es : List (RouteKey × Held)) → IsIndexed is_learned_place lengths es → (e : RouteKey × Held) → Among e es
+    → IsInner e.0.place
 learned_inner lengths es indexed e m = learned_by e.0.place (placed is_learned_place lengths es indexed e m)
 
-pub attached_inner : (lengths : List Bool) (es : List (RouteKey × SiteId)) → IsIndexed is_attached_place lengths es → (e : RouteKey × SiteId) → Among e es → IsInner e.0.place
+pub attached_inner : (lengths : List Bool) (es : List (RouteKey × SiteId)) → IsIndexed is_attached_place lengths es → (e : RouteKey × SiteId)
+    → Among e es → IsInner e.0.place
 attached_inner lengths es indexed e m = attached_by e.0.place (placed is_attached_place lengths es indexed e m)
 
 -- ---- routes of one length
@@ -142,19 +153,23 @@ pub are_at : (cost : NodeId → ℕ) (source : Addr) (bits : ℕ) (es : List (Ro
 are_at cost source bits [] = tt
 are_at cost source bits (e ∷ es) = by (covers e.0.prefix source) (e.0.prefix.bits == bits) refl refl (are_at cost source bits es)
   where
-    by : (c t : Bool) → covers e.0.prefix source ≡ c → (e.0.prefix.bits == bits) ≡ t → AreAt cost bits source (at_length source bits es) → AreAt cost bits source (cond (c && t) (e ∷ at_length source bits es) (at_length source bits es))
+    by : (c t : Bool) → covers e.0.prefix source ≡ c → (e.0.prefix.bits == bits) ≡ t → AreAt cost bits source (at_length source bits es)
+        → AreAt cost bits source (cond (c && t) (e ∷ at_length source bits es) (at_length source bits es))
     by true true h k rest = (h, eqb-true e.0.prefix.bits bits k, rest)
     by true false h k rest = rest
     by false t h k rest = rest
 
-all_from_nodes : (nodes : ℕ) (es : List (RouteKey × Held)) → ((e : RouteKey × Held) → Among e es → (peer_of e.0.place).0 < nodes) → AreFromNodes nodes es
+all_from_nodes : (nodes : ℕ) (es : List (RouteKey × Held)) → ((e : RouteKey × Held) → Among e es → (peer_of e.0.place).0 < nodes)
+    → AreFromNodes nodes es
 all_from_nodes nodes [] h = tt
 all_from_nodes nodes (e ∷ es) h = (h e (inl refl), all_from_nodes nodes es (λ f m. h f (inr m)))
 
-pub of_core : (nodes : ℕ) (source : Addr) (bits : ℕ) (learned : FinMap key_cmp Held) → AreOfCore nodes learned → AreFromNodes nodes (at_length source bits (maps.entries learned))
+pub of_core : (nodes : ℕ) (source : Addr) (bits : ℕ) (learned : FinMap key_cmp Held) → AreOfCore nodes learned
+    → AreFromNodes nodes (at_length source bits (maps.entries learned))
 of_core nodes source bits learned h =
     all_from_nodes nodes (at_length source bits (maps.entries learned))
-    (λ e m. h e.0 e.1 (entry_get learned e (among_kept (λ (e : RouteKey × Held). covers e.0.prefix source && e.0.prefix.bits == bits) e (maps.entries learned) m)))
+    (λ e m. h e.0 e.1 (entry_get learned e (among_kept (λ (e : RouteKey × Held). covers e.0.prefix source && e.0.prefix.bits == bits) e
+    (maps.entries learned) m)))
 
 -- ---- the best one of learned routes
 
@@ -167,51 +182,65 @@ from_again key h = by key.place h
     by (From peer rd) h = refl
     by Last h = absurd cc
 
-module _ (cost : NodeId → ℕ) (lengths : List Bool) (es : List (RouteKey × Held)) (a : Sorted es) (indexed : IsIndexed is_learned_place lengths es) where
-  abbrev learned : FinMap key_cmp Held
-  learned = from_sorted es
+module _ (cost : NodeId → ℕ) (lengths : List Bool) (es : List (RouteKey × Held)) (a : Sorted es) (indexed : IsIndexed is_learned_place lengths es)
+  where
+    abbrev learned : FinMap key_cmp Held
+    learned = from_sorted es
 
-  get_of : (e : RouteKey × Held) → Among e es → maps.get learned (key_from (peer_of e.0.place) (rd_of e.0.place) e.0.prefix) ≡ Some e.1
-  get_of e m =
-      ap (maps.get learned) (from_again e.0 (placed is_learned_place lengths es indexed e m)) ∙ (get-lookup key_cmp es e.0 a ∙ entry_found e es a m)
+    get_of : (e : RouteKey × Held) → Among e es → maps.get learned (key_from (peer_of e.0.place) (rd_of e.0.place) e.0.prefix) ≡ Some e.1
+    get_of e m =
+        ap (maps.get learned) (from_again e.0 (placed is_learned_place lengths es indexed e m)) ∙ (get-lookup key_cmp es e.0 a ∙ entry_found e es a m)
 
-  first_better : (e : RouteKey × Held) (t : Bool) → t ≡ true → (rest : Option KnownRoute) → better_of cost true (known_from e) rest ≡ better_of cost t (known_from e) rest
-  first_better e t h rest = ap (λ (b : Bool). better_of cost b (known_from e) rest) (sym h)
+    first_better : (e : RouteKey × Held) (t : Bool) → t ≡ true → (rest : Option KnownRoute)
+        → better_of cost true (known_from e) rest ≡ better_of cost t (known_from e) rest
+    first_better e t h rest = ap (λ (b : Bool). better_of cost b (known_from e) rest) (sym h)
 
-  abbrev found : Addr → ℕ → List (RouteKey × Held)
-  found source bits = at_length source bits es
+    abbrev found : Addr → ℕ → List (RouteKey × Held)
+    found source bits = at_length source bits es
 
-  best_by : (source : Addr) (bits : ℕ) (xs : List (RouteKey × Held)) → AreAt cost bits source xs → ((e : RouteKey × Held) → Among e xs → Among e es)
-      → (choice_of (best_of None (map (candidate_of cost) xs)) ≡ chosen learned (best_route cost (map known_from xs) source))
-      × (origin_of (choice_of (best_of None (map (candidate_of cost) xs))) ≡ option_map (λ route. route.origin) (best_route cost (map known_from xs) source))
-  best_by source bits [] h k = (refl, refl)
-  best_by source bits (e ∷ more) h k =
-      let won = winner cost e more in
-      let is : best_of None (map (candidate_of cost) (e ∷ more)) ≡ Some (candidate_of cost won) = best_winner cost e more in
-      let route : best_route cost (map known_from (e ∷ more)) source ≡ Some (known_from won) =
-      sym (winner_best cost bits source e more h ∙ first_better e (covers e.0.prefix source) h.0 (best_route cost (map known_from more) source)) in
-      let got = get_of won (k won (winner_among cost e more)) in (
-        ap choice_of is ∙ (sym (ap (λ (o : Option Held). remote_choice (peer_of won.0.place) (rd_of won.0.place) o) got) ∙ sym (ap (chosen learned) route)),
-        ap (λ (c : Option Candidate). origin_of (choice_of c)) is ∙ sym (ap (option_map (λ (r : KnownRoute). r.origin)) route),
-      )
+    best_by : (source : Addr) (bits : ℕ) (xs : List (RouteKey × Held)) → AreAt cost bits source xs → ((e : RouteKey × Held) → Among e xs → Among e es)
+        → (choice_of (best_of None (map (candidate_of cost) xs)) ≡ chosen learned (best_route cost (map known_from xs) source))
+        × (origin_of (choice_of (best_of None (map (candidate_of cost) xs)))
+        ≡ option_map (λ route. route.origin) (best_route cost (map known_from xs) source))
+    best_by source bits [] h k = (refl, refl)
+    best_by source bits (e ∷ more) h k =
+        let won = winner cost e more in
+        let is : best_of None (map (candidate_of cost) (e ∷ more)) ≡ Some (candidate_of cost won) = best_winner cost e more in
+        let route : best_route cost (map known_from (e ∷ more)) source ≡ Some (known_from won) =
+        sym (winner_best cost bits source e more h ∙ first_better e (covers e.0.prefix source) h.0 (best_route cost (map known_from more) source)) in
+        let got = get_of won (k won (winner_among cost e more)) in (
+          ap choice_of is ∙ (sym (ap (λ (o : Option Held). remote_choice (peer_of won.0.place) (rd_of won.0.place) o) got)
+              ∙ sym (ap (chosen learned) route)),
+          ap (λ (c : Option Candidate). origin_of (choice_of c)) is ∙ sym (ap (option_map (λ (r : KnownRoute). r.origin)) route),
+        )
 
-  pub best_is : (source : Addr) (bits : ℕ)
-      → (choice_of (best_of None (map (candidate_of cost) (at_length source bits es))) ≡ chosen learned (best_route cost (map known_from (at_length source bits es)) source))
-      × (origin_of (choice_of (best_of None (map (candidate_of cost) (at_length source bits es)))) ≡ option_map (λ route. route.origin) (best_route cost (map known_from (at_length source bits es)) source))
-  best_is source bits =
-      best_by source bits (at_length source bits es) (are_at cost source bits es) (λ e m. among_kept (λ (e : RouteKey × Held). covers e.0.prefix source && e.0.prefix.bits == bits) e es m)
+    pub best_is : (source : Addr) (bits : ℕ)
+        → (choice_of (best_of None (map (candidate_of cost) (at_length source bits es)))
+        ≡ chosen learned (best_route cost (map known_from (at_length source bits es)) source))
+        × (origin_of (choice_of (best_of None (map (candidate_of cost) (at_length source bits es))))
+        ≡ option_map (λ route. route.origin) (best_route cost (map known_from (at_length source bits es)) source))
+    best_is source bits =
+        best_by source bits (at_length source bits es) (are_at cost source bits es)
+        (λ e m. among_kept (λ (e : RouteKey × Held). covers e.0.prefix source && e.0.prefix.bits == bits) e es m)
 
-pub remote_is : (cost : NodeId → ℕ) (lengths : List Bool) (es : List (RouteKey × Held)) → Sorted es → IsIndexed is_learned_place lengths es → (known : FinMap key_cmp Held) → from_sorted es ≡ known → (source : Addr) (bits : ℕ)
-    → (choice_of (best_of None (map (candidate_of cost) (at_length source bits (maps.entries known)))) ≡ chosen known (best_route cost (map known_from (at_length source bits (maps.entries known))) source))
-    × (origin_of (choice_of (best_of None (map (candidate_of cost) (at_length source bits (maps.entries known))))) ≡ option_map (λ route. route.origin) (best_route cost (map known_from (at_length source bits (maps.entries known))) source))
+pub remote_is : (cost : NodeId → ℕ) (lengths : List Bool) (es : List (RouteKey × Held)) → Sorted es → IsIndexed is_learned_place lengths es
+    → (known : FinMap key_cmp Held) → from_sorted es ≡ known → (source : Addr) (bits : ℕ)
+    → (choice_of (best_of None (map (candidate_of cost) (at_length source bits (maps.entries known))))
+    ≡ chosen known (best_route cost (map known_from (at_length source bits (maps.entries known))) source))
+    × (origin_of (choice_of (best_of None (map (candidate_of cost) (at_length source bits (maps.entries known)))))
+    ≡ option_map (λ route. route.origin) (best_route cost (map known_from (at_length source bits (maps.entries known))) source))
 remote_is cost lengths es a indexed known is source bits =
     subst (λ (m : FinMap key_cmp Held).
-    (choice_of (best_of None (map (candidate_of cost) (at_length source bits (maps.entries m)))) ≡ chosen m (best_route cost (map known_from (at_length source bits (maps.entries m))) source))
-    × (origin_of (choice_of (best_of None (map (candidate_of cost) (at_length source bits (maps.entries m))))) ≡ option_map (λ (route : KnownRoute). route.origin) (best_route cost (map known_from (at_length source bits (maps.entries m))) source)))
+    (choice_of (best_of None (map (candidate_of cost) (at_length source bits (maps.entries m))))
+    ≡ chosen m (best_route cost (map known_from (at_length source bits (maps.entries m))) source))
+    × (origin_of (choice_of (best_of None (map (candidate_of cost) (at_length source bits (maps.entries m)))))
+    ≡ option_map (λ (route : KnownRoute). route.origin) (best_route cost (map known_from (at_length source bits (maps.entries m))) source)))
     is
     (subst (λ (l : List (RouteKey × Held)).
-    (choice_of (best_of None (map (candidate_of cost) (at_length source bits l))) ≡ chosen (from_sorted es) (best_route cost (map known_from (at_length source bits l)) source))
-    × (origin_of (choice_of (best_of None (map (candidate_of cost) (at_length source bits l)))) ≡ option_map (λ (route : KnownRoute). route.origin) (best_route cost (map known_from (at_length source bits l)) source)))
+    (choice_of (best_of None (map (candidate_of cost) (at_length source bits l)))
+    ≡ chosen (from_sorted es) (best_route cost (map known_from (at_length source bits l)) source))
+    × (origin_of (choice_of (best_of None (map (candidate_of cost) (at_length source bits l))))
+    ≡ option_map (λ (route : KnownRoute). route.origin) (best_route cost (map known_from (at_length source bits l)) source)))
     (sym (entries_of key_cmp es a)) (best_is cost lengths es a indexed source bits))
 
 -- ---- an attached prefix
@@ -233,7 +262,8 @@ module _ (cost : NodeId → ℕ) (source : Addr) (bits : ℕ) where
   are_here [] = tt
   are_here (e ∷ es) = by (covers e.0.prefix source) (e.0.prefix.bits == bits) refl refl (are_here es)
     where
-      by : (c t : Bool) → covers e.0.prefix source ≡ c → (e.0.prefix.bits == bits) ≡ t → AreHere (at_length source bits es) → AreHere (cond (c && t) (e ∷ at_length source bits es) (at_length source bits es))
+      by : (c t : Bool) → covers e.0.prefix source ≡ c → (e.0.prefix.bits == bits) ≡ t → AreHere (at_length source bits es)
+          → AreHere (cond (c && t) (e ∷ at_length source bits es) (at_length source bits es))
       by true true h k rest = (h, eqb-true e.0.prefix.bits bits k, rest)
       by true false h k rest = rest
       by false t h k rest = rest
@@ -242,7 +272,8 @@ module _ (cost : NodeId → ℕ) (source : Addr) (bits : ℕ) where
   all_here [] h = tt
   all_here (e ∷ es) h = (h.1, all_here es h.2)
 
-  site_by : (here : List (RouteKey × SiteId)) (site : SiteId) → AreHere here → first_site here ≡ Some site → (more : List KnownRoute) → AllAt cost bits more
+  site_by : (here : List (RouteKey × SiteId)) (site : SiteId) → AreHere here → first_site here ≡ Some site → (more : List KnownRoute)
+      → AllAt cost bits more
       → (learned : FinMap key_cmp Held)
       → (choices.Local site ≡ chosen learned (best_route cost (map known_here here ++ more) source))
       × (origin_of (choices.Local site) ≡ option_map (λ route. route.origin) (best_route cost (map known_here here ++ more) source))
@@ -254,10 +285,15 @@ module _ (cost : NodeId → ℕ) (source : Addr) (bits : ℕ) where
         ap (λ (s : SiteId). Some (Local s)) (sym same) ∙ sym (ap (option_map (λ (r : KnownRoute). r.origin)) is),
       )
 
-  pub site_is : (here : List (RouteKey × SiteId)) (es : List (RouteKey × Held)) (site : SiteId) (learned : FinMap key_cmp Held) → first_site (at_length source bits here) ≡ Some site
-      → (choices.Local site ≡ chosen learned (best_route cost (map known_here (at_length source bits here) ++ map known_from (at_length source bits es)) source))
-      × (origin_of (choices.Local site) ≡ option_map (λ route. route.origin) (best_route cost (map known_here (at_length source bits here) ++ map known_from (at_length source bits es)) source))
-  site_is here es site learned e = site_by (at_length source bits here) site (are_here here) e (map known_from (at_length source bits es)) (all_from (at_length source bits es) (are_at cost source bits es)) learned
+  pub site_is : (here : List (RouteKey × SiteId)) (es : List (RouteKey × Held)) (site : SiteId) (learned : FinMap key_cmp Held)
+      → first_site (at_length source bits here) ≡ Some site
+      → (choices.Local site ≡ chosen learned (best_route cost
+      (map known_here (at_length source bits here) ++ map known_from (at_length source bits es)) source))
+      × (origin_of (choices.Local site) ≡ option_map (λ route. route.origin)
+      (best_route cost (map known_here (at_length source bits here) ++ map known_from (at_length source bits es)) source))
+  site_is here es site learned e =
+      site_by (at_length source bits here) site (are_here here) e (map known_from (at_length source bits es))
+      (all_from (at_length source bits es) (are_at cost source bits es)) learned
 
 pub no_site : (xs : List (RouteKey × SiteId)) → first_site xs ≡ None → xs ≡ []
 no_site [] h = refl
@@ -266,17 +302,20 @@ no_site (x ∷ xs) h = absurd cc
 -- ---- all lengths
 
 module _ (routes : Routes) (source group : Addr) (bits : ℕ) where
-  among_longer : ((length : ℕ) → suc bits ≤ length → IsNoneAt routes source length) → (r : KnownRoute) → Among r (known routes) → covers r.prefix source ≡ true → r.prefix.bits ≤ bits
+  among_longer : ((length : ℕ) → suc bits ≤ length → IsNoneAt routes source length) → (r : KnownRoute) → Among r (known routes)
+      → covers r.prefix source ≡ true → r.prefix.bits ≤ bits
   among_longer none r m h = elim (cases_lt bits r.prefix.bits) [
     | inr le ↦ le
     | inl more ↦ absurd (
         let empty = none r.prefix.bits more in
         none_in r (known_at routes source r.prefix.bits) (λ i. map known_here (empty.0 i) ++ map known_from (empty.1 i))
         (subst (λ (l : List KnownRoute). Among r l) (known_filter routes source r.prefix.bits)
-        (among_passed (is_candidate r.prefix.bits source) r (known routes) (ap (λ (t : Bool). t && r.prefix.bits == r.prefix.bits) h ∙ eq-eqb r.prefix.bits r.prefix.bits refl) m)))
+        (among_passed (is_candidate r.prefix.bits source) r (known routes)
+        (ap (λ (t : Bool). t && r.prefix.bits == r.prefix.bits) h ∙ eq-eqb r.prefix.bits r.prefix.bits refl) m)))
   ]
 
-  longer_by : (xs : List KnownRoute) → ((r : KnownRoute) → Among r xs → covers r.prefix source ≡ true → r.prefix.bits ≤ bits) → (cost : NodeId → ℕ) → NoneLonger cost bits source xs
+  longer_by : (xs : List KnownRoute) → ((r : KnownRoute) → Among r xs → covers r.prefix source ≡ true → r.prefix.bits ≤ bits) → (cost : NodeId → ℕ)
+      → NoneLonger cost bits source xs
   longer_by [] h cost = tt
   longer_by (x ∷ xs) h cost = (λ c. h x (inl refl) c, longer_by xs (λ r m. h r (inr m)) cost)
 
@@ -286,7 +325,8 @@ module _ (routes : Routes) (source group : Addr) (bits : ℕ) where
   edges_from (e ∷ es) = by (covers e.0.prefix source && e.0.prefix.bits == bits) (edges_from es)
     where
       by : (t : Bool) → edges_of bits (map known_from es) source ≡ edges_in (at_length source bits es)
-          → cond t (put_edge (edge_of e) (edges_of bits (map known_from es) source)) (edges_of bits (map known_from es) source) ≡ edges_in (cond t (e ∷ at_length source bits es) (at_length source bits es))
+          → cond t (put_edge (edge_of e) (edges_of bits (map known_from es) source)) (edges_of bits (map known_from es) source)
+          ≡ edges_in (cond t (e ∷ at_length source bits es) (at_length source bits es))
       by true h = ap (put_edge (edge_of e)) h
       by false h = h
 
@@ -294,16 +334,21 @@ module _ (routes : Routes) (source group : Addr) (bits : ℕ) where
   same_either true x = refl
   same_either false x = refl
 
-  edges_past : (here : List (RouteKey × SiteId)) (more : List KnownRoute) → edges_of bits (map known_here here ++ more) source ≡ edges_of bits more source
+  edges_past : (here : List (RouteKey × SiteId)) (more : List KnownRoute)
+      → edges_of bits (map known_here here ++ more) source ≡ edges_of bits more source
   edges_past [] more = refl
-  edges_past (e ∷ es) more = same_either (covers e.0.prefix source && e.0.prefix.bits == bits) (edges_of bits (map known_here es ++ more) source) ∙ edges_past es more
+  edges_past (e ∷ es) more =
+      same_either (covers e.0.prefix source && e.0.prefix.bits == bits) (edges_of bits (map known_here es ++ more) source) ∙ edges_past es more
 
-  longest_most : (xs : List KnownRoute) → ((r : KnownRoute) → Among r xs → covers r.prefix source ≡ true → r.prefix.bits ≤ bits) → longest_bits xs source ≤ bits
+  longest_most : (xs : List KnownRoute) → ((r : KnownRoute) → Among r xs → covers r.prefix source ≡ true → r.prefix.bits ≤ bits)
+      → longest_bits xs source ≤ bits
   longest_most [] h = zero_least bits
     where
       zero_least : (n : ℕ) → 0 ≤ n
       zero_least n = omega arith
-  longest_most (x ∷ xs) h = at_most (cond (covers x.prefix source) x.prefix.bits 0) (longest_bits xs source) (by (covers x.prefix source) refl) (longest_most xs (λ r m. h r (inr m)))
+  longest_most (x ∷ xs) h =
+      at_most (cond (covers x.prefix source) x.prefix.bits 0) (longest_bits xs source) (by (covers x.prefix source) refl)
+      (longest_most xs (λ r m. h r (inr m)))
     where
       at_most : (m n : ℕ) → m ≤ bits → n ≤ bits → max m n ≤ bits
       at_most m n h k = grind (arith)
@@ -314,11 +359,15 @@ module _ (routes : Routes) (source group : Addr) (bits : ℕ) where
 
   longest_least : (xs : List KnownRoute) (r : KnownRoute) → Among r xs → covers r.prefix source ≡ true → r.prefix.bits ≤ longest_bits xs source
   longest_least [] r m c = absurd m
-  longest_least (x ∷ xs) r (inl e) c = first r.prefix.bits (longest_bits xs source) (cond (covers x.prefix source) x.prefix.bits 0) (sym (ap (λ (t : Bool). cond t x.prefix.bits 0) (ap (λ (y : KnownRoute). covers y.prefix source) (sym e) ∙ c) ∙ ap (λ (y : KnownRoute). y.prefix.bits) (sym e)))
+  longest_least (x ∷ xs) r (inl e) c =
+      first r.prefix.bits (longest_bits xs source) (cond (covers x.prefix source) x.prefix.bits 0)
+      (sym (ap (λ (t : Bool). cond t x.prefix.bits 0) (ap (λ (y : KnownRoute). covers y.prefix source) (sym e) ∙ c)
+      ∙ ap (λ (y : KnownRoute). y.prefix.bits) (sym e)))
     where
       first : (m n k : ℕ) → m ≡ k → m ≤ max k n
       first m n k e = grind (arith, e)
-  longest_least (x ∷ xs) r (inr m) c = rest r.prefix.bits (longest_bits xs source) (cond (covers x.prefix source) x.prefix.bits 0) (longest_least xs r m c)
+  longest_least (x ∷ xs) r (inr m) c =
+      rest r.prefix.bits (longest_bits xs source) (cond (covers x.prefix source) x.prefix.bits 0) (longest_least xs r m c)
     where
       rest : (m n k : ℕ) → m ≤ n → m ≤ max k n
       rest m n k h = grind (arith, h)
@@ -335,7 +384,8 @@ module _ (routes : Routes) (source group : Addr) (bits : ℕ) where
   abbrev Most : Type 0
   Most = (r : KnownRoute) → Among r (known routes) → covers r.prefix source ≡ true → r.prefix.bits ≤ bits
 
-  same_edges : (r : KnownRoute) → Most → Among r (known routes) → covers r.prefix source ≡ true → r.prefix.bits ≡ bits → edges_in (at_length source bits (maps.entries routes.learned)) ≡ candidate_edges (known routes) source
+  same_edges : (r : KnownRoute) → Most → Among r (known routes) → covers r.prefix source ≡ true → r.prefix.bits ≡ bits
+      → edges_in (at_length source bits (maps.entries routes.learned)) ≡ candidate_edges (known routes) source
   same_edges r most m c e =
       let above : r.prefix.bits ≤ longest_bits (known routes) source = longest_least (known routes) r m c in
       let below : longest_bits (known routes) source ≤ bits = longest_most (known routes) most in
@@ -347,28 +397,36 @@ module _ (routes : Routes) (source group : Addr) (bits : ℕ) where
       one_bound b l n e h k = grind (arith, e, h, k)
 
   abbrev Wanted : (NodeId → ℕ) → Type 0
-  Wanted cost = best_route (costs cost) (known_at routes source bits) source ≡ best_route (cost_by routes.rule cost (known routes) source group) (known routes) source
+  Wanted cost =
+      best_route (costs cost) (known_at routes source bits) source
+      ≡ best_route (cost_by routes.rule cost (known routes) source group) (known routes) source
 
-  found_by : (cost : NodeId → ℕ) → Most → (found : Option KnownRoute) → best_route (costs cost) (known_at routes source bits) source ≡ found → Cut (costs cost) bits found (best_route (costs cost) (known routes) source)
+  found_by : (cost : NodeId → ℕ) → Most → (found : Option KnownRoute) → best_route (costs cost) (known_at routes source bits) source ≡ found
+      → Cut (costs cost) bits found (best_route (costs cost) (known routes) source)
       → (found ≡ None → ⊥) → Wanted cost
   found_by cost most None e c n = absurd (n refl)
   found_by cost most (Some r) e c n =
-      let is : Best (costs cost) (known routes) source r = subst (λ (o : Option KnownRoute). BestIs (costs cost) (known routes) source o) c.0 (best (costs cost) (known routes) source) in
-      let same = costs_by routes.rule cost (edges_in (at_length source bits (maps.entries routes.learned))) (same_edges r most is.among is.covering c.1) in
+      let is : Best (costs cost) (known routes) source r =
+      subst (λ (o : Option KnownRoute). BestIs (costs cost) (known routes) source o) c.0 (best (costs cost) (known routes) source) in
+      let same =
+      costs_by routes.rule cost (edges_in (at_length source bits (maps.entries routes.learned))) (same_edges r most is.among is.covering c.1) in
       e ∙ (sym c.0 ∙ ap (λ (m : NodeId → ℕ). best_route m (known routes) source) same)
 
   -- the best one of that length, where none is longer, is the best one of all by the rule
-  pub all_lengths : (cost : NodeId → ℕ) → ((length : ℕ) → suc bits ≤ length → IsNoneAt routes source length) → (best_route (costs cost) (known_at routes source bits) source ≡ None → ⊥) → Wanted cost
+  pub all_lengths : (cost : NodeId → ℕ) → ((length : ℕ) → suc bits ≤ length → IsNoneAt routes source length)
+      → (best_route (costs cost) (known_at routes source bits) source ≡ None → ⊥) → Wanted cost
   all_lengths cost none some =
       let most = among_longer none in
       let c = cut (costs cost) bits source (known routes) (longer_by (known routes) most (costs cost)) in
       found_by cost most (best_route (costs cost) (known_at routes source bits) source) refl
-      (subst (λ (l : List KnownRoute). Cut (costs cost) bits (best_route (costs cost) l source) (best_route (costs cost) (known routes) source)) (known_filter routes source bits) c) some
+      (subst (λ (l : List KnownRoute). Cut (costs cost) bits (best_route (costs cost) l source) (best_route (costs cost) (known routes) source))
+      (known_filter routes source bits) c) some
 
 -- ---- no length
 
 module _ (routes : Routes) (source : Addr) where
-  uncovered_by : (cost : NodeId → ℕ) (xs : List KnownRoute) → ((r : KnownRoute) → Among r xs → covers r.prefix source ≡ true → ⊥) → best_route cost xs source ≡ None
+  uncovered_by : (cost : NodeId → ℕ) (xs : List KnownRoute) → ((r : KnownRoute) → Among r xs → covers r.prefix source ≡ true → ⊥)
+      → best_route cost xs source ≡ None
   uncovered_by cost [] h = refl
   uncovered_by cost (x ∷ xs) h = by (covers x.prefix source) refl (uncovered_by cost xs (λ r m. h r (inr m)))
     where
@@ -383,7 +441,8 @@ module _ (routes : Routes) (source : Addr) where
       let empty = none r.prefix.bits in
       none_in r (known_at routes source r.prefix.bits) (λ i. map known_here (empty.0 i) ++ map known_from (empty.1 i))
       (subst (λ (l : List KnownRoute). Among r l) (known_filter routes source r.prefix.bits)
-      (among_passed (is_candidate r.prefix.bits source) r (known routes) (ap (λ (t : Bool). t && r.prefix.bits == r.prefix.bits) c ∙ eq-eqb r.prefix.bits r.prefix.bits refl) m)))
+      (among_passed (is_candidate r.prefix.bits source) r (known routes)
+      (ap (λ (t : Bool). t && r.prefix.bits == r.prefix.bits) c ∙ eq-eqb r.prefix.bits r.prefix.bits refl) m)))
 
 -- ---- whether there is a choice
 
@@ -400,9 +459,12 @@ not_found (choices.Remote edge rd import source_as) h = absurd cc
 pub none_of_core : (nodes : ℕ) → AreOfCore nodes maps.empty
 none_of_core nodes key held h = absurd (let bad : None ≡ Some held = sym (maps.get-empty key_cmp key) ∙ h in cc)
 
-pub learned_of_core : (nodes : ℕ) (learned : FinMap key_cmp Held) (peer : NodeId) (rd : Rd) (prefix : Prefix) (held : Held) → peer.0 < nodes → AreOfCore nodes learned → AreOfCore nodes (maps.insert learned (key_from peer rd prefix) held)
-learned_of_core nodes learned peer rd prefix held h k key found e = by (is_at (key_cmp key) (key_from peer rd prefix)) refl (sym (maps.get-insert key_total learned (key_from peer rd prefix) held key) ∙ e)
+pub learned_of_core : (nodes : ℕ) (learned : FinMap key_cmp Held) (peer : NodeId) (rd : Rd) (prefix : Prefix) (held : Held) → peer.0 < nodes
+    → AreOfCore nodes learned → AreOfCore nodes (maps.insert learned (key_from peer rd prefix) held)
+learned_of_core nodes learned peer rd prefix held h k key found e =
+    by (is_at (key_cmp key) (key_from peer rd prefix)) refl (sym (maps.get-insert key_total learned (key_from peer rd prefix) held key) ∙ e)
   where
-    by : (t : Bool) → is_at (key_cmp key) (key_from peer rd prefix) ≡ t → cond t (Some held) (maps.get learned key) ≡ Some found → (peer_of key.place).0 < nodes
+    by : (t : Bool) → is_at (key_cmp key) (key_from peer rd prefix) ≡ t → cond t (Some held) (maps.get learned key) ≡ Some found
+        → (peer_of key.place).0 < nodes
     by true same g = subst (λ (q : RouteKey). (peer_of q.place).0 < nodes) (sym (same_key key (key_from peer rd prefix) same)) h
     by false other g = k key found g

@@ -30,11 +30,15 @@ above_chain : (after : Option Addr) (a b : Addr) → is_above after a ≡ true �
 above_chain None a b h k = refl
 above_chain (Some after) a b h k = lt_of after b (addr_cmp_total.trans after a b (is_less (addr_cmp after a) h) k)
 
-merged_left : (b : Edge) (x e : Edge) (t : Bool) → merged (Some b) (cond t (Some e) (Some x)) ≡ cond t (cond (is_lt (addr_cmp b.1 e.1)) (Some b) (Some e)) (cond (is_lt (addr_cmp b.1 x.1)) (Some b) (Some x))
+merged_left : (b : Edge) (x e : Edge) (t : Bool)
+    → merged (Some b) (cond t (Some e) (Some x))
+    ≡ cond t (cond (is_lt (addr_cmp b.1 e.1)) (Some b) (Some e)) (cond (is_lt (addr_cmp b.1 x.1)) (Some b) (Some x))
 merged_left b x e true = refl
 merged_left b x e false = refl
 
-merged_right : (b : Edge) (x e : Edge) (t : Bool) → merged (cond t (Some b) (Some e)) (Some x) ≡ cond t (cond (is_lt (addr_cmp b.1 x.1)) (Some b) (Some x)) (cond (is_lt (addr_cmp e.1 x.1)) (Some e) (Some x))
+merged_right : (b : Edge) (x e : Edge) (t : Bool)
+    → merged (cond t (Some b) (Some e)) (Some x)
+    ≡ cond t (cond (is_lt (addr_cmp b.1 x.1)) (Some b) (Some x)) (cond (is_lt (addr_cmp e.1 x.1)) (Some e) (Some x))
 merged_right b x e true = refl
 merged_right b x e false = refl
 
@@ -45,7 +49,8 @@ merged_none b e false = refl
 three : (b e x : Edge) (p q r : Bool) → is_lt (addr_cmp e.1 x.1) ≡ p → is_lt (addr_cmp b.1 e.1) ≡ q → is_lt (addr_cmp b.1 x.1) ≡ r
     → cond p (cond q (Some b) (Some e)) (cond r (Some b) (Some x)) ≡ cond q (cond r (Some b) (Some x)) (cond p (Some e) (Some x))
 three b e x true true true h k l = refl
-three b e x true true false h k l = absurd (less_twice (addr_cmp b.1 x.1) (addr_cmp_total.trans b.1 e.1 x.1 (is_less (addr_cmp b.1 e.1) k) (is_less (addr_cmp e.1 x.1) h)) l)
+three b e x true true false h k l =
+    absurd (less_twice (addr_cmp b.1 x.1) (addr_cmp_total.trans b.1 e.1 x.1 (is_less (addr_cmp b.1 e.1) k) (is_less (addr_cmp e.1 x.1) h)) l)
 three b e x true false r h k l = refl
 three b e x false true r h k l = refl
 three b e x false false true h k l = absurd (opposite (is_lt (addr_cmp b.1 x.1)) l (not_less_chain addr_cmp_total b.1 e.1 x.1 k h))
@@ -64,7 +69,8 @@ module _ (after : Option Addr) where
   abbrev One : Edge → List Edge → List Edge → Type 0
   One e xs put = first_above after put ≡ cond (is_above after e.1) (merged (Some e) (first_above after xs)) (first_above after xs)
 
-  put_less : (e x : Edge) (xs : List Edge) → addr_cmp e.1 x.1 ≡ Less → (t u : Bool) → is_above after e.1 ≡ t → is_above after x.1 ≡ u → (rest : Option Edge)
+  put_less : (e x : Edge) (xs : List Edge) → addr_cmp e.1 x.1 ≡ Less → (t u : Bool) → is_above after e.1 ≡ t → is_above after x.1 ≡ u
+      → (rest : Option Edge)
       → cond t (Some e) (cond u (Some x) rest) ≡ cond t (merged (Some e) (cond u (Some x) rest)) (cond u (Some x) rest)
   put_less e x xs h true true p q rest = sym (ap (λ (b : Bool). cond b (Some e) (Some x)) (lt_of e.1 x.1 h))
   put_less e x xs h true false p q rest = absurd (opposite (is_above after x.1) (above_chain after e.1 x.1 p h) q)
@@ -73,7 +79,8 @@ module _ (after : Option Addr) where
   put_equal : (e x : Edge) → addr_cmp e.1 x.1 ≡ Equal → (t u : Bool) → is_above after e.1 ≡ t → is_above after x.1 ≡ u → (rest : Option Edge)
       → cond u (Some x) rest ≡ cond t (merged (Some e) (cond u (Some x) rest)) (cond u (Some x) rest)
   put_equal e x h true true p q rest = sym (ap (λ (o : Ordering). cond (is_lt o) (Some e) (Some x)) h)
-  put_equal e x h true false p q rest = absurd (opposite (is_above after x.1) (subst (λ (a : Addr). is_above after a ≡ true) (one_addr e.1 x.1 h) p) q)
+  put_equal e x h true false p q rest =
+      absurd (opposite (is_above after x.1) (subst (λ (a : Addr). is_above after a ≡ true) (one_addr e.1 x.1 h) p) q)
   put_equal e x h false u p q rest = refl
 
   put_greater : (e x : Edge) → addr_cmp e.1 x.1 ≡ Greater → (t u : Bool) → is_above after e.1 ≡ t → is_above after x.1 ≡ u → (rest put : Option Edge)
@@ -89,9 +96,11 @@ module _ (after : Option Addr) where
       by : (o : Ordering) → addr_cmp e.1 x.1 ≡ o → One e xs (put_edge e xs) → One e (x ∷ xs) (put_by o e x xs (put_edge e xs))
       by Less h k = put_less e x xs h (is_above after e.1) (is_above after x.1) refl refl (first_above after xs)
       by Equal h k = put_equal e x h (is_above after e.1) (is_above after x.1) refl refl (first_above after xs)
-      by Greater h k = put_greater e x h (is_above after e.1) (is_above after x.1) refl refl (first_above after xs) (first_above after (put_edge e xs)) k
+      by Greater h k =
+          put_greater e x h (is_above after e.1) (is_above after x.1) refl refl (first_above after xs) (first_above after (put_edge e xs)) k
 
-  step : (best : Option Edge) (e : Edge) (t : Bool) (rest : Option Edge) → merged best (cond t (merged (Some e) rest) rest) ≡ merged (cond t (lower best e) best) rest
+  step : (best : Option Edge) (e : Edge) (t : Bool) (rest : Option Edge)
+      → merged best (cond t (merged (Some e) rest) rest) ≡ merged (cond t (lower best e) best) rest
   step best e true rest = regroup best e rest
   step best e false rest = refl
 
@@ -103,7 +112,8 @@ module _ (after : Option Addr) where
   along best [] = merged_end best
   along best (e ∷ es) =
       along (lowest after best (edge_of e)) es
-      ∙ sym (ap (merged best) (put_first (edge_of e) (edges_in es)) ∙ step best (edge_of e) (is_above after (edge_of e).1) (first_above after (edges_in es)))
+      ∙ sym (ap (merged best) (put_first (edge_of e) (edges_in es))
+      ∙ step best (edge_of e) (is_above after (edge_of e).1) (first_above after (edges_in es)))
 
   pub lowest_first : (es : List (RouteKey × Held)) → lowest_of after None (map edge_of es) ≡ first_above after (edges_in es)
   lowest_first es = along None es
@@ -170,7 +180,8 @@ next_above [] i x r k = absurd cc
 next_above (y ∷ ys) zero x r k =
     let same : y ≡ x = cc in
     subst (λ (z : Edge). first_above (Some z.1) (y ∷ ys) ≡ slice_get ys 0) same
-    (ap (λ (b : Bool). cond b (Some y) (first_above (Some y.1) ys)) (not_less (addr_cmp y.1 y.1) (not_itself addr_cmp_total y.1)) ∙ above_all y.1 ys r.0)
+    (ap (λ (b : Bool). cond b (Some y) (first_above (Some y.1) ys)) (not_less (addr_cmp y.1 y.1) (not_itself addr_cmp_total y.1))
+    ∙ above_all y.1 ys r.0)
 next_above (y ∷ ys) (suc i) x r k =
     let below = listed_above y.1 ys i x r.0 k in
     ap (λ (b : Bool). cond b (Some y) (first_above (Some x.1) ys)) (not_less (addr_cmp x.1 y.1) (λ l. not_both addr_cmp_total x.1 y.1 l below))
@@ -194,7 +205,8 @@ one_more [] n x e = absurd cc
 one_more (y ∷ ys) zero x e = omega arith
 one_more (y ∷ ys) (suc n) x e = let rest : suc n ≤ length ys = one_more ys n x e in omega (arith, rest)
 
-pub next_edge : (xs : List Edge) (i : ℕ) (x : Edge) (o : Option Edge) → Rising xs → slice_get xs i ≡ Some x → o ≡ first_above (Some x.1) xs → o ≡ slice_get xs (i + 1)
+pub next_edge : (xs : List Edge) (i : ℕ) (x : Edge) (o : Option Edge) → Rising xs → slice_get xs i ≡ Some x → o ≡ first_above (Some x.1) xs
+    → o ≡ slice_get xs (i + 1)
 next_edge xs i x o r e h = let up : suc i ≡ i + 1 = omega arith in h ∙ (next_above xs i x r e ∙ ap (slice_get xs) up)
 
 -- ---- the edge that is named

@@ -91,11 +91,13 @@ module _ {X : Type 0} where
       → lookup (is_at (key_cmp q)) es ≡ None → lookup (is_at (key_cmp q)) fs ≡ None
   still_absent es fs k w u q h n = u q ∙ absent_by (is_at (key_cmp k) q) w (lookup (is_at (key_cmp q)) es) (λ e. h (same_key k q e)) n
 
-  pub absent_filter : (p : RouteKey × X → Bool) (q : RouteKey) (es : List (RouteKey × X)) → lookup (is_at (key_cmp q)) es ≡ None → lookup (is_at (key_cmp q)) (filter p es) ≡ None
+  pub absent_filter : (p : RouteKey × X → Bool) (q : RouteKey) (es : List (RouteKey × X)) → lookup (is_at (key_cmp q)) es ≡ None
+      → lookup (is_at (key_cmp q)) (filter p es) ≡ None
   absent_filter p q [] h = refl
   absent_filter p q (e ∷ es) h = by (is_at (key_cmp q) e.0) (p e) refl h (absent_filter p q es)
     where
-      by : (b c : Bool) → is_at (key_cmp q) e.0 ≡ b → cond b (Some e.1) (lookup (is_at (key_cmp q)) es) ≡ None → (lookup (is_at (key_cmp q)) es ≡ None → lookup (is_at (key_cmp q)) (filter p es) ≡ None)
+      by : (b c : Bool) → is_at (key_cmp q) e.0 ≡ b → cond b (Some e.1) (lookup (is_at (key_cmp q)) es) ≡ None
+          → (lookup (is_at (key_cmp q)) es ≡ None → lookup (is_at (key_cmp q)) (filter p es) ≡ None)
           → lookup (is_at (key_cmp q)) (cond c (e ∷ filter p es) (filter p es)) ≡ None
       by true c a h k = absurd cc
       by false true a h k = ap (λ (t : Bool). cond t (Some e.1) (lookup (is_at (key_cmp q)) (filter p es))) a ∙ k h
@@ -118,7 +120,8 @@ module _ {X : Type 0} where
   there e (f ∷ es) (inl same) h = some_there (is_at (key_cmp e.0) f.0) f.1 (lookup (is_at (key_cmp e.0)) es) (at_itself e f same) h
   there e (f ∷ es) (inr m) h = there e es m (other_there (is_at (key_cmp e.0) f.0) f.1 (lookup (is_at (key_cmp e.0)) es) h)
 
-  above : (x : RouteKey) (e : RouteKey × X) (es : List (RouteKey × X)) → Among e es → AllByRecursion (λ y. key_cmp x y ≡ Less) (keys_of es) → key_cmp x e.0 ≡ Less
+  above : (x : RouteKey) (e : RouteKey × X) (es : List (RouteKey × X)) → Among e es → AllByRecursion (λ y. key_cmp x y ≡ Less) (keys_of es)
+      → key_cmp x e.0 ≡ Less
   above x e [] m h = absurd m
   above x e (f ∷ es) (inl same) h = ap (λ (g : RouteKey × X). key_cmp x g.0) same ∙ h.0
   above x e (f ∷ es) (inr m) h = above x e es m h.1
@@ -140,9 +143,11 @@ module _ {X : Type 0} where
   pub entry_get : (m : FinMap key_cmp X) (e : RouteKey × X) → Among e (entries m) → get m e.0 ≡ Some e.1
   entry_get m e a = get-entries m e.0 ∙ (find-lookup key_cmp e.0 (entries m) ∙ entry_found e (entries m) (map_sorted key_cmp m) a)
 
-  pub filter_among : (p q : RouteKey × X → Bool) (es : List (RouteKey × X)) → ((e : RouteKey × X) → Among e es → p e ≡ q e) → filter p es ≡ filter q es
+  pub filter_among : (p q : RouteKey × X → Bool) (es : List (RouteKey × X)) → ((e : RouteKey × X) → Among e es → p e ≡ q e)
+      → filter p es ≡ filter q es
   filter_among p q [] h = refl
-  filter_among p q (e ∷ es) h = λ i. cond (h e (inl refl) i) (e ∷ filter_among p q es (λ f m. h f (inr m)) i) (filter_among p q es (λ f m. h f (inr m)) i)
+  filter_among p q (e ∷ es) h =
+      λ i. cond (h e (inl refl) i) (e ∷ filter_among p q es (λ f m. h f (inr m)) i) (filter_among p q es (λ f m. h f (inr m)) i)
 
 -- ---- the range of a length and first bits
 
@@ -193,17 +198,21 @@ module _ (source : Addr) (bits : ℕ) (q : RouteKey) where
   abbrev fronts : Ordering
   fronts = nat_cmp (front source bits) (front q.prefix.addr q.prefix.bits)
 
-  ends : (place : Place) → IsInner place → (x y : Ordering) → (is_le (ordering_then (slice_cmp nat_cmp (place_part First) (place_part place)) x) && not (is_lt (ordering_then (slice_cmp nat_cmp (place_part Last) (place_part place)) y))) ≡ true
+  ends : (place : Place) → IsInner place → (x y : Ordering)
+      → (is_le (ordering_then (slice_cmp nat_cmp (place_part First) (place_part place)) x)
+      && not (is_lt (ordering_then (slice_cmp nat_cmp (place_part Last) (place_part place)) y))) ≡ true
   ends First h x y = absurd h
   ends Here h x y = refl
   ends (From peer rd) h x y = refl
   ends Last h x y = absurd h
 
-  in_levels : IsInner q.place → range_contains key_cmp (Included (low_end source bits)) (Included (high_end source bits)) q ≡ (is_eq lengths && (is_eq families && (is_eq fronts && true)))
+  in_levels : IsInner q.place → range_contains key_cmp (Included (low_end source bits)) (Included (high_end source bits)) q
+      ≡ (is_eq lengths && (is_eq families && (is_eq fronts && true)))
   in_levels h =
       level lengths (by_family (low_end source bits) q) (by_family (high_end source bits) q) _
       (level families (by_front (low_end source bits) q) (by_front (high_end source bits) q) _
-      (level fronts (by_place (low_end source bits) q) (by_place (high_end source bits) q) true (ends q.place h (addr_cmp source q.prefix.addr) (addr_cmp source q.prefix.addr))))
+      (level fronts (by_place (low_end source bits) q) (by_place (high_end source bits) q) true
+      (ends q.place h (addr_cmp source q.prefix.addr) (addr_cmp source q.prefix.addr))))
 
   to : (is_eq lengths && (is_eq families && (is_eq fronts && true))) ≡ true → (covers q.prefix source && q.prefix.bits == bits) ≡ true
   to h =
@@ -223,14 +232,18 @@ module _ (source : Addr) (bits : ℕ) (q : RouteKey) where
       let fits = covers_fronts q.prefix.addr source q.prefix.bits both.0 in
       both_true (is_eq lengths) (is_eq families && (is_eq fronts && true)) (tied_numbers bits q.prefix.bits (sym long))
       (both_true (is_eq families) (is_eq fronts && true) (tied_numbers (family source) (family q.prefix.addr) (sym fits.0))
-      (both_true (is_eq fronts) true (tied_numbers (front source bits) (front q.prefix.addr q.prefix.bits) (sym (fits.1 ∙ ap (front source) long))) refl))
+      (both_true (is_eq fronts) true (tied_numbers (front source bits) (front q.prefix.addr q.prefix.bits) (sym (fits.1 ∙ ap (front source) long)))
+      refl))
 
-  pub in_range : IsInner q.place → range_contains key_cmp (Included (low_end source bits)) (Included (high_end source bits)) q ≡ (covers q.prefix source && q.prefix.bits == bits)
-  in_range h = in_levels h ∙ same_bool (is_eq lengths && (is_eq families && (is_eq fronts && true))) (covers q.prefix source && q.prefix.bits == bits) to from
+  pub in_range : IsInner q.place → range_contains key_cmp (Included (low_end source bits)) (Included (high_end source bits)) q
+      ≡ (covers q.prefix source && q.prefix.bits == bits)
+  in_range h =
+      in_levels h ∙ same_bool (is_eq lengths && (is_eq families && (is_eq fronts && true))) (covers q.prefix source && q.prefix.bits == bits) to from
 
 module _ {X : Type 0} where
   pub range_at : (source : Addr) (bits : ℕ) (es : List (RouteKey × X)) → ((e : RouteKey × X) → Among e es → IsInner e.0.place)
       → entries_between key_cmp (Included (low_end source bits)) (Included (high_end source bits)) es ≡ at_length source bits es
   range_at source bits es h =
-      filter_among (λ (e : RouteKey × X). range_contains key_cmp (Included (low_end source bits)) (Included (high_end source bits)) e.0) (λ (e : RouteKey × X). covers e.0.prefix source && e.0.prefix.bits == bits) es
+      filter_among (λ (e : RouteKey × X). range_contains key_cmp (Included (low_end source bits)) (Included (high_end source bits)) e.0)
+      (λ (e : RouteKey × X). covers e.0.prefix source && e.0.prefix.bits == bits) es
       (λ e m. in_range source bits e.0 (h e m))

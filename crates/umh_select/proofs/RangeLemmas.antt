@@ -13,7 +13,8 @@ use Rattle.umh_select.proofs.OrderLemmas.{IsInner, Sorted, high_end, low_end, ra
 
 module _ {X : Type 0} where
   -- the routes between two ends that are those of the length
-  pub between : (source : Addr) (bits : ℕ) (first last : RouteKey) → first ≡ low_end source bits → last ≡ high_end source bits → (es : List (RouteKey × X)) → Sorted es
+  pub between : (source : Addr) (bits : ℕ) (first last : RouteKey) → first ≡ low_end source bits → last ≡ high_end source bits
+      → (es : List (RouteKey × X)) → Sorted es
       → ((e : RouteKey × X) → Among e es → IsInner e.0.place) → (map : FinMap key_cmp X) → from_sorted es ≡ map → (listed : List (RouteKey × X))
       → listed ≡ entries_between key_cmp (Included first) (Included last) es → listed ≡ at_length source bits (entries map)
   between source bits first last f l es a inner map is listed h =

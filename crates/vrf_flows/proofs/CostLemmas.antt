@@ -15,14 +15,16 @@ abbrev Row : List Link → ℕ → ℕ → Type 0
 Row links nodes root = (row : List ℕ) × IsCostRow links nodes root row
 
 -- Sound rows are relaxed until they are tight.
-tightened : (links : List Link) (nodes root : ℕ) (fuel : ℕ) (row : List ℕ) → IsTopology nodes links → IsSound links nodes root row → sum row < fuel → Row links nodes root
+tightened : (links : List Link) (nodes root : ℕ) (fuel : ℕ) (row : List ℕ) → IsTopology nodes links → IsSound links nodes root row → sum row < fuel
+    → Row links nodes root
 tightened links nodes root zero row t sound h = absurd (omega (arith, h))
 tightened links nodes root (suc fuel) row t sound h = by (λ more s l. tightened links nodes root fuel more t s l) (list_all (is_tight row) links) refl
   where
     ends : All (HasEnds (length row)) links
     ends = subst (λ (n : ℕ). All (HasEnds n) links) (sym sound.size) t.ends
 
-    by : ((more : List ℕ) → IsSound links nodes root more → sum more < fuel → Row links nodes root) → (b : Bool) → list_all (is_tight row) links ≡ b → Row links nodes root
+    by : ((more : List ℕ) → IsSound links nodes root more → sum more < fuel → Row links nodes root) → (b : Bool) → list_all (is_tight row) links ≡ b
+        → Row links nodes root
     by rest true e = (row, cost_row links nodes root row t sound e)
     by rest false e =
         let falls : sum (relaxed_all row links) < sum row = relaxed_all_falls links row ends e in
@@ -80,7 +82,8 @@ first-at (suc nodes) zero (suc k) h = inr (far-at nodes k (omega (arith, h)))
 first-at (suc nodes) (suc root) zero h = inr refl
 first-at (suc nodes) (suc root) (suc k) h = by (first-at nodes root k (omega (arith, h)))
   where
-    by : ((root ≡ k) × (get_or (first nodes root) k 0 ≡ 0)) ⊎ (get_or (first nodes root) k 0 ≡ far) → ((suc root ≡ suc k) × (get_or (first nodes root) k 0 ≡ 0)) ⊎ (get_or (first nodes root) k 0 ≡ far)
+    by : ((root ≡ k) × (get_or (first nodes root) k 0 ≡ 0)) ⊎ (get_or (first nodes root) k 0 ≡ far)
+        → ((suc root ≡ suc k) × (get_or (first nodes root) k 0 ≡ 0)) ⊎ (get_or (first nodes root) k 0 ≡ far)
     by (inl both) = inl (ap suc both.0, both.1)
     by (inr e) = inr e
 

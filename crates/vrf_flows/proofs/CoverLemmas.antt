@@ -33,7 +33,8 @@ use Rattle.vrf_flows.proofs.EntryLemmas.{entries-remove, filter-put, filter-with
 abbrev pub covering : Addr → List KnownRoute → List KnownRoute
 covering source routes = filter (λ (r : KnownRoute). covers r.prefix source) routes
 
-best-covering : (cost : NodeId → ℕ) (routes : List KnownRoute) (source : Addr) → best_route cost routes source ≡ best_route cost (covering source routes) source
+best-covering : (cost : NodeId → ℕ) (routes : List KnownRoute) (source : Addr)
+    → best_route cost routes source ≡ best_route cost (covering source routes) source
 best-covering cost [] source = refl
 best-covering cost (r ∷ rs) source = by (covers r.prefix source) refl (best-covering cost rs source)
   where
@@ -62,18 +63,23 @@ edges-covering bits [] source = refl
 edges-covering bits (r ∷ rs) source = by (covers r.prefix source) refl (edges-covering bits rs source)
   where
     by : (b : Bool) → covers r.prefix source ≡ b → edges_of bits rs source ≡ edges_of bits (covering source rs) source →
-        cond (b && r.prefix.bits == bits) (put_origin r.origin (edges_of bits rs source)) (edges_of bits rs source) ≡ edges_of bits (cond b (r ∷ covering source rs) (covering source rs)) source
+        cond (b && r.prefix.bits == bits) (put_origin r.origin (edges_of bits rs source)) (edges_of bits rs source)
+        ≡ edges_of bits (cond b (r ∷ covering source rs) (covering source rs)) source
     by true c rest =
         ap (λ (edges : List Edge). cond (r.prefix.bits == bits) (put_origin r.origin edges) edges) rest
-        ∙ sym (ap (λ (b : Bool). cond (b && r.prefix.bits == bits) (put_origin r.origin (edges_of bits (covering source rs) source)) (edges_of bits (covering source rs) source)) c)
+        ∙ sym (ap (λ (b : Bool). cond (b && r.prefix.bits == bits) (put_origin r.origin (edges_of bits (covering source rs) source))
+        (edges_of bits (covering source rs) source)) c)
     by false c rest = rest
 
 candidates-covering : (routes : List KnownRoute) (source : Addr) → candidate_edges routes source ≡ candidate_edges (covering source routes) source
-candidates-covering routes source = edges-covering (longest_bits routes source) routes source ∙ ap (λ (n : ℕ). edges_of n (covering source routes) source) (longest-covering routes source)
+candidates-covering routes source =
+    edges-covering (longest_bits routes source) routes source
+    ∙ ap (λ (n : ℕ). edges_of n (covering source routes) source) (longest-covering routes source)
 
 -- ---- what is chosen
 
-cost-same : (rule : Rule) (cost : NodeId → ℕ) (own other : List KnownRoute) (source group : Addr) → candidate_edges own source ≡ candidate_edges other source → cost_by rule cost own source group ≡ cost_by rule cost other source group
+cost-same : (rule : Rule) (cost : NodeId → ℕ) (own other : List KnownRoute) (source group : Addr)
+    → candidate_edges own source ≡ candidate_edges other source → cost_by rule cost own source group ≡ cost_by rule cost other source group
 cost-same Highest cost own other source group e = λ i edge. 0
 cost-same Nearest cost own other source group e = λ i edge. cost edge
 cost-same Hash cost own other source group e = λ i edge. cost_unless (hashed_of (hash_of source group) (e i)) edge
@@ -81,7 +87,8 @@ cost-same Hash cost own other source group e = λ i edge. cost_unless (hashed_of
 best-same : (rule : Rule) (cost : NodeId → ℕ) (own other : List KnownRoute) (source group : Addr) → covering source own ≡ covering source other →
     best_route (cost_by rule cost own source group) own source ≡ best_route (cost_by rule cost other source group) other source
 best-same rule cost own other source group e =
-    let edges : candidate_edges own source ≡ candidate_edges other source = candidates-covering own source ∙ (ap (λ (l : List KnownRoute). candidate_edges l source) e ∙ sym (candidates-covering other source)) in
+    let edges : candidate_edges own source ≡ candidate_edges other source =
+    candidates-covering own source ∙ (ap (λ (l : List KnownRoute). candidate_edges l source) e ∙ sym (candidates-covering other source)) in
     ap (λ (by : NodeId → ℕ). best_route by own source) (cost-same rule cost own other source group edges)
     ∙ (best-covering (cost_by rule cost other source group) own source
     ∙ (ap (λ (l : List KnownRoute). best_route (cost_by rule cost other source group) l source) e
@@ -89,9 +96,13 @@ best-same rule cost own other source group e =
 
 -- Both have the same routes for prefixes that cover the source.
 abbrev pub AgreeOn : Addr → FinMap key_cmp Held → FinMap key_cmp Held → Type 0
-AgreeOn source own other = (edge : NodeId) (rd : Rd) (prefix : Prefix) → covers prefix source ≡ true → maps.get own (key_from edge rd prefix) ≡ maps.get other (key_from edge rd prefix)
+AgreeOn source own other =
+    (edge : NodeId) (rd : Rd) (prefix : Prefix) → covers prefix source ≡ true
+    → maps.get own (key_from edge rd prefix) ≡ maps.get other (key_from edge rd prefix)
 
-chosen-same : (source : Addr) (own other : FinMap key_cmp Held) → AgreeOn source own other → (cost : NodeId → ℕ) (routes : List KnownRoute) (found : Option KnownRoute) → BestIs cost routes source found → chosen own found ≡ chosen other found
+chosen-same : (source : Addr) (own other : FinMap key_cmp Held) → AgreeOn source own other
+    → (cost : NodeId → ℕ) (routes : List KnownRoute) (found : Option KnownRoute) → BestIs cost routes source found
+    → chosen own found ≡ chosen other found
 chosen-same source own other agree cost routes None b = refl
 chosen-same source own other agree cost routes (Some route) b = by route.origin
   where
@@ -107,50 +118,64 @@ from-covering source [] = refl
 from-covering source (e ∷ es) = by (covers e.0.prefix source) (from-covering source es)
   where
     by : (b : Bool) → covering source (map known_from es) ≡ map known_from (filter (covers_entry source) es) →
-        cond b (known_from e ∷ covering source (map known_from es)) (covering source (map known_from es)) ≡ map known_from (cond b (e ∷ filter (covers_entry source) es) (filter (covers_entry source) es))
+        cond b (known_from e ∷ covering source (map known_from es)) (covering source (map known_from es))
+        ≡ map known_from (cond b (e ∷ filter (covers_entry source) es) (filter (covers_entry source) es))
     by true rest = ap (λ (l : List KnownRoute). known_from e ∷ l) rest
     by false rest = rest
 
-known-covering : (routes : Routes) (source : Addr) → covering source (known routes) ≡ covering source (map known_here (entries routes.attached)) ++ map known_from (filter (covers_entry source) (entries routes.learned))
+known-covering : (routes : Routes) (source : Addr)
+    → covering source (known routes) ≡ covering source (map known_here (entries routes.attached))
+    ++ map known_from (filter (covers_entry source) (entries routes.learned))
 known-covering routes source =
     filter-append (λ (r : KnownRoute). covers r.prefix source) (map known_here (entries routes.attached)) (map known_from (entries routes.learned))
     ∙ ap (λ (l : List KnownRoute). covering source (map known_here (entries routes.attached)) ++ l) (from-covering source (entries routes.learned))
 
-for-same : (routes : Routes) (next : FinMap key_cmp Held) (cost : NodeId → ℕ) (q : Flow) → filter (covers_entry q.source) (entries routes.learned) ≡ filter (covers_entry q.source) (entries next) → AgreeOn q.source routes.learned next →
+for-same : (routes : Routes) (next : FinMap key_cmp Held) (cost : NodeId → ℕ) (q : Flow)
+    → filter (covers_entry q.source) (entries routes.learned) ≡ filter (covers_entry q.source) (entries next) → AgreeOn q.source routes.learned next →
     chosen_for routes cost q ≡ chosen_for (record routes { learned = next }) cost q
 for-same routes next cost q same agree =
     let own = known routes in
     let other = known (record routes { learned = next }) in
     let e : covering q.source (known routes) ≡ covering q.source (known (record routes { learned = next })) =
-    known-covering routes q.source ∙ (ap (λ (l : List (RouteKey × Held)). covering q.source (map known_here (entries routes.attached)) ++ map known_from l) same ∙ sym (known-covering (record routes { learned = next }) q.source)) in
+    known-covering routes q.source ∙ (ap (λ (l : List (RouteKey × Held)). covering q.source (map known_here (entries routes.attached))
+    ++ map known_from l) same ∙ sym (known-covering (record routes { learned = next }) q.source)) in
     ap (chosen routes.learned) (best-same routes.rule cost own other q.source q.group e)
-    ∙ chosen-same q.source routes.learned next agree (cost_by routes.rule cost other q.source q.group) other (best_route (cost_by routes.rule cost other q.source q.group) other q.source) (best (cost_by routes.rule cost other q.source q.group) other q.source)
+    ∙ chosen-same q.source routes.learned next agree (cost_by routes.rule cost other q.source q.group) other
+    (best_route (cost_by routes.rule cost other q.source q.group) other q.source)
+    (best (cost_by routes.rule cost other q.source q.group) other q.source)
 
 -- ---- a route that comes or goes
 
-apart : (source : Addr) (edge peer : NodeId) (rd other : Rd) (prefix own : Prefix) → covers own source ≡ false → covers prefix source ≡ true → eq_by_cmp key_cmp (key_from edge rd prefix) (key_from peer other own) ≡ false
+apart : (source : Addr) (edge peer : NodeId) (rd other : Rd) (prefix own : Prefix) → covers own source ≡ false → covers prefix source ≡ true
+    → eq_by_cmp key_cmp (key_from edge rd prefix) (key_from peer other own) ≡ false
 apart source edge peer rd other prefix own out in_it = by (eq_by_cmp key_cmp (key_from edge rd prefix) (key_from peer other own)) refl
   where
     by : (b : Bool) → eq_by_cmp key_cmp (key_from edge rd prefix) (key_from peer other own) ≡ b → b ≡ false
     by false e = refl
     by true e =
-        let key : key_from edge rd prefix ≡ key_from peer other own = key_exact (key_from edge rd prefix) (key_from peer other own) ((Equal-is (key_cmp (key_from edge rd prefix) (key_from peer other own))).0 e) in
+        let key : key_from edge rd prefix ≡ key_from peer other own =
+        key_exact (key_from edge rd prefix) (key_from peer other own)
+        ((Equal-is (key_cmp (key_from edge rd prefix) (key_from peer other own))).0 e) in
         sym in_it ∙ (ap (λ (k : RouteKey). covers k.prefix source) key ∙ out)
 
-pub learned-apart : (routes : Routes) (cost : NodeId → ℕ) (peer : NodeId) (rd : Rd) (prefix : Prefix) (held : Held) (q : Flow) → covers prefix q.source ≡ false →
+pub learned-apart : (routes : Routes) (cost : NodeId → ℕ) (peer : NodeId) (rd : Rd) (prefix : Prefix) (held : Held) (q : Flow)
+    → covers prefix q.source ≡ false →
     chosen_for routes cost q ≡ chosen_for (record routes { learned = maps.insert routes.learned (key_from peer rd prefix) held }) cost q
 learned-apart routes cost peer rd prefix held q out =
     for-same routes (maps.insert routes.learned (key_from peer rd prefix) held) cost q
-    (sym (ap (filter (covers_entry q.source)) (entries-insert key_total routes.learned (key_from peer rd prefix) held) ∙ filter-put key_cmp key_exact (λ (k : RouteKey). covers k.prefix q.source) (key_from peer rd prefix) held (entries routes.learned) out))
+    (sym (ap (filter (covers_entry q.source)) (entries-insert key_total routes.learned (key_from peer rd prefix) held)
+    ∙ filter-put key_cmp key_exact (λ (k : RouteKey). covers k.prefix q.source) (key_from peer rd prefix) held (entries routes.learned) out))
     (λ edge other own in_it. sym (get-insert key_total routes.learned (key_from peer rd prefix) held (key_from edge other own)
-    ∙ ap (λ (b : Bool). cond b (Some held) (maps.get routes.learned (key_from edge other own))) (apart q.source edge peer other rd own prefix out in_it)))
+    ∙ ap (λ (b : Bool). cond b (Some held) (maps.get routes.learned (key_from edge other own)))
+    (apart q.source edge peer other rd own prefix out in_it)))
 
 pub forgotten-apart : (routes : Routes) (cost : NodeId → ℕ) (peer : NodeId) (rd : Rd) (prefix : Prefix) (q : Flow) → covers prefix q.source ≡ false →
     chosen_for routes cost q ≡ chosen_for (record routes { learned = maps.remove routes.learned (key_from peer rd prefix) }) cost q
 forgotten-apart routes cost peer rd prefix q out =
     for-same routes (maps.remove routes.learned (key_from peer rd prefix)) cost q
     (sym (ap (filter (covers_entry q.source)) (entries-remove key_total key_exact routes.learned (key_from peer rd prefix))
-    ∙ filter-within (covers_entry q.source) (λ (e : RouteKey × Held). not (eq_by_cmp key_cmp (key_from peer rd prefix) e.0)) gone (entries routes.learned)))
+    ∙ filter-within (covers_entry q.source) (λ (e : RouteKey × Held). not (eq_by_cmp key_cmp (key_from peer rd prefix) e.0)) gone
+    (entries routes.learned)))
     (λ edge other own in_it. sym (get-remove key_total routes.learned (key_from peer rd prefix) (key_from edge other own)
     ∙ ap (λ (b : Bool). cond b None (maps.get routes.learned (key_from edge other own))) (apart q.source edge peer other rd own prefix out in_it)))
   where
@@ -160,5 +185,7 @@ forgotten-apart routes cost peer rd prefix q out =
 
     gone : (e : RouteKey × Held) → not (eq_by_cmp key_cmp (key_from peer rd prefix) e.0) ≡ false → covers_entry q.source e ≡ false
     gone e k =
-        let key : key_from peer rd prefix ≡ e.0 = key_exact (key_from peer rd prefix) e.0 ((Equal-is (key_cmp (key_from peer rd prefix) e.0)).0 (not-false (eq_by_cmp key_cmp (key_from peer rd prefix) e.0) k)) in
+        let key : key_from peer rd prefix ≡ e.0 =
+        key_exact (key_from peer rd prefix) e.0 ((Equal-is (key_cmp (key_from peer rd prefix) e.0)).0
+        (not-false (eq_by_cmp key_cmp (key_from peer rd prefix) e.0) k)) in
         ap (λ (x : RouteKey). covers x.prefix q.source) (sym key) ∙ out

@@ -17,18 +17,21 @@ module _ {K X : Type 0} (R : K → K → Ordering) (exact : IsAntisymmetric R) (
   filter-put k v [] h = ap (λ (b : Bool). cond b ((k, v) ∷ []) []) h
   filter-put k v (e ∷ es) h = by (R k e.0) refl (filter-put k v es h)
     where
-      by : (o : Ordering) → R k e.0 ≡ o → passing (put R k v es) ≡ passing es → passing (by_order o ((k, v) ∷ e ∷ es) ((e.0, v) ∷ es) (e ∷ put R k v es)) ≡ passing (e ∷ es)
+      by : (o : Ordering) → R k e.0 ≡ o → passing (put R k v es) ≡ passing es
+          → passing (by_order o ((k, v) ∷ e ∷ es) ((e.0, v) ∷ es) (e ∷ put R k v es)) ≡ passing (e ∷ es)
       by Less i rest = ap (λ (b : Bool). cond b ((k, v) ∷ passing (e ∷ es)) (passing (e ∷ es))) h
       by Equal i rest =
           let out : test e.0 ≡ false = ap test (sym (exact k e.0 i)) ∙ h in
           ap (λ (b : Bool). cond b ((e.0, v) ∷ passing es) (passing es)) out ∙ sym (ap (λ (b : Bool). cond b (e ∷ passing es) (passing es)) out)
       by Greater i rest = ap (λ (l : List (K × X)). cond (test e.0) (e ∷ l) l) rest
 
-pub filter-within : {X : Type 0} (test kept : X → Bool) → ((x : X) → kept x ≡ false → test x ≡ false) → (xs : List X) → filter test (filter kept xs) ≡ filter test xs
+pub filter-within : {X : Type 0} (test kept : X → Bool) → ((x : X) → kept x ≡ false → test x ≡ false) → (xs : List X)
+    → filter test (filter kept xs) ≡ filter test xs
 filter-within test kept out [] = refl
 filter-within {X} test kept out (x ∷ xs) = by (kept x) refl (filter-within test kept out xs)
   where
-    by : (b : Bool) → kept x ≡ b → filter test (filter kept xs) ≡ filter test xs → filter test (cond b (x ∷ filter kept xs) (filter kept xs)) ≡ cond (test x) (x ∷ filter test xs) (filter test xs)
+    by : (b : Bool) → kept x ≡ b → filter test (filter kept xs) ≡ filter test xs
+        → filter test (cond b (x ∷ filter kept xs) (filter kept xs)) ≡ cond (test x) (x ∷ filter test xs) (filter test xs)
     by true k rest = ap (λ (l : List X). cond (test x) (x ∷ l) l) rest
     by false k rest = rest ∙ sym (ap (λ (b : Bool). cond b (x ∷ filter test xs) (filter test xs)) (out x k))
 

@@ -34,8 +34,11 @@ marked-not None = refl
 marked-not (Some held) = ap (λ (s : Bool). Some (record { stale = s; kept = held.kept })) (or-none held.stale)
 
 -- One more of a row of marks.
-pub marks-more : {X : Type 0} (test : X → Bool) (xs : List X) (i : ℕ) (d : X) (old mid new : Option Held) → i < length xs → mid ≡ marked (list_any test (take i xs)) old → new ≡ marked (test (get_or xs i d)) mid → new ≡ marked (list_any test (take (i + 1) xs)) old
-marks-more test xs i d old mid new l m n = n ∙ (ap (marked (test (get_or xs i d))) m ∙ (marked-again (list_any test (take i xs)) (test (get_or xs i d)) old ∙ ap (λ (b : Bool). marked b old) (sym (list_any_more test xs i d l))))
+pub marks-more : {X : Type 0} (test : X → Bool) (xs : List X) (i : ℕ) (d : X) (old mid new : Option Held) → i < length xs
+    → mid ≡ marked (list_any test (take i xs)) old → new ≡ marked (test (get_or xs i d)) mid → new ≡ marked (list_any test (take (i + 1) xs)) old
+marks-more test xs i d old mid new l m n =
+    n ∙ (ap (marked (test (get_or xs i d))) m ∙ (marked-again (list_any test (take i xs)) (test (get_or xs i d)) old
+    ∙ ap (λ (b : Bool). marked b old) (sym (list_any_more test xs i d l))))
 
 -- ---- a change of all that is held
 
@@ -56,19 +59,22 @@ abbrev pub changed_by : (Flow → Held → Held) → Flow → Option Held → Op
 changed_by change q None = None
 changed_by change q (Some held) = Some (change q held)
 
-lookup-changed : (change : Flow → Held → Held) (es : List (Flow × Held)) (q : Flow) → lookup (same_flow q) (change_each change es) ≡ changed_by change q (lookup (same_flow q) es)
+lookup-changed : (change : Flow → Held → Held) (es : List (Flow × Held)) (q : Flow)
+    → lookup (same_flow q) (change_each change es) ≡ changed_by change q (lookup (same_flow q) es)
 lookup-changed change [] q = refl
 lookup-changed change (e ∷ es) q = by (same_flow q e.0) refl (lookup-changed change es q)
   where
     by : (b : Bool) → same_flow q e.0 ≡ b → lookup (same_flow q) (change_each change es) ≡ changed_by change q (lookup (same_flow q) es) →
-        cond b (Some (change e.0 e.1)) (lookup (same_flow q) (change_each change es)) ≡ changed_by change q (cond b (Some e.1) (lookup (same_flow q) es))
+        cond b (Some (change e.0 e.1)) (lookup (same_flow q) (change_each change es))
+        ≡ changed_by change q (cond b (Some e.1) (lookup (same_flow q) es))
     by true h rest = ap (λ (k : Flow). Some (change k e.1)) (sym (same_flow_equal q e.0 h))
     by false h rest = rest
 
 abbrev pub mark_by : (Flow → Bool) → Flow → Held → Held
 mark_by test q held = mark (test q) held
 
-pub lookup-marked : (test : Flow → Bool) (es : List (Flow × Held)) (q : Flow) → lookup (same_flow q) (change_each (mark_by test) es) ≡ marked (test q) (lookup (same_flow q) es)
+pub lookup-marked : (test : Flow → Bool) (es : List (Flow × Held)) (q : Flow)
+    → lookup (same_flow q) (change_each (mark_by test) es) ≡ marked (test q) (lookup (same_flow q) es)
 lookup-marked test es q = lookup-changed (mark_by test) es q ∙ by (lookup (same_flow q) es)
   where
     by : (o : Option Held) → changed_by (mark_by test) q o ≡ marked (test q) o
@@ -104,24 +110,34 @@ put-here : {Y : Type 0} (next old : Option Y) → put_at true next old ≡ or_ol
 put-here None old = refl
 put-here (Some y) old = refl
 
-puts-apart : {X Y : Type 0} (give : Flow → X → Option Y) (es : List (Flow × X)) (old : Option Y) (q : Flow) → AllByRecursion (λ k. same_flow q k ≡ false) (keys_of es) → puts give es old q ≡ old
+puts-apart : {X Y : Type 0} (give : Flow → X → Option Y) (es : List (Flow × X)) (old : Option Y) (q : Flow)
+    → AllByRecursion (λ k. same_flow q k ≡ false) (keys_of es) → puts give es old q ≡ old
 puts-apart give [] old q h = refl
 puts-apart {X} {Y} give (e ∷ es) old q h =
-    let here : put_at (same_flow e.0 q) (give e.0 e.1) old ≡ old = ap (λ (b : Bool). put_at b (give e.0 e.1) old) (same_flow_symmetric e.0 q ∙ h.0) ∙ put-not (give e.0 e.1) old in
+    let here : put_at (same_flow e.0 q) (give e.0 e.1) old ≡ old =
+    ap (λ (b : Bool). put_at b (give e.0 e.1) old) (same_flow_symmetric e.0 q ∙ h.0) ∙ put-not (give e.0 e.1) old in
     ap (λ (o : Option Y). puts give es o q) here ∙ puts-apart give es old q h.1
 
-pub puts-lookup : {X Y : Type 0} (give : Flow → X → Option Y) (es : List (Flow × X)) (old : Option Y) (q : Flow) → IsDistinct same_flow (keys_of es) → puts give es old q ≡ or_old (given_by give q (lookup (same_flow q) es)) old
+pub puts-lookup : {X Y : Type 0} (give : Flow → X → Option Y) (es : List (Flow × X)) (old : Option Y) (q : Flow) → IsDistinct same_flow (keys_of es)
+    → puts give es old q ≡ or_old (given_by give q (lookup (same_flow q) es)) old
 puts-lookup give [] old q h = refl
-puts-lookup {X} {Y} give (e ∷ es) old q h = by (same_flow q e.0) refl (puts-lookup give es old q (IsDistinct-tail same_flow e.0 (keys_of es) h)) (IsDistinct-head same_flow e.0 (keys_of es) h)
+puts-lookup {X} {Y} give (e ∷ es) old q h =
+    by (same_flow q e.0) refl (puts-lookup give es old q (IsDistinct-tail same_flow e.0 (keys_of es) h))
+    (IsDistinct-head same_flow e.0 (keys_of es) h)
   where
-    by : (b : Bool) → same_flow q e.0 ≡ b → puts give es old q ≡ or_old (given_by give q (lookup (same_flow q) es)) old → AllByRecursion (λ k. same_flow e.0 k ≡ false) (keys_of es) →
+    by : (b : Bool) → same_flow q e.0 ≡ b → puts give es old q ≡ or_old (given_by give q (lookup (same_flow q) es)) old
+        → AllByRecursion (λ k. same_flow e.0 k ≡ false) (keys_of es) →
         puts give es (put_at (same_flow e.0 q) (give e.0 e.1) old) q ≡ or_old (given_by give q (cond b (Some e.1) (lookup (same_flow q) es))) old
     by true t rest apart =
         let same : q ≡ e.0 = same_flow_equal q e.0 t in
-        let here : put_at (same_flow e.0 q) (give e.0 e.1) old ≡ or_old (give q e.1) old = (λ i. put_at ((same_flow_symmetric e.0 q ∙ t) i) (give (sym same i) e.1) old) ∙ put-here (give q e.1) old in
-        ap (λ (o : Option Y). puts give es o q) here ∙ puts-apart give es (or_old (give q e.1) old) q (subst (λ (x : Flow). AllByRecursion (λ k. same_flow x k ≡ false) (keys_of es)) (sym same) apart)
+        let here : put_at (same_flow e.0 q) (give e.0 e.1) old ≡ or_old (give q e.1) old =
+        (λ i. put_at ((same_flow_symmetric e.0 q ∙ t) i) (give (sym same i) e.1) old) ∙ put-here (give q e.1) old in
+        ap (λ (o : Option Y). puts give es o q) here
+        ∙ puts-apart give es (or_old (give q e.1) old) q
+        (subst (λ (x : Flow). AllByRecursion (λ k. same_flow x k ≡ false) (keys_of es)) (sym same) apart)
     by false t rest apart =
-        let here : put_at (same_flow e.0 q) (give e.0 e.1) old ≡ old = ap (λ (b : Bool). put_at b (give e.0 e.1) old) (same_flow_symmetric e.0 q ∙ t) ∙ put-not (give e.0 e.1) old in
+        let here : put_at (same_flow e.0 q) (give e.0 e.1) old ≡ old =
+        ap (λ (b : Bool). put_at b (give e.0 e.1) old) (same_flow_symmetric e.0 q ∙ t) ∙ put-not (give e.0 e.1) old in
         ap (λ (o : Option Y). puts give es o q) here ∙ rest
 
 -- ---- what plans say at their end
@@ -130,15 +146,18 @@ or-old-none : {Y : Type 0} (o : Option Y) → or_old o None ≡ o
 or-old-none None = refl
 or-old-none (Some y) = refl
 
-pub plan-end : (now : Flow → Now) (q : Flow) (held : Option Held) → or_old (given_by (λ flow held. replan held (now flow)) q held) None ≡ planned held (now q)
+pub plan-end : (now : Flow → Now) (q : Flow) (held : Option Held)
+    → or_old (given_by (λ flow held. replan held (now flow)) q held) None ≡ planned held (now q)
 plan-end now q None = refl
 plan-end now q (Some held) = or-old-none (replan held (now q))
 
-pub gain-end : (held : Flow → Option Held) (q : Flow) (next : Option Now) → or_old (given_by (λ flow now. gain (held flow) (Some now)) q next) None ≡ gain (held q) next
+pub gain-end : (held : Flow → Option Held) (q : Flow) (next : Option Now)
+    → or_old (given_by (λ flow now. gain (held flow) (Some now)) q next) None ≡ gain (held q) next
 gain-end held q None = refl
 gain-end held q (Some now) = or-old-none (gain (held q) (Some now))
 
-pub loss-end : (held : Flow → Option Held) (q : Flow) (next : Option Now) → or_old (given_by (λ flow now. loss (held flow) (Some now)) q next) None ≡ loss (held q) next
+pub loss-end : (held : Flow → Option Held) (q : Flow) (next : Option Now)
+    → or_old (given_by (λ flow now. loss (held flow) (Some now)) q next) None ≡ loss (held q) next
 loss-end held q None = refl
 loss-end held q (Some now) = or-old-none (loss (held q) (Some now))
 
@@ -147,23 +166,31 @@ abbrev pub given_or : {X Y : Type 0} → (Flow → X → Option Y) → Flow → 
 given_or give q None old = old
 given_or give q (Some x) old = give q x
 
-sets-apart : {X Y : Type 0} (give : Flow → X → Option Y) (es : List (Flow × X)) (old : Option Y) (q : Flow) → AllByRecursion (λ k. same_flow q k ≡ false) (keys_of es) → sets give es old q ≡ old
+sets-apart : {X Y : Type 0} (give : Flow → X → Option Y) (es : List (Flow × X)) (old : Option Y) (q : Flow)
+    → AllByRecursion (λ k. same_flow q k ≡ false) (keys_of es) → sets give es old q ≡ old
 sets-apart give [] old q h = refl
-sets-apart {X} {Y} give (e ∷ es) old q h = ap (λ (b : Bool). sets give es (cond b (give e.0 e.1) old) q) (same_flow_symmetric e.0 q ∙ h.0) ∙ sets-apart give es old q h.1
+sets-apart {X} {Y} give (e ∷ es) old q h =
+    ap (λ (b : Bool). sets give es (cond b (give e.0 e.1) old) q) (same_flow_symmetric e.0 q ∙ h.0) ∙ sets-apart give es old q h.1
 
-pub sets-lookup : {X Y : Type 0} (give : Flow → X → Option Y) (es : List (Flow × X)) (old : Option Y) (q : Flow) → IsDistinct same_flow (keys_of es) → sets give es old q ≡ given_or give q (lookup (same_flow q) es) old
+pub sets-lookup : {X Y : Type 0} (give : Flow → X → Option Y) (es : List (Flow × X)) (old : Option Y) (q : Flow) → IsDistinct same_flow (keys_of es)
+    → sets give es old q ≡ given_or give q (lookup (same_flow q) es) old
 sets-lookup give [] old q h = refl
-sets-lookup {X} {Y} give (e ∷ es) old q h = by (same_flow q e.0) refl (sets-lookup give es old q (IsDistinct-tail same_flow e.0 (keys_of es) h)) (IsDistinct-head same_flow e.0 (keys_of es) h)
+sets-lookup {X} {Y} give (e ∷ es) old q h =
+    by (same_flow q e.0) refl (sets-lookup give es old q (IsDistinct-tail same_flow e.0 (keys_of es) h))
+    (IsDistinct-head same_flow e.0 (keys_of es) h)
   where
-    by : (b : Bool) → same_flow q e.0 ≡ b → sets give es old q ≡ given_or give q (lookup (same_flow q) es) old → AllByRecursion (λ k. same_flow e.0 k ≡ false) (keys_of es) →
+    by : (b : Bool) → same_flow q e.0 ≡ b → sets give es old q ≡ given_or give q (lookup (same_flow q) es) old
+        → AllByRecursion (λ k. same_flow e.0 k ≡ false) (keys_of es) →
         sets give es (cond (same_flow e.0 q) (give e.0 e.1) old) q ≡ given_or give q (cond b (Some e.1) (lookup (same_flow q) es)) old
     by true t rest apart =
         let same : q ≡ e.0 = same_flow_equal q e.0 t in
         ap (λ (b : Bool). sets give es (cond b (give e.0 e.1) old) q) (same_flow_symmetric e.0 q ∙ t)
-        ∙ (sets-apart give es (give e.0 e.1) q (subst (λ (x : Flow). AllByRecursion (λ k. same_flow x k ≡ false) (keys_of es)) (sym same) apart) ∙ ap (λ (k : Flow). give k e.1) (sym same))
+        ∙ (sets-apart give es (give e.0 e.1) q (subst (λ (x : Flow). AllByRecursion (λ k. same_flow x k ≡ false) (keys_of es)) (sym same) apart)
+        ∙ ap (λ (k : Flow). give k e.1) (sym same))
     by false t rest apart = ap (λ (b : Bool). sets give es (cond b (give e.0 e.1) old) q) (same_flow_symmetric e.0 q ∙ t) ∙ rest
 
-pub settle-end : (needed : Flow → Bool) (q : Flow) (next : Option Now) (old : Option Held) → given_or (λ flow now. settled_by (needed flow) now) q next old ≡ settled (needed q) next old
+pub settle-end : (needed : Flow → Bool) (q : Flow) (next : Option Now) (old : Option Held)
+    → given_or (λ flow now. settled_by (needed flow) now) q next old ≡ settled (needed q) next old
 settle-end needed q None old = refl
 settle-end needed q (Some now) old = refl
 
@@ -175,7 +202,9 @@ settled-held needed flow q kept old new need held n = ap is_some n ∙ by (same_
     by : (b : Bool) → same_flow flow q ≡ b → (kept : Now) → is_some (cond b (settled_by (needed flow) kept) old) ≡ true
     by false s kept = held
     by true s (Some kept) = refl
-    by true s None = ap (λ (b : Bool). is_some {T = Held} (cond b (Some (record { stale = false; kept = None })) None)) (ap needed (same_flow_equal flow q s) ∙ need)
+    by true s None =
+        ap (λ (b : Bool). is_some {T = Held} (cond b (Some (record { stale = false; kept = None })) None))
+        (ap needed (same_flow_equal flow q s) ∙ need)
 
 -- ---- one flow
 
@@ -197,7 +226,8 @@ held-present look flow q h = by (same_flow flow q) (look q) refl refl
     by true None s e = absurd (none-some (look flow) h (ap look (same_flow_equal flow q s) ∙ e))
 
 -- A flow that is not held is held then.
-pub held-absent : (look : Flow → Option Held) (flow q : Flow) (new : Option Held) → is_some (look flow) ≡ false → new ≡ cond (same_flow flow q) (Some (record { stale = true; kept = None })) (look q) → new ≡ held_too (same_flow flow q) (look q)
+pub held-absent : (look : Flow → Option Held) (flow q : Flow) (new : Option Held) → is_some (look flow) ≡ false
+    → new ≡ cond (same_flow flow q) (Some (record { stale = true; kept = None })) (look q) → new ≡ held_too (same_flow flow q) (look q)
 held-absent look flow q new h n = n ∙ by (same_flow flow q) (look q) refl refl
   where
     by : (b : Bool) (o : Option Held) → same_flow flow q ≡ b → look q ≡ o → cond b (Some (record { stale = true; kept = None })) o ≡ held_too b o
@@ -211,11 +241,14 @@ or-true true = refl
 or-true false = refl
 
 -- A flow that is held is marked.
-pub mark-one : (look : Flow → Option Held) (flow q : Flow) (held : Held) (new : Option Held) → look flow ≡ Some held → new ≡ cond (same_flow flow q) (Some (record { stale = true; kept = held.kept })) (look q) → new ≡ marked (same_flow flow q) (look q)
+pub mark-one : (look : Flow → Option Held) (flow q : Flow) (held : Held) (new : Option Held) → look flow ≡ Some held
+    → new ≡ cond (same_flow flow q) (Some (record { stale = true; kept = held.kept })) (look q) → new ≡ marked (same_flow flow q) (look q)
 mark-one look flow q held new h n = n ∙ by (same_flow flow q) refl
   where
     by : (b : Bool) → same_flow flow q ≡ b → cond b (Some (record { stale = true; kept = held.kept })) (look q) ≡ marked b (look q)
-    by true s = sym (ap (marked true) (ap look (sym (same_flow_equal flow q s)) ∙ h) ∙ ap (λ (t : Bool). Some (record { stale = t; kept = held.kept })) (or-true held.stale))
+    by true s =
+        sym (ap (marked true) (ap look (sym (same_flow_equal flow q s)) ∙ h)
+        ∙ ap (λ (t : Bool). Some (record { stale = t; kept = held.kept })) (or-true held.stale))
     by false s = sym (marked-not (look q))
 
 -- ---- flows that are held too
@@ -227,8 +260,12 @@ held-again false false None = refl
 held-again a b (Some held) = refl
 
 -- One more of a row of flows that are held too.
-pub holds-more : {X : Type 0} (test : X → Bool) (xs : List X) (i : ℕ) (d : X) (old mid new : Option Held) → i < length xs → mid ≡ held_too (list_any test (take i xs)) old → new ≡ held_too (test (get_or xs i d)) mid → new ≡ held_too (list_any test (take (i + 1) xs)) old
-holds-more test xs i d old mid new l m n = n ∙ (ap (held_too (test (get_or xs i d))) m ∙ (held-again (list_any test (take i xs)) (test (get_or xs i d)) old ∙ ap (λ (b : Bool). held_too b old) (sym (list_any_more test xs i d l))))
+pub holds-more : {X : Type 0} (test : X → Bool) (xs : List X) (i : ℕ) (d : X) (old mid new : Option Held) → i < length xs
+    → mid ≡ held_too (list_any test (take i xs)) old → new ≡ held_too (test (get_or xs i d)) mid
+    → new ≡ held_too (list_any test (take (i + 1) xs)) old
+holds-more test xs i d old mid new l m n =
+    n ∙ (ap (held_too (test (get_or xs i d))) m ∙
+    (held-again (list_any test (take i xs)) (test (get_or xs i d)) old ∙ ap (λ (b : Bool). held_too b old) (sym (list_any_more test xs i d l))))
 
 -- What is held too by any test has grown.
 pub grown-by : (b : Bool) (new old : Option Held) → new ≡ held_too b old → new ≡ held_too (is_some new) old
@@ -252,4 +289,6 @@ differs-not false t = refl
 -- Between a clock and itself nothing lapses.
 pub unlapsed : (from to : ℕ) (q : Flow) (es : List (IfaceEntry × Expiry)) → from ≡ to → list_any (lapsed from to q) es ≡ false
 unlapsed from to q [] h = refl
-unlapsed from to q (e ∷ es) h = (λ i. (differ (is_after e.1 (h i)) (is_after e.1 to) && touches e.0.entry q) || list_any (lapsed from to q) es) ∙ ((λ i. differs-not (is_after e.1 to) (touches e.0.entry q) i || list_any (lapsed from to q) es) ∙ unlapsed from to q es h)
+unlapsed from to q (e ∷ es) h =
+    (λ i. (differ (is_after e.1 (h i)) (is_after e.1 to) && touches e.0.entry q) || list_any (lapsed from to q) es)
+    ∙ ((λ i. differs-not (is_after e.1 to) (touches e.0.entry q) i || list_any (lapsed from to q) es) ∙ unlapsed from to q es h)

@@ -24,14 +24,17 @@ use Rattle.vrf_flows.proofs.TreeLemmas.{expiry-found}
 
 -- ---- the interface of an entry is named
 
-more_named : (flow : Flow) (e : IfaceEntry × Expiry) (es : List (IfaceEntry × Expiry)) (iface : IfaceId) → is_named (named_in flow es) iface ≡ true → is_named (named_in flow (e ∷ es)) iface ≡ true
+more_named : (flow : Flow) (e : IfaceEntry × Expiry) (es : List (IfaceEntry × Expiry)) (iface : IfaceId) → is_named (named_in flow es) iface ≡ true
+    → is_named (named_in flow (e ∷ es)) iface ≡ true
 more_named flow e es iface h = by (may_change flow e)
   where
-    by : (b : Bool) → is_named (map (λ (x : IfaceEntry × Expiry). x.0.iface) (cond b (e ∷ filter (may_change flow) es) (filter (may_change flow) es))) iface ≡ true
+    by : (b : Bool) → is_named (map (λ (x : IfaceEntry × Expiry). x.0.iface) (cond b (e ∷ filter (may_change flow) es) (filter (may_change flow) es)))
+        iface ≡ true
     by true = or_right _ _ h
     by false = h
 
-listed_named : (flow : Flow) (es : List (IfaceEntry × Expiry)) (at : IfaceEntry) → touches at.entry flow ≡ true → is_some (lookup (is_at at) es) ≡ true → is_named (named_in flow es) at.iface ≡ true
+listed_named : (flow : Flow) (es : List (IfaceEntry × Expiry)) (at : IfaceEntry) → touches at.entry flow ≡ true
+    → is_some (lookup (is_at at) es) ≡ true → is_named (named_in flow es) at.iface ≡ true
 listed_named flow [] at t h = absurd cc
 listed_named flow (e ∷ es) at t h = by (is_at at e.0) refl (listed_named flow es at t) h
   where
@@ -40,18 +43,21 @@ listed_named flow (e ∷ es) at t h = by (is_at at e.0) refl (listed_named flow 
 
     here : at ≡ e.0 → is_named (named_in flow (e ∷ es)) at.iface ≡ true
     here k =
-        ap (λ (b : Bool). is_named (map (λ (x : IfaceEntry × Expiry). x.0.iface) (cond b (e ∷ filter (may_change flow) es) (filter (may_change flow) es))) at.iface)
+        ap (λ (b : Bool). is_named (map (λ (x : IfaceEntry × Expiry). x.0.iface)
+        (cond b (e ∷ filter (may_change flow) es) (filter (may_change flow) es))) at.iface)
         (ap (λ (x : IfaceEntry). touches x.entry flow) (sym k) ∙ t)
         ∙ or_left _ _ (ap (λ (x : IfaceEntry). x.iface.0 == at.iface.0) (sym k) ∙ itself at.iface.0)
 
-    by : (b : Bool) → is_at at e.0 ≡ b → (is_some (lookup (is_at at) es) ≡ true → is_named (named_in flow es) at.iface ≡ true) → is_some (cond b (Some e.1) (lookup (is_at at) es)) ≡ true
+    by : (b : Bool) → is_at at e.0 ≡ b → (is_some (lookup (is_at at) es) ≡ true → is_named (named_in flow es) at.iface ≡ true)
+        → is_some (cond b (Some e.1) (lookup (is_at at) es)) ≡ true
         → is_named (named_in flow (e ∷ es)) at.iface ≡ true
     by true s rest found = here (at-equal at e.0 s)
     by false s rest found = more_named flow e es at.iface (rest found)
 
 -- ---- the others do not ask
 
-unlisted : (flow : Flow) (es : List (IfaceEntry × Expiry)) (entries : Entries) (iface : IfaceId) (entry : JoinEntry) → from_entries es ≡ entries → touches entry flow ≡ true → is_named (named_in flow es) iface ≡ false
+unlisted : (flow : Flow) (es : List (IfaceEntry × Expiry)) (entries : Entries) (iface : IfaceId) (entry : JoinEntry) → from_entries es ≡ entries
+    → touches entry flow ≡ true → is_named (named_in flow es) iface ≡ false
     → expiry_at entries iface entry ≡ None
 unlisted flow es entries iface entry are t n = by (lookup (is_at at) es) refl
   where
@@ -62,30 +68,39 @@ unlisted flow es entries iface entry are t n = by (lookup (is_at at) es) refl
     by None f = expiry-found es entries at are ∙ f
     by (Some x) f = absurd (not_both _ (listed_named flow es at t (ap (λ (o : Option Expiry). is_some o) f)) n)
 
-silent : (flow : Flow) (es : List (IfaceEntry × Expiry)) (entries : Entries) (iface : IfaceId) (active : Bool) (clock : ℕ) → from_entries es ≡ entries → is_named (named_in flow es) iface ≡ false
+silent : (flow : Flow) (es : List (IfaceEntry × Expiry)) (entries : Entries) (iface : IfaceId) (active : Bool) (clock : ℕ) → from_entries es ≡ entries
+    → is_named (named_in flow es) iface ≡ false
     → asks entries iface flow.source flow.group active clock ≡ false
 silent flow es entries iface active clock are n = λ i.
     asks_by clock active (unlisted flow es entries iface (Source flow.source flow.group) are (same_flow_itself flow) n i)
-    (unlisted flow es entries iface (Star flow.group) are (same_addr_equiv.refl flow.group) n i) (expiry_at entries iface (Rpt flow.source flow.group))
+    (unlisted flow es entries iface (Star flow.group) are (same_addr_equiv.refl flow.group) n i)
+    (expiry_at entries iface (Rpt flow.source flow.group))
 
-among_all : (ifaces : List SiteIface) (es : List (IfaceEntry × Expiry)) (entries : Entries) (active : Bool) (clock : ℕ) (flow : Flow) → from_entries es ≡ entries
+among_all : (ifaces : List SiteIface) (es : List (IfaceEntry × Expiry)) (entries : Entries) (active : Bool) (clock : ℕ) (flow : Flow)
+    → from_entries es ≡ entries
     → asking_among (named_in flow es) ifaces entries active clock flow ≡ asking_of ifaces entries active clock flow
 among_all [] es entries active clock flow are = refl
-among_all (own ∷ ifaces) es entries active clock flow are = by (is_named (named_in flow es) own.iface) refl (among_all ifaces es entries active clock flow are)
+among_all (own ∷ ifaces) es entries active clock flow are =
+    by (is_named (named_in flow es) own.iface) refl (among_all ifaces es entries active clock flow are)
   where
     asking : Bool
     asking = asks entries own.iface flow.source flow.group active clock
 
-    by : (b : Bool) → is_named (named_in flow es) own.iface ≡ b → asking_among (named_in flow es) ifaces entries active clock flow ≡ asking_of ifaces entries active clock flow
-        → cond (b && asking) (own ∷ asking_among (named_in flow es) ifaces entries active clock flow) (asking_among (named_in flow es) ifaces entries active clock flow)
+    by : (b : Bool) → is_named (named_in flow es) own.iface ≡ b
+        → asking_among (named_in flow es) ifaces entries active clock flow ≡ asking_of ifaces entries active clock flow
+        → cond (b && asking) (own ∷ asking_among (named_in flow es) ifaces entries active clock flow)
+        (asking_among (named_in flow es) ifaces entries active clock flow)
         ≡ cond asking (own ∷ asking_of ifaces entries active clock flow) (asking_of ifaces entries active clock flow)
     by true n rest = ap (λ (l : List SiteIface). cond asking (own ∷ l) l) rest
     by false n rest =
-        rest ∙ sym (ap (λ (b : Bool). cond b (own ∷ asking_of ifaces entries active clock flow) (asking_of ifaces entries active clock flow)) (silent flow es entries own.iface active clock are n))
+        rest ∙ sym (ap (λ (b : Bool). cond b (own ∷ asking_of ifaces entries active clock flow) (asking_of ifaces entries active clock flow))
+        (silent flow es entries own.iface active clock are n))
 
 -- so those that are named and ask are all that ask
-pub among_asking : (ifaces : List SiteIface) (es : List (IfaceEntry × Expiry)) (entries : Entries) (active : Bool) (clock : ℕ) (flow : Flow) → from_entries es ≡ entries
-    → (named : List IfaceId) → named ≡ named_in flow es → (result : Result (List SiteIface) NoMemory) → IfOk result (λ found. found ≡ asking_among named ifaces entries active clock flow)
+pub among_asking : (ifaces : List SiteIface) (es : List (IfaceEntry × Expiry)) (entries : Entries) (active : Bool) (clock : ℕ) (flow : Flow)
+    → from_entries es ≡ entries
+    → (named : List IfaceId) → named ≡ named_in flow es → (result : Result (List SiteIface) NoMemory)
+    → IfOk result (λ found. found ≡ asking_among named ifaces entries active clock flow)
     → IfOk result (λ found. found ≡ asking_of ifaces entries active clock flow)
 among_asking ifaces es entries active clock flow are named is (Ok found) h =
     h ∙ (ap (λ (l : List IfaceId). asking_among l ifaces entries active clock flow) is ∙ among_all ifaces es entries active clock flow are)

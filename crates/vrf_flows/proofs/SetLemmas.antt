@@ -13,7 +13,8 @@ use Rattle.vrf_words.specs.declared.tree_defs.flow.Flow.{Flow}
 use Rattle.vrf_words.specs.tree_defs.Keys.{same_flow}
 use Rattle.vrf_words.proofs.tree_defs.KeyLemmas.{same_flow_equal}
 
-module _ {K : Type 0} {cmp : K → K → Ordering} (total : IsTotalOrder cmp) (exact : IsAntisymmetric cmp) (same : K → K → Bool) (ties : (a b : K) → same a b ≡ eq_by_cmp cmp a b) where
+module _ {K : Type 0} {cmp : K → K → Ordering} (total : IsTotalOrder cmp) (exact : IsAntisymmetric cmp) (same : K → K → Bool)
+    (ties : (a b : K) → same a b ≡ eq_by_cmp cmp a b) where
   pub listed : (keys : List K) (q : K) → contains (from_list {R = cmp} keys) q ≡ list_any (same q) keys
   listed keys q = contains-from_list total keys q ∙ (λ i. list_any (λ x. sym (ties q x) i) keys)
 
@@ -28,20 +29,25 @@ module _ {K : Type 0} {cmp : K → K → Ordering} (total : IsTotalOrder cmp) (e
   taken true c = refl
   taken false c = refl
 
-  pub inserted : (old new : List K) (k : K) → ((q : K) → list_any (same q) new ≡ cond (same k q) true (list_any (same q) old)) → from_list {R = cmp} new ≡ insert (from_list old) k
+  pub inserted : (old new : List K) (k : K) → ((q : K) → list_any (same q) new ≡ cond (same k q) true (list_any (same q) old))
+      → from_list {R = cmp} new ≡ insert (from_list old) k
   inserted old new k updates = same_set total exact _ _ (λ q.
-      listed new q ∙ (updates q ∙ (put (same k q) (list_any (same q) old) ∙ ((λ i. turned k q i || sym (listed old q) i) ∙ sym (contains-insert total (from_list old) k q)))))
+      listed new q ∙ (updates q ∙ (put (same k q) (list_any (same q) old)
+      ∙ ((λ i. turned k q i || sym (listed old q) i) ∙ sym (contains-insert total (from_list old) k q)))))
 
-  pub removed : (old new : List K) (k : K) → ((q : K) → list_any (same q) new ≡ cond (same k q) false (list_any (same q) old)) → from_list {R = cmp} new ≡ remove (from_list old) k
+  pub removed : (old new : List K) (k : K) → ((q : K) → list_any (same q) new ≡ cond (same k q) false (list_any (same q) old))
+      → from_list {R = cmp} new ≡ remove (from_list old) k
   removed old new k updates = same_set total exact _ _ (λ q.
-      listed new q ∙ (updates q ∙ (taken (same k q) (list_any (same q) old) ∙ ((λ i. not (turned k q i) && sym (listed old q) i) ∙ sym (contains-remove total (from_list old) k q)))))
+      listed new q ∙ (updates q ∙ (taken (same k q) (list_any (same q) old)
+      ∙ ((λ i. not (turned k q i) && sym (listed old q) i) ∙ sym (contains-remove total (from_list old) k q)))))
 
   -- Keys that are distinct are as many as the set has.
   pub len-listed : (keys : List K) → IsDistinct same keys → len (from_list {R = cmp} keys) ≡ length keys
   len-listed [] h = len-empty cmp
   len-listed (k ∷ keys) h =
       len-insert total (from_list keys) k
-      ∙ (ap (λ (b : Bool). cond b (len (from_list {R = cmp} keys)) (len (from_list {R = cmp} keys) + 1)) (listed keys k ∙ absent k keys (IsDistinct-head same k keys h))
+      ∙ (ap (λ (b : Bool). cond b (len (from_list {R = cmp} keys)) (len (from_list {R = cmp} keys) + 1))
+      (listed keys k ∙ absent k keys (IsDistinct-head same k keys h))
       ∙ (ap (λ (n : ℕ). n + 1) (len-listed keys (IsDistinct-tail same k keys h)) ∙ one-more (length keys)))
     where
       absent : (k : K) (list : List K) → AllByRecursion (λ x. same k x ≡ false) list → list_any (same k) list ≡ false
@@ -72,7 +78,8 @@ module _ {K : Type 0} {cmp : K → K → Ordering} (total : IsTotalOrder cmp) (e
   passed test [] x t h = absurd cc
   passed test (y ∷ keys) x t h = by (same x y) refl h (passed test keys x t)
     where
-      by : (b : Bool) → same x y ≡ b → (b || list_any (same x) keys) ≡ true → (list_any (same x) keys ≡ true → list_any test keys ≡ true) → (test y || list_any test keys) ≡ true
+      by : (b : Bool) → same x y ≡ b → (b || list_any (same x) keys) ≡ true → (list_any (same x) keys ≡ true → list_any test keys ≡ true)
+          → (test y || list_any test keys) ≡ true
       by true s k rest = or_left _ _ (subst (λ (z : K). test z ≡ true) (exact x y ((Equal-is (cmp x y)).0 (sym (ties x y) ∙ s))) t)
       by false s k rest = or_right _ _ (rest k)
 
@@ -80,12 +87,17 @@ module _ {K : Type 0} {cmp : K → K → Ordering} (total : IsTotalOrder cmp) (e
   pub any-items : (test : K → Bool) (keys : List K) → list_any test (items (from_list {R = cmp} keys)) ≡ list_any test keys
   any-items test keys = both_ways _ _
       (λ h. let one = passes test (items (from_list {R = cmp} keys)) h in
-      passed test keys one.0 one.1 (sym (listed keys one.0) ∙ (contains-items (from_list {R = cmp} keys) one.0 ∙ ((λ i. list_any (λ x. sym (ties one.0 x) i) (items (from_list {R = cmp} keys))) ∙ one.2))))
+      passed test keys one.0 one.1 (sym (listed keys one.0)
+      ∙ (contains-items (from_list {R = cmp} keys) one.0
+      ∙ ((λ i. list_any (λ x. sym (ties one.0 x) i) (items (from_list {R = cmp} keys))) ∙ one.2))))
       (λ h. let one = passes test keys h in
-      passed test (items (from_list {R = cmp} keys)) one.0 one.1 ((λ i. list_any (λ x. ties one.0 x i) (items (from_list {R = cmp} keys))) ∙ (sym (contains-items (from_list {R = cmp} keys) one.0) ∙ (listed keys one.0 ∙ one.2))))
+      passed test (items (from_list {R = cmp} keys)) one.0 one.1
+      ((λ i. list_any (λ x. ties one.0 x i) (items (from_list {R = cmp} keys)))
+      ∙ (sym (contains-items (from_list {R = cmp} keys) one.0) ∙ (listed keys one.0 ∙ one.2))))
 
   -- A test of a list with one key more.
-  pub any-inserted : (test : K → Bool) (old new : List K) (k : K) → ((q : K) → list_any (same q) new ≡ cond (same k q) true (list_any (same q) old)) → list_any test new ≡ (test k || list_any test old)
+  pub any-inserted : (test : K → Bool) (old new : List K) (k : K) → ((q : K) → list_any (same q) new ≡ cond (same k q) true (list_any (same q) old))
+      → list_any test new ≡ (test k || list_any test old)
   any-inserted test old new k updates = both_ways _ _
       (λ h. let one = passes test new h in more one.0 one.1 (same k one.0) refl (sym (updates one.0) ∙ one.2))
       (λ h. by (test k) refl h)
@@ -105,7 +117,8 @@ module _ {K : Type 0} {cmp : K → K → Ordering} (total : IsTotalOrder cmp) (e
           passed test new one.0 one.1 (kept one.0 (same k one.0) refl one.2)
 
   -- A test of a list with one key less passes no more, and as much where it does not pass the key.
-  pub any-fewer : (test : K → Bool) (old new : List K) (k : K) → ((q : K) → list_any (same q) new ≡ cond (same k q) false (list_any (same q) old)) → list_any test new ≡ true → list_any test old ≡ true
+  pub any-fewer : (test : K → Bool) (old new : List K) (k : K) → ((q : K) → list_any (same q) new ≡ cond (same k q) false (list_any (same q) old))
+      → list_any test new ≡ true → list_any test old ≡ true
   any-fewer test old new k updates h =
       let one = passes test new h in
       passed test old one.0 one.1 (was (same k one.0) (list_any (same one.0) old) (sym (updates one.0) ∙ one.2))
@@ -114,12 +127,14 @@ module _ {K : Type 0} {cmp : K → K → Ordering} (total : IsTotalOrder cmp) (e
       was true c e = absurd cc
       was false c e = e
 
-  pub any-removed : (test : K → Bool) (old new : List K) (k : K) → ((q : K) → list_any (same q) new ≡ cond (same k q) false (list_any (same q) old)) → test k ≡ false → list_any test new ≡ list_any test old
+  pub any-removed : (test : K → Bool) (old new : List K) (k : K) → ((q : K) → list_any (same q) new ≡ cond (same k q) false (list_any (same q) old))
+      → test k ≡ false → list_any test new ≡ list_any test old
   any-removed test old new k updates n = both_ways _ _ (any-fewer test old new k updates)
       (λ h. let one = passes test old h in passed test new one.0 one.1 (still one.0 one.1 (same k one.0) refl one.2))
     where
       still : (x : K) → test x ≡ true → (b : Bool) → same k x ≡ b → list_any (same x) old ≡ true → list_any (same x) new ≡ true
-      still x t true s l = absurd (not_both (test k) (subst (λ (z : K). test z ≡ true) (sym (exact k x ((Equal-is (cmp k x)).0 (sym (ties k x) ∙ s)))) t) n)
+      still x t true s l =
+          absurd (not_both (test k) (subst (λ (z : K). test z ≡ true) (sym (exact k x ((Equal-is (cmp k x)).0 (sym (ties k x) ∙ s)))) t) n)
       still x t false s l = updates x ∙ (ap (λ (b : Bool). cond b false (list_any (same x) old)) s ∙ l)
 
 -- ---- what is told twice
@@ -141,7 +156,8 @@ fewer-right true n a f h = refl
 fewer-right false n a f h = f h
 
 -- Where a flow is told no more, it is known to be sent no more.
-pub less : (flow q : Flow) (tells : Flow → Bool) (s t told : Bool) → told ≡ tells flow → t ≡ cond told s (cond (same_flow flow q) false s) → (same_flow flow q ≡ false → tells q ≡ s) → (tells q ≡ true → s ≡ true) → t ≡ tells q
+pub less : (flow q : Flow) (tells : Flow → Bool) (s t told : Bool) → told ≡ tells flow → t ≡ cond told s (cond (same_flow flow q) false s)
+    → (same_flow flow q ≡ false → tells q ≡ s) → (tells q ≡ true → s ≡ true) → t ≡ tells q
 less flow q tells s t told at p same fewer = by (same_flow flow q) refl p
   where
     either : (b : Bool) → cond b s s ≡ s

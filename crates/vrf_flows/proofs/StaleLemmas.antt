@@ -20,7 +20,8 @@ pushed-itself all flows more flow e =
     or_right all _ (ap (list_any (same_flow flow)) e ∙ (list_any-append (same_flow flow) flows (flow ∷ [])
     ∙ or_right (list_any (same_flow flow) flows) _ (or_left (same_flow flow flow) false (same_flow_itself flow))))
 
-pub pushed-kept : (all : Bool) (flows more : List Flow) (flow q : Flow) → more ≡ flows ++ flow ∷ [] → (all || list_any (same_flow q) flows) ≡ true → (all || list_any (same_flow q) more) ≡ true
+pub pushed-kept : (all : Bool) (flows more : List Flow) (flow q : Flow) → more ≡ flows ++ flow ∷ [] → (all || list_any (same_flow q) flows) ≡ true
+    → (all || list_any (same_flow q) more) ≡ true
 pushed-kept true flows more flow q e h = refl
 pushed-kept false flows more flow q e h = ap (list_any (same_flow q)) e ∙ (list_any-append (same_flow q) flows (flow ∷ []) ∙ or_left _ _ h)
 
@@ -31,7 +32,8 @@ absurd-both true h k = absurd cc
 absurd-both false h k = absurd cc
 
 -- All marks are listed where those are that are new, and each flow that was listed still is.
-pub listed-from : (marks next : Flow → Bool) (old new : StaleFlows) → AreListed marks old → ((q : Flow) → is_listed old q ≡ true → is_listed new q ≡ true) →
+pub listed-from : (marks next : Flow → Bool) (old new : StaleFlows) → AreListed marks old
+    → ((q : Flow) → is_listed old q ≡ true → is_listed new q ≡ true) →
     ((q : Flow) → next q ≡ true → marks q ≡ false → is_listed new q ≡ true) → AreListed next new
 listed-from marks next old new all kept news = record { listed = λ q h. by q (marks q) refl h }
   where
@@ -48,38 +50,51 @@ listed-none next new none = record { listed = λ q h. absurd (absurd-both (next 
 -- ---- one flow that changes
 
 -- Where something else is held of one flow, which is listed if that is stale.
-pub put-lists : {X : Type 0} (stale : Option X → Bool) (look next : Flow → Option X) (flow : Flow) (here : Option X) (old new : StaleFlows) → AreListed (λ q. stale (look q)) old →
-    ((q : Flow) → next q ≡ cond (same_flow flow q) here (look q)) → (stale here ≡ true → is_listed new flow ≡ true) → ((q : Flow) → is_listed old q ≡ true → is_listed new q ≡ true) → AreListed (λ q. stale (next q)) new
+pub put-lists : {X : Type 0} (stale : Option X → Bool) (look next : Flow → Option X) (flow : Flow) (here : Option X) (old new : StaleFlows)
+    → AreListed (λ q. stale (look q)) old →
+    ((q : Flow) → next q ≡ cond (same_flow flow q) here (look q)) → (stale here ≡ true → is_listed new flow ≡ true)
+    → ((q : Flow) → is_listed old q ≡ true → is_listed new q ≡ true) → AreListed (λ q. stale (next q)) new
 put-lists {X} stale look next flow here old new all each added kept =
     listed-from (λ q. stale (look q)) (λ q. stale (next q)) old new all kept (λ q h m. by q (same_flow flow q) refl (ap stale (sym (each q)) ∙ h) m)
   where
-    by : (q : Flow) (b : Bool) → same_flow flow q ≡ b → stale (cond (same_flow flow q) here (look q)) ≡ true → stale (look q) ≡ false → is_listed new q ≡ true
-    by q true s h m = subst (λ (f : Flow). is_listed new f ≡ true) (same_flow_equal flow q s) (added (ap (λ (b : Bool). stale (cond b here (look q))) (sym s) ∙ h))
+    by : (q : Flow) (b : Bool) → same_flow flow q ≡ b → stale (cond (same_flow flow q) here (look q)) ≡ true → stale (look q) ≡ false
+        → is_listed new q ≡ true
+    by q true s h m =
+        subst (λ (f : Flow). is_listed new f ≡ true) (same_flow_equal flow q s) (added (ap (λ (b : Bool). stale (cond b here (look q))) (sym s) ∙ h))
     by q false s h m = absurd (absurd-both (stale (look q)) (ap (λ (b : Bool). stale (cond b here (look q))) (sym s) ∙ h) m)
 
 -- Where nothing is held of one flow any more.
-pub gone-lists : {X : Type 0} (stale : Option X → Bool) (look next : Flow → Option X) (flow : Flow) (here : Option X) (old : StaleFlows) → AreListed (λ q. stale (look q)) old →
+pub gone-lists : {X : Type 0} (stale : Option X → Bool) (look next : Flow → Option X) (flow : Flow) (here : Option X) (old : StaleFlows)
+    → AreListed (λ q. stale (look q)) old →
     ((q : Flow) → next q ≡ cond (same_flow flow q) here (look q)) → stale here ≡ false → AreListed (λ q. stale (next q)) old
-gone-lists stale look next flow here old all each fresh = put-lists stale look next flow here old old all each (λ h. absurd (absurd-both (stale here) h fresh)) (λ q h. h)
+gone-lists stale look next flow here old all each fresh =
+    put-lists stale look next flow here old old all each (λ h. absurd (absurd-both (stale here) h fresh)) (λ q h. h)
 
 or-none : (a : Bool) → (a || false) ≡ a
 or-none true = refl
 or-none false = refl
 
 -- A flow that becomes stale by a mark on one flow is that flow, which was held and not stale.
-pub mark-lists : (look next : Flow → Option Held) (flow : Flow) (news : Bool) (old new : StaleFlows) → AreListed (λ q. is_stale (look q)) old → news ≡ is_fresh (look flow) →
-    ((q : Flow) → next q ≡ marked (same_flow flow q) (look q)) → (news ≡ true → is_listed new flow ≡ true) → ((q : Flow) → is_listed old q ≡ true → is_listed new q ≡ true) → AreListed (λ q. is_stale (next q)) new
+pub mark-lists : (look next : Flow → Option Held) (flow : Flow) (news : Bool) (old new : StaleFlows) → AreListed (λ q. is_stale (look q)) old
+    → news ≡ is_fresh (look flow) →
+    ((q : Flow) → next q ≡ marked (same_flow flow q) (look q)) → (news ≡ true → is_listed new flow ≡ true)
+    → ((q : Flow) → is_listed old q ≡ true → is_listed new q ≡ true) → AreListed (λ q. is_stale (next q)) new
 mark-lists look next flow news old new all fresh each added kept =
-    listed-from (λ q. is_stale (look q)) (λ q. is_stale (next q)) old new all kept (λ q h m. by q (same_flow flow q) refl (look q) refl (ap is_stale (sym (each q)) ∙ h) m)
+    listed-from (λ q. is_stale (look q)) (λ q. is_stale (next q)) old new all kept
+    (λ q h m. by q (same_flow flow q) refl (look q) refl (ap is_stale (sym (each q)) ∙ h) m)
   where
-    by : (q : Flow) (b : Bool) → same_flow flow q ≡ b → (o : Option Held) → look q ≡ o → is_stale (marked (same_flow flow q) (look q)) ≡ true → is_stale (look q) ≡ false → is_listed new q ≡ true
+    by : (q : Flow) (b : Bool) → same_flow flow q ≡ b → (o : Option Held) → look q ≡ o → is_stale (marked (same_flow flow q) (look q)) ≡ true
+        → is_stale (look q) ≡ false → is_listed new q ≡ true
     by q b s None e h m = absurd (absurd-both false (ap (λ (x : Option Held). is_stale (marked (same_flow flow q) x)) (sym e) ∙ h) refl)
     by q false s (Some x) e h m =
-        let stale : x.stale ≡ true = sym (or-none x.stale) ∙ (sym (ap (λ (o : Option Held). is_stale (marked (same_flow flow q) o)) e ∙ ap (λ (b : Bool). is_stale (marked b (Some x))) s) ∙ h) in
+        let stale : x.stale ≡ true =
+        sym (or-none x.stale) ∙ (sym (ap (λ (o : Option Held). is_stale (marked (same_flow flow q) o)) e
+        ∙ ap (λ (b : Bool). is_stale (marked b (Some x))) s) ∙ h) in
         absurd (absurd-both x.stale stale (sym (ap is_stale e) ∙ m))
     by q true s (Some x) e h m =
         let same : flow ≡ q = same_flow_equal flow q s in
-        subst (λ (f : Flow). is_listed new f ≡ true) same (added (fresh ∙ (ap (λ (f : Flow). is_fresh (look f)) same ∙ (ap is_fresh e ∙ ap not (sym (ap is_stale e) ∙ m)))))
+        subst (λ (f : Flow). is_listed new f ≡ true) same
+        (added (fresh ∙ (ap (λ (f : Flow). is_fresh (look f)) same ∙ (ap is_fresh e ∙ ap not (sym (ap is_stale e) ∙ m)))))
 
 -- ---- plans of the flows that are listed
 
@@ -89,12 +104,15 @@ planned_by true plan = plan
 planned_by false plan = None
 
 -- One more flow that is planned, where the plan of each is told.
-pub plans-more : {Y : Type 0} (give : Flow → Option Y) (flows : List Flow) (i : ℕ) (d q : Flow) (mid new : Option Y) → i < length flows → mid ≡ planned_by (list_any (same_flow q) (take i flows)) (give q) →
-    new ≡ put_at (same_flow (get_or flows i d) q) (give (get_or flows i d)) mid → new ≡ planned_by (list_any (same_flow q) (take (i + 1) flows)) (give q)
+pub plans-more : {Y : Type 0} (give : Flow → Option Y) (flows : List Flow) (i : ℕ) (d q : Flow) (mid new : Option Y) → i < length flows
+    → mid ≡ planned_by (list_any (same_flow q) (take i flows)) (give q) →
+    new ≡ put_at (same_flow (get_or flows i d) q) (give (get_or flows i d)) mid
+    → new ≡ planned_by (list_any (same_flow q) (take (i + 1) flows)) (give q)
 plans-more {Y} give flows i d q mid new l m n =
     n ∙ (ap (put_at (same_flow (get_or flows i d) q) (give (get_or flows i d))) m
     ∙ (by (list_any (same_flow q) (take i flows)) (same_flow (get_or flows i d) q) refl
-    ∙ ap (λ (b : Bool). planned_by b (give q)) (ap (λ (b : Bool). list_any (same_flow q) (take i flows) || b) (same_flow_symmetric (get_or flows i d) q) ∙ sym (list_any_more (same_flow q) flows i d l))))
+    ∙ ap (λ (b : Bool). planned_by b (give q)) (ap (λ (b : Bool). list_any (same_flow q) (take i flows) || b)
+    (same_flow_symmetric (get_or flows i d) q) ∙ sym (list_any_more (same_flow q) flows i d l))))
   where
     none : (b : Bool) (o : Option Y) → put_at b o o ≡ o
     none b None = refl
@@ -112,11 +130,14 @@ plans-more {Y} give flows i d q mid new l m n =
     same : same_flow (get_or flows i d) q ≡ true → give (get_or flows i d) ≡ give q
     same s = ap give (same_flow_equal (get_or flows i d) q s)
 
-    by : (a b : Bool) → same_flow (get_or flows i d) q ≡ b → put_at (same_flow (get_or flows i d) q) (give (get_or flows i d)) (planned_by a (give q)) ≡ planned_by (a || same_flow (get_or flows i d) q) (give q)
+    by : (a b : Bool) → same_flow (get_or flows i d) q ≡ b
+        → put_at (same_flow (get_or flows i d) q) (give (get_or flows i d)) (planned_by a (give q))
+        ≡ planned_by (a || same_flow (get_or flows i d) q) (give q)
     by true true s = (λ j. put_at (s j) (same s j) (give q)) ∙ none true (give q)
     by true false s = ap (λ (b : Bool). put_at b (give (get_or flows i d)) (give q)) s ∙ other _ (give q)
     by false true s = (λ j. put_at (s j) (same s j) None) ∙ (first (give q) ∙ ap (λ (b : Bool). planned_by b (give q)) (sym s))
-    by false false s = ap (λ (b : Bool). put_at b (give (get_or flows i d)) None) s ∙ (other _ None ∙ ap (λ (b : Bool). planned_by b (give q)) (sym s))
+    by false false s =
+        ap (λ (b : Bool). put_at b (give (get_or flows i d)) None) s ∙ (other _ None ∙ ap (λ (b : Bool). planned_by b (give q)) (sym s))
 
 -- With all of the list planned, all is for which something is to be planned.
 pub plans-all : {Y : Type 0} (listed : Bool) (plan full : Option Y) → (listed ≡ false → full ≡ None) → plan ≡ planned_by listed full → plan ≡ full
@@ -124,7 +145,8 @@ plans-all true plan full none p = p
 plans-all false plan full none p = p ∙ sym (none refl)
 
 -- Nothing is planned for a flow that is not listed.
-pub unlisted-none : (held : Option Held) (now : Now) (listed : Bool) → (is_stale held ≡ true → listed ≡ true) → listed ≡ false → planned held now ≡ None
+pub unlisted-none : (held : Option Held) (now : Now) (listed : Bool) → (is_stale held ≡ true → listed ≡ true) → listed ≡ false
+    → planned held now ≡ None
 unlisted-none None now listed among l = refl
 unlisted-none (Some x) now listed among l = by x.stale refl
   where
@@ -138,7 +160,8 @@ stale-planned None now plan p h = absurd cc
 stale-planned (Some x) now plan p h = ap is_some (p ∙ ap (λ (b : Bool). cond b (Some now) None) h)
 
 -- What was planned and settled is not stale.
-pub settled-stale : (held next : Option Held) (plan : Option Now) (needed : Bool) → (is_stale held ≡ true → is_some plan ≡ true) → next ≡ settled needed plan held → is_stale next ≡ false
+pub settled-stale : (held next : Option Held) (plan : Option Now) (needed : Bool) → (is_stale held ≡ true → is_some plan ≡ true)
+    → next ≡ settled needed plan held → is_stale next ≡ false
 settled-stale held next None needed planned n = ap is_stale n ∙ by (is_stale held) refl
   where
     by : (b : Bool) → is_stale held ≡ b → is_stale held ≡ false

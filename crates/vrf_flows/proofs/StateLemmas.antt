@@ -39,14 +39,17 @@ lookup-apart : (q : Flow) (es : List (Flow × Held)) → AllByRecursion (λ k. s
 lookup-apart q [] h = refl
 lookup-apart q (e ∷ es) h = rw h.0 (lookup-apart q es h.1)
 
-find-flows : (es : List (Flow × Held)) (q : Flow) → IsDistinct same_flow (keys_of es) → find flow_cmp q (flows_in es) ≡ choice_in (kept_of (lookup (same_flow q) es))
+find-flows : (es : List (Flow × Held)) (q : Flow) → IsDistinct same_flow (keys_of es)
+    → find flow_cmp q (flows_in es) ≡ choice_in (kept_of (lookup (same_flow q) es))
 find-flows [] q h = refl
 find-flows (e ∷ es) q h = by e.1.kept refl (find-flows es q (IsDistinct-tail same_flow e.0 (keys_of es) h))
   where
     gone : same_flow q e.0 ≡ true → lookup (same_flow q) es ≡ None
-    gone t = subst (λ (k : Flow). lookup (same_flow k) es ≡ None) (sym (same_flow_equal q e.0 t)) (lookup-apart e.0 es (IsDistinct-head same_flow e.0 (keys_of es) h))
+    gone t = subst (λ (k : Flow). lookup (same_flow k) es ≡ None) (sym (same_flow_equal q e.0 t))
+        (lookup-apart e.0 es (IsDistinct-head same_flow e.0 (keys_of es) h))
 
-    none : (b : Bool) → same_flow q e.0 ≡ b → e.1.kept ≡ None → choice_in (kept_of (lookup (same_flow q) es)) ≡ choice_in (kept_of (cond b (Some e.1) (lookup (same_flow q) es)))
+    none : (b : Bool) → same_flow q e.0 ≡ b → e.1.kept ≡ None
+        → choice_in (kept_of (lookup (same_flow q) es)) ≡ choice_in (kept_of (cond b (Some e.1) (lookup (same_flow q) es)))
     none true t k = ap (λ (o : Option Held). choice_in (kept_of o)) (gone t) ∙ sym (ap choice_in k)
     none false t k = refl
 
@@ -56,22 +59,27 @@ find-flows (e ∷ es) q h = by e.1.kept refl (find-flows es q (IsDistinct-tail s
     some false kept k rest = rest
 
     by : (now : Now) → e.1.kept ≡ now → find flow_cmp q (flows_in es) ≡ choice_in (kept_of (lookup (same_flow q) es)) →
-        find flow_cmp q (elim now [ None ↦ flows_in es | Some kept ↦ (e.0, kept.choice) ∷ flows_in es ]) ≡ choice_in (kept_of (cond (same_flow q e.0) (Some e.1) (lookup (same_flow q) es)))
+        find flow_cmp q (elim now [ None ↦ flows_in es | Some kept ↦ (e.0, kept.choice) ∷ flows_in es ])
+        ≡ choice_in (kept_of (cond (same_flow q e.0) (Some e.1) (lookup (same_flow q) es)))
     by None k rest = rest ∙ none (same_flow q e.0) refl k
-    by (Some kept) k rest = ap (λ (b : Bool). cond b (Some kept.choice) (find flow_cmp q (flows_in es))) (sym (flow_ties q e.0)) ∙ some (same_flow q e.0) kept k rest
+    by (Some kept) k rest =
+        ap (λ (b : Bool). cond b (Some kept.choice) (find flow_cmp q (flows_in es))) (sym (flow_ties q e.0)) ∙ some (same_flow q e.0) kept k rest
 
 -- the choice of a flow that is kept
-pub flows-got : (flows : FlowTable) (q : Flow) → IsUnique same_flow flows → maps.get (from_entries {R = flow_cmp} (flows_in flows.entries)) q ≡ choice_in (kept_of (get same_flow flows q))
+pub flows-got : (flows : FlowTable) (q : Flow) → IsUnique same_flow flows
+    → maps.get (from_entries {R = flow_cmp} (flows_in flows.entries)) q ≡ choice_in (kept_of (get same_flow flows q))
 flows-got flows q unique = get-from_entries flow_total (flows_in flows.entries) q ∙ find-flows flows.entries q unique
 
 -- Where each flow is kept as it was, the flows are the same.
-pub flows-same : (old new : FlowTable) → IsUnique same_flow old → IsUnique same_flow new → ((q : Flow) → kept_of (get same_flow new q) ≡ kept_of (get same_flow old q)) →
+pub flows-same : (old new : FlowTable) → IsUnique same_flow old → IsUnique same_flow new
+    → ((q : Flow) → kept_of (get same_flow new q) ≡ kept_of (get same_flow old q)) →
     from_entries {R = flow_cmp} (flows_in new.entries) ≡ from_entries (flows_in old.entries)
 flows-same old new a b same = same_map flow_total flow_exact _ _ (λ q. flows-got new q b ∙ (ap choice_in (same q) ∙ sym (flows-got old q a)))
 
 -- ---- what is given
 
-choice-by : (test : SiteIface → Bool) (ifaces : List SiteIface) (choice : Choice) → choice_in (flow_by (filter test ifaces) choice) ≡ cond (list_any test ifaces) (Some choice) None
+choice-by : (test : SiteIface → Bool) (ifaces : List SiteIface) (choice : Choice)
+    → choice_in (flow_by (filter test ifaces) choice) ≡ cond (list_any test ifaces) (Some choice) None
 choice-by test [] choice = refl
 choice-by test (own ∷ more) choice = by (test own) (choice-by test more choice)
   where
@@ -81,12 +89,15 @@ choice-by test (own ∷ more) choice = by (test own) (choice-by test more choice
     by false rest = rest
 
 -- What is known to be sent is the same in both.
-pub active-sent : (state : State) (q : Flow) → IsSentBy state.sent.keys state.notes.keys state.actives.keys → is_active (vrf_of state) q ≡ is_sent state.sent.keys q
+pub active-sent : (state : State) (q : Flow) → IsSentBy state.sent.keys state.notes.keys state.actives.keys
+    → is_active (vrf_of state) q ≡ is_sent state.sent.keys q
 active-sent state q sent =
     (λ i. any-items note_total note_exact same_note note_ties (λ (note : Note). same_flow note.flow q) state.notes.keys i
-    || any-items active_total active_exact same_active active_ties (λ (route : ActiveRoute). same_flow route.flow q) state.actives.keys i) ∙ sym (sent q)
+    || any-items active_total active_exact same_active active_ties (λ (route : ActiveRoute). same_flow route.flow q) state.actives.keys i)
+    ∙ sym (sent q)
 
-pub given-flow : (state : State) (cost : NodeId → ℕ) (clock : ℕ) (q : Flow) → IsSentBy state.sent.keys state.notes.keys state.actives.keys → choice_in (given_at state cost clock q) ≡ flow_of (vrf_of state) cost clock q
+pub given-flow : (state : State) (cost : NodeId → ℕ) (clock : ℕ) (q : Flow) → IsSentBy state.sent.keys state.notes.keys state.actives.keys
+    → choice_in (given_at state cost clock q) ≡ flow_of (vrf_of state) cost clock q
 given-flow state cost clock q sent =
     (λ i. choice_in (flow_by (asking_of state.ifaces state.entries (sym (active-sent state q sent) i) clock q) (chosen_for state.routes cost q)))
     ∙ choice-by _ state.ifaces (chosen_for state.routes cost q)
@@ -94,11 +105,13 @@ given-flow state cost clock q sent =
 -- ---- costs
 
 -- By a rule that does not compare costs the choice is the same by any.
-pub steady : (routes : Routes) (cost other : NodeId → ℕ) (q : Flow) → compares_costs routes.rule ≡ false → chosen_for routes cost q ≡ chosen_for routes other q
+pub steady : (routes : Routes) (cost other : NodeId → ℕ) (q : Flow) → compares_costs routes.rule ≡ false
+    → chosen_for routes cost q ≡ chosen_for routes other q
 steady routes cost other q h = by routes.rule h
   where
     by : (rule : Rule) → compares_costs rule ≡ false →
-        chosen routes.learned (best_route (cost_by rule cost (known routes) q.source q.group) (known routes) q.source) ≡ chosen routes.learned (best_route (cost_by rule other (known routes) q.source q.group) (known routes) q.source)
+        chosen routes.learned (best_route (cost_by rule cost (known routes) q.source q.group) (known routes) q.source)
+        ≡ chosen routes.learned (best_route (cost_by rule other (known routes) q.source q.group) (known routes) q.source)
     by Highest s = refl
     by Nearest s = absurd cc
     by Hash s = refl
@@ -110,11 +123,13 @@ ifaces-by [] choice = refl
 ifaces-by (own ∷ more) choice = refl
 
 -- the interfaces that ask, in both words
-pub asking-same : (state : State) (now : ℕ) (q : Flow) → IsSentBy state.sent.keys state.notes.keys state.actives.keys → asking_of state.ifaces state.entries (is_sent state.sent.keys q) now q ≡ asking (vrf_of state) now q
+pub asking-same : (state : State) (now : ℕ) (q : Flow) → IsSentBy state.sent.keys state.notes.keys state.actives.keys
+    → asking_of state.ifaces state.entries (is_sent state.sent.keys q) now q ≡ asking (vrf_of state) now q
 asking-same state now q sent = λ i. asking_of state.ifaces state.entries (sym (active-sent state q sent) i) now q
 
 -- What is kept of a flow that is not stale are the interfaces that ask for it.
-pub kept-asking : (state : State) (now : ℕ) (q : Flow) → IsSound state → now ≡ state.clock → is_stale (get same_flow state.flows q) ≡ false → ifaces_of (kept_of (get same_flow state.flows q)) ≡ asking (vrf_of state) now q
+pub kept-asking : (state : State) (now : ℕ) (q : Flow) → IsSound state → now ≡ state.clock → is_stale (get same_flow state.flows q) ≡ false
+    → ifaces_of (kept_of (get same_flow state.flows q)) ≡ asking (vrf_of state) now q
 kept-asking state now q sound clock fresh =
     ap ifaces_of (sound.keeps.fresh q fresh)
     ∙ (ifaces-by (asking_of state.ifaces state.entries (is_sent state.sent.keys q) state.clock q) (chosen_for state.routes sound.cost q)
@@ -123,10 +138,13 @@ kept-asking state now q sound clock fresh =
 -- ---- refresh
 
 -- With what lapsed marked, and all where costs are compared, what is held is what is given at another clock and by other costs.
-pub mid-keeps : (old : State) (held : Flow → Option Held) (es : List (IfaceEntry × Expiry)) (now : ℕ) (cost : NodeId → ℕ) → IsSound old → from_entries es ≡ old.entries →
-    ((q : Flow) → held q ≡ marked (list_any (lapsed old.clock now q) es) (marked (compares_costs old.rule) (get same_flow old.flows q))) → Keeps held (given_at old cost now) (needed_in old)
+pub mid-keeps : (old : State) (held : Flow → Option Held) (es : List (IfaceEntry × Expiry)) (now : ℕ) (cost : NodeId → ℕ) → IsSound old
+    → from_entries es ≡ old.entries →
+    ((q : Flow) → held q ≡ marked (list_any (lapsed old.clock now q) es) (marked (compares_costs old.rule) (get same_flow old.flows q)))
+    → Keeps held (given_at old cost now) (needed_in old)
 mid-keeps old held es now cost sound listed each =
-    keeps-change (get same_flow old.flows) held (λ q. compares_costs old.rule || list_any (lapsed old.clock now q) es) (given_at old sound.cost old.clock) (given_at old cost now) (needed_in old) (needed_in old) sound.keeps
+    keeps-change (get same_flow old.flows) held (λ q. compares_costs old.rule || list_any (lapsed old.clock now q) es)
+    (given_at old sound.cost old.clock) (given_at old cost now) (needed_in old) (needed_in old) sound.keeps
     (λ q. each q ∙ marked-again (compares_costs old.rule) (list_any (lapsed old.clock now q) es) (get same_flow old.flows q))
     (λ q h.
     let both = or_parts (compares_costs old.rule) (list_any (lapsed old.clock now q) es) h in
@@ -137,11 +155,13 @@ mid-keeps old held es now cost sound listed each =
 
 -- What is kept of a flow then is what was.
 pub mid-kept : (old : State) (held : Flow → Option Held) (es : List (IfaceEntry × Expiry)) (now : ℕ) →
-    ((q : Flow) → held q ≡ marked (list_any (lapsed old.clock now q) es) (marked (compares_costs old.rule) (get same_flow old.flows q))) → (q : Flow) → kept_of (held q) ≡ kept_of (get same_flow old.flows q)
+    ((q : Flow) → held q ≡ marked (list_any (lapsed old.clock now q) es) (marked (compares_costs old.rule) (get same_flow old.flows q))) → (q : Flow)
+    → kept_of (held q) ≡ kept_of (get same_flow old.flows q)
 mid-kept old held es now each q = kept-change _ _ _ (each q) ∙ kept-change (compares_costs old.rule) (get same_flow old.flows q) _ refl
 
 -- the choice of a flow before, by what is kept of it
-pub before-flow : (old : State) (kept : Now) (q : Flow) → IsUnique same_flow old.flows → kept ≡ kept_of (get same_flow old.flows q) → choice_in kept ≡ maps.get (vrf_of old).flows q
+pub before-flow : (old : State) (kept : Now) (q : Flow) → IsUnique same_flow old.flows → kept ≡ kept_of (get same_flow old.flows q)
+    → choice_in kept ≡ maps.get (vrf_of old).flows q
 before-flow old kept q unique e = ap choice_in e ∙ sym (flows-got old.flows q unique)
 
 -- ---- want of memory
@@ -152,7 +172,8 @@ some-marked touched (Some held) = refl
 
 -- A flow that is needed is held then.
 pub mid-held : (old : State) (held : Flow → Option Held) (es : List (IfaceEntry × Expiry)) (now : ℕ) → IsSound old →
-    ((q : Flow) → held q ≡ marked (list_any (lapsed old.clock now q) es) (marked (compares_costs old.rule) (get same_flow old.flows q))) → (q : Flow) → needed_in old q ≡ true → is_some (held q) ≡ true
+    ((q : Flow) → held q ≡ marked (list_any (lapsed old.clock now q) es) (marked (compares_costs old.rule) (get same_flow old.flows q))) → (q : Flow)
+    → needed_in old q ≡ true → is_some (held q) ≡ true
 mid-held old held es now sound each q need =
     ap is_some (each q)
     ∙ (some-marked (list_any (lapsed old.clock now q) es) (marked (compares_costs old.rule) (get same_flow old.flows q))
@@ -167,12 +188,15 @@ none-kept None = refl
 none-kept (Some held) = refl
 
 -- Where nothing is kept there are no flows.
-pub no-flows : (old new : FlowTable) → IsUnique same_flow new → ((q : Flow) → get same_flow new q ≡ forgotten (get same_flow old q)) → from_entries {R = flow_cmp} (flows_in new.entries) ≡ maps.empty
+pub no-flows : (old new : FlowTable) → IsUnique same_flow new → ((q : Flow) → get same_flow new q ≡ forgotten (get same_flow old q))
+    → from_entries {R = flow_cmp} (flows_in new.entries) ≡ maps.empty
 no-flows old new unique each = same_map flow_total flow_exact _ _ (λ q.
-    flows-got new q unique ∙ (ap (λ (held : Option Held). choice_in (kept_of held)) (each q) ∙ (ap choice_in (none-kept (get same_flow old q)) ∙ sym (get-empty flow_cmp q))))
+    flows-got new q unique ∙ (ap (λ (held : Option Held). choice_in (kept_of held)) (each q)
+    ∙ (ap choice_in (none-kept (get same_flow old q)) ∙ sym (get-empty flow_cmp q))))
 
 -- What is forgotten is not known, and what is needed stays held.
-forgotten-keeps : (held next : Flow → Option Held) (given : Flow → Now) (needs : Flow → Bool) → ((q : Flow) → needs q ≡ true → is_some (held q) ≡ true) → ((q : Flow) → next q ≡ forgotten (held q)) →
+forgotten-keeps : (held next : Flow → Option Held) (given : Flow → Now) (needs : Flow → Bool)
+    → ((q : Flow) → needs q ≡ true → is_some (held q) ≡ true) → ((q : Flow) → next q ≡ forgotten (held q)) →
     ((q : Flow) → needs q ≡ false → given q ≡ None) → Keeps next given needs
 forgotten-keeps held next given needs there each none = record {
   fresh = λ q h. ap kept_of (each q) ∙ (none-kept (held q) ∙ sym (none q (unneeded (held q) (needs q) (ap is_stale (sym (each q)) ∙ h) (there q))));
@@ -186,7 +210,8 @@ forgotten-keeps held next given needs there each none = record {
 
 -- The state stays sound where all flows are forgotten, whatever was held, as long as the needed ones were.
 pub forgotten-sound : (old mid : State) (flows : FlowTable) → IsSound old → mid ≡ record old { flows = mid.flows; clock = mid.clock } →
-    ((q : Flow) → needed_in old q ≡ true → is_some (get same_flow mid.flows q) ≡ true) → IsUnique same_flow flows → ((q : Flow) → get same_flow flows q ≡ forgotten (get same_flow mid.flows q)) →
+    ((q : Flow) → needed_in old q ≡ true → is_some (get same_flow mid.flows q) ≡ true) → IsUnique same_flow flows
+    → ((q : Flow) → get same_flow flows q ≡ forgotten (get same_flow mid.flows q)) →
     IsSound (record mid { flows = flows })
 forgotten-sound old mid flows sound rest there unique each = subst (λ (state : State). IsSound (record state { flows = flows })) (sym rest) (record {
   unique = unique;

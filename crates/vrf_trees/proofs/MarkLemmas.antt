@@ -28,7 +28,8 @@ module _ {F : Type 0} (T : F → Flow → Wants → Bool → Wants → F → Typ
       let rest = retained es h.3 (subst (λ g. RetainsPairs T g es h.3) s.2 h.5) in
       h.6 ∙ (λ j. cond (s.0 j) ((e.0, s.1 j) ∷ rest j) (rest j))
 
-pub lookup-marked : (cause : Cause) (es : List (Flow × Wants)) (q : Flow) → lookup (same_flow q) (mark_each cause es) ≡ marked cause q (lookup (same_flow q) es)
+pub lookup-marked : (cause : Cause) (es : List (Flow × Wants)) (q : Flow)
+    → lookup (same_flow q) (mark_each cause es) ≡ marked cause q (lookup (same_flow q) es)
 lookup-marked cause [] q = refl
 lookup-marked cause (e ∷ es) q = by (same_flow q e.0) refl (lookup-marked cause es q)
   where
@@ -48,7 +49,8 @@ edge_or edge None = edge
 edge_or edge (Some own) = own.edge
 
 -- With each flow marked that may want other tunnels, what is held is in step with the routes.
-pub marked-holds : (leaf next : Leaf) (ups : Flow → Option Upstream) (held new : Flow → Option Wants) (cause : Cause) → Holds leaf ups held → ((q : Flow) → new q ≡ marked cause q (held q)) →
+pub marked-holds : (leaf next : Leaf) (ups : Flow → Option Upstream) (held new : Flow → Option Wants) (cause : Cause) → Holds leaf ups held
+    → ((q : Flow) → new q ≡ marked cause q (held q)) →
     ((q : Flow) (edge : NodeId) → touches cause q edge ≡ false → tunnels_of leaf edge q ≡ tunnels_of next edge q) → Holds next ups new
 marked-holds leaf next ups held new cause holds each same = record {
   edges = λ q. ap edge_in (each q) ∙ (edges (held q) q ∙ holds.edges q);
@@ -59,7 +61,8 @@ marked-holds leaf next ups held new cause holds each same = record {
     edges None q = refl
     edges (Some own) q = refl
 
-    fresh : (q : Flow) (o : Option Wants) (u : Option Upstream) → (is_stale o ≡ false → o ≡ wants_by leaf q u) → is_stale (marked cause q o) ≡ false → marked cause q o ≡ wants_by next q u
+    fresh : (q : Flow) (o : Option Wants) (u : Option Upstream) → (is_stale o ≡ false → o ≡ wants_by leaf q u) → is_stale (marked cause q o) ≡ false
+        → marked cause q o ≡ wants_by next q u
     fresh q None None f s = refl
     fresh q None (Some up) f s = let e : false ≡ true = ap is_some (f refl) in absurd cc
     fresh q (Some own) None f s =

@@ -20,7 +20,8 @@ pub leaves-end : (q : Flow) (up : Option Upstream) (plan : Option (Option Wants)
 leaves-end q None plan = refl
 leaves-end q (Some up) plan = refl
 
-pub joins-end : (leaf : Leaf) (q : Flow) (up : Option Upstream) (plan : Option (Option Wants)) → or_old (given_by (joins_for leaf) q up) plan ≡ with_joins leaf q up plan
+pub joins-end : (leaf : Leaf) (q : Flow) (up : Option Upstream) (plan : Option (Option Wants))
+    → or_old (given_by (joins_for leaf) q up) plan ≡ with_joins leaf q up plan
 joins-end leaf q None plan = refl
 joins-end leaf q (Some up) plan = refl
 
@@ -33,7 +34,8 @@ absurd-both true h k = absurd cc
 absurd-both false h k = absurd cc
 
 -- Nothing is planned for a flow that is not listed.
-pub unlisted-none : (leaf : Leaf) (q : Flow) (held : Option Wants) (listed : Bool) → (is_stale held ≡ true → listed ≡ true) → listed ≡ false → planned leaf q held ≡ None
+pub unlisted-none : (leaf : Leaf) (q : Flow) (held : Option Wants) (listed : Bool) → (is_stale held ≡ true → listed ≡ true) → listed ≡ false
+    → planned leaf q held ≡ None
 unlisted-none leaf q None listed among l = refl
 unlisted-none leaf q (Some own) listed among l = by own.stale refl
   where
@@ -42,7 +44,8 @@ unlisted-none leaf q (Some own) listed among l = by own.stale refl
     by false s = ap (λ (b : Bool). cond b (Some (Some (wants_of leaf own.edge q))) None) s
 
 -- Once what is stale is planned anew, with what is left and joined, nothing is stale.
-pub carried-fresh : (leaf : Leaf) (q : Flow) (joins leaves : Option Upstream) (held : Option Wants) (plan : Option (Option Wants)) → plan ≡ with_joins leaf q joins (with_leaves leaves (planned leaf q held)) → is_stale (carried plan held) ≡ false
+pub carried-fresh : (leaf : Leaf) (q : Flow) (joins leaves : Option Upstream) (held : Option Wants) (plan : Option (Option Wants))
+    → plan ≡ with_joins leaf q joins (with_leaves leaves (planned leaf q held)) → is_stale (carried plan held) ≡ false
 carried-fresh leaf q (Some up) leaves held plan p = ap (λ (o : Option (Option Wants)). is_stale (carried o held)) p
 carried-fresh leaf q None (Some up) held plan p = ap (λ (o : Option (Option Wants)). is_stale (carried o held)) p
 carried-fresh leaf q None None None plan p = ap (λ (o : Option (Option Wants)). is_stale (carried o None)) p

@@ -33,7 +33,8 @@ use Rattle.vrf_trees.proofs.TableLemmas.{fec_ties, in-flat, passed, passes, want
 -- ---- what is held of a flow
 
 -- A flow that keeps its upstream, once it was planned where it is stale.
-steady : (leaf : Leaf) (q : Flow) (up : Option Upstream) (held : Option Wants) → edge_in held ≡ edge_to up → (is_stale held ≡ false → held ≡ wants_by leaf q up) → carried (planned leaf q held) held ≡ wants_by leaf q up
+steady : (leaf : Leaf) (q : Flow) (up : Option Upstream) (held : Option Wants) → edge_in held ≡ edge_to up
+    → (is_stale held ≡ false → held ≡ wants_by leaf q up) → carried (planned leaf q held) held ≡ wants_by leaf q up
 steady leaf q None None e f = refl
 steady leaf q (Some up) None e f = f refl
 steady leaf q None (Some own) e f = let t : true ≡ false = ap is_some e in absurd cc
@@ -47,19 +48,24 @@ steady leaf q (Some up) (Some own) e f = by own.stale refl
     by false s = f s
 
 -- What a flow wants behind a refresh is what it wants by its upstream then.
-pub renewed : (leaf : Leaf) (q : Flow) (before after : Option Upstream) (held : Option Wants) → edge_in held ≡ edge_to before → (is_stale held ≡ false → held ≡ wants_by leaf q before) →
+pub renewed : (leaf : Leaf) (q : Flow) (before after : Option Upstream) (held : Option Wants) → edge_in held ≡ edge_to before
+    → (is_stale held ≡ false → held ≡ wants_by leaf q before) →
     carried (with_joins leaf q (gained before after) (with_leaves (lost before after) (planned leaf q held))) held ≡ wants_by leaf q after
 renewed leaf q None None held e f = steady leaf q None held e f
 renewed leaf q None (Some up) held e f = refl
 renewed leaf q (Some own) None held e f = refl
 renewed leaf q (Some own) (Some up) held e f = by (same_upstream (Some own) (Some up)) refl
   where
-    by : (b : Bool) → same_upstream (Some own) (Some up) ≡ b → carried (with_joins leaf q (cond b None (Some up)) (with_leaves (lost (Some own) (Some up)) (planned leaf q held))) held ≡ wants_by leaf q (Some up)
+    by : (b : Bool) → same_upstream (Some own) (Some up) ≡ b
+        → carried (with_joins leaf q (cond b None (Some up)) (with_leaves (lost (Some own) (Some up)) (planned leaf q held))) held
+        ≡ wants_by leaf q (Some up)
     by false s = refl
     by true s =
         let same : own ≡ up = same_upstream_equal own up s in
-        let back : same_upstream (Some up) (Some own) ≡ true = ap (λ (u : Upstream). same_upstream (Some up) (Some u)) same ∙ same_upstream_itself (Some up) in
-        ap (λ (b : Bool). carried (with_leaves (cond b None (Some own)) (planned leaf q held)) held) back ∙ (steady leaf q (Some own) held e f ∙ ap (λ (u : Upstream). wants_by leaf q (Some u)) same)
+        let back : same_upstream (Some up) (Some own) ≡ true =
+        ap (λ (u : Upstream). same_upstream (Some up) (Some u)) same ∙ same_upstream_itself (Some up) in
+        ap (λ (b : Bool). carried (with_leaves (cond b None (Some own)) (planned leaf q held)) held) back
+        ∙ (steady leaf q (Some own) held e f ∙ ap (λ (u : Upstream). wants_by leaf q (Some u)) same)
 
 -- All flows want what they want by their upstreams.
 abbrev pub AreRenewed : Leaf → (Flow → Option Upstream) → (Flow → Option Wants) → Type 0
@@ -76,9 +82,12 @@ renewed-holds leaf ups held renewed = record {
 }
 
 -- Where a plan of what is stale, of what is left and of what is joined was carried out, all flows are renewed.
-pub all-renewed : (leaf : Leaf) (old new : FinMap flow_cmp Choice) (held next : Flow → Option Wants) (plan : Flow → Option (Option Wants)) (joins leaves : Flow → Option Upstream) (after : Flow → Option Choice) →
-    Holds leaf (ups_in old) held → ((q : Flow) → maps.get new q ≡ after q) → ((q : Flow) → joins q ≡ gained (ups_in old q) (upstream_of (after q))) → ((q : Flow) → leaves q ≡ lost (ups_in old q) (upstream_of (after q))) →
-    ((q : Flow) → plan q ≡ with_joins leaf q (joins q) (with_leaves (leaves q) (planned leaf q (held q)))) → ((q : Flow) → next q ≡ carried (plan q) (held q)) → AreRenewed leaf (ups_in new) next
+pub all-renewed : (leaf : Leaf) (old new : FinMap flow_cmp Choice) (held next : Flow → Option Wants) (plan : Flow → Option (Option Wants))
+    (joins leaves : Flow → Option Upstream) (after : Flow → Option Choice) →
+    Holds leaf (ups_in old) held → ((q : Flow) → maps.get new q ≡ after q) → ((q : Flow) → joins q ≡ gained (ups_in old q) (upstream_of (after q)))
+    → ((q : Flow) → leaves q ≡ lost (ups_in old q) (upstream_of (after q))) →
+    ((q : Flow) → plan q ≡ with_joins leaf q (joins q) (with_leaves (leaves q) (planned leaf q (held q))))
+    → ((q : Flow) → next q ≡ carried (plan q) (held q)) → AreRenewed leaf (ups_in new) next
 all-renewed leaf old new held next plan joins leaves after holds flows gains losses plans carries = λ q.
     carries q
     ∙ (ap (λ (p : Option (Option Wants)). carried p (held q)) (plans q)
@@ -87,10 +96,13 @@ all-renewed leaf old new held next plan joins leaves after holds flows gains los
     ∙ ap (λ (c : Option Choice). wants_by leaf q (upstream_of c)) (sym (flows q)))))
 
 -- Without flows nothing is wanted.
-pub none-sound : (leaf : Leaf) (flows : FinMap flow_cmp Choice) (wants : WantTable) → IsUnique same_flow wants → ((q : Flow) → get same_flow wants q ≡ None) → flows ≡ maps.empty → IsSound leaf flows wants
+pub none-sound : (leaf : Leaf) (flows : FinMap flow_cmp Choice) (wants : WantTable) → IsUnique same_flow wants
+    → ((q : Flow) → get same_flow wants q ≡ None) → flows ≡ maps.empty → IsSound leaf flows wants
 none-sound leaf flows wants unique none e = record {
   unique = unique;
-  holds = renewed-holds leaf (ups_in flows) (get same_flow wants) (λ q. none q ∙ sym (ap (λ (c : Option Choice). wants_by leaf q (upstream_of c)) (ap (λ (m : FinMap flow_cmp Choice). maps.get m q) e ∙ get-empty flow_cmp q)));
+  holds = renewed-holds leaf (ups_in flows) (get same_flow wants)
+      (λ q. none q ∙ sym (ap (λ (c : Option Choice). wants_by leaf q (upstream_of c))
+      (ap (λ (m : FinMap flow_cmp Choice). maps.get m q) e ∙ get-empty flow_cmp q)));
 }
 
 -- ---- the tunnels of all flows
@@ -104,7 +116,9 @@ got : {X : Type 0} (m : FinMap flow_cmp X) (q : Flow) → maps.get m q ≡ looku
 got m q = get-entries m q ∙ find-looked q (entries m)
 
 distinct-flows : {X : Type 0} (m : FinMap flow_cmp X) → IsDistinct same_flow (keys_of (entries m))
-distinct-flows m = subst (λ (same : Flow → Flow → Bool). IsDistinct same (keys_of (entries m))) (λ i. λ a b. sym (flow_ties a b) i) (IsDistinct-from_sorted flow_cmp (keys_of (entries m)) (map_sorted flow_cmp m))
+distinct-flows m =
+    subst (λ (same : Flow → Flow → Bool). IsDistinct same (keys_of (entries m))) (λ i. λ a b. sym (flow_ties a b) i)
+    (IsDistinct-from_sorted flow_cmp (keys_of (entries m)) (map_sorted flow_cmp m))
 
 -- whether the choice of a flow makes it want the tunnel
 abbrev chosen_at : Leaf → Fec → Flow × Choice → Bool
@@ -119,7 +133,8 @@ by-upstream leaf q choices.None = refl
 by-upstream leaf q (choices.Local site) = refl
 by-upstream leaf q (choices.Remote edge rd import source_as) = refl
 
-module _ (leaf : Leaf) (flows : FinMap flow_cmp Choice) (es : List (Flow × Wants)) (unique : IsDistinct same_flow (keys_of es)) (renewed : AreRenewed leaf (ups_in flows) (λ q. lookup (same_flow q) es)) where
+module _ (leaf : Leaf) (flows : FinMap flow_cmp Choice) (es : List (Flow × Wants)) (unique : IsDistinct same_flow (keys_of es))
+    (renewed : AreRenewed leaf (ups_in flows) (λ q. lookup (same_flow q) es)) where
   forth : (fec : Fec) → list_any (wants_at fec) es ≡ true → list_any (chosen_at leaf fec) (entries flows) ≡ true
   forth fec h = let one = passes (wants_at fec) es unique h in by one.0 one.1 (maps.get flows one.0) refl (sym one.2 ∙ renewed one.0) one.3
     where
@@ -127,18 +142,23 @@ module _ (leaf : Leaf) (flows : FinMap flow_cmp Choice) (es : List (Flow × Want
       wanted q own None e = let t : true ≡ false = ap is_some e in absurd cc
       wanted q own (Some up) e = ap (λ (o : Option Wants). elim o [ None ↦ [] | Some w ↦ w.fecs ]) e
 
-      by : (q : Flow) (own : Wants) (c : Option Choice) → maps.get flows q ≡ c → Some own ≡ wants_by leaf q (upstream_of (maps.get flows q)) → is_in fec own.fecs ≡ true → list_any (chosen_at leaf fec) (entries flows) ≡ true
+      by : (q : Flow) (own : Wants) (c : Option Choice) → maps.get flows q ≡ c → Some own ≡ wants_by leaf q (upstream_of (maps.get flows q))
+          → is_in fec own.fecs ≡ true → list_any (chosen_at leaf fec) (entries flows) ≡ true
       by q own None g e t = let f : true ≡ false = ap is_some (e ∙ ap (λ (c : Option Choice). wants_by leaf q (upstream_of c)) g) in absurd cc
       by q own (Some choice) g e t =
-          let fecs : own.fecs ≡ flow_wants leaf q choice = wanted q own (upstream_of (Some choice)) (e ∙ ap (λ (c : Option Choice). wants_by leaf q (upstream_of c)) g) ∙ sym (by-upstream leaf q choice) in
+          let fecs : own.fecs ≡ flow_wants leaf q choice =
+          wanted q own (upstream_of (Some choice)) (e ∙ ap (λ (c : Option Choice). wants_by leaf q (upstream_of c)) g)
+          ∙ sym (by-upstream leaf q choice) in
           passed (chosen_at leaf fec) (entries flows) q choice (sym (got flows q) ∙ g) (ap (is_in fec) (sym fecs) ∙ t)
 
   back : (fec : Fec) → list_any (chosen_at leaf fec) (entries flows) ≡ true → list_any (wants_at fec) es ≡ true
   back fec h =
       let one = passes (chosen_at leaf fec) (entries flows) (distinct-flows flows) h in
-      by one.0 (upstream_of (Some one.1)) (renewed one.0 ∙ ap (λ (c : Option Choice). wants_by leaf one.0 (upstream_of c)) (got flows one.0 ∙ one.2)) (ap (is_in fec) (sym (by-upstream leaf one.0 one.1)) ∙ one.3)
+      by one.0 (upstream_of (Some one.1)) (renewed one.0 ∙ ap (λ (c : Option Choice). wants_by leaf one.0 (upstream_of c)) (got flows one.0 ∙ one.2))
+      (ap (is_in fec) (sym (by-upstream leaf one.0 one.1)) ∙ one.3)
     where
-      by : (q : Flow) (up : Option Upstream) → lookup (same_flow q) es ≡ wants_by leaf q up → is_in fec (fecs_by leaf q up) ≡ true → list_any (wants_at fec) es ≡ true
+      by : (q : Flow) (up : Option Upstream) → lookup (same_flow q) es ≡ wants_by leaf q up → is_in fec (fecs_by leaf q up) ≡ true
+          → list_any (wants_at fec) es ≡ true
       by q None l t = let e : false ≡ true = t in absurd cc
       by q (Some up) l t = passed (wants_at fec) es q (wants_of leaf up.edge q) l t
 
@@ -162,7 +182,8 @@ join-flows [] = refl
 join-flows (e ∷ es) = ap (λ (l : List Flow). e.0 ∷ l) (join-flows es)
 
 -- The joins of distinct flows are those that are given.
-pub joins-are : (es : List (Flow × Upstream)) (given : Flow → Option Upstream) → IsDistinct same_flow (keys_of es) → ((q : Flow) → lookup (same_flow q) es ≡ given q) → AreJoins (map join_of es) given
+pub joins-are : (es : List (Flow × Upstream)) (given : Flow → Option Upstream) → IsDistinct same_flow (keys_of es)
+    → ((q : Flow) → lookup (same_flow q) es ≡ given q) → AreJoins (map join_of es) given
 joins-are es given once each = record {
   each = λ q. joins-found es q ∙ each q;
   once = subst (λ (l : List Flow). IsDistinct same_flow l) (sym (join-flows es)) once;

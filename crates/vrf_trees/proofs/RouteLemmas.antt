@@ -51,7 +51,8 @@ wild addr None h = refl
 wild addr (Some x) h = let e : false ≡ true = h in absurd cc
 
 -- A flow is one of the pattern that it is found by.
-found : (own pattern : Pattern) (source group : Addr) → May pattern.source source → May pattern.group group → same_pattern own pattern ≡ true → matches own source group ≡ true
+found : (own pattern : Pattern) (source group : Addr) → May pattern.source source → May pattern.group group → same_pattern own pattern ≡ true
+    → matches own source group ≡ true
 found own pattern source group from to h =
     let both = and_parts (option_eq same_addr own.source pattern.source) (option_eq same_addr own.group pattern.group) h in
     and_from _ _ (from own.source both.0) (to own.group both.1)
@@ -63,24 +64,31 @@ turned a b h = grind (arith, nat_tests)
 abbrev Apart : NodeId → RouteKey → List Pattern → Type 0
 Apart edge key patterns = AllByRecursion (λ (p : Pattern). (key.peer.0 == edge.0 && same_pattern key.pattern p) ≡ false) patterns
 
-apart : (peer : NodeId) (rd : Rd) (pattern : Pattern) (q : Flow) (edge : NodeId) → touches (causes.Routes peer pattern) q edge ≡ false → Apart edge (key_of peer rd pattern) (patterns_of q.source q.group)
+apart : (peer : NodeId) (rd : Rd) (pattern : Pattern) (q : Flow) (edge : NodeId) → touches (causes.Routes peer pattern) q edge ≡ false
+    → Apart edge (key_of peer rd pattern) (patterns_of q.source q.group)
 apart peer rd pattern q edge h = (
   one (record { source = Some q.source; group = Some q.group }) (named q.source) (named q.group),
   (
     one (record { source = Some q.source; group = None }) (named q.source) (wild q.group),
-    (one (record { source = None; group = Some q.group }) (wild q.source) (named q.group), (one (record { source = None; group = None }) (wild q.source) (wild q.group), tt)),
+    (
+      one (record { source = None; group = Some q.group }) (wild q.source) (named q.group),
+      (one (record { source = None; group = None }) (wild q.source) (wild q.group), tt),
+    ),
   ),
 )
   where
     one : (p : Pattern) → May p.source q.source → May p.group q.group → (peer.0 == edge.0 && same_pattern pattern p) ≡ false
-    one p from to = lesser (peer.0 == edge.0) (same_pattern pattern p) (edge.0 == peer.0) (matches pattern q.source q.group) (turned peer.0 edge.0) (found pattern p q.source q.group from to) h
+    one p from to =
+        lesser (peer.0 == edge.0) (same_pattern pattern p) (edge.0 == peer.0) (matches pattern q.source q.group) (turned peer.0 edge.0)
+        (found pattern p q.source q.group from to) h
 
 -- ---- what a flow wants
 
 abbrev Entry : Type 0
 Entry = RouteKey × Learned
 
-until-same : (edge : NodeId) (patterns : List Pattern) (es fs : List Entry) → AllByRecursion (λ (p : Pattern). routes_at edge p es ≡ routes_at edge p fs) patterns → until_run edge patterns es ≡ until_run edge patterns fs
+until-same : (edge : NodeId) (patterns : List Pattern) (es fs : List Entry)
+    → AllByRecursion (λ (p : Pattern). routes_at edge p es ≡ routes_at edge p fs) patterns → until_run edge patterns es ≡ until_run edge patterns fs
 until-same edge [] es fs h = refl
 until-same edge (p ∷ more) es fs h =
     let rest = until-same edge more es fs h.1 in
@@ -94,7 +102,9 @@ all-of : {X : Type 0} (P : X → Type 0) → ((x : X) → P x) → (xs : List X)
 all-of P f [] = tt
 all-of P f (x ∷ xs) = (f x, all-of P f xs)
 
-tunnels-same : (leaf next : Leaf) (edge : NodeId) (q : Flow) → AllByRecursion (λ (p : Pattern). routes_at edge p (entries leaf.routes) ≡ routes_at edge p (entries next.routes)) (patterns_of q.source q.group) → tunnels_of leaf edge q ≡ tunnels_of next edge q
+tunnels-same : (leaf next : Leaf) (edge : NodeId) (q : Flow)
+    → AllByRecursion (λ (p : Pattern). routes_at edge p (entries leaf.routes) ≡ routes_at edge p (entries next.routes)) (patterns_of q.source q.group)
+    → tunnels_of leaf edge q ≡ tunnels_of next edge q
 tunnels-same leaf next edge q h =
     sym (wanted_found edge q.source q.group (entries leaf.routes) (map_sorted route_cmp leaf.routes))
     ∙ (until-same edge (patterns_of q.source q.group) (entries leaf.routes) (entries next.routes) h
@@ -103,36 +113,48 @@ tunnels-same leaf next edge q h =
 abbrev finds : NodeId → Pattern → RouteKey → Bool
 finds edge p key = key.peer.0 == edge.0 && same_pattern key.pattern p
 
-pub tunnels-learned : (leaf : Leaf) (peer : NodeId) (rd : Rd) (pattern : Pattern) (own : Learned) (q : Flow) (edge : NodeId) → touches (causes.Routes peer pattern) q edge ≡ false →
+pub tunnels-learned : (leaf : Leaf) (peer : NodeId) (rd : Rd) (pattern : Pattern) (own : Learned) (q : Flow) (edge : NodeId)
+    → touches (causes.Routes peer pattern) q edge ≡ false →
     tunnels_of leaf edge q ≡ tunnels_of (record leaf { routes = insert leaf.routes (key_of peer rd pattern) own }) edge q
 tunnels-learned leaf peer rd pattern own q edge h =
     tunnels-same leaf (record leaf { routes = insert leaf.routes (key_of peer rd pattern) own }) edge q
-    (all-more _ _ (λ p out. sym (ap (routes_at edge p) (entries-insert route_total leaf.routes (key_of peer rd pattern) own) ∙ filter-put route_cmp route_exact (finds edge p) (key_of peer rd pattern) own (entries leaf.routes) out))
+    (all-more _ _ (λ p out. sym (ap (routes_at edge p) (entries-insert route_total leaf.routes (key_of peer rd pattern) own)
+    ∙ filter-put route_cmp route_exact (finds edge p) (key_of peer rd pattern) own (entries leaf.routes) out))
     (patterns_of q.source q.group) (apart peer rd pattern q edge h))
 
-pub tunnels-forgotten : (leaf : Leaf) (peer : NodeId) (rd : Rd) (pattern : Pattern) (q : Flow) (edge : NodeId) → touches (causes.Routes peer pattern) q edge ≡ false →
+pub tunnels-forgotten : (leaf : Leaf) (peer : NodeId) (rd : Rd) (pattern : Pattern) (q : Flow) (edge : NodeId)
+    → touches (causes.Routes peer pattern) q edge ≡ false →
     tunnels_of leaf edge q ≡ tunnels_of (record leaf { routes = remove leaf.routes (key_of peer rd pattern) }) edge q
 tunnels-forgotten leaf peer rd pattern q edge h =
     tunnels-same leaf (record leaf { routes = remove leaf.routes (key_of peer rd pattern) }) edge q
-    (all-more _ _ (λ p out. sym (ap (routes_at edge p) (entries-remove route_total route_exact leaf.routes (key_of peer rd pattern)) ∙ filter-within (λ (e : Entry). finds edge p e.0) (λ (e : Entry). not (eq_by_cmp route_cmp (key_of peer rd pattern) e.0)) (gone p out) (entries leaf.routes)))
+    (all-more _ _ (λ p out. sym (ap (routes_at edge p) (entries-remove route_total route_exact leaf.routes (key_of peer rd pattern))
+    ∙ filter-within (λ (e : Entry). finds edge p e.0) (λ (e : Entry). not (eq_by_cmp route_cmp (key_of peer rd pattern) e.0)) (gone p out)
+    (entries leaf.routes)))
     (patterns_of q.source q.group) (apart peer rd pattern q edge h))
   where
     not-false : (b : Bool) → not b ≡ false → b ≡ true
     not-false true k = refl
     not-false false k = let e : true ≡ false = k in absurd cc
 
-    gone : (p : Pattern) → finds edge p (key_of peer rd pattern) ≡ false → (e : Entry) → not (eq_by_cmp route_cmp (key_of peer rd pattern) e.0) ≡ false → finds edge p e.0 ≡ false
-    gone p out e k = ap (finds edge p) (sym (route_exact (key_of peer rd pattern) e.0 ((Equal-is (route_cmp (key_of peer rd pattern) e.0)).0 (not-false (eq_by_cmp route_cmp (key_of peer rd pattern) e.0) k)))) ∙ out
+    gone : (p : Pattern) → finds edge p (key_of peer rd pattern) ≡ false → (e : Entry)
+        → not (eq_by_cmp route_cmp (key_of peer rd pattern) e.0) ≡ false → finds edge p e.0 ≡ false
+    gone p out e k =
+        ap (finds edge p) (sym (route_exact (key_of peer rd pattern) e.0
+        ((Equal-is (route_cmp (key_of peer rd pattern) e.0)).0 (not-false (eq_by_cmp route_cmp (key_of peer rd pattern) e.0) k)))) ∙ out
 
 -- ---- all routes of a peer
 
-entries-without : (peer : NodeId) (routes : Routes) → entries (without_peer peer routes) ≡ filter (λ (e : Entry). not (is_of_peer peer e)) (entries routes)
-entries-without peer routes = entries-from_sorted route_cmp _ (is_sorted-where_key route_cmp (λ (key : RouteKey). not (key.peer.0 == peer.0)) (entries routes) (entries_sorted routes))
+entries-without : (peer : NodeId) (routes : Routes)
+    → entries (without_peer peer routes) ≡ filter (λ (e : Entry). not (is_of_peer peer e)) (entries routes)
+entries-without peer routes =
+    entries-from_sorted route_cmp _ (is_sorted-where_key route_cmp (λ (key : RouteKey). not (key.peer.0 == peer.0)) (entries routes)
+    (entries_sorted routes))
 
 apart-numbers : (key peer edge : ℕ) → not (key == peer) ≡ false → (edge == peer) ≡ false → (key == edge) ≡ false
 apart-numbers key peer edge k h = grind (arith, nat_tests)
 
-pub tunnels-without : (leaf : Leaf) (peer : NodeId) (q : Flow) (edge : NodeId) → touches (causes.Peer peer) q edge ≡ false → tunnels_of leaf edge q ≡ tunnels_of (record leaf { routes = without_peer peer leaf.routes }) edge q
+pub tunnels-without : (leaf : Leaf) (peer : NodeId) (q : Flow) (edge : NodeId) → touches (causes.Peer peer) q edge ≡ false
+    → tunnels_of leaf edge q ≡ tunnels_of (record leaf { routes = without_peer peer leaf.routes }) edge q
 tunnels-without leaf peer q edge h =
     tunnels-same leaf (record leaf { routes = without_peer peer leaf.routes }) edge q
     (all-of _ one (patterns_of q.source q.group))
@@ -142,7 +164,8 @@ tunnels-without leaf peer q edge h =
 
     one : (p : Pattern) → routes_at edge p (entries leaf.routes) ≡ routes_at edge p (entries (without_peer peer leaf.routes))
     one p = sym (ap (routes_at edge p) (entries-without peer leaf.routes)
-        ∙ filter-within (λ (e : Entry). finds edge p e.0) (λ (e : Entry). not (is_of_peer peer e)) (λ e k. ap (λ (b : Bool). b && same_pattern e.0.pattern p) (elsewhere e.0.peer.0 k)) (entries leaf.routes))
+        ∙ filter-within (λ (e : Entry). finds edge p e.0) (λ (e : Entry). not (is_of_peer peer e))
+        (λ e k. ap (λ (b : Bool). b && same_pattern e.0.pattern p) (elsewhere e.0.peer.0 k)) (entries leaf.routes))
 
 -- ---- delays
 
@@ -153,9 +176,11 @@ idle-run delay now own h = let e = by own.run _ h in λ i. record { fec = own.fe
     by true d k = refl
     by false d k = k
 
-map-idle : (delay now : ℕ) (es : List Entry) → count_by (is_waiting delay now) (map (λ (e : Entry). e.1) es) ≡ 0 → map (λ (e : Entry). (e.0, run_due delay now e.1)) es ≡ es
+map-idle : (delay now : ℕ) (es : List Entry) → count_by (is_waiting delay now) (map (λ (e : Entry). e.1) es) ≡ 0
+    → map (λ (e : Entry). (e.0, run_due delay now e.1)) es ≡ es
 map-idle delay now [] h = refl
-map-idle delay now (e ∷ es) h = by (is_waiting delay now e.1) refl (sym (count-cons (is_waiting delay now) e.1 (map (λ (x : Entry). x.1) es)) ∙ h) (map-idle delay now es)
+map-idle delay now (e ∷ es) h =
+    by (is_waiting delay now e.1) refl (sym (count-cons (is_waiting delay now) e.1 (map (λ (x : Entry). x.1) es)) ∙ h) (map-idle delay now es)
   where
     by : (b : Bool) → is_waiting delay now e.1 ≡ b → cond b 1 0 + count_by (is_waiting delay now) (map (λ (x : Entry). x.1) es) ≡ 0 →
         (count_by (is_waiting delay now) (map (λ (x : Entry). x.1) es) ≡ 0 → map (λ (x : Entry). (x.0, run_due delay now x.1)) es ≡ es) →

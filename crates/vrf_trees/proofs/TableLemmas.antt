@@ -30,7 +30,8 @@ fec_turned : (a b : Fec) → is_fec a b ≡ is_fec b a
 fec_turned a b = fec_ties a b ∙ ((eq_by_cmp_equiv fec_cmp_total).symm a b ∙ sym (fec_ties b a))
 
 -- One tunnel more of a list is put to others.
-pub put-more : (fec x : Fec) (xs keys old new : List Fec) (i : ℕ) (d : Fec) → i < length xs → get_or xs i d ≡ x → is_in fec keys ≡ (is_in fec (take i xs) || is_in fec old) → is_in fec new ≡ cond (is_fec x fec) true (is_in fec keys) →
+pub put-more : (fec x : Fec) (xs keys old new : List Fec) (i : ℕ) (d : Fec) → i < length xs → get_or xs i d ≡ x
+    → is_in fec keys ≡ (is_in fec (take i xs) || is_in fec old) → is_in fec new ≡ cond (is_fec x fec) true (is_in fec keys) →
     is_in fec new ≡ (is_in fec (take (i + 1) xs) || is_in fec old)
 put-more fec x xs keys old new i d l item before put =
     put
@@ -49,7 +50,8 @@ put-more fec x xs keys old new i d l item before put =
 
 pub in-flat : {X : Type 0} (fec : Fec) (give : X → List Fec) (xs : List X) → is_in fec (flat_map give xs) ≡ list_any (λ x. is_in fec (give x)) xs
 in-flat fec give [] = refl
-in-flat fec give (x ∷ xs) = list_any-append (is_fec fec) (give x) (flat_map give xs) ∙ ap (λ (b : Bool). is_in fec (give x) || b) (in-flat fec give xs)
+in-flat fec give (x ∷ xs) =
+    list_any-append (is_fec fec) (give x) (flat_map give xs) ∙ ap (λ (b : Bool). is_in fec (give x) || b) (in-flat fec give xs)
 
 pub in-values : (fec : Fec) (es : List (Flow × Wants)) → list_any (has_fec fec) (map (λ e. e.1) es) ≡ is_in fec (tunnels_in es)
 in-values fec [] = refl
@@ -65,17 +67,22 @@ wants_at fec e = is_in fec e.1.fecs
 abbrev pub Passes : {X : Type 0} → (Flow × X → Bool) → List (Flow × X) → Type 0
 Passes {X} test es = (q : Flow) × (x : X) × (lookup (same_flow q) es ≡ Some x) × (test (q, x) ≡ true)
 
-lookup-apart : {X : Type 0} (q : Flow) (es : List (Flow × X)) → AllByRecursion (λ k. same_flow q k ≡ false) (keys_of es) → lookup (same_flow q) es ≡ None
+lookup-apart : {X : Type 0} (q : Flow) (es : List (Flow × X)) → AllByRecursion (λ k. same_flow q k ≡ false) (keys_of es)
+    → lookup (same_flow q) es ≡ None
 lookup-apart q [] h = refl
 lookup-apart q (e ∷ es) h = rw h.0 (lookup-apart q es h.1)
 
-pub passes : {X : Type 0} (test : Flow × X → Bool) (es : List (Flow × X)) → IsDistinct same_flow (keys_of es) → list_any test es ≡ true → Passes test es
+pub passes : {X : Type 0} (test : Flow × X → Bool) (es : List (Flow × X)) → IsDistinct same_flow (keys_of es) → list_any test es ≡ true
+    → Passes test es
 passes test [] d h = let e : false ≡ true = h in absurd cc
 passes {X} test (e ∷ es) d h = by (passes test es (IsDistinct-tail same_flow e.0 (keys_of es) d)) (test e) refl h
   where
-    later : (q : Flow) (x : X) → lookup (same_flow q) es ≡ Some x → (b : Bool) → same_flow q e.0 ≡ b → cond b (Some e.1) (lookup (same_flow q) es) ≡ Some x
+    later : (q : Flow) (x : X) → lookup (same_flow q) es ≡ Some x → (b : Bool) → same_flow q e.0 ≡ b
+        → cond b (Some e.1) (lookup (same_flow q) es) ≡ Some x
     later q x l true s =
-        let none : lookup (same_flow q) es ≡ None = subst (λ (k : Flow). lookup (same_flow k) es ≡ None) (sym (same_flow_equal q e.0 s)) (lookup-apart e.0 es (IsDistinct-head same_flow e.0 (keys_of es) d)) in
+        let none : lookup (same_flow q) es ≡ None =
+        subst (λ (k : Flow). lookup (same_flow k) es ≡ None) (sym (same_flow_equal q e.0 s))
+        (lookup-apart e.0 es (IsDistinct-head same_flow e.0 (keys_of es) d)) in
         let t : true ≡ false = sym (ap is_some l) ∙ ap is_some none in absurd cc
     later q x l false s = l
 
@@ -88,11 +95,13 @@ passes {X} test (e ∷ es) d h = by (passes test es (IsDistinct-tail same_flow e
 some-equal : {X : Type 0} (x y : X) → Some x ≡ Some y → x ≡ y
 some-equal {X} x y h = ap (λ (o : Option X). elim o [ None ↦ x | Some z ↦ z ]) h
 
-pub passed : {X : Type 0} (test : Flow × X → Bool) (es : List (Flow × X)) (q : Flow) (x : X) → lookup (same_flow q) es ≡ Some x → test (q, x) ≡ true → list_any test es ≡ true
+pub passed : {X : Type 0} (test : Flow × X → Bool) (es : List (Flow × X)) (q : Flow) (x : X) → lookup (same_flow q) es ≡ Some x → test (q, x) ≡ true
+    → list_any test es ≡ true
 passed test [] q x l t = let e : false ≡ true = ap is_some l in absurd cc
 passed {X} test (e ∷ es) q x l t = by (λ k. passed test es q x k t) (same_flow q e.0) refl l
   where
-    by : (lookup (same_flow q) es ≡ Some x → list_any test es ≡ true) → (b : Bool) → same_flow q e.0 ≡ b → cond b (Some e.1) (lookup (same_flow q) es) ≡ Some x → list_any test (e ∷ es) ≡ true
+    by : (lookup (same_flow q) es ≡ Some x → list_any test es ≡ true) → (b : Bool) → same_flow q e.0 ≡ b
+        → cond b (Some e.1) (lookup (same_flow q) es) ≡ Some x → list_any test (e ∷ es) ≡ true
     by rest true s k =
         let key : q ≡ e.0 = same_flow_equal q e.0 s in
         let value : x ≡ e.1 = sym (some-equal e.1 x k) in
@@ -109,7 +118,8 @@ in-left test fec (x ∷ xs) = by (test x) (is_fec fec x) refl refl (in-left test
     here : is_fec fec x ≡ true → test x ≡ test fec
     here s = ap test (sym (fec_equal fec x s))
 
-    by : (b c : Bool) → test x ≡ b → is_fec fec x ≡ c → is_in fec (filter test xs) ≡ (is_in fec xs && test fec) → is_in fec (cond b (x ∷ filter test xs) (filter test xs)) ≡ ((c || is_in fec xs) && test fec)
+    by : (b c : Bool) → test x ≡ b → is_fec fec x ≡ c → is_in fec (filter test xs) ≡ (is_in fec xs && test fec)
+        → is_in fec (cond b (x ∷ filter test xs) (filter test xs)) ≡ ((c || is_in fec xs) && test fec)
     by true true t s rest = ap (λ (d : Bool). d || is_in fec (filter test xs)) s ∙ (sym t ∙ here s)
     by true false t s rest = ap (λ (d : Bool). d || is_in fec (filter test xs)) s ∙ rest
     by false true t s rest = rest ∙ (ap (λ (d : Bool). is_in fec xs && d) (sym (here s) ∙ t) ∙ (none (is_in fec xs) ∙ (sym t ∙ here s)))
@@ -137,16 +147,20 @@ distinct-left {X} same test (x ∷ xs) h = by (test x) (distinct-left same test 
     by false rest = rest
 
 -- What is left of distinct tunnels is new, where it is what is there behind and not before.
-left-new : (keys fecs before after : List Fec) → ((fec : Fec) → (is_in fec keys && not (is_in fec before)) ≡ (is_in fec after && not (is_in fec before))) → IsDistinct is_fec keys →
+left-new : (keys fecs before after : List Fec)
+    → ((fec : Fec) → (is_in fec keys && not (is_in fec before)) ≡ (is_in fec after && not (is_in fec before))) → IsDistinct is_fec keys →
     fecs ≡ filter (λ fec. not (is_in fec before)) keys → AreNew fecs (sets.from_list before) (sets.from_list after)
 left-new keys fecs before after same once e = record {
-  each = λ fec. ap (is_in fec) e ∙ (in-left (λ x. not (is_in x before)) fec keys ∙ (same fec ∙ sym (λ i. listed fec_cmp_total fec_cmp_exact is_fec fec_ties after fec i && not (listed fec_cmp_total fec_cmp_exact is_fec fec_ties before fec i))));
+  each = λ fec. ap (is_in fec) e ∙ (in-left (λ x. not (is_in x before)) fec keys
+      ∙ (same fec ∙ sym (λ i. listed fec_cmp_total fec_cmp_exact is_fec fec_ties after fec i
+      && not (listed fec_cmp_total fec_cmp_exact is_fec fec_ties before fec i))));
   once = subst (λ (l : List Fec). IsDistinct is_fec l) (sym e) (distinct-left is_fec (λ x. not (is_in x before)) keys once);
 }
 
 -- ---- what comes and goes
 
-module _ (plan : List (Flow × Option Wants)) (old new : List (Flow × Wants)) (p : IsDistinct same_flow (keys_of plan)) (o : IsDistinct same_flow (keys_of old)) (n : IsDistinct same_flow (keys_of new))
+module _ (plan : List (Flow × Option Wants)) (old new : List (Flow × Wants)) (p : IsDistinct same_flow (keys_of plan))
+    (o : IsDistinct same_flow (keys_of old)) (n : IsDistinct same_flow (keys_of new))
     (each : (q : Flow) → lookup (same_flow q) new ≡ carried (lookup (same_flow q) plan) (lookup (same_flow q) old)) where
   abbrev held : Flow → Option Wants
   held q = lookup (same_flow q) old
@@ -160,7 +174,8 @@ module _ (plan : List (Flow × Option Wants)) (old new : List (Flow × Wants)) (
   came : (fec : Fec) → comes plan fec ≡ true → is_in fec (tunnels_in new) ≡ true
   came fec h = let one = passes (comes_at fec) plan p h in by one.0 one.1 one.2 one.3
     where
-      by : (q : Flow) (next : Option Wants) → lookup (same_flow q) plan ≡ Some next → is_in fec (fecs_in next) ≡ true → is_in fec (tunnels_in new) ≡ true
+      by : (q : Flow) (next : Option Wants) → lookup (same_flow q) plan ≡ Some next → is_in fec (fecs_in next) ≡ true
+          → is_in fec (tunnels_in new) ≡ true
       by q None l t = let e : false ≡ true = t in absurd cc
       by q (Some own) l t = is fec q own (each q ∙ ap (λ (x : Option (Option Wants)). carried x (held q)) l) t
 
@@ -169,7 +184,8 @@ module _ (plan : List (Flow × Option Wants)) (old new : List (Flow × Wants)) (
       let one = passes (wants_at fec) new n (sym (in-flat fec (λ (e : Flow × Wants). e.1.fecs) new) ∙ h) in
       by one.0 one.1 (lookup (same_flow one.0) plan) refl (sym (each one.0) ∙ one.2) one.3
     where
-      by : (q : Flow) (own : Wants) (x : Option (Option Wants)) → lookup (same_flow q) plan ≡ x → carried x (held q) ≡ Some own → is_in fec own.fecs ≡ true → comes plan fec ≡ true
+      by : (q : Flow) (own : Wants) (x : Option (Option Wants)) → lookup (same_flow q) plan ≡ x → carried x (held q) ≡ Some own
+          → is_in fec own.fecs ≡ true → comes plan fec ≡ true
       by q own None l k t = absurd (not_both _ (was fec q own k t) none)
       by q own (Some next) l k t = passed (comes_at fec) plan q next l (ap (λ (y : Option Wants). is_in fec (fecs_in y)) k ∙ t)
 
@@ -185,7 +201,8 @@ module _ (plan : List (Flow × Option Wants)) (old new : List (Flow × Wants)) (
       let one = passes (wants_at fec) old o (sym (in-flat fec (λ (e : Flow × Wants). e.1.fecs) old) ∙ h) in
       by one.0 one.1 one.2 (lookup (same_flow one.0) plan) refl one.3
     where
-      by : (q : Flow) (own : Wants) → held q ≡ Some own → (x : Option (Option Wants)) → lookup (same_flow q) plan ≡ x → is_in fec own.fecs ≡ true → goes held plan fec ≡ true
+      by : (q : Flow) (own : Wants) → held q ≡ Some own → (x : Option (Option Wants)) → lookup (same_flow q) plan ≡ x → is_in fec own.fecs ≡ true
+          → goes held plan fec ≡ true
       by q own k None l t = absurd (not_both _ (is fec q own (each q ∙ (ap (λ (x : Option (Option Wants)). carried x (held q)) l ∙ k)) t) none)
       by q own k (Some next) l t = passed (goes_at held fec) plan q next l (ap (λ (y : Option Wants). is_in fec (fecs_in y)) k ∙ t)
 
@@ -205,10 +222,16 @@ module _ (plan : List (Flow × Option Wants)) (old new : List (Flow × Wants)) (
   goes-are : (fec : Fec) → (goes held plan fec && not (is_in fec (tunnels_in new))) ≡ (is_in fec (tunnels_in old) && not (is_in fec (tunnels_in new)))
   goes-are fec = only (goes held plan fec) (is_in fec (tunnels_in old)) (is_in fec (tunnels_in new)) (went fec) (goes-back fec)
 
-  pub more-new : (keys fecs : List Fec) → ((fec : Fec) → is_in fec keys ≡ comes plan fec) → IsDistinct is_fec keys → fecs ≡ filter (λ fec. not (is_in fec (tunnels_in old))) keys →
+  pub more-new : (keys fecs : List Fec) → ((fec : Fec) → is_in fec keys ≡ comes plan fec) → IsDistinct is_fec keys
+      → fecs ≡ filter (λ fec. not (is_in fec (tunnels_in old))) keys →
       AreNew fecs (sets.from_list (tunnels_in old)) (sets.from_list (tunnels_in new))
-  more-new keys fecs has once e = left-new keys fecs (tunnels_in old) (tunnels_in new) (λ fec. ap (λ (b : Bool). b && not (is_in fec (tunnels_in old))) (has fec) ∙ comes-are fec) once e
+  more-new keys fecs has once e =
+      left-new keys fecs (tunnels_in old) (tunnels_in new) (λ fec. ap (λ (b : Bool). b && not (is_in fec (tunnels_in old))) (has fec) ∙ comes-are fec)
+      once e
 
-  pub less-new : (keys fecs : List Fec) → ((fec : Fec) → is_in fec keys ≡ goes held plan fec) → IsDistinct is_fec keys → fecs ≡ filter (λ fec. not (is_in fec (tunnels_in new))) keys →
+  pub less-new : (keys fecs : List Fec) → ((fec : Fec) → is_in fec keys ≡ goes held plan fec) → IsDistinct is_fec keys
+      → fecs ≡ filter (λ fec. not (is_in fec (tunnels_in new))) keys →
       AreNew fecs (sets.from_list (tunnels_in new)) (sets.from_list (tunnels_in old))
-  less-new keys fecs has once e = left-new keys fecs (tunnels_in new) (tunnels_in old) (λ fec. ap (λ (b : Bool). b && not (is_in fec (tunnels_in new))) (has fec) ∙ goes-are fec) once e
+  less-new keys fecs has once e =
+      left-new keys fecs (tunnels_in new) (tunnels_in old) (λ fec. ap (λ (b : Bool). b && not (is_in fec (tunnels_in new))) (has fec) ∙ goes-are fec)
+      once e

@@ -41,11 +41,13 @@ contained (y ∷ xs) x (inl e) = (zero, omega arith, sym e)
 contained (y ∷ xs) x (inr a) = (let found = contained xs x a in let lt = found.1 in (suc found.0, omega (arith, lt), found.2))
 
 -- one that passes a test is found, if not an earlier one
-pub one_found : {X : Type 0} (test : X → Bool) (x : X) (xs : List X) → Among x xs → test x ≡ true → (y : X) × (find test xs ≡ Some y) × (test y ≡ true)
+pub one_found : {X : Type 0} (test : X → Bool) (x : X) (xs : List X) → Among x xs → test x ≡ true
+    → (y : X) × (find test xs ≡ Some y) × (test y ≡ true)
 one_found test x [] a passes = absurd a
 one_found {X} test x (y ∷ xs) a passes = by (test y) refl (λ h. one_found test x xs h passes) a
   where
-    by : (b : Bool) → test y ≡ b → (Among x xs → (z : X) × (find test xs ≡ Some z) × (test z ≡ true)) → Among x (y ∷ xs) → (z : X) × (cond b (Some y) (find test xs) ≡ Some z) × (test z ≡ true)
+    by : (b : Bool) → test y ≡ b → (Among x xs → (z : X) × (find test xs ≡ Some z) × (test z ≡ true)) → Among x (y ∷ xs)
+        → (z : X) × (cond b (Some y) (find test xs) ≡ Some z) × (test z ≡ true)
     by true e rest h = (y, refl, e)
     by false e rest (inl same) = absurd (let t = ap test same in cc)
     by false e rest (inr h) = rest h

@@ -36,7 +36,8 @@ pub record StepsAt (n : NodeId) (nodes : Nodes) (new : Stepped Nodes) : Type 0 w
   pub node : (m : NodeId) → ¬ (m ≡ n) → new.state.node m ≡ nodes.node m
   pub from : AreFrom n new.puts
 
-at_node : (n : NodeId) (nodes : Nodes) (state : NodeState) (puts : List Put) → AreFrom n puts → StepsAt n nodes (record { state = with_node nodes n state; puts = puts })
+at_node : (n : NodeId) (nodes : Nodes) (state : NodeState) (puts : List Put) → AreFrom n puts
+    → StepsAt n nodes (record { state = with_node nodes n state; puts = puts })
 at_node n nodes state puts from = record {
   scenario = refl;
   cores = refl;
@@ -47,7 +48,8 @@ at_node n nodes state puts from = record {
   from = from;
 }
 
-core_steps : (n : NodeId) (nodes : Nodes) (part : LabelData) (own : Option labels.Call) (new : Stepped Nodes) → core_called nodes n part own ≡ Some new → StepsAt n nodes new
+core_steps : (n : NodeId) (nodes : Nodes) (part : LabelData) (own : Option labels.Call) (new : Stepped Nodes)
+    → core_called nodes n part own ≡ Some new → StepsAt n nodes new
 core_steps n nodes part None new e = subst (StepsAt n nodes) (same_Some (unchanged nodes) new e) (record {
   scenario = refl;
   cores = refl;
@@ -59,13 +61,20 @@ core_steps n nodes part None new e = subst (StepsAt n nodes) (same_Some (unchang
 })
 core_steps n nodes part (Some own) new e =
     let x = bind_some (label_step (label_place_of nodes n) nodes.clock part own)
-    (λ made. Some (record { state = with_node nodes n (CoreNode made.part); puts = label_puts n (addr_of nodes.scenario n) (label_place_of nodes n) nodes.clock (record { old = part; call = own; new = made }) })) new e in
+    (λ made. Some (record {
+      state = with_node nodes n (CoreNode made.part);
+      puts =
+          label_puts n (addr_of nodes.scenario n) (label_place_of nodes n) nodes.clock (record { old = part; call = own; new = made });
+    })) new e in
     subst (StepsAt n nodes) (same_Some _ new x.2)
-    (at_node n nodes (CoreNode x.0.part) _ (messages_from n (addr_of nodes.scenario n) (step_puts (label_place_of nodes n) nodes.clock part own x.0.puts)))
+    (at_node n nodes (CoreNode x.0.part) _ (messages_from n (addr_of nodes.scenario n)
+    (step_puts (label_place_of nodes n) nodes.clock part own x.0.puts)))
 
-pub steps_at : (n : NodeId) (nodes : Nodes) (state : NodeState) (call : Call) (new : Stepped Nodes) → node_called nodes n state call ≡ Some new → StepsAt n nodes new
+pub steps_at : (n : NodeId) (nodes : Nodes) (state : NodeState) (call : Call) (new : Stepped Nodes) → node_called nodes n state call ≡ Some new
+    → StepsAt n nodes new
 steps_at n nodes (Edge edge) call new e =
-    let x = bind_some (edge_step (place_of nodes n) nodes.clock edge call) (λ made. Some (record { state = with_node nodes n (Edge made.edge); puts = edge_puts (place_of nodes n) nodes.clock edge made })) new e in
+    let x = bind_some (edge_step (place_of nodes n) nodes.clock edge call)
+    (λ made. Some (record { state = with_node nodes n (Edge made.edge); puts = edge_puts (place_of nodes n) nodes.clock edge made })) new e in
     subst (StepsAt n nodes) (same_Some _ new x.2) (at_node n nodes (Edge x.0.edge) _ (edge_from (place_of nodes n) nodes.clock edge x.0))
 steps_at n nodes (CoreNode part) call new e = core_steps n nodes part (own_label_call call) new e
 
@@ -80,12 +89,14 @@ none_over n [] from over apart = refl
 none_over n (put ∷ more) from over apart = λ i. cond (no_way i) put.unit.octets [] ++ none_over n more from.1 over apart i
   where
     no_way : same_direction put.over over ≡ false
-    no_way = (λ i. same_kind put.over.kind over.kind && (node_apart put.over.from over.from (λ e. apart (sym e ∙ from.0)) i) && (put.over.to.0 == over.to.0))
+    no_way = (λ i. same_kind put.over.kind over.kind && (node_apart put.over.from over.from (λ e. apart (sym e ∙ from.0)) i)
+        && (put.over.to.0 == over.to.0))
         ∙ apart_and (same_kind put.over.kind over.kind) (put.over.to.0 == over.to.0)
 
 -- ---- an act
 
-pub stepped_elsewhere : (n : NodeId) (old : OctetNetwork Nodes) (st : Stepped Nodes) → StepsAt n old.state st → IsElsewhere n old old.transit (record { network = octets.with_octets old st; puts = st.puts })
+pub stepped_elsewhere : (n : NodeId) (old : OctetNetwork Nodes) (st : Stepped Nodes) → StepsAt n old.state st
+    → IsElsewhere n old old.transit (record { network = octets.with_octets old st; puts = st.puts })
 stepped_elsewhere n old st steps = record {
   scenario = steps.scenario;
   cores = steps.cores;
@@ -119,7 +130,8 @@ nothing_elsewhere n old = record {
     by false l = refl
 
 -- one act after another
-both_elsewhere : (n : NodeId) (old : OctetNetwork Nodes) (first next : Behind (OctetNetwork Nodes)) → IsElsewhere n old old.transit first → IsElsewhere n first.network first.network.transit next
+both_elsewhere : (n : NodeId) (old : OctetNetwork Nodes) (first next : Behind (OctetNetwork Nodes)) → IsElsewhere n old old.transit first
+    → IsElsewhere n first.network first.network.transit next
     → IsElsewhere n old old.transit (record { network = next.network; puts = first.puts ++ next.puts })
 both_elsewhere n old first next a b = record {
   scenario = b.scenario ∙ a.scenario;
@@ -142,13 +154,20 @@ both_elsewhere n old first next a b = record {
     by true l p q = append_assoc l p q
     by false l p q = refl
 
-pub messages_elsewhere : (n : NodeId) (over : Direction) → over.to ≡ n → (messages : List SessionMessage) (old : OctetNetwork Nodes) (new : Behind (OctetNetwork Nodes))
+pub messages_elsewhere : (n : NodeId) (over : Direction) → over.to ≡ n
+    → (messages : List SessionMessage) (old : OctetNetwork Nodes) (new : Behind (OctetNetwork Nodes))
     → octets.all_taken system old over messages ≡ Some new → IsElsewhere n old old.transit new
-messages_elsewhere n over to [] old new e = subst (IsElsewhere n old old.transit) (same_Some (record { network = old; puts = [] }) new e) (nothing_elsewhere n old)
+messages_elsewhere n over to [] old new e =
+    subst (IsElsewhere n old old.transit) (same_Some (record { network = old; puts = [] }) new e) (nothing_elsewhere n old)
 messages_elsewhere n over to (message ∷ more) old new e =
-    let next = bind_some (octets.with_step old (system.taken over message old.state)) (λ x. with_earlier x.puts (octets.all_taken system x.network over more)) new e in
+    let next =
+    bind_some (octets.with_step old (system.taken over message old.state))
+    (λ x. with_earlier x.puts (octets.all_taken system x.network over more)) new e in
     let first = with_some old (system.taken over message old.state) next.0 next.1 in
     let rest = earlier_some next.0.puts (octets.all_taken system next.0.network over more) new next.2 in
-    let here : StepsAt n old.state first.0 = subst (λ (m : NodeId). StepsAt m old.state first.0) to (steps_at over.to old.state (old.state.node over.to) (call_of over.from message) first.0 first.1) in
+    let here : StepsAt n old.state first.0 =
+    subst (λ (m : NodeId). StepsAt m old.state first.0) to
+    (steps_at over.to old.state (old.state.node over.to) (call_of over.from message) first.0 first.1) in
     let begins : IsElsewhere n old old.transit next.0 = subst (IsElsewhere n old old.transit) first.2 (stepped_elsewhere n old first.0 here) in
-    subst (IsElsewhere n old old.transit) rest.2 (both_elsewhere n old next.0 rest.0 begins (messages_elsewhere n over to more next.0.network rest.0 rest.1))
+    subst (IsElsewhere n old old.transit) rest.2
+    (both_elsewhere n old next.0 rest.0 begins (messages_elsewhere n over to more next.0.network rest.0 rest.1))

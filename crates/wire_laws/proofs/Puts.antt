@@ -45,9 +45,12 @@ changes_from : (me peer : NodeId) (changes : List (Change Key Value)) → AreFro
 changes_from me peer [] = tt
 changes_from me peer (change ∷ more) = (refl, changes_from me peer more)
 
-peers_from : (place : EdgePlace) (old new : Control) (peers : List NodeId) → AreFrom place.me (flat_map (λ peer. map (bgp_put place.me peer) (put_to place old new peer)) peers)
+peers_from : (place : EdgePlace) (old new : Control) (peers : List NodeId)
+    → AreFrom place.me (flat_map (λ peer. map (bgp_put place.me peer) (put_to place old new peer)) peers)
 peers_from place old new [] = tt
-peers_from place old new (peer ∷ more) = both_from place.me (map (bgp_put place.me peer) (put_to place old new peer)) _ (changes_from place.me peer (put_to place old new peer)) (peers_from place old new more)
+peers_from place old new (peer ∷ more) =
+    both_from place.me (map (bgp_put place.me peer) (put_to place old new peer)) _ (changes_from place.me peer (put_to place old new peer))
+    (peers_from place old new more)
 
 pub messages_from : (me : NodeId) (addr : Addr) (messages : List Numbered) → AreFrom me (map (label_put me addr) messages)
 messages_from me addr [] = tt
@@ -56,7 +59,8 @@ messages_from me addr (message ∷ more) = (refl, messages_from me addr more)
 row_from : (me : NodeId) (addr : Addr) (place : Place) (now : ℕ) (row : List LabelStep) → AreFrom me (flat_map (label_puts me addr place now) row)
 row_from me addr place now [] = tt
 row_from me addr place now (step ∷ more) =
-    both_from me (label_puts me addr place now step) _ (messages_from me addr (step_puts place now step.old step.call step.new.puts)) (row_from me addr place now more)
+    both_from me (label_puts me addr place now step) _ (messages_from me addr (step_puts place now step.old step.call step.new.puts))
+    (row_from me addr place now more)
 
 pub edge_from : (place : EdgePlace) (now : ℕ) (old : EdgeData) (new : EdgeStepped) → AreFrom place.me (edge_puts place now old new)
 edge_from place now old new =
@@ -81,16 +85,19 @@ tie kinds.Ldp kinds.Ldp a b = then_equal _ ∙ one_node a b
 tie kinds.Bgp kinds.Ldp a b = refl
 tie kinds.Ldp kinds.Bgp a b = refl
 
-pub same_session : (k own : Kind) (a b : NodeId) → eq_by_cmp peer_cmp (session_with k a) (session_with own b) ≡ true → session_with k a ≡ session_with own b
+pub same_session : (k own : Kind) (a b : NodeId) → eq_by_cmp peer_cmp (session_with k a) (session_with own b) ≡ true
+    → session_with k a ≡ session_with own b
 same_session kinds.Bgp kinds.Bgp a b e = ap (session_with kinds.Bgp) (sym (node_equal b a (sym (tie kinds.Bgp kinds.Bgp a b) ∙ e)))
 same_session kinds.Ldp kinds.Ldp a b e = ap (session_with kinds.Ldp) (sym (node_equal b a (sym (tie kinds.Ldp kinds.Ldp a b) ∙ e)))
 same_session kinds.Bgp kinds.Ldp a b e = absurd cc
 same_session kinds.Ldp kinds.Bgp a b e = absurd cc
 
 -- a put of the node goes over the direction exactly where it goes to its session
-over_session : (n : NodeId) (kind : Kind) (peer : NodeId) (put : Put) → put.over.from ≡ n → same_direction put.over (direction kind n peer) ≡ eq_by_cmp peer_cmp (session_with kind peer) (session_of put)
+over_session : (n : NodeId) (kind : Kind) (peer : NodeId) (put : Put) → put.over.from ≡ n
+    → same_direction put.over (direction kind n peer) ≡ eq_by_cmp peer_cmp (session_with kind peer) (session_of put)
 over_session n kind peer put from =
-    (λ i. same_kind put.over.kind kind && (own i) && (put.over.to.0 == peer.0)) ∙ (by (same_kind put.over.kind kind) (put.over.to.0 == peer.0) ∙ sym (tie kind put.over.kind peer put.over.to))
+    (λ i. same_kind put.over.kind kind && (own i) && (put.over.to.0 == peer.0))
+    ∙ (by (same_kind put.over.kind kind) (put.over.to.0 == peer.0) ∙ sym (tie kind put.over.kind peer put.over.to))
   where
     own : (put.over.from.0 == n.0) ≡ true
     own = node_itself put.over.from n from
@@ -99,22 +106,27 @@ over_session n kind peer put from =
     by true b = refl
     by false b = refl
 
-step : (n : NodeId) (kind : Kind) (peer : NodeId) (b : Bool) (waits octets more : List ℕ) → cond b (waits ++ octets) waits ++ more ≡ waits ++ (cond b octets [] ++ more)
+step : (n : NodeId) (kind : Kind) (peer : NodeId) (b : Bool) (waits octets more : List ℕ)
+    → cond b (waits ++ octets) waits ++ more ≡ waits ++ (cond b octets [] ++ more)
 step n kind peer true waits octets more = append_assoc waits octets more
 step n kind peer false waits octets more = refl
 
 pub puts_wait : (n : NodeId) (kind : Kind) (peer : NodeId) (puts : List Put) (waiting : FinMap peer_cmp (List ℕ)) → AreFrom n puts
-    → waiting_at (with_puts puts waiting) (session_with kind peer) ≡ waiting_at waiting (session_with kind peer) ++ octets_over (direction kind n peer) puts
+    → waiting_at (with_puts puts waiting) (session_with kind peer) ≡ waiting_at waiting (session_with kind peer)
+    ++ octets_over (direction kind n peer) puts
 puts_wait n kind peer [] waiting from = sym (append-nil (waiting_at waiting (session_with kind peer)))
 puts_wait n kind peer (put ∷ more) waiting from =
     let s = session_with kind peer in
     puts_wait n kind peer more (maps.insert waiting (session_of put) (waiting_at waiting (session_of put) ++ put.unit.octets)) from.1
-    ∙ (ap (λ (l : List ℕ). l ++ octets_over (direction kind n peer) more) (waiting_then waiting (session_of put) s (waiting_at waiting (session_of put) ++ put.unit.octets)
+    ∙ (ap (λ (l : List ℕ). l ++ octets_over (direction kind n peer) more)
+    (waiting_then waiting (session_of put) s (waiting_at waiting (session_of put) ++ put.unit.octets)
     ∙ here (eq_by_cmp peer_cmp s (session_of put)) refl)
     ∙ (step n kind peer (eq_by_cmp peer_cmp s (session_of put)) (waiting_at waiting s) put.unit.octets (octets_over (direction kind n peer) more)
-    ∙ ap (λ (b : Bool). waiting_at waiting s ++ (cond b put.unit.octets [] ++ octets_over (direction kind n peer) more)) (sym (over_session n kind peer put from.0))))
+    ∙ ap (λ (b : Bool). waiting_at waiting s ++ (cond b put.unit.octets [] ++ octets_over (direction kind n peer) more))
+    (sym (over_session n kind peer put from.0))))
   where
     here : (b : Bool) → eq_by_cmp peer_cmp (session_with kind peer) (session_of put) ≡ b
-        → cond b (waiting_at waiting (session_of put) ++ put.unit.octets) (waiting_at waiting (session_with kind peer)) ≡ cond b (waiting_at waiting (session_with kind peer) ++ put.unit.octets) (waiting_at waiting (session_with kind peer))
+        → cond b (waiting_at waiting (session_of put) ++ put.unit.octets) (waiting_at waiting (session_with kind peer))
+        ≡ cond b (waiting_at waiting (session_with kind peer) ++ put.unit.octets) (waiting_at waiting (session_with kind peer))
     here true e = ap (λ (o : PeerSession). waiting_at waiting o ++ put.unit.octets) (sym (same_session kind put.over.kind peer put.over.to e))
     here false e = refl

@@ -28,26 +28,32 @@ pub record StandsFrom (number : ℕ) (nodes : List Node) (n : NodeId) : Type 0 w
   pub edge : node.edge ≡ true
 
 further : (number : ℕ) (node : Node) (more : List Node) (n : NodeId) → StandsFrom (number + 1) more n → StandsFrom number (node ∷ more) n
-further number node more n s = (let e = s.numbered in record { place = suc s.place; node = s.node; numbered = omega (arith, e); at = s.at; edge = s.edge })
+further number node more n s =
+    (let e = s.numbered in record { place = suc s.place; node = s.node; numbered = omega (arith, e); at = s.at; edge = s.edge })
 
 edges_stand : (number : ℕ) (nodes : List Node) (n : NodeId) → Among n (edges_from number nodes) → StandsFrom number nodes n
 edges_stand number [] n a = absurd a
 edges_stand number (node ∷ more) n a = by node.edge refl (λ later. further number node more n (edges_stand (number + 1) more n later)) a
   where
-    by : (b : Bool) → node.edge ≡ b → (Among n (edges_from (number + 1) more) → StandsFrom number (node ∷ more) n) → Among n (cond b (node_at number ∷ edges_from (number + 1) more) (edges_from (number + 1) more)) → StandsFrom number (node ∷ more) n
-    by true e rest (inl same) = (let own = ap (λ (m : NodeId). m.0) same in record { place = 0; node = node; numbered = omega (arith, own); at = refl; edge = e })
+    by : (b : Bool) → node.edge ≡ b → (Among n (edges_from (number + 1) more) → StandsFrom number (node ∷ more) n)
+        → Among n (cond b (node_at number ∷ edges_from (number + 1) more) (edges_from (number + 1) more)) → StandsFrom number (node ∷ more) n
+    by true e rest (inl same) =
+        (let own = ap (λ (m : NodeId). m.0) same in record { place = 0; node = node; numbered = omega (arith, own); at = refl; edge = e })
     by true e rest (inr later) = rest later
     by false e rest later = rest later
 
-edge_among : (number place : ℕ) (nodes : List Node) (node : Node) (n : NodeId) → n.0 ≡ number + place → slice_get nodes place ≡ Some node → node.edge ≡ true → Among n (edges_from number nodes)
+edge_among : (number place : ℕ) (nodes : List Node) (node : Node) (n : NodeId) → n.0 ≡ number + place → slice_get nodes place ≡ Some node
+    → node.edge ≡ true → Among n (edges_from number nodes)
 edge_among number place [] node n e at edge = absurd cc
 edge_among number zero (first ∷ more) node n e at edge =
     let same : first ≡ node = cc in
     let own : n.0 ≡ number = omega (arith, e) in
-    subst (λ (b : Bool). Among n (cond b (node_at number ∷ edges_from (number + 1) more) (edges_from (number + 1) more))) (sym (ap (λ (x : Node). x.edge) same ∙ edge)) (inl (λ i. record { 0 = own i }))
+    subst (λ (b : Bool). Among n (cond b (node_at number ∷ edges_from (number + 1) more) (edges_from (number + 1) more)))
+    (sym (ap (λ (x : Node). x.edge) same ∙ edge)) (inl (λ i. record { 0 = own i }))
 edge_among number (suc place) (first ∷ more) node n e at edge = by first.edge (edge_among (number + 1) place more node n (omega (arith, e)) at edge)
   where
-    by : (b : Bool) → Among n (edges_from (number + 1) more) → Among n (cond b (node_at number ∷ edges_from (number + 1) more) (edges_from (number + 1) more))
+    by : (b : Bool) → Among n (edges_from (number + 1) more)
+        → Among n (cond b (node_at number ∷ edges_from (number + 1) more) (edges_from (number + 1) more))
     by true a = inr a
     by false a = a
 
@@ -55,7 +61,8 @@ pub edges_once : (number : ℕ) (nodes : List Node) → Once (edges_from number 
 edges_once number [] = tt
 edges_once number (node ∷ more) = by node.edge (edges_once (number + 1) more)
   where
-    by : (b : Bool) → Once (edges_from (number + 1) more) → Once (cond b (node_at number ∷ edges_from (number + 1) more) (edges_from (number + 1) more))
+    by : (b : Bool) → Once (edges_from (number + 1) more)
+        → Once (cond b (node_at number ∷ edges_from (number + 1) more) (edges_from (number + 1) more))
     by true once = ((λ a. (let e = (edges_stand (number + 1) more (node_at number) a).numbered in omega (arith, e))), once)
     by false once = once
 
@@ -69,11 +76,13 @@ pub is_among : (scenario : Scenario) (n : NodeId) → IsEdge scenario n → Amon
 is_among scenario n edge = edge_among 0 n.0 scenario.nodes edge.node n (omega arith) edge.at edge.edge
 
 -- each other edge is a peer
-peer_among : (me peer : NodeId) (number : ℕ) (nodes : List Node) → (peer ≡ me → ⊥) → Among peer (edges_from number nodes) → Among peer (peers_from me number nodes)
+peer_among : (me peer : NodeId) (number : ℕ) (nodes : List Node) → (peer ≡ me → ⊥) → Among peer (edges_from number nodes)
+    → Among peer (peers_from me number nodes)
 peer_among me peer number [] other a = absurd a
 peer_among me peer number (node ∷ more) other a = by (peer_among me peer (number + 1) more other) node.edge (number == me.0) refl a
   where
-    by : (Among peer (edges_from (number + 1) more) → Among peer (peers_from me (number + 1) more)) → (edge own : Bool) → (number == me.0) ≡ own → Among peer (cond edge (node_at number ∷ edges_from (number + 1) more) (edges_from (number + 1) more))
+    by : (Among peer (edges_from (number + 1) more) → Among peer (peers_from me (number + 1) more)) → (edge own : Bool) → (number == me.0) ≡ own
+        → Among peer (cond edge (node_at number ∷ edges_from (number + 1) more) (edges_from (number + 1) more))
         → Among peer (cond (edge && not own) (node_at number ∷ peers_from me (number + 1) more) (peers_from me (number + 1) more))
     by rest true false e (inl s) = inl s
     by rest true false e (inr h) = inr (rest h)
@@ -98,7 +107,12 @@ bgp_of (a ∷ later) s h = elim (among_either s (map (bgp_session a) later) (bgp
   | inl own ↦
       let found = mapped (bgp_session a) s later own in
       let same = found.2 in
-      record { kind = ap (λ (x : Session). x.kind) same; first = inl (ap (λ (x : Session). x.a) same); second = inr (subst (λ (n : NodeId). Among n later) (sym (ap (λ (x : Session). x.b) same)) found.1) }
+      record {
+        kind = ap (λ (x : Session). x.kind) same;
+        first = inl (ap (λ (x : Session). x.a) same);
+        second =
+            inr (subst (λ (n : NodeId). Among n later) (sym (ap (λ (x : Session). x.b) same)) found.1);
+      }
   | inr other ↦ (let rest = bgp_of later s other in record { kind = rest.kind; first = inr rest.first; second = inr rest.second })
 ]
 
@@ -113,13 +127,16 @@ bgp_apart (a ∷ later) once s h e = elim (among_either s (map (bgp_session a) l
 ]
 
 -- two of the nodes have a session, which names one of them first
-pub bgp_between : (all : List NodeId) (a b : NodeId) → Among a all → Among b all → (a ≡ b → ⊥) → Among (bgp_session a b) (bgp_sessions all) ⊎ Among (bgp_session b a) (bgp_sessions all)
+pub bgp_between : (all : List NodeId) (a b : NodeId) → Among a all → Among b all → (a ≡ b → ⊥)
+    → Among (bgp_session a b) (bgp_sessions all) ⊎ Among (bgp_session b a) (bgp_sessions all)
 bgp_between [] a b x y other = absurd x
 bgp_between (first ∷ later) a b (inl ea) (inl eb) other = absurd (other (ea ∙ sym eb))
 bgp_between (first ∷ later) a b (inl ea) (inr y) other =
-    inl (among_front (bgp_session a b) (map (bgp_session first) later) (bgp_sessions later) (subst (λ (n : NodeId). Among (bgp_session n b) (map (bgp_session first) later)) (sym ea) (among_map (bgp_session first) b later y)))
+    inl (among_front (bgp_session a b) (map (bgp_session first) later) (bgp_sessions later)
+    (subst (λ (n : NodeId). Among (bgp_session n b) (map (bgp_session first) later)) (sym ea) (among_map (bgp_session first) b later y)))
 bgp_between (first ∷ later) a b (inr x) (inl eb) other =
-    inr (among_front (bgp_session b a) (map (bgp_session first) later) (bgp_sessions later) (subst (λ (n : NodeId). Among (bgp_session n a) (map (bgp_session first) later)) (sym eb) (among_map (bgp_session first) a later x)))
+    inr (among_front (bgp_session b a) (map (bgp_session first) later) (bgp_sessions later)
+    (subst (λ (n : NodeId). Among (bgp_session n a) (map (bgp_session first) later)) (sym eb) (among_map (bgp_session first) a later x)))
 bgp_between (first ∷ later) a b (inr x) (inr y) other = elim (bgp_between later a b x y other) [
   | inl h ↦ inl (among_back (bgp_session a b) (map (bgp_session first) later) (bgp_sessions later) h)
   | inr h ↦ inr (among_back (bgp_session b a) (map (bgp_session first) later) (bgp_sessions later) h)
@@ -140,8 +157,11 @@ pub session_has : (scenario : Scenario) (s : Session) → Among s (sessions scen
 session_has scenario s h = elim (among_either s (bgp_sessions (edges scenario)) (map ldp_session scenario.links) h) [
   | inl own ↦
       let two = bgp_of (edges scenario) s own in
-      subst (λ (kind : Kind). HaveSession scenario kind s.a s.b) (sym two.kind)
-      (edge_of scenario s.a two.first, edge_of scenario s.b two.second, λ e. bgp_apart (edges scenario) (edges_once 0 scenario.nodes) s own (λ i. record { 0 = e i }))
+      subst (λ (kind : Kind). HaveSession scenario kind s.a s.b) (sym two.kind) (
+        edge_of scenario s.a two.first,
+        edge_of scenario s.b two.second,
+        λ e. bgp_apart (edges scenario) (edges_once 0 scenario.nodes) s own (λ i. record { 0 = e i }),
+      )
   | inr other ↦
       let found = mapped ldp_session s scenario.links other in
       let link : Link = found.0 in

@@ -53,7 +53,8 @@ way_has scenario kind a b way =
     let has = session_has scenario found.0 found.1 in
     elim found.2 [
       | inl e ↦ subst (λ (over : Direction). HaveSession scenario over.kind over.from over.to) (sym e) has
-      | inr e ↦ subst (λ (over : Direction). HaveSession scenario over.kind over.from over.to) (sym e) (turned_session scenario found.0.kind found.0.a found.0.b has)
+      | inr e ↦ subst (λ (over : Direction). HaveSession scenario over.kind over.from over.to) (sym e)
+          (turned_session scenario found.0.kind found.0.a found.0.b has)
     ]
 
 pub has_way : (scenario : Scenario) (kind : Kind) (a b : NodeId) → HaveSession scenario kind a b → IsWay scenario (direction kind a b)
@@ -67,10 +68,12 @@ has_way scenario kinds.Bgp a b has =
 has_way scenario kinds.Ldp a b has =
     let link : Link = has.1.link in
     session_way (sessions scenario) (ldp_session link) (direction kinds.Ldp a b)
-    (among_back (ldp_session link) (bgp_sessions (edges scenario)) (map ldp_session scenario.links) (among_map ldp_session link scenario.links (among_contained scenario.links link has.1.listed)))
+    (among_back (ldp_session link) (bgp_sessions (edges scenario)) (map ldp_session scenario.links)
+    (among_map ldp_session link scenario.links (among_contained scenario.links link has.1.listed)))
     (by link has.1.ends)
   where
-    by : (link : Link) → ((link.a.0 ≡ a.0) × (link.b.0 ≡ b.0)) ⊎ ((link.a.0 ≡ b.0) × (link.b.0 ≡ a.0)) → IsOfSession (ldp_session link) (direction kinds.Ldp a b)
+    by : (link : Link) → ((link.a.0 ≡ a.0) × (link.b.0 ≡ b.0)) ⊎ ((link.a.0 ≡ b.0) × (link.b.0 ≡ a.0))
+        → IsOfSession (ldp_session link) (direction kinds.Ldp a b)
     by link (inl e) = inl (λ i. direction kinds.Ldp (record { 0 = sym e.0 i }) (record { 0 = sym e.1 i }))
     by link (inr e) = inr (λ i. direction kinds.Ldp (record { 0 = sym e.1 i }) (record { 0 = sym e.0 i }))
 
@@ -78,7 +81,8 @@ pub reversed : (scenario : Scenario) (kind : Kind) (a b : NodeId) → IsWay scen
 reversed scenario kind a b way = has_way scenario kind b a (turned_session scenario kind a b (way_has scenario kind a b way))
 
 -- its ends are two nodes of the scenario
-pub two_ends : (scenario : Scenario) → Rules scenario → (kind : Kind) (a b : NodeId) → HaveSession scenario kind a b → (a.0 < length scenario.nodes) × (b.0 < length scenario.nodes) × (a ≡ b → ⊥)
+pub two_ends : (scenario : Scenario) → Rules scenario → (kind : Kind) (a b : NodeId) → HaveSession scenario kind a b
+    → (a.0 < length scenario.nodes) × (b.0 < length scenario.nodes) × (a ≡ b → ⊥)
 two_ends scenario rules kinds.Bgp a b has = (
   slice_get_within scenario.nodes a.0 has.0.node has.0.at,
   slice_get_within scenario.nodes b.0 has.1.node has.1.at,
@@ -102,7 +106,8 @@ session_found scenario kind a b way =
     let s : Session = own.0 in
     let passes : is_session_of kind a b s ≡ true = elim own.2 [
       | inl e ↦ subst (λ (over : Direction). is_that over.kind over.from over.to s.kind s.a s.b ≡ true) (sym e) (own_session s)
-      | inr e ↦ subst (λ (over : Direction). is_that over.kind over.from over.to s.kind s.a s.b ≡ true) (sym e) (other_order s.kind s.a s.b s.kind s.a s.b ∙ own_session s)
+      | inr e ↦ subst (λ (over : Direction). is_that over.kind over.from over.to s.kind s.a s.b ≡ true) (sym e)
+          (other_order s.kind s.a s.b s.kind s.a s.b ∙ own_session s)
     ] in
     let found = one_found (is_session_of kind a b) s (sessions scenario) own.1 passes in
     let parts = and_parts (same_kind kind found.0.kind) (is_between a b found.0.a found.0.b) found.2 in
@@ -157,7 +162,8 @@ links_apart (link ∷ more) h = (
   (λ t among one.
       let found = mapped ldp_session t more among in
       let other : Link = found.0 in
-      All-contains (λ next. JoinsSamePair link next → ⊥) more other (λ k d lt. h 0 (suc k) d (omega arith) (omega (arith, lt))) (contained more other found.1)
+      All-contains (λ next. JoinsSamePair link next → ⊥) more other (λ k d lt. h 0 (suc k) d (omega arith) (omega (arith, lt)))
+      (contained more other found.1)
       (joins other t found.2 one.1)),
   links_apart more (λ i j d lt within. h (suc i) (suc j) d (omega (arith, lt)) (omega (arith, within))),
 )
@@ -165,13 +171,17 @@ links_apart (link ∷ more) h = (
     number : (m n : NodeId) → m ≡ n → m.0 ≡ n.0
     number m n e = ap (λ (x : NodeId). x.0) e
 
-    joins : (other : Link) (t : Session) → t ≡ ldp_session other → ((link.a ≡ t.a) × (link.b ≡ t.b)) ⊎ ((link.a ≡ t.b) × (link.b ≡ t.a)) → JoinsSamePair link other
-    joins other t is (inl e) = inl (number link.a other.a (e.0 ∙ ap (λ (x : Session). x.a) is), number link.b other.b (e.1 ∙ ap (λ (x : Session). x.b) is))
-    joins other t is (inr e) = inr (number link.a other.b (e.0 ∙ ap (λ (x : Session). x.b) is), number link.b other.a (e.1 ∙ ap (λ (x : Session). x.a) is))
+    joins : (other : Link) (t : Session) → t ≡ ldp_session other → ((link.a ≡ t.a) × (link.b ≡ t.b)) ⊎ ((link.a ≡ t.b) × (link.b ≡ t.a))
+        → JoinsSamePair link other
+    joins other t is (inl e) =
+        inl (number link.a other.a (e.0 ∙ ap (λ (x : Session). x.a) is), number link.b other.b (e.1 ∙ ap (λ (x : Session). x.b) is))
+    joins other t is (inr e) =
+        inr (number link.a other.b (e.0 ∙ ap (λ (x : Session). x.b) is), number link.b other.a (e.1 ∙ ap (λ (x : Session). x.a) is))
 
 sessions_apart : (scenario : Scenario) → Rules scenario → AreApart (sessions scenario)
 sessions_apart scenario rules =
-    both_apart (bgp_sessions (edges scenario)) (map ldp_session scenario.links) (bgp_apart (edges scenario) (edges_once 0 scenario.nodes)) (links_apart scenario.links rules.core.topology.once)
+    both_apart (bgp_sessions (edges scenario)) (map ldp_session scenario.links) (bgp_apart (edges scenario) (edges_once 0 scenario.nodes))
+    (links_apart scenario.links rules.core.topology.once)
     (λ x y own other one. (
     let found = mapped ldp_session y scenario.links other in
     let clash : kinds.Bgp ≡ kinds.Ldp = sym (bgp_of (edges scenario) x own).kind ∙ one.0 ∙ ap (λ (s : Session). s.kind) found.2 in
@@ -201,7 +211,9 @@ ways_once (s ∷ more) apart two = (
 
 pub directions_once : (scenario : Scenario) → Rules scenario → Once (directions scenario)
 directions_once scenario rules =
-    ways_once (sessions scenario) (sessions_apart scenario rules) (λ s h same. (two_ends scenario rules s.kind s.a s.b (session_has scenario s h)).2 same)
+    ways_once (sessions scenario) (sessions_apart scenario rules)
+    (λ s h same. (two_ends scenario rules s.kind s.a s.b (session_has scenario s h)).2 same)
 
-pub none_before : (scenario : Scenario) → Rules scenario → (before after : List Direction) (over : Direction) → directions scenario ≡ before ++ over ∷ after → Among over before → ⊥
+pub none_before : (scenario : Scenario) → Rules scenario → (before after : List Direction) (over : Direction)
+    → directions scenario ≡ before ++ over ∷ after → Among over before → ⊥
 none_before scenario rules before after over e = not_before before after over (subst Once e (directions_once scenario rules))

@@ -9,7 +9,8 @@ ghost use Rattle.edge_defs.specs.Steps.{Call as NodeStep, Rerouted};
 ghost use Rattle.network_defs.specs.Counts.{direction};
 ghost use Rattle.network_defs.specs.Nodes.{Nodes, following};
 ghost use Rattle.network_defs.specs.System.{NodeCall, Own, Follow, system};
-ghost use Rattle.wire_laws.specs.AnyNodes.{AnyNode, HasSessions, IsElsewhere, IsNodeAt, IsNodeBefore, node_after, node_fault, node_taking, rest_of, spent_of, with_known};
+ghost use Rattle.wire_laws.specs.AnyNodes.{AnyNode, HasSessions, IsElsewhere, IsNodeAt, IsNodeBefore};
+ghost use Rattle.wire_laws.specs.AnyNodes.{node_after, node_fault, node_taking, rest_of, spent_of, with_known};
 
 /// A call of a node is the act of the network: what waits for its sessions behind it is what the act puts over them (RFC 4271 section 9.2,
 /// RFC 5036 section 3.5), and elsewhere nothing changes. Where the act lacks a label, the call does.

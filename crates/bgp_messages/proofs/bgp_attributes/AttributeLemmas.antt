@@ -39,7 +39,8 @@ front_taken : (len : ℕ) (octets value : List ℕ) → front_of len octets ≡ 
 front_taken len octets value e =
     elim (chosen (ltb (length octets) len) None (Some (take len octets)) (Some value) e) [
       | inl short ↦ absurd cc
-      | inr fits ↦ subst (λ (xs : List ℕ). (length xs ≡ len) × (octets ≡ xs ++ drop len octets)) (some_is (take len octets) value fits.1) (length-take-le len octets (ltb-false _ _ fits.0), sym (take-append-drop len octets))
+      | inr fits ↦ subst (λ (xs : List ℕ). (length xs ≡ len) × (octets ≡ xs ++ drop len octets)) (some_is (take len octets) value fits.1)
+          (length-take-le len octets (ltb-false _ _ fits.0), sym (take-append-drop len octets))
     ]
 
 front_again : (value after : List ℕ) → front_of (length value) (value ++ after) ≡ Some value
@@ -63,7 +64,8 @@ wide_taken flags (high ∷ low ∷ octets) value fits wide e =
       parts = rw wide (ap (λ (xs : List ℕ). high ∷ low ∷ xs) parts ∙ ap (λ (xs : List ℕ). xs ++ (value ++ drop n octets)) (sym field));
     }
 
-narrow_taken : (flags : ℕ) (rest value : List ℕ) → IsOctets rest → is_extended flags ≡ false → narrow_value rest ≡ Some value → Stands flags rest value
+narrow_taken : (flags : ℕ) (rest value : List ℕ) → IsOctets rest → is_extended flags ≡ false → narrow_value rest ≡ Some value
+    → Stands flags rest value
 unfolding narrow_value
 narrow_taken flags [] value fits narrow e = absurd cc
 narrow_taken flags (len ∷ octets) value fits narrow e =
@@ -84,7 +86,8 @@ value_stands flags rest value fits e =
       | inr narrow ↦ narrow_taken flags rest value fits narrow.0 narrow.1
     ]
 
-stands_by : (flags : ℕ) (value after : List ℕ) (b : Bool) → is_extended flags ≡ b → FitsLen flags (length value) → value_of flags (len_field flags (length value) ++ (value ++ after)) ≡ Some value
+stands_by : (flags : ℕ) (value after : List ℕ) (b : Bool) → is_extended flags ≡ b → FitsLen flags (length value)
+    → value_of flags (len_field flags (length value) ++ (value ++ after)) ≡ Some value
 unfolding value_of wide_value narrow_value
 stands_by flags value after true wide fits =
     let below : length value < 2 ^ 16 = subst (λ (b : Bool). length value < cond b (2 ^ 16) (2 ^ 8)) wide fits in
@@ -92,7 +95,8 @@ stands_by flags value after true wide fits =
 stands_by flags value after false narrow fits = rw narrow (front_again value after)
 
 -- What stands there is read.
-stands_value : (flags : ℕ) (value after : List ℕ) → FitsLen flags (length value) → value_of flags (len_field flags (length value) ++ (value ++ after)) ≡ Some value
+stands_value : (flags : ℕ) (value after : List ℕ) → FitsLen flags (length value)
+    → value_of flags (len_field flags (length value) ++ (value ++ after)) ≡ Some value
 stands_value flags value after fits = stands_by flags value after (is_extended flags) refl fits
 
 place_by : (flags n : ℕ) (b : Bool) → is_extended flags ≡ b → value_place flags ≡ 2 + length (len_field flags n)
@@ -103,11 +107,18 @@ place_is : (flags n : ℕ) → value_place flags ≡ 2 + length (len_field flags
 place_is flags n = place_by flags n (is_extended flags) refl
 
 -- A value ends within the octets.
-pub value_within : (flags : ℕ) (rest value : List ℕ) → IsOctets rest → value_of flags rest ≡ Some value → (0 < value_place flags) × (value_place flags + length value ≤ 2 + length rest)
+pub value_within : (flags : ℕ) (rest value : List ℕ) → IsOctets rest → value_of flags rest ≡ Some value
+    → (0 < value_place flags) × (value_place flags + length value ≤ 2 + length rest)
 value_within flags rest value fits e =
     let s = value_stands flags rest value fits e in
     let n : ℕ = length (len_field flags (length value)) in
-    let size : length rest ≡ n + (length value + length s.after) = omega (arith, ap (λ (xs : List ℕ). length xs) s.parts, length-append (len_field flags (length value)) (value ++ s.after), length-append value s.after) in
+    let size : length rest ≡ n + (length value + length s.after) =
+    omega (
+      arith,
+      ap (λ (xs : List ℕ). length xs) s.parts,
+      length-append (len_field flags (length value)) (value ++ s.after),
+      length-append value s.after,
+    ) in
     (omega (arith, place_is flags (length value)), omega (arith, place_is flags (length value), size))
 
 near_by : (e : AttributesFault) (m n : ℕ) → IsNear e m → m ≤ n → IsNear e n
@@ -142,26 +153,36 @@ record IsOne (flags kind : ℕ) (rest : List ℕ) (x : Attribute × ℕ) : Type 
   means : Means kind value x.0
   size : x.1 ≡ value_place flags + length value
 
-new_taken_by : (flags kind : ℕ) (rest : List ℕ) (x : Attribute × ℕ) (o : Option (List ℕ)) → IsOctets rest → value_of flags rest ≡ o → valued kind (value_place flags) o ≡ Ok x → IsOne flags kind rest x
+new_taken_by : (flags kind : ℕ) (rest : List ℕ) (x : Attribute × ℕ) (o : Option (List ℕ)) → IsOctets rest → value_of flags rest ≡ o
+    → valued kind (value_place flags) o ≡ Ok x → IsOne flags kind rest x
 new_taken_by flags kind rest x None fits is e = absurd cc
 new_taken_by flags kind rest x (Some value) fits is e =
     let s = value_stands flags rest value fits is in
     let (a, read, made) = bind_ok (value_at kind (value_place flags) value) _ x e in
     let one : Attribute × ℕ = (a, value_place flags + length value) in
-    subst (IsOne flags kind rest) (ok_is one x made) (record { value = value; stands = s; means = value_taken kind (value_place flags) value a (value_octets flags rest value fits s) read; size = refl })
+    subst (IsOne flags kind rest) (ok_is one x made)
+    (record {
+      value = value;
+      stands = s;
+      means = value_taken kind (value_place flags) value a (value_octets flags rest value fits s) read;
+      size =
+          refl;
+    })
 
 new_taken : (flags kind : ℕ) (rest : List ℕ) (x : Attribute × ℕ) → IsOctets rest → new_at flags kind rest ≡ Ok x → IsOne flags kind rest x
 unfolding new_at
 new_taken flags kind rest x fits e = new_taken_by flags kind rest x (value_of flags rest) fits refl e
 
 -- the text that an attribute has
-spelled_by : (flags kind : ℕ) (rest : List ℕ) (x : Attribute × ℕ) → IsOne flags kind rest x → (0 < x.1) × (x.1 ≤ length (flags ∷ (kind ∷ rest))) × SpellsAttribute x.0 (take x.1 (flags ∷ (kind ∷ rest)))
+spelled_by : (flags kind : ℕ) (rest : List ℕ) (x : Attribute × ℕ) → IsOne flags kind rest x
+    → (0 < x.1) × (x.1 ≤ length (flags ∷ (kind ∷ rest))) × SpellsAttribute x.0 (take x.1 (flags ∷ (kind ∷ rest)))
 spelled_by flags kind rest x one =
     let value : List ℕ = one.value in
     let s = one.stands in
     let len : x.1 ≡ length (text_of flags kind value) = one.size ∙ count flags kind value in
     let all = whole flags kind rest value s in
-    let front : take x.1 (flags ∷ (kind ∷ rest)) ≡ text_of flags kind value = ap (λ (xs : List ℕ). take x.1 xs) all ∙ take_at (text_of flags kind value) s.after x.1 (sym len) in (
+    let front : take x.1 (flags ∷ (kind ∷ rest)) ≡ text_of flags kind value =
+    ap (λ (xs : List ℕ). take x.1 xs) all ∙ take_at (text_of flags kind value) s.after x.1 (sym len) in (
       omega (arith, len),
       omega (arith, len, ap (λ (xs : List ℕ). length xs) all, length-append (text_of flags kind value) s.after),
       record {
@@ -173,7 +194,8 @@ spelled_by flags kind rest x one =
       },
     )
 
-taken : (before : List Attribute) (xs : List ℕ) (m : Attribute) (n : ℕ) → IsOctets xs → 0 < length xs → attribute_at before xs ≡ Ok (m, n) → (0 < n) × (n ≤ length xs) × SpellsAttribute m (take n xs) × IsNew before m
+taken : (before : List Attribute) (xs : List ℕ) (m : Attribute) (n : ℕ) → IsOctets xs → 0 < length xs → attribute_at before xs ≡ Ok (m, n)
+    → (0 < n) × (n ≤ length xs) × SpellsAttribute m (take n xs) × IsNew before m
 unfolding attribute_unless
 taken before [] m n fits pos e = absurd cc
 taken before (flags ∷ []) m n fits pos e = absurd cc
@@ -188,20 +210,24 @@ taken before (flags ∷ kind ∷ rest) m n fits pos e =
 
 -- ---- what is spelled is read
 
-new_read : (flags kind : ℕ) (value after : List ℕ) → FitsLen flags (length value) → new_at flags kind (len_field flags (length value) ++ (value ++ after)) ≡ valued kind (value_place flags) (Some value)
+new_read : (flags kind : ℕ) (value after : List ℕ) → FitsLen flags (length value)
+    → new_at flags kind (len_field flags (length value) ++ (value ++ after)) ≡ valued kind (value_place flags) (Some value)
 unfolding new_at
 new_read flags kind value after fits = ap (valued kind (value_place flags)) (stands_value flags value after fits)
 
-unless_new : (before : List Attribute) (flags kind : ℕ) (rest : List ℕ) → IsNewType before kind → attribute_at before (flags ∷ (kind ∷ rest)) ≡ new_at flags kind rest
+unless_new : (before : List Attribute) (flags kind : ℕ) (rest : List ℕ) → IsNewType before kind
+    → attribute_at before (flags ∷ (kind ∷ rest)) ≡ new_at flags kind rest
 unfolding attribute_unless
 unless_new before flags kind rest new = cond-false (has_type before kind) _ (new_at flags kind rest) (is_new before kind new)
 
-again : (before : List Attribute) (m : Attribute) (text after : List ℕ) → SpellsAttribute m text → IsNew before m → attribute_at before (text ++ after) ≡ Ok (m, length text)
+again : (before : List Attribute) (m : Attribute) (text after : List ℕ) → SpellsAttribute m text → IsNew before m
+    → attribute_at before (text ++ after) ≡ Ok (m, length text)
 again before m text after s new =
     let kind : ℕ = type_of m in
     let place : ℕ = value_place s.flags in
     let all : text ++ after ≡ s.flags ∷ (kind ∷ (len_field s.flags (length s.value) ++ (s.value ++ after))) =
-    ap (λ (xs : List ℕ). xs ++ after) s.parts ∙ ap (λ (xs : List ℕ). s.flags ∷ (kind ∷ xs)) (append_assoc (len_field s.flags (length s.value)) s.value after) in
+    ap (λ (xs : List ℕ). xs ++ after) s.parts ∙ ap (λ (xs : List ℕ). s.flags ∷ (kind ∷ xs))
+    (append_assoc (len_field s.flags (length s.value)) s.value after) in
     let size : place + length s.value ≡ length text = count s.flags kind s.value ∙ ap (λ (xs : List ℕ). length xs) (sym s.parts) in
     ap (attribute_at before) all
     ∙ unless_new before s.flags kind (len_field s.flags (length s.value) ++ (s.value ++ after)) new
@@ -223,34 +249,41 @@ second_one = (0, faults.AttributeList)
 list_is : (offset : ℕ) (e : StreamFault) → second_one ≡ (offset, e) → (offset ≡ 0) × (e ≡ faults.AttributeList)
 list_is offset e same = (sym (ap (λ (x : ℕ × StreamFault). x.0) same), sym (ap (λ (x : ℕ × StreamFault). x.1) same))
 
-new_fails : (before : List Attribute) (flags kind : ℕ) (rest : List ℕ) (offset : ℕ) (e : StreamFault) (o : Option (List ℕ)) → IsOctets rest → IsNewType before kind → value_of flags rest ≡ o → valued kind (value_place flags) o ≡ Err (offset, e)
+new_fails : (before : List Attribute) (flags kind : ℕ) (rest : List ℕ) (offset : ℕ) (e : StreamFault) (o : Option (List ℕ)) → IsOctets rest
+    → IsNewType before kind → value_of flags rest ≡ o → valued kind (value_place flags) o ≡ Err (offset, e)
     → AttributeFault before (flags ∷ (kind ∷ rest)) offset e
 new_fails before flags kind rest offset e None fits new is h =
     let (p, q) = misfit_is offset e (err_is misfit (offset, e) h) in
     wrong.cut flags kind rest refl new none p q
   where
     none : IsCut flags rest
-    none value after fit same = let clash : Some value ≡ None = sym (stands_value flags value after fit) ∙ ap (value_of flags) (sym same) ∙ is in absurd cc
+    none value after fit same = let clash : Some value ≡ None = sym (stands_value flags value after fit) ∙ ap (value_of flags) (sym same) ∙ is in
+        absurd cc
 new_fails before flags kind rest offset e (Some value) fits new is h =
     let s = value_stands flags rest value fits is in
     elim (bind_err (value_at kind (value_place flags) value) _ (offset, e) h) [
       | inl fault ↦
-          let inside : ValueFault kind value (value_place flags) offset e = value_fails kind (value_place flags) value offset e (value_octets flags rest value fits s) fault in
-          wrong.in_value flags kind value s.after (ap (λ (xs : List ℕ). flags ∷ (kind ∷ xs)) s.parts) new s.fits (subst (λ (n : ℕ). ValueFault kind value n offset e) (place_is flags (length value)) inside)
+          let inside : ValueFault kind value (value_place flags) offset e =
+          value_fails kind (value_place flags) value offset e (value_octets flags rest value fits s) fault in
+          wrong.in_value flags kind value s.after (ap (λ (xs : List ℕ). flags ∷ (kind ∷ xs)) s.parts) new s.fits
+          (subst (λ (n : ℕ). ValueFault kind value n offset e) (place_is flags (length value)) inside)
       | inr x ↦ absurd cc
     ]
 
-new_fails_at : (before : List Attribute) (flags kind : ℕ) (rest : List ℕ) (offset : ℕ) (e : StreamFault) → IsOctets rest → IsNewType before kind → new_at flags kind rest ≡ Err (offset, e) → AttributeFault before (flags ∷ (kind ∷ rest)) offset e
+new_fails_at : (before : List Attribute) (flags kind : ℕ) (rest : List ℕ) (offset : ℕ) (e : StreamFault) → IsOctets rest → IsNewType before kind
+    → new_at flags kind rest ≡ Err (offset, e) → AttributeFault before (flags ∷ (kind ∷ rest)) offset e
 unfolding new_at
 new_fails_at before flags kind rest offset e fits new h = new_fails before flags kind rest offset e (value_of flags rest) fits new refl h
 
-fails : (before : List Attribute) (xs : List ℕ) (offset : ℕ) (e : StreamFault) → IsOctets xs → 0 < length xs → attribute_at before xs ≡ Err (offset, e) → AttributeFault before xs offset e
+fails : (before : List Attribute) (xs : List ℕ) (offset : ℕ) (e : StreamFault) → IsOctets xs → 0 < length xs
+    → attribute_at before xs ≡ Err (offset, e) → AttributeFault before xs offset e
 unfolding attribute_unless
 fails before [] offset e fits pos h = absurd (omega arith)
 fails before (flags ∷ []) offset e fits pos h = let (p, q) = misfit_is offset e (err_is misfit (offset, e) h) in wrong.type_cut flags refl p q
 fails before (flags ∷ kind ∷ rest) offset e fits pos h =
     elim (chosen (has_type before kind) _ (new_at flags kind rest) _ h) [
-      | inl second ↦ let (p, q) = list_is offset e (err_is second_one (offset, e) second.1) in wrong.again flags kind rest refl (again_is before kind second.0) p q
+      | inl second ↦ let (p, q) = list_is offset e (err_is second_one (offset, e) second.1) in
+          wrong.again flags kind rest refl (again_is before kind second.0) p q
       | inr new ↦ new_fails_at before flags kind rest offset e (octets_behind 2 (flags ∷ kind ∷ rest) fits) (new_is before kind new.0) new.1
     ]
 
@@ -269,23 +302,33 @@ cut_type : (before : List Attribute) (flags : ℕ) → attribute_at before (flag
 unfolding attribute_unless
 cut_type before flags = refl
 
-second_type : (before : List Attribute) (flags kind : ℕ) (rest : List ℕ) → ¬ (IsNewType before kind) → attribute_at before (flags ∷ (kind ∷ rest)) ≡ Err (0, faults.AttributeList)
+second_type : (before : List Attribute) (flags kind : ℕ) (rest : List ℕ) → ¬ (IsNewType before kind)
+    → attribute_at before (flags ∷ (kind ∷ rest)) ≡ Err (0, faults.AttributeList)
 unfolding attribute_unless
 second_type before flags kind rest old = cond-true (has_type before kind) _ (new_at flags kind rest) (is_again before kind old)
 
-faulty : (before : List Attribute) (xs : List ℕ) (offset : ℕ) (e : StreamFault) → IsOctets xs → 0 < length xs → AttributeFault before xs offset e → attribute_at before xs ≡ Err (offset, e)
-faulty before xs offset e fits pos (wrong.type_cut flags parts p q) = ap (attribute_at before) parts ∙ cut_type before flags ∙ fault_is 0 offset faults.AttributeLength e p q
-faulty before xs offset e fits pos (wrong.again flags kind rest parts old p q) = ap (attribute_at before) parts ∙ second_type before flags kind rest old ∙ fault_is 0 offset faults.AttributeList e p q
+faulty : (before : List Attribute) (xs : List ℕ) (offset : ℕ) (e : StreamFault) → IsOctets xs → 0 < length xs → AttributeFault before xs offset e
+    → attribute_at before xs ≡ Err (offset, e)
+faulty before xs offset e fits pos (wrong.type_cut flags parts p q) =
+    ap (attribute_at before) parts ∙ cut_type before flags ∙ fault_is 0 offset faults.AttributeLength e p q
+faulty before xs offset e fits pos (wrong.again flags kind rest parts old p q) =
+    ap (attribute_at before) parts ∙ second_type before flags kind rest old ∙ fault_is 0 offset faults.AttributeList e p q
 faulty before xs offset e fits pos (wrong.cut flags kind rest parts new none p q) =
-    ap (attribute_at before) parts ∙ unless_new before flags kind rest new ∙ new_cut flags kind rest (octets_behind 2 (flags ∷ kind ∷ rest) (subst IsOctets parts fits)) none ∙ fault_is 0 offset faults.AttributeLength e p q
+    ap (attribute_at before) parts ∙ unless_new before flags kind rest new
+    ∙ new_cut flags kind rest (octets_behind 2 (flags ∷ kind ∷ rest) (subst IsOctets parts fits)) none
+    ∙ fault_is 0 offset faults.AttributeLength e p q
 faulty before xs offset e fits pos (wrong.in_value flags kind value after parts new fit h) =
     let rest : List ℕ = len_field flags (length value) ++ (value ++ after) in
-    let octets : IsOctets value = value_octets flags rest value (octets_behind 2 (flags ∷ kind ∷ rest) (subst IsOctets parts fits)) (record { after = after; fits = fit; parts = refl }) in
-    let inside : ValueFault kind value (value_place flags) offset e = subst (λ (n : ℕ). ValueFault kind value n offset e) (sym (place_is flags (length value))) h in
+    let octets : IsOctets value =
+    value_octets flags rest value (octets_behind 2 (flags ∷ kind ∷ rest) (subst IsOctets parts fits))
+    (record { after = after; fits = fit; parts = refl }) in
+    let inside : ValueFault kind value (value_place flags) offset e =
+    subst (λ (n : ℕ). ValueFault kind value n offset e) (sym (place_is flags (length value))) h in
     ap (attribute_at before) parts
     ∙ unless_new before flags kind rest new
     ∙ new_read flags kind value after fit
-    ∙ ap (λ (x : Result Attribute (ℕ × StreamFault)). x >>= λ a. Ok (a, value_place flags + length value)) (fails_value kind (value_place flags) value offset e octets inside)
+    ∙ ap (λ (x : Result Attribute (ℕ × StreamFault)). x >>= λ a. Ok (a, value_place flags + length value))
+    (fails_value kind (value_place flags) value offset e octets inside)
 
 -- Each attribute is read exactly where it is spelled and may stand.
 pub reader : IsPartReader attribute_at SpellsAttribute IsNew AttributeFault
@@ -303,7 +346,8 @@ pub read_none : (octets : List ℕ) → IsRead octets 0 [] nothing
 read_none octets = record { on = on_parts_start attribute_at octets; same = refl; tested = tested_none }
 
 -- the tests of what was found are those of the attributes
-same_test : (found : Found) (before : List Attribute) (xs : List ℕ) → AreTested found before → attribute_unless (has found) xs ≡ attribute_at before xs
+same_test : (found : Found) (before : List Attribute) (xs : List ℕ) → AreTested found before
+    → attribute_unless (has found) xs ≡ attribute_at before xs
 same_test found before xs h = ap (λ (again : ℕ → Bool). attribute_unless again xs) (λ i kind. h kind i)
 
 proper : (a : Attribute) (value : List ℕ) → SpellsValue a value → IsProper a
@@ -314,12 +358,14 @@ proper (Tunnel pmsi) value s = tt
 proper (Passed kind) value s = s
 
 -- An attribute was read.
-pub read_more : (octets : List ℕ) (place n : ℕ) (before : List Attribute) (found : Found) (a : Attribute) → IsOctets octets → IsRead octets place before found → 0 < n → n ≤ length (tail_of octets place)
+pub read_more : (octets : List ℕ) (place n : ℕ) (before : List Attribute) (found : Found) (a : Attribute) → IsOctets octets
+    → IsRead octets place before found → 0 < n → n ≤ length (tail_of octets place)
     → attribute_unless (has found) (tail_of octets place) ≡ Ok (a, n) → IsRead octets (place + n) (before ++ a ∷ []) (with_attribute found a)
 read_more octets place n before found a fits r some le e =
     let tail : List ℕ = tail_of octets place in
     let read : attribute_at before tail ≡ Ok (a, n) = sym (same_test found before tail r.tested) ∙ e in
-    let (pos, within, spells, new) = taken before tail a n (octets_before (length octets - place) (drop place octets) (octets_behind place octets fits)) (omega arith) read in
+    let (pos, within, spells, new) =
+    taken before tail a n (octets_before (length octets - place) (drop place octets) (octets_behind place octets fits)) (omega arith) read in
     record {
       on = on_parts_more attribute_at octets place n before a r.on some le read;
       same = ap (λ (f : Found). with_attribute f a) r.same ∙ sym (found_more before a);
@@ -327,18 +373,23 @@ read_more octets place n before found a fits r some le e =
     }
 
 -- A fault was met.
-pub read_fault : (octets : List ℕ) (place offset : ℕ) (before : List Attribute) (found : Found) (e : StreamFault) → IsRead octets place before found → place < length octets → attribute_unless (has found) (tail_of octets place) ≡ Err (offset, e)
+pub read_fault : (octets : List ℕ) (place offset : ℕ) (before : List Attribute) (found : Found) (e : StreamFault) → IsRead octets place before found
+    → place < length octets → attribute_unless (has found) (tail_of octets place) ≡ Err (offset, e)
     → found_at octets ≡ Err (place + offset, e)
 read_fault octets place offset before found e r lt h =
-    ap (λ (x : Result (List Attribute) (ℕ × StreamFault)). x >>= λ all. Ok (found_of all)) (on_parts_fault attribute_at octets place offset before e r.on lt (sym (same_test found before (tail_of octets place) r.tested) ∙ h))
+    ap (λ (x : Result (List Attribute) (ℕ × StreamFault)). x >>= λ all. Ok (found_of all))
+    (on_parts_fault attribute_at octets place offset before e r.on lt (sym (same_test found before (tail_of octets place) r.tested) ∙ h))
 
 -- All were read.
-pub read_all : (octets : List ℕ) (place : ℕ) (before : List Attribute) (found : Found) → IsRead octets place before found → length octets ≤ place → found_at octets ≡ Ok found
+pub read_all : (octets : List ℕ) (place : ℕ) (before : List Attribute) (found : Found) → IsRead octets place before found → length octets ≤ place
+    → found_at octets ≡ Ok found
 read_all octets place before found r le =
-    ap (λ (x : Result (List Attribute) (ℕ × StreamFault)). x >>= λ all. Ok (found_of all)) (on_parts_end attribute_at octets place before r.on le) ∙ ap (λ (f : Found). Ok f) (sym r.same)
+    ap (λ (x : Result (List Attribute) (ℕ × StreamFault)). x >>= λ all. Ok (found_of all)) (on_parts_end attribute_at octets place before r.on le)
+    ∙ ap (λ (f : Found). Ok f) (sym r.same)
 
 -- A fault of the part is one of the whole, further on.
-pub fails_further : (octets : List ℕ) (place : ℕ) (before : List Attribute) (found : Found) (fault : AttributesFault) → IsRead octets place before found → place < length octets → Fails fault (attribute_unless (has found) (tail_of octets place))
+pub fails_further : (octets : List ℕ) (place : ℕ) (before : List Attribute) (found : Found) (fault : AttributesFault)
+    → IsRead octets place before found → place < length octets → Fails fault (attribute_unless (has found) (tail_of octets place))
     → Fails (behind place fault) (found_at octets)
 fails_further octets place before found NoMemory r lt h = tt
 fails_further octets place before found (Bad offset e) r lt h = read_fault octets place offset before found e r lt h

@@ -33,23 +33,31 @@ read_is kind (inr (inr (inr e))) = or_right (eqb kind 14 || eqb kind 15 || eqb k
 
 unread_is : (kind : ℕ) → ¬ (IsReadType kind) → is_read_type kind ≡ false
 unread_is kind none =
-    rw (ne_eqb kind 14 (λ e. none (inl e)), ne_eqb kind 15 (λ e. none (inr (inl e))), ne_eqb kind 16 (λ e. none (inr (inr (inl e)))), ne_eqb kind 22 (λ e. none (inr (inr (inr e))))) refl
+    rw (
+      ne_eqb kind 14 (λ e. none (inl e)),
+      ne_eqb kind 15 (λ e. none (inr (inl e))),
+      ne_eqb kind 16 (λ e. none (inr (inr (inl e)))),
+      ne_eqb kind 22 (λ e. none (inr (inr (inr e)))),
+    ) refl
 
 -- None of these attributes has that type, or one has.
 none_of : (kind : ℕ) (before : List Attribute) → list_any (λ b. eqb (type_of b) kind) before ≡ false → AllByRecursion (λ b. type_of b ≢ kind) before
 none_of kind [] e = tt
-none_of kind (b ∷ bs) e = let (p, q) = or_parts (eqb (type_of b) kind) (list_any (λ b. eqb (type_of b) kind) bs) e in (eqb-false (type_of b) kind p, none_of kind bs q)
+none_of kind (b ∷ bs) e = let (p, q) = or_parts (eqb (type_of b) kind) (list_any (λ b. eqb (type_of b) kind) bs) e in
+    (eqb-false (type_of b) kind p, none_of kind bs q)
 
 of_none : (kind : ℕ) (before : List Attribute) → AllByRecursion (λ b. type_of b ≢ kind) before → list_any (λ b. eqb (type_of b) kind) before ≡ false
 of_none kind [] h = refl
-of_none kind (b ∷ bs) (p, q) = or_from (eqb (type_of b) kind) (list_any (λ b. eqb (type_of b) kind) bs) (ne_eqb (type_of b) kind p) (of_none kind bs q)
+of_none kind (b ∷ bs) (p, q) =
+    or_from (eqb (type_of b) kind) (list_any (λ b. eqb (type_of b) kind) bs) (ne_eqb (type_of b) kind p) (of_none kind bs q)
 
 -- A type is new exactly where it does not stand among those whose values are read.
 pub new_is : (before : List Attribute) (kind : ℕ) → has_type before kind ≡ false → IsNewType before kind
 new_is before kind e read = none_of kind before (sym (ap (λ (r : Bool). r && list_any (λ b. eqb (type_of b) kind) before) (read_is kind read)) ∙ e)
 
 is_new_by : (before : List Attribute) (kind : ℕ) → IsNewType before kind → IsReadType kind ⊎ ¬ (IsReadType kind) → has_type before kind ≡ false
-is_new_by before kind h (inl read) = ap (λ (r : Bool). r && list_any (λ b. eqb (type_of b) kind) before) (read_is kind read) ∙ of_none kind before (h read)
+is_new_by before kind h (inl read) =
+    ap (λ (r : Bool). r && list_any (λ b. eqb (type_of b) kind) before) (read_is kind read) ∙ of_none kind before (h read)
 is_new_by before kind h (inr other) = and_left (is_read_type kind) (list_any (λ b. eqb (type_of b) kind) before) (unread_is kind other)
 
 pub is_new : (before : List Attribute) (kind : ℕ) → IsNewType before kind → has_type before kind ≡ false
@@ -113,7 +121,12 @@ adds22 found (Passed k) proper = passed_by (is_some found.tunnel) k 22 (λ e. pr
 
 has_none : (found : Found) (kind : ℕ) → ¬ (IsReadType kind) → has found kind ≡ false
 has_none found kind none =
-    rw (ne_eqb kind 14 (λ e. none (inl e)), ne_eqb kind 15 (λ e. none (inr (inl e))), ne_eqb kind 16 (λ e. none (inr (inr (inl e)))), ne_eqb kind 22 (λ e. none (inr (inr (inr e))))) refl
+    rw (
+      ne_eqb kind 14 (λ e. none (inl e)),
+      ne_eqb kind 15 (λ e. none (inr (inl e))),
+      ne_eqb kind 16 (λ e. none (inr (inr (inl e)))),
+      ne_eqb kind 22 (λ e. none (inr (inr (inr e)))),
+    ) refl
 
 adds_by : (found : Found) (a : Attribute) (kind : ℕ) → IsProper a → IsReadType kind ⊎ ¬ (IsReadType kind) → Adds found a kind
 adds_by found a kind proper (inl (inl e)) = subst (Adds found a) (sym e) (adds14 found a proper)
@@ -122,7 +135,8 @@ adds_by found a kind proper (inl (inr (inr (inl e)))) = subst (Adds found a) (sy
 adds_by found a kind proper (inl (inr (inr (inr e)))) = subst (Adds found a) (sym e) (adds22 found a proper)
 adds_by found a kind proper (inr none) =
     has_none (with_attribute found a) kind none
-    ∙ sym (or_from (has found kind) (is_read_type kind && eqb (type_of a) kind) (has_none found kind none) (and_left (is_read_type kind) (eqb (type_of a) kind) (unread_is kind none)))
+    ∙ sym (or_from (has found kind) (is_read_type kind && eqb (type_of a) kind) (has_none found kind none)
+    (and_left (is_read_type kind) (eqb (type_of a) kind) (unread_is kind none)))
 
 spread : (r x t : Bool) → ((r && x) || (r && t)) ≡ (r && (x || (t || false)))
 spread true x true = refl
@@ -143,7 +157,8 @@ tested_none kind = nothing_has kind (read_type kind) ∙ sym (and_right (is_read
     nothing_has kind (inl (inr (inr (inr e)))) = ap (has nothing) e
     nothing_has kind (inr none) = has_none nothing kind none
 
-pub tested_more : (found : Found) (before : List Attribute) (a : Attribute) → IsProper a → AreTested found before → AreTested (with_attribute found a) (before ++ a ∷ [])
+pub tested_more : (found : Found) (before : List Attribute) (a : Attribute) → IsProper a → AreTested found before
+    → AreTested (with_attribute found a) (before ++ a ∷ [])
 tested_more found before a proper h kind =
     let test = λ (b : Attribute). eqb (type_of b) kind in
     let r : Bool = is_read_type kind in
@@ -169,17 +184,21 @@ add_nothing : {A : Type 0} (f : Attribute → List A) (before : List Attribute) 
 add_nothing f [] h = refl
 add_nothing f (b ∷ bs) (p, q) = flat_map-cons f b bs ∙ ap (λ xs. xs ++ flat_map f bs) p ∙ add_nothing f bs q
 
-others : {A : Type 0} (f : Attribute → List A) (kind : ℕ) (before : List Attribute) → ((b : Attribute) → type_of b ≢ kind → f b ≡ []) → AllByRecursion (λ b. type_of b ≢ kind) before → AllByRecursion (λ b. f b ≡ []) before
+others : {A : Type 0} (f : Attribute → List A) (kind : ℕ) (before : List Attribute) → ((b : Attribute) → type_of b ≢ kind → f b ≡ [])
+    → AllByRecursion (λ b. type_of b ≢ kind) before → AllByRecursion (λ b. f b ≡ []) before
 others f kind [] none h = tt
 others f kind (b ∷ bs) none (p, q) = (none b p, others f kind bs none q)
 
 -- the first of its kind
-first_one : {A : Type 0} (f : Attribute → List A) (kind : ℕ) (before : List Attribute) (a : Attribute) → ((b : Attribute) → type_of b ≢ kind → f b ≡ []) → AllByRecursion (λ b. type_of b ≢ kind) before → f a ≡ flat_map f (before ++ a ∷ [])
+first_one : {A : Type 0} (f : Attribute → List A) (kind : ℕ) (before : List Attribute) (a : Attribute)
+    → ((b : Attribute) → type_of b ≢ kind → f b ≡ []) → AllByRecursion (λ b. type_of b ≢ kind) before → f a ≡ flat_map f (before ++ a ∷ [])
 first_one f kind before a none h =
-    sym (append-nil (f a)) ∙ ap (λ xs. xs ++ (f a ++ [])) (sym (add_nothing f before (others f kind before none h))) ∙ sym (flat_map-append f before (a ∷ []))
+    sym (append-nil (f a)) ∙ ap (λ xs. xs ++ (f a ++ [])) (sym (add_nothing f before (others f kind before none h)))
+    ∙ sym (flat_map-append f before (a ∷ []))
 
 -- one that adds nothing
-no_more : {A : Type 0} (f : Attribute → List A) (before : List Attribute) (a : Attribute) → f a ≡ [] → flat_map f before ≡ flat_map f (before ++ a ∷ [])
+no_more : {A : Type 0} (f : Attribute → List A) (before : List Attribute) (a : Attribute) → f a ≡ []
+    → flat_map f before ≡ flat_map f (before ++ a ∷ [])
 no_more f before a none =
     sym (append-nil (flat_map f before)) ∙ ap (λ xs. flat_map f before ++ (xs ++ [])) (sym none) ∙ sym (flat_map-append f before (a ∷ []))
 
@@ -230,7 +249,8 @@ unreach_found (Some ks) = refl
 unreach_found None = refl
 
 -- One more attribute of a type that is new is added.
-agrees_more : (found : Found) (before : List Attribute) (a : Attribute) → IsNew before a → Agrees found before → Agrees (with_attribute found a) (before ++ a ∷ [])
+agrees_more : (found : Found) (before : List Attribute) (a : Attribute) → IsNew before a → Agrees found before
+    → Agrees (with_attribute found a) (before ++ a ∷ [])
 agrees_more found before (Reach r) new h = record {
   comms = h.comms ∙ no_more comms_in before (Reach r) refl;
   pmsi = h.pmsi ∙ pmsi_stays before (Reach r) refl;
@@ -262,18 +282,24 @@ agrees_more found before (Passed k) new h = record {
   reach = λ comms pmsi. h.reach comms pmsi ∙ no_more (adverts_in comms pmsi) before (Passed k) refl;
 }
 
-agrees_all : (before : List Attribute) (octets : List ℕ) (attributes : List Attribute) (rest : List ℕ) → ArePartsAfter SpellsAttribute IsNew before octets attributes rest → Agrees (found_of before) before → Agrees (found_of (before ++ attributes)) (before ++ attributes)
+agrees_all : (before : List Attribute) (octets : List ℕ) (attributes : List Attribute) (rest : List ℕ)
+    → ArePartsAfter SpellsAttribute IsNew before octets attributes rest → Agrees (found_of before) before
+    → Agrees (found_of (before ++ attributes)) (before ++ attributes)
 agrees_all before octets [] rest h is = subst (λ (xs : List Attribute). Agrees (found_of xs) xs) (sym (append-nil before)) is
 agrees_all before octets (a ∷ more) rest (text, after, spells, new, parts, h) is =
-    let one : Agrees (found_of (before ++ a ∷ [])) (before ++ a ∷ []) = subst (λ (f : Found). Agrees f (before ++ a ∷ [])) (sym (found_more before a)) (agrees_more (found_of before) before a new is) in
+    let one : Agrees (found_of (before ++ a ∷ [])) (before ++ a ∷ []) =
+    subst (λ (f : Found). Agrees f (before ++ a ∷ [])) (sym (found_more before a)) (agrees_more (found_of before) before a new is) in
     subst (λ (xs : List Attribute). Agrees (found_of xs) xs) (append_assoc before (a ∷ []) more) (agrees_all (before ++ a ∷ []) after more rest h one)
 
 says : (found : Found) (attributes : List Attribute) → Agrees found attributes → update_in found ≡ update_of attributes
 says found attributes h =
-    let reach : adverts_of (unwrap_or found.communities []) found.tunnel found.reach ≡ flat_map (adverts_in (comms_of attributes) (pmsi_of attributes)) attributes =
-    ap (λ (cs : List ExtComm). adverts_of cs found.tunnel found.reach) h.comms ∙ ap (λ (p : Option Pmsi). adverts_of (comms_of attributes) p found.reach) h.pmsi ∙ h.reach (comms_of attributes) (pmsi_of attributes) in
+    let reach : adverts_of (unwrap_or found.communities []) found.tunnel found.reach
+    ≡ flat_map (adverts_in (comms_of attributes) (pmsi_of attributes)) attributes =
+    ap (λ (cs : List ExtComm). adverts_of cs found.tunnel found.reach) h.comms
+    ∙ ap (λ (p : Option Pmsi). adverts_of (comms_of attributes) p found.reach) h.pmsi ∙ h.reach (comms_of attributes) (pmsi_of attributes) in
     λ i. record { reach = reach i; unreach = h.unreach i }
 
 -- What was found of attributes, each of a type that is new, says what they say.
-pub update_is : (octets : List ℕ) (attributes : List Attribute) (rest : List ℕ) → ArePartsAfter SpellsAttribute IsNew [] octets attributes rest → update_in (found_of attributes) ≡ update_of attributes
+pub update_is : (octets : List ℕ) (attributes : List Attribute) (rest : List ℕ) → ArePartsAfter SpellsAttribute IsNew [] octets attributes rest
+    → update_in (found_of attributes) ≡ update_of attributes
 update_is octets attributes rest h = says (found_of attributes) attributes (agrees_all [] octets attributes rest h agrees_none)

@@ -87,7 +87,8 @@ unmapped_no octets e = rw e refl
 
 mapped_by : (octets : List ℕ) (b : Bool) → is_mapped octets ≡ b → length octets ≡ 16 → SpellsMapped (unmapped (V6 octets)) octets
 mapped_by octets true e len =
-    let whole : octets ≡ mapped_front ++ drop 12 octets = sym (take-append-drop 12 octets) ∙ ap (λ (xs : List ℕ). xs ++ drop 12 octets) (mapped_is octets e) in
+    let whole : octets ≡ mapped_front ++ drop 12 octets =
+    sym (take-append-drop 12 octets) ∙ ap (λ (xs : List ℕ). xs ++ drop 12 octets) (mapped_is octets e) in
     let four : length (drop 12 octets) ≡ 4 = omega (arith, len, length-drop 12 octets) in
     subst (λ (a : Addr). SpellsMapped a octets) (sym (unmapped_yes octets e)) (four, inr whole)
 mapped_by octets false e len =
@@ -101,7 +102,8 @@ mapped_spelled xs (inr more) = rw (ne_eqb (length xs) 4 (λ e. omega (arith, e, 
 
 -- What spells an address is read as that.
 mapped_read : (addr : Addr) (text : List ℕ) → SpellsMapped addr text → ((length text ≡ 4) ⊎ (length text ≡ 16)) × (unmapped (addr_of text) ≡ addr)
-mapped_read (V4 octets) text (len, inl is) = (inl (ap (λ (xs : List ℕ). length xs) is ∙ len), ap (λ (xs : List ℕ). unmapped (addr_of xs)) is ∙ ap unmapped (addr_again (V4 octets) len))
+mapped_read (V4 octets) text (len, inl is) =
+    (inl (ap (λ (xs : List ℕ). length xs) is ∙ len), ap (λ (xs : List ℕ). unmapped (addr_of xs)) is ∙ ap unmapped (addr_again (V4 octets) len))
 mapped_read (V4 octets) text (len, inr is) =
     let whole : List ℕ = mapped_front ++ octets in
     let size : length whole ≡ 16 = omega (arith, len, length-append mapped_front octets) in
@@ -112,7 +114,8 @@ mapped_read (V4 octets) text (len, inr is) =
     )
 mapped_read (V6 octets) text (len, none, is) = (
   inr (ap (λ (xs : List ℕ). length xs) is ∙ len),
-  ap (λ (xs : List ℕ). unmapped (addr_of xs)) is ∙ ap unmapped (addr_again (V6 octets) len) ∙ unmapped_no octets (no_mapped octets (is_mapped octets) none refl),
+  ap (λ (xs : List ℕ). unmapped (addr_of xs)) is ∙ ap unmapped (addr_again (V6 octets) len)
+      ∙ unmapped_no octets (no_mapped octets (is_mapped octets) none refl),
 )
 
 -- ---- the address of a next hop
@@ -121,8 +124,10 @@ vpn_hop_spelled : (afi : Afi) (xs : List ℕ) → (length xs ≡ 4) ⊎ (length 
 vpn_hop_spelled Ipv4 xs h = addr_is xs h
 vpn_hop_spelled Ipv6 xs h = mapped_spelled xs h
 
-vpn_hop_read : (afi : Afi) (addr : Addr) (text : List ℕ) → SpellsHopAddr afi addr text → ((length text ≡ 4) ⊎ (length text ≡ 16)) × (hop_addr (Vpn afi) text ≡ addr)
-vpn_hop_read Ipv4 addr text (is, same) = (subst (λ (xs : List ℕ). (length xs ≡ 4) ⊎ (length xs ≡ 16)) (sym same) (addr_len addr is), ap addr_of same ∙ addr_again addr is)
+vpn_hop_read : (afi : Afi) (addr : Addr) (text : List ℕ) → SpellsHopAddr afi addr text
+    → ((length text ≡ 4) ⊎ (length text ≡ 16)) × (hop_addr (Vpn afi) text ≡ addr)
+vpn_hop_read Ipv4 addr text (is, same) =
+    (subst (λ (xs : List ℕ). (length xs ≡ 4) ⊎ (length xs ≡ 16)) (sym same) (addr_len addr is), ap addr_of same ∙ addr_again addr is)
 vpn_hop_read Ipv6 addr text s = mapped_read addr text s
 
 -- the address of a next hop of that many octets
@@ -134,7 +139,8 @@ hop_spelled : (f : Family) (len : ℕ) (rest : List ℕ) → IsHopLen f len → 
 hop_spelled (Mcast afi) len rest h le =
     let size : length (take len rest) ≡ len = length-take-le len rest le in
     let all : len ≡ len - 0 = omega arith in
-    subst (λ (n : ℕ). IsAddr (addr_of (take n rest)) × (take len rest ≡ addr_octets (addr_of (take n rest)))) all (addr_is (take len rest) (subst (λ (n : ℕ). (n ≡ 4) ⊎ (n ≡ 16)) (sym size) h))
+    subst (λ (n : ℕ). IsAddr (addr_of (take n rest)) × (take len rest ≡ addr_octets (addr_of (take n rest)))) all
+    (addr_is (take len rest) (subst (λ (n : ℕ). (n ≡ 4) ⊎ (n ≡ 16)) (sym size) h))
 hop_spelled (Vpn afi) len rest h le =
     let least : 8 ≤ len = elim h [ inl e ↦ omega (arith, e) | inr e ↦ omega (arith, e) ] in
     let text : List ℕ = take (len - 8) (drop 8 rest) in
@@ -145,7 +151,8 @@ hop_spelled (Vpn afi) len rest h le =
     (take 8 rest, text, length-take-le 8 rest (omega arith), vpn_hop_spelled afi text either, whole)
 
 -- A next hop that is spelled has such a length, and its address is read.
-hop_again : (f : Family) (addr : Addr) (hop after : List ℕ) → SpellsNextHop f addr hop → IsHopLen f (length hop) × (hop_in f (length hop) (hop ++ after) ≡ addr)
+hop_again : (f : Family) (addr : Addr) (hop after : List ℕ) → SpellsNextHop f addr hop
+    → IsHopLen f (length hop) × (hop_in f (length hop) (hop ++ after) ≡ addr)
 hop_again (Mcast afi) addr hop after (is, same) =
     let all : length hop - 0 ≡ length hop = omega arith in (
       subst (λ (xs : List ℕ). (length xs ≡ 4) ⊎ (length xs ≡ 16)) (sym same) (addr_len addr is),
@@ -154,8 +161,11 @@ hop_again (Mcast afi) addr hop after (is, same) =
 hop_again (Vpn afi) addr hop after (front, behind, eight, spells, same) =
     let (sizes, read) = vpn_hop_read afi addr behind spells in
     let size : length hop ≡ 8 + length behind = omega (arith, eight, ap (λ (xs : List ℕ). length xs) same, length-append front behind) in
-    let there : drop 8 (hop ++ after) ≡ behind ++ after = ap (λ (xs : List ℕ). drop 8 (xs ++ after)) same ∙ ap (λ (xs : List ℕ). drop 8 xs) (append_assoc front behind after) ∙ drop_at front (behind ++ after) 8 eight in
-    let text : take (length hop - 8) (drop 8 (hop ++ after)) ≡ behind = ap (λ (xs : List ℕ). take (length hop - 8) xs) there ∙ take_at behind after (length hop - 8) (omega (arith, size)) in
+    let there : drop 8 (hop ++ after) ≡ behind ++ after =
+    ap (λ (xs : List ℕ). drop 8 (xs ++ after)) same ∙ ap (λ (xs : List ℕ). drop 8 xs) (append_assoc front behind after)
+    ∙ drop_at front (behind ++ after) 8 eight in
+    let text : take (length hop - 8) (drop 8 (hop ++ after)) ≡ behind =
+    ap (λ (xs : List ℕ). take (length hop - 8) xs) there ∙ take_at behind after (length hop - 8) (omega (arith, size)) in
     let len : IsHopLen (Vpn afi) (length hop) = elim sizes [ inl e ↦ inl (omega (arith, size, e)) | inr e ↦ inr (omega (arith, size, e)) ] in
     (len, ap (hop_addr (Vpn afi)) text ∙ read)
 
@@ -165,7 +175,8 @@ abbrev reachable : Addr → List Key → Reachable
 reachable next_hop ks = record { next_hop = next_hop; keys = ks }
 
 -- what is read behind a next hop of a length that may be, where there are octets enough
-hop_by : (f : Family) (place len : ℕ) (rest : List ℕ) → IsHopLen f len → len + 1 ≤ length rest → hop_at f place len rest ≡ (keys_at f (place + len + 2) (drop (len + 1) rest) >>= λ ks. Ok (reachable (hop_in f len rest) ks))
+hop_by : (f : Family) (place len : ℕ) (rest : List ℕ) → IsHopLen f len → len + 1 ≤ length rest
+    → hop_at f place len rest ≡ (keys_at f (place + len + 2) (drop (len + 1) rest) >>= λ ks. Ok (reachable (hop_in f len rest) ks))
 unfolding hop_at
 hop_by f place len rest h le = rw (is_hop f len h, le-ltb (length rest) (len + 1) le) refl
 
@@ -187,7 +198,9 @@ cut_behind len rest le = sym (take-append-drop len rest) ∙ ap (λ (xs : List �
 pub data HopIs (f : Family) (place len : ℕ) (rest : List ℕ) : Type 0 where
   wrong : ¬ (IsHopLen f len) → hop_at f place len rest ≡ Err (place, faults.NextHop) → HopIs f place len rest
   cut : IsHopLen f len → length rest < len + 1 → hop_at f place len rest ≡ Err misfit → HopIs f place len rest
-  stands : IsHopLen f len → len + 1 ≤ length rest → hop_at f place len rest ≡ (keys_at f (place + len + 2) (drop (len + 1) rest) >>= λ ks. Ok (reachable (hop_in f len rest) ks)) → HopIs f place len rest
+  stands : IsHopLen f len → len + 1 ≤ length rest
+      → hop_at f place len rest ≡ (keys_at f (place + len + 2) (drop (len + 1) rest) >>= λ ks. Ok (reachable (hop_in f len rest) ks))
+      → HopIs f place len rest
 
 pub hop_short : (f : Family) (place len : ℕ) (rest : List ℕ) → IsHopLen f len → length rest < len + 1 → hop_at f place len rest ≡ Err misfit
 unfolding hop_at
@@ -199,14 +212,17 @@ hop_wrong f place len rest none = rw (no_hop f len (is_hop_len f len) none refl)
 
 way : (f : Family) (place len : ℕ) (rest : List ℕ) (b c : Bool) → is_hop_len f len ≡ b → ltb (length rest) (len + 1) ≡ c → HopIs f place len rest
 way f place len rest false c e d = let none = no_hop_len f len e in wrong none (hop_wrong f place len rest none)
-way f place len rest true true e d = let h = hop_len_is f len e in let lt = ltb-true (length rest) (len + 1) d in cut h lt (hop_short f place len rest h lt)
-way f place len rest true false e d = let h = hop_len_is f len e in let le = ltb-false (length rest) (len + 1) d in stands h le (hop_by f place len rest h le)
+way f place len rest true true e d = let h = hop_len_is f len e in let lt = ltb-true (length rest) (len + 1) d in
+    cut h lt (hop_short f place len rest h lt)
+way f place len rest true false e d = let h = hop_len_is f len e in let le = ltb-false (length rest) (len + 1) d in
+    stands h le (hop_by f place len rest h le)
 
 pub hop_is : (f : Family) (place len : ℕ) (rest : List ℕ) → HopIs f place len rest
 hop_is f place len rest = way f place len rest (is_hop_len f len) (ltb (length rest) (len + 1)) refl refl
 
 -- What is read is spelled.
-taken_by : (f : Family) (place len : ℕ) (rest : List ℕ) (r : Reachable) → IsOctets rest → hop_at f place len rest ≡ Ok r → HopIs f place len rest → SpellsHop f r len rest
+taken_by : (f : Family) (place len : ℕ) (rest : List ℕ) (r : Reachable) → IsOctets rest → hop_at f place len rest ≡ Ok r → HopIs f place len rest
+    → SpellsHop f r len rest
 taken_by f place len rest r fits e (wrong none is) = absurd cc
 taken_by f place len rest r fits e (cut h lt is) = absurd cc
 taken_by f place len rest r fits e (stands h le is) =
@@ -239,16 +255,20 @@ behind_hop f place addr hop reserved nlri s =
     ∙ ap (λ (a : Addr). keys_at f (place + len + 2) nlri >>= λ ks. Ok (reachable a ks)) is
 
 -- What is spelled is read.
-pub hop_read : (f : Family) (place : ℕ) (r : Reachable) (hop : List ℕ) (reserved : ℕ) (nlri : List ℕ) → SpellsNextHop f r.next_hop hop → AreKeys f r.keys nlri [] → hop_at f place (length hop) (hop ++ (reserved ∷ nlri)) ≡ Ok r
+pub hop_read : (f : Family) (place : ℕ) (r : Reachable) (hop : List ℕ) (reserved : ℕ) (nlri : List ℕ) → SpellsNextHop f r.next_hop hop
+    → AreKeys f r.keys nlri [] → hop_at f place (length hop) (hop ++ (reserved ∷ nlri)) ≡ Ok r
 hop_read f place r hop reserved nlri s are =
-    behind_hop f place r.next_hop hop reserved nlri s ∙ ap (λ (x : Result (List Key) (ℕ × StreamFault)). x >>= λ ks. Ok (reachable r.next_hop ks)) (keys_again f (place + length hop + 2) nlri r.keys are)
+    behind_hop f place r.next_hop hop reserved nlri s
+    ∙ ap (λ (x : Result (List Key) (ℕ × StreamFault)). x >>= λ ks. Ok (reachable r.next_hop ks))
+    (keys_again f (place + length hop + 2) nlri r.keys are)
 
 -- ---- faults, where the value stands 3 octets before the length of the next hop
 
 misfit_is : (at : ℕ) (e : StreamFault) → misfit ≡ (at, e) → (at ≡ 0) × (e ≡ faults.AttributeLength)
 misfit_is at e same = (sym (ap (λ (x : ℕ × StreamFault). x.0) same), sym (ap (λ (x : ℕ × StreamFault). x.1) same))
 
-fails_by : (f : Family) (place len : ℕ) (value rest : List ℕ) (at : ℕ) (e : StreamFault) → IsOctets rest → value ≡ pair f ++ (len ∷ rest) → hop_at f (place + 3) len rest ≡ Err (at, e) → HopIs f (place + 3) len rest → ValueFault 14 value place at e
+fails_by : (f : Family) (place len : ℕ) (value rest : List ℕ) (at : ℕ) (e : StreamFault) → IsOctets rest → value ≡ pair f ++ (len ∷ rest)
+    → hop_at f (place + 3) len rest ≡ Err (at, e) → HopIs f (place + 3) len rest → ValueFault 14 value place at e
 fails_by f place len value rest at e fits parts h (wrong none is) =
     let made : ℕ × StreamFault = (place + 3, faults.NextHop) in
     let given : ℕ × StreamFault = (at, e) in
@@ -266,16 +286,20 @@ fails_by f place len value rest at e fits parts h (stands is_len le is) =
     elim (bind_err (keys_at f (place + 3 + len + 2) nlri) _ (at, e) (sym is ∙ h)) [
       | inl fault ↦
           let (inner, there, in_keys) = keys_fail f (place + 3 + len + 2) nlri at e (octets_behind (len + 1) rest fits) fault in
-          value_faults.in_reach f (hop_in f len rest) hop (get_or rest len 0) nlri inner refl (hop_spelled f len rest is_len (omega arith)) whole_value in_keys (omega (arith, there, size))
+          value_faults.in_reach f (hop_in f len rest) hop (get_or rest len 0) nlri inner refl (hop_spelled f len rest is_len (omega arith))
+          whole_value in_keys (omega (arith, there, size))
       | inr x ↦ absurd cc
     ]
 
 -- A fault that is answered is there.
-pub hop_fails : (f : Family) (place len : ℕ) (value rest : List ℕ) (at : ℕ) (e : StreamFault) → IsOctets rest → value ≡ pair f ++ (len ∷ rest) → hop_at f (place + 3) len rest ≡ Err (at, e) → ValueFault 14 value place at e
+pub hop_fails : (f : Family) (place len : ℕ) (value rest : List ℕ) (at : ℕ) (e : StreamFault) → IsOctets rest → value ≡ pair f ++ (len ∷ rest)
+    → hop_at f (place + 3) len rest ≡ Err (at, e) → ValueFault 14 value place at e
 hop_fails f place len value rest at e fits parts h = fails_by f place len value rest at e fits parts h (hop_is f (place + 3) len rest)
 
 -- A fault of the NLRI is answered.
-pub fails_hop : (f : Family) (place : ℕ) (addr : Addr) (hop : List ℕ) (reserved : ℕ) (nlri : List ℕ) (inner : ℕ) (e : StreamFault) → SpellsNextHop f addr hop → KeysFault f nlri inner e
+pub fails_hop : (f : Family) (place : ℕ) (addr : Addr) (hop : List ℕ) (reserved : ℕ) (nlri : List ℕ) (inner : ℕ) (e : StreamFault)
+    → SpellsNextHop f addr hop → KeysFault f nlri inner e
     → hop_at f place (length hop) (hop ++ (reserved ∷ nlri)) ≡ Err (place + length hop + 2 + inner, e)
 fails_hop f place addr hop reserved nlri inner e s h =
-    behind_hop f place addr hop reserved nlri s ∙ ap (λ (x : Result (List Key) (ℕ × StreamFault)). x >>= λ ks. Ok (reachable addr ks)) (fail_keys f (place + length hop + 2) nlri inner e h)
+    behind_hop f place addr hop reserved nlri s ∙ ap (λ (x : Result (List Key) (ℕ × StreamFault)). x >>= λ ks. Ok (reachable addr ks))
+    (fail_keys f (place + length hop + 2) nlri inner e h)

@@ -51,7 +51,8 @@ same_low (suc k) m n =
     let whole : m * 256 ^ suc k ≡ (m * 256) * unit = ap (λ (u : ℕ). m * u) (power k) ∙ sym (mul_assoc m 256 unit) in
     let sum : m * 256 ^ suc k + n ≡ (m * 256) * unit + n = ap (λ (u : ℕ). u + n) whole in
     let first : byte_at k ((m * 256) * unit + n) ≡ byte_at k n =
-    octet_at k ((m * 256) * unit + n) ∙ ap (λ (q : ℕ). q % 256) (quotient (m * 256) k n) ∙ mul-add-mod_self_right m 256 (n / unit) ∙ sym (octet_at k n) in
+    octet_at k ((m * 256) * unit + n) ∙ ap (λ (q : ℕ). q % 256) (quotient (m * 256) k n) ∙ mul-add-mod_self_right m 256 (n / unit)
+    ∙ sym (octet_at k n) in
     ap (λ (x : ℕ). byte_at k x ∷ bytes_high_first k x) sum ∙ (λ i. first i ∷ same_low k (m * 256) n i)
   where
     quotient : (q k n : ℕ) → (q * 256 ^ k + n) / 256 ^ k ≡ q + n / 256 ^ k
@@ -78,7 +79,8 @@ all_zeros (o ∷ os) e =
     let (first, others) = pos_of o (256 ^ length os) (value os) (power_pos (length os)) e in
     λ i. first i ∷ all_zeros os others i
 
-last_zeros : (n : ℕ) (os : List ℕ) → IsOctets os → n ≤ length os → value os % 256 ^ (length os - n) ≡ 0 → take n os ++ replicate (length os - n) 0 ≡ os
+last_zeros : (n : ℕ) (os : List ℕ) → IsOctets os → n ≤ length os → value os % 256 ^ (length os - n) ≡ 0
+    → take n os ++ replicate (length os - n) 0 ≡ os
 last_zeros zero os fits le e =
     let whole : length os - 0 ≡ length os = omega arith in
     let none : value os ≡ 0 = sym (mod-eq_of_lt (below os fits)) ∙ ap (λ (k : ℕ). value os % 256 ^ k) (sym whole) ∙ e in
@@ -91,7 +93,9 @@ last_zeros (suc n) (o ∷ os) fits le e =
     let sum : length os ≡ n + k = omega (arith, fewer) in
     let parts : 256 ^ length os ≡ 256 ^ n * 256 ^ k = ap (λ (j : ℕ). 256 ^ j) sum ∙ pow-add 256 n k in
     let front : o * 256 ^ length os ≡ (o * 256 ^ n) * 256 ^ k = ap (λ (u : ℕ). o * u) parts ∙ sym (mul_assoc o (256 ^ n) (256 ^ k)) in
-    let rest : value os % 256 ^ k ≡ 0 = sym (mul-add-mod_self_right (o * 256 ^ n) (256 ^ k) (value os)) ∙ ap (λ (u : ℕ). (u + value os) % 256 ^ k) (sym front) ∙ ap (λ (j : ℕ). value (o ∷ os) % 256 ^ j) (sym same) ∙ e in
+    let rest : value os % 256 ^ k ≡ 0 =
+    sym (mul-add-mod_self_right (o * 256 ^ n) (256 ^ k) (value os)) ∙ ap (λ (u : ℕ). (u + value os) % 256 ^ k) (sym front)
+    ∙ ap (λ (j : ℕ). value (o ∷ os) % 256 ^ j) (sym same) ∙ e in
     ap (λ (j : ℕ). o ∷ (take n os ++ replicate j 0)) same ∙ ap (λ (xs : List ℕ). o ∷ xs) (last_zeros n os (behind_octets o os fits) fewer rest)
 
 -- ---- addresses
@@ -142,7 +146,8 @@ powers (suc k) =
     power k ∙ ap (λ (u : ℕ). 256 * u) (powers k) ∙ sym (ap (λ (n : ℕ). 2 ^ n) more ∙ pow-add 2 8 (8 * k))
 
 -- Nothing stands behind the bits of the prefix.
-same_octets : (n bits : ℕ) (os : List ℕ) → length os ≡ n → IsOctets os → bits ≤ 8 * n → value os % 2 ^ (8 * n - bits) ≡ 0 → padded n (take (octets_for bits) os) ≡ os
+same_octets : (n bits : ℕ) (os : List ℕ) → length os ≡ n → IsOctets os → bits ≤ 8 * n → value os % 2 ^ (8 * n - bits) ≡ 0
+    → padded n (take (octets_for bits) os) ≡ os
 same_octets n bits os len fits most none =
     let m : ℕ = octets_for bits in
     let fewer : m ≤ length os = omega (arith, len, most) in
@@ -155,7 +160,8 @@ same_octets n bits os len fits most none =
 same_number : (all bits number : ℕ) → number % 2 ^ (all - bits) ≡ 0 → cleared all bits number ≡ number
 same_number all bits number e = omega (arith, div-add-mod' number (2 ^ (all - bits)), e)
 
-again_32 : (bits : ℕ) (os : List ℕ) → length os ≡ 4 → IsOctets os → IsPrefixOf (V4 os) bits → to_be_bytes w32 (cleared 32 bits (from_be_bytes w32 (padded 4 (take (octets_for bits) os)))) ≡ os
+again_32 : (bits : ℕ) (os : List ℕ) → length os ≡ 4 → IsOctets os → IsPrefixOf (V4 os) bits
+    → to_be_bytes w32 (cleared 32 bits (from_be_bytes w32 (padded 4 (take (octets_for bits) os)))) ≡ os
 again_32 bits os len fits (most, none) =
     let number : from_be_bytes w32 os ≡ value os = number_32 os len in
     let zeros : value os % 2 ^ (32 - bits) ≡ 0 = ap (λ (x : ℕ). x % 2 ^ (32 - bits)) (sym number) ∙ none in
@@ -163,7 +169,8 @@ again_32 bits os len fits (most, none) =
     ap (λ (xs : List ℕ). to_be_bytes w32 (cleared 32 bits (from_be_bytes w32 xs))) (same_octets 4 bits os len fits most zeros)
     ∙ ap (λ (x : ℕ). to_be_bytes w32 (cleared 32 bits x)) number ∙ ap (to_be_bytes w32) (same_number 32 bits (value os) zeros) ∙ back
 
-again_128 : (bits : ℕ) (os : List ℕ) → length os ≡ 16 → IsOctets os → IsPrefixOf (V6 os) bits → to_be_bytes w128 (cleared 128 bits (from_be_bytes w128 (padded 16 (take (octets_for bits) os)))) ≡ os
+again_128 : (bits : ℕ) (os : List ℕ) → length os ≡ 16 → IsOctets os → IsPrefixOf (V6 os) bits
+    → to_be_bytes w128 (cleared 128 bits (from_be_bytes w128 (padded 16 (take (octets_for bits) os)))) ≡ os
 again_128 bits os len fits (most, none) =
     let number : from_be_bytes w128 os ≡ value os = number_128 os len in
     let zeros : value os % 2 ^ (128 - bits) ≡ 0 = ap (λ (x : ℕ). x % 2 ^ (128 - bits)) (sym number) ∙ none in
@@ -177,17 +184,20 @@ own_afi (V4 octets) = Ipv4
 own_afi (V6 octets) = Ipv6
 
 -- The octets that hold the bits of an address without bits behind them are read as that address.
-pub address_again : (addr : Addr) (bits : ℕ) → IsAddr addr → IsOctets (addr_octets addr) → IsPrefixOf addr bits → address (own_afi addr) bits (take (octets_for bits) (addr_octets addr)) ≡ addr
+pub address_again : (addr : Addr) (bits : ℕ) → IsAddr addr → IsOctets (addr_octets addr) → IsPrefixOf addr bits
+    → address (own_afi addr) bits (take (octets_for bits) (addr_octets addr)) ≡ addr
 unfolding address
 address_again (V4 octets) bits len fits is = ap (λ (xs : List ℕ). V4 xs) (again_32 bits octets len fits is)
 address_again (V6 octets) bits len fits is = ap (λ (xs : List ℕ). V6 xs) (again_128 bits octets len fits is)
 
-prefix_len : (addr : Addr) (bits : ℕ) → IsAddr addr → IsPrefixOf addr bits → (bits ≤ addr_bits (own_afi addr)) × (octets_for bits ≤ length (addr_octets addr))
+prefix_len : (addr : Addr) (bits : ℕ) → IsAddr addr → IsPrefixOf addr bits
+    → (bits ≤ addr_bits (own_afi addr)) × (octets_for bits ≤ length (addr_octets addr))
 prefix_len (V4 octets) bits len is = (is.0, omega (arith, is.0, len))
 prefix_len (V6 octets) bits len is = (is.0, omega (arith, is.0, len))
 
 -- A prefix without bits behind it is spelled by the octets that hold its bits.
-pub prefix_spelled : (rd : Rd) (addr : Addr) (bits : ℕ) (label : List ℕ) → length rd.0 ≡ 8 → length label ≡ 3 → IsAddr addr → IsOctets (addr_octets addr) → IsPrefixOf addr bits
+pub prefix_spelled : (rd : Rd) (addr : Addr) (bits : ℕ) (label : List ℕ) → length rd.0 ≡ 8 → length label ≡ 3 → IsAddr addr
+    → IsOctets (addr_octets addr) → IsPrefixOf addr bits
     → SpellsVpn (own_afi addr) rd (record { addr = addr; bits = bits }) ((88 + bits) ∷ (label ++ (rd.0 ++ take (octets_for bits) (addr_octets addr))))
 prefix_spelled rd addr bits label eight three len fits is =
     let size = prefix_len addr bits len is in

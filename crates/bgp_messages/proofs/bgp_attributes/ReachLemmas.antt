@@ -26,20 +26,24 @@ Means kind value a = (type_of a ≡ kind) × SpellsValue a value
 
 -- ---- behind AFI and SAFI
 
-reach_led : (place afi safi : ℕ) (rest : List ℕ) → afi < 2 ^ 16 → reach_at place (to_be_bytes w16 afi ++ (safi ∷ rest)) ≡ reach_of (family_of afi safi) (place + 3) rest
+reach_led : (place afi safi : ℕ) (rest : List ℕ) → afi < 2 ^ 16
+    → reach_at place (to_be_bytes w16 afi ++ (safi ∷ rest)) ≡ reach_of (family_of afi safi) (place + 3) rest
 unfolding reach_at
 reach_led place afi safi rest lt = ap (λ (n : ℕ). reach_of (family_of n safi) (place + 3) rest) (wide16.again afi lt)
 
-unreach_led : (place afi safi : ℕ) (rest : List ℕ) → afi < 2 ^ 16 → unreach_at place (to_be_bytes w16 afi ++ (safi ∷ rest)) ≡ unreach_of (family_of afi safi) (place + 3) rest
+unreach_led : (place afi safi : ℕ) (rest : List ℕ) → afi < 2 ^ 16
+    → unreach_at place (to_be_bytes w16 afi ++ (safi ∷ rest)) ≡ unreach_of (family_of afi safi) (place + 3) rest
 unfolding unreach_at
 unreach_led place afi safi rest lt = ap (λ (n : ℕ). unreach_of (family_of n safi) (place + 3) rest) (wide16.again afi lt)
 
 -- Behind the pair of a family.
 reach_pair : (place : ℕ) (f : Family) (rest : List ℕ) → reach_at place (pair f ++ rest) ≡ reach_of (Some f) (place + 3) rest
-reach_pair place f rest = reach_led place (afi_of f) (safi_of f) rest (afi_fits f) ∙ ap (λ (o : Option Family). reach_of o (place + 3) rest) (family_again f)
+reach_pair place f rest =
+    reach_led place (afi_of f) (safi_of f) rest (afi_fits f) ∙ ap (λ (o : Option Family). reach_of o (place + 3) rest) (family_again f)
 
 unreach_pair : (place : ℕ) (f : Family) (rest : List ℕ) → unreach_at place (pair f ++ rest) ≡ unreach_of (Some f) (place + 3) rest
-unreach_pair place f rest = unreach_led place (afi_of f) (safi_of f) rest (afi_fits f) ∙ ap (λ (o : Option Family). unreach_of o (place + 3) rest) (family_again f)
+unreach_pair place f rest =
+    unreach_led place (afi_of f) (safi_of f) rest (afi_fits f) ∙ ap (λ (o : Option Family). unreach_of o (place + 3) rest) (family_again f)
 
 -- Where AFI and SAFI are missing.
 reach_short : (place : ℕ) (value : List ℕ) → length value < 3 → reach_at place value ≡ Err misfit
@@ -63,16 +67,21 @@ unread_of value l e = record { afi = l.afi; safi = l.safi; rest = l.rest; afi_fi
 paired : (value : List ℕ) (l : Led value) (f : Family) → family_of l.afi l.safi ≡ Some f → value ≡ pair f ++ l.rest
 paired value l f e = l.parts ∙ pair_is f l.afi l.safi l.rest e
 
-reach_is : (place : ℕ) (value : List ℕ) (l : Led value) (o : Option Family) → family_of l.afi l.safi ≡ o → reach_at place value ≡ reach_of o (place + 3) l.rest
-reach_is place value l o e = ap (reach_at place) l.parts ∙ reach_led place l.afi l.safi l.rest l.fits ∙ ap (λ (p : Option Family). reach_of p (place + 3) l.rest) e
+reach_is : (place : ℕ) (value : List ℕ) (l : Led value) (o : Option Family) → family_of l.afi l.safi ≡ o
+    → reach_at place value ≡ reach_of o (place + 3) l.rest
+reach_is place value l o e =
+    ap (reach_at place) l.parts ∙ reach_led place l.afi l.safi l.rest l.fits ∙ ap (λ (p : Option Family). reach_of p (place + 3) l.rest) e
 
-unreach_is : (place : ℕ) (value : List ℕ) (l : Led value) (o : Option Family) → family_of l.afi l.safi ≡ o → unreach_at place value ≡ unreach_of o (place + 3) l.rest
-unreach_is place value l o e = ap (unreach_at place) l.parts ∙ unreach_led place l.afi l.safi l.rest l.fits ∙ ap (λ (p : Option Family). unreach_of p (place + 3) l.rest) e
+unreach_is : (place : ℕ) (value : List ℕ) (l : Led value) (o : Option Family) → family_of l.afi l.safi ≡ o
+    → unreach_at place value ≡ unreach_of o (place + 3) l.rest
+unreach_is place value l o e =
+    ap (unreach_at place) l.parts ∙ unreach_led place l.afi l.safi l.rest l.fits ∙ ap (λ (p : Option Family). unreach_of p (place + 3) l.rest) e
 
 -- ---- what is read of a family
 
 -- what stands behind AFI and SAFI
-reachable_taken : (f : Family) (place : ℕ) (value rest : List ℕ) (r : Reachable) → IsOctets rest → value ≡ pair f ++ rest → reachable_at f place rest ≡ Ok r → SpellsReachable r value
+reachable_taken : (f : Family) (place : ℕ) (value rest : List ℕ) (r : Reachable) → IsOctets rest → value ≡ pair f ++ rest
+    → reachable_at f place rest ≡ Ok r → SpellsReachable r value
 unfolding reachable_at
 reachable_taken f place value [] r fits parts e = absurd cc
 reachable_taken f place value (len ∷ more) r fits parts e =
@@ -97,7 +106,8 @@ reachable_none f place = refl
 
 -- ---- MP_REACH_NLRI
 
-reach_taken_by : (place : ℕ) (value : List ℕ) (a : Attribute) (l : Led value) (o : Option Family) → family_of l.afi l.safi ≡ o → reach_of o (place + 3) l.rest ≡ Ok a → Means 14 value a
+reach_taken_by : (place : ℕ) (value : List ℕ) (a : Attribute) (l : Led value) (o : Option Family) → family_of l.afi l.safi ≡ o
+    → reach_of o (place + 3) l.rest ≡ Ok a → Means 14 value a
 reach_taken_by place value a l None is e =
     subst (Means 14 value) (ok_is (Reach None) a e) (refl, unread_of value l is)
 reach_taken_by place value a l (Some f) is e =
@@ -117,14 +127,18 @@ pub reach_again : (place : ℕ) (value : List ℕ) (r : Reachable) → SpellsRea
 reach_again place value r s =
     ap (reach_at place) s.parts
     ∙ reach_pair place s.family (length s.hop ∷ (s.hop ++ (s.reserved ∷ s.nlri)))
-    ∙ ap (λ (x : Result Reachable (ℕ × StreamFault)). x >>= λ t. Ok (Reach (Some t))) (reachable_read s.family (place + 3) (length s.hop) (s.hop ++ (s.reserved ∷ s.nlri)) ∙ hop_read s.family (place + 3) r s.hop s.reserved s.nlri s.next_hop s.routes)
+    ∙ ap (λ (x : Result Reachable (ℕ × StreamFault)). x >>= λ t. Ok (Reach (Some t)))
+    (reachable_read s.family (place + 3) (length s.hop) (s.hop ++ (s.reserved ∷ s.nlri))
+    ∙ hop_read s.family (place + 3) r s.hop s.reserved s.nlri s.next_hop s.routes)
 
 pub unread_reach : (place : ℕ) (value : List ℕ) → SpellsUnread value → reach_at place value ≡ Ok (Reach None)
 unread_reach place value s =
-    ap (reach_at place) s.parts ∙ reach_led place s.afi s.safi s.rest s.afi_fits ∙ ap (λ (o : Option Family). reach_of o (place + 3) s.rest) (none_family s.afi s.safi s.unread)
+    ap (reach_at place) s.parts ∙ reach_led place s.afi s.safi s.rest s.afi_fits
+    ∙ ap (λ (o : Option Family). reach_of o (place + 3) s.rest) (none_family s.afi s.safi s.unread)
 
 -- A fault that is answered is there.
-reachable_fails : (f : Family) (place : ℕ) (value rest : List ℕ) (at : ℕ) (e : StreamFault) → IsOctets rest → value ≡ pair f ++ rest → reachable_at f (place + 3) rest ≡ Err (at, e) → ValueFault 14 value place at e
+reachable_fails : (f : Family) (place : ℕ) (value rest : List ℕ) (at : ℕ) (e : StreamFault) → IsOctets rest → value ≡ pair f ++ rest
+    → reachable_at f (place + 3) rest ≡ Err (at, e) → ValueFault 14 value place at e
 unfolding reachable_at
 reachable_fails f place value [] at e fits parts h =
     let given : ℕ × StreamFault = (at, e) in
@@ -132,7 +146,8 @@ reachable_fails f place value [] at e fits parts h =
     wrong.no_hop_len f refl parts (sym (ap (λ (x : ℕ × StreamFault). x.0) same)) (sym (ap (λ (x : ℕ × StreamFault). x.1) same))
 reachable_fails f place value (len ∷ more) at e fits parts h = hop_fails f place len value more at e (octets_behind 1 (len ∷ more) fits) parts h
 
-reach_fails_by : (place : ℕ) (value : List ℕ) (at : ℕ) (e : StreamFault) (l : Led value) (o : Option Family) → family_of l.afi l.safi ≡ o → reach_of o (place + 3) l.rest ≡ Err (at, e) → ValueFault 14 value place at e
+reach_fails_by : (place : ℕ) (value : List ℕ) (at : ℕ) (e : StreamFault) (l : Led value) (o : Option Family) → family_of l.afi l.safi ≡ o
+    → reach_of o (place + 3) l.rest ≡ Err (at, e) → ValueFault 14 value place at e
 reach_fails_by place value at e l None is h = absurd cc
 reach_fails_by place value at e l (Some f) is h =
     elim (bind_err (reachable_at f (place + 3) l.rest) _ (at, e) h) [
@@ -143,21 +158,25 @@ reach_fails_by place value at e l (Some f) is h =
 misfit_is : (at : ℕ) (e : StreamFault) → misfit ≡ (at, e) → (at ≡ 0) × (e ≡ faults.AttributeLength)
 misfit_is at e same = (sym (ap (λ (x : ℕ × StreamFault). x.0) same), sym (ap (λ (x : ℕ × StreamFault). x.1) same))
 
-pub reach_fails : (place : ℕ) (value : List ℕ) (at : ℕ) (e : StreamFault) → IsOctets value → reach_at place value ≡ Err (at, e) → ValueFault 14 value place at e
+pub reach_fails : (place : ℕ) (value : List ℕ) (at : ℕ) (e : StreamFault) → IsOctets value → reach_at place value ≡ Err (at, e)
+    → ValueFault 14 value place at e
 reach_fails place value at e fits h =
     elim (led value fits) [
-      | inl short ↦ let (p, q) = misfit_is at e (err_is misfit (at, e) (sym (reach_short place value short) ∙ h)) in wrong.no_family (inl refl) short p q
+      | inl short ↦ let (p, q) = misfit_is at e (err_is misfit (at, e) (sym (reach_short place value short) ∙ h)) in
+          wrong.no_family (inl refl) short p q
       | inr l ↦ reach_fails_by place value at e l (family_of l.afi l.safi) refl (sym (reach_is place value l (family_of l.afi l.safi) refl) ∙ h)
     ]
 
 -- ---- MP_UNREACH_NLRI
 
-unreach_taken_by : (place : ℕ) (value : List ℕ) (a : Attribute) (l : Led value) (o : Option Family) → family_of l.afi l.safi ≡ o → unreach_of o (place + 3) l.rest ≡ Ok a → Means 15 value a
+unreach_taken_by : (place : ℕ) (value : List ℕ) (a : Attribute) (l : Led value) (o : Option Family) → family_of l.afi l.safi ≡ o
+    → unreach_of o (place + 3) l.rest ≡ Ok a → Means 15 value a
 unreach_taken_by place value a l None is e =
     subst (Means 15 value) (ok_is (Unreach None) a e) (refl, unread_of value l is)
 unreach_taken_by place value a l (Some f) is e =
     let (ks, read, made) = bind_ok (keys_at f (place + 3) l.rest) _ a e in
-    let all : SpellsUnreachable ks value = record { family = f; nlri = l.rest; routes = keys_taken f (place + 3) l.rest ks l.octets read; parts = paired value l f is } in
+    let all : SpellsUnreachable ks value =
+    record { family = f; nlri = l.rest; routes = keys_taken f (place + 3) l.rest ks l.octets read; parts = paired value l f is } in
     subst (Means 15 value) (ok_is (Unreach (Some ks)) a made) (refl, all)
 
 -- What is read is spelled.
@@ -177,21 +196,26 @@ unreach_again place value ks s =
 
 pub unread_unreach : (place : ℕ) (value : List ℕ) → SpellsUnread value → unreach_at place value ≡ Ok (Unreach None)
 unread_unreach place value s =
-    ap (unreach_at place) s.parts ∙ unreach_led place s.afi s.safi s.rest s.afi_fits ∙ ap (λ (o : Option Family). unreach_of o (place + 3) s.rest) (none_family s.afi s.safi s.unread)
+    ap (unreach_at place) s.parts ∙ unreach_led place s.afi s.safi s.rest s.afi_fits
+    ∙ ap (λ (o : Option Family). unreach_of o (place + 3) s.rest) (none_family s.afi s.safi s.unread)
 
-unreach_fails_by : (place : ℕ) (value : List ℕ) (at : ℕ) (e : StreamFault) (l : Led value) (o : Option Family) → family_of l.afi l.safi ≡ o → unreach_of o (place + 3) l.rest ≡ Err (at, e) → ValueFault 15 value place at e
+unreach_fails_by : (place : ℕ) (value : List ℕ) (at : ℕ) (e : StreamFault) (l : Led value) (o : Option Family) → family_of l.afi l.safi ≡ o
+    → unreach_of o (place + 3) l.rest ≡ Err (at, e) → ValueFault 15 value place at e
 unreach_fails_by place value at e l None is h = absurd cc
 unreach_fails_by place value at e l (Some f) is h =
     elim (bind_err (keys_at f (place + 3) l.rest) _ (at, e) h) [
-      | inl fault ↦ let (inner, there, in_keys) = keys_fail f (place + 3) l.rest at e l.octets fault in wrong.in_unreach f l.rest inner refl (paired value l f is) in_keys there
+      | inl fault ↦ let (inner, there, in_keys) = keys_fail f (place + 3) l.rest at e l.octets fault in
+          wrong.in_unreach f l.rest inner refl (paired value l f is) in_keys there
       | inr x ↦ absurd cc
     ]
 
 -- A fault that is answered is there.
-pub unreach_fails : (place : ℕ) (value : List ℕ) (at : ℕ) (e : StreamFault) → IsOctets value → unreach_at place value ≡ Err (at, e) → ValueFault 15 value place at e
+pub unreach_fails : (place : ℕ) (value : List ℕ) (at : ℕ) (e : StreamFault) → IsOctets value → unreach_at place value ≡ Err (at, e)
+    → ValueFault 15 value place at e
 unreach_fails place value at e fits h =
     elim (led value fits) [
-      | inl short ↦ let (p, q) = misfit_is at e (err_is misfit (at, e) (sym (unreach_short place value short) ∙ h)) in wrong.no_family (inr refl) short p q
+      | inl short ↦ let (p, q) = misfit_is at e (err_is misfit (at, e) (sym (unreach_short place value short) ∙ h)) in
+          wrong.no_family (inr refl) short p q
       | inr l ↦ unreach_fails_by place value at e l (family_of l.afi l.safi) refl (sym (unreach_is place value l (family_of l.afi l.safi) refl) ∙ h)
     ]
 
@@ -201,16 +225,20 @@ pub fails_no_family : (place : ℕ) (value : List ℕ) → length value < 3 → 
 fails_no_family place value short = (reach_short place value short, unreach_short place value short)
 
 -- what is answered behind the pair of a family
-reach_err : (place : ℕ) (f : Family) (value rest : List ℕ) (x : ℕ × StreamFault) → value ≡ pair f ++ rest → reachable_at f (place + 3) rest ≡ Err x → reach_at place value ≡ Err x
+reach_err : (place : ℕ) (f : Family) (value rest : List ℕ) (x : ℕ × StreamFault) → value ≡ pair f ++ rest → reachable_at f (place + 3) rest ≡ Err x
+    → reach_at place value ≡ Err x
 reach_err place f value rest x parts e =
     ap (reach_at place) parts ∙ reach_pair place f rest ∙ ap (λ (y : Result Reachable (ℕ × StreamFault)). y >>= λ t. Ok (Reach (Some t))) e
 
 pub fails_no_hop_len : (place : ℕ) (f : Family) (value : List ℕ) → value ≡ pair f → reach_at place value ≡ Err misfit
 fails_no_hop_len place f value parts = reach_err place f value [] misfit (parts ∙ sym (append-nil (pair f))) (reachable_none f (place + 3))
 
-pub fails_behind : (place : ℕ) (f : Family) (value : List ℕ) (len : ℕ) (rest : List ℕ) (x : ℕ × StreamFault) → value ≡ pair f ++ (len ∷ rest) → hop_at f (place + 3) len rest ≡ Err x → reach_at place value ≡ Err x
+pub fails_behind : (place : ℕ) (f : Family) (value : List ℕ) (len : ℕ) (rest : List ℕ) (x : ℕ × StreamFault) → value ≡ pair f ++ (len ∷ rest)
+    → hop_at f (place + 3) len rest ≡ Err x → reach_at place value ≡ Err x
 fails_behind place f value len rest x parts e = reach_err place f value (len ∷ rest) x parts (reachable_read f (place + 3) len rest ∙ e)
 
-pub fails_unreach : (place : ℕ) (f : Family) (value nlri : List ℕ) (inner : ℕ) (e : StreamFault) → value ≡ pair f ++ nlri → KeysFault f nlri inner e → unreach_at place value ≡ Err (place + 3 + inner, e)
+pub fails_unreach : (place : ℕ) (f : Family) (value nlri : List ℕ) (inner : ℕ) (e : StreamFault) → value ≡ pair f ++ nlri → KeysFault f nlri inner e
+    → unreach_at place value ≡ Err (place + 3 + inner, e)
 fails_unreach place f value nlri inner e parts h =
-    ap (unreach_at place) parts ∙ unreach_pair place f nlri ∙ ap (λ (y : Result (List Key) (ℕ × StreamFault)). y >>= λ t. Ok (Unreach (Some t))) (fail_keys f (place + 3) nlri inner e h)
+    ap (unreach_at place) parts ∙ unreach_pair place f nlri
+    ∙ ap (λ (y : Result (List Key) (ℕ × StreamFault)). y >>= λ t. Ok (Unreach (Some t))) (fail_keys f (place + 3) nlri inner e h)

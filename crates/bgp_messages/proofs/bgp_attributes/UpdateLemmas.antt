@@ -19,7 +19,8 @@ use Rattle.bgp_messages.specs.bgp_attributes.Reading.{attribute_at, found_of, fo
 use Rattle.bgp_messages.proofs.bgp_attributes.FoundLemmas.{update_is}
 use Rattle.bgp_messages.proofs.bgp_attributes.AttributeLemmas.{reader}
 
-update_read : (octets : List ℕ) (attributes : List Attribute) → parts_of attribute_at octets ≡ Ok attributes → update_at octets ≡ Ok (update_in (found_of attributes))
+update_read : (octets : List ℕ) (attributes : List Attribute) → parts_of attribute_at octets ≡ Ok attributes
+    → update_at octets ≡ Ok (update_in (found_of attributes))
 update_read octets attributes e =
     ap (λ (x : Result (List Attribute) (ℕ × StreamFault)). (x >>= λ all. Ok (found_of all)) >>= λ found. Ok (update_in found)) e
 
@@ -35,16 +36,20 @@ update_taken octets u fits e =
     let (found, read, said) = bind_ok (found_at octets) _ u e in
     let (attributes, parts, made) = bind_ok (parts_of attribute_at octets) _ found read in
     let are : AreAttributes octets attributes = parts_found attribute_at SpellsAttribute IsNew AttributeFault reader octets attributes fits parts in
-    let same : u ≡ update_in (found_of attributes) = sym (ok_is (update_in found) u said) ∙ ap update_in (sym (ok_is (found_of attributes) found made)) in
+    let same : u ≡ update_in (found_of attributes) =
+    sym (ok_is (update_in found) u said) ∙ ap update_in (sym (ok_is (found_of attributes) found made)) in
     (attributes, are, same ∙ update_is octets attributes [] are)
 
 -- The first fault is answered.
-pub fails_update : (octets : List ℕ) (place : ℕ) (e : StreamFault) → IsOctets octets → faults.AttributesFault octets place e → update_at octets ≡ Err (place, e)
+pub fails_update : (octets : List ℕ) (place : ℕ) (e : StreamFault) → IsOctets octets → faults.AttributesFault octets place e
+    → update_at octets ≡ Err (place, e)
 fails_update octets place e fits h =
-    ap (λ (x : Result (List Attribute) (ℕ × StreamFault)). (x >>= λ all. Ok (found_of all)) >>= λ found. Ok (update_in found)) (fault_again attribute_at SpellsAttribute IsNew AttributeFault reader octets place e fits h)
+    ap (λ (x : Result (List Attribute) (ℕ × StreamFault)). (x >>= λ all. Ok (found_of all)) >>= λ found. Ok (update_in found))
+    (fault_again attribute_at SpellsAttribute IsNew AttributeFault reader octets place e fits h)
 
 -- A fault that is answered is the first.
-pub update_fails : (octets : List ℕ) (place : ℕ) (e : StreamFault) → IsOctets octets → update_at octets ≡ Err (place, e) → faults.AttributesFault octets place e
+pub update_fails : (octets : List ℕ) (place : ℕ) (e : StreamFault) → IsOctets octets → update_at octets ≡ Err (place, e)
+    → faults.AttributesFault octets place e
 update_fails octets place e fits h =
     elim (bind_err (found_at octets) _ (place, e) h) [
       | inl missing ↦ elim (bind_err (parts_of attribute_at octets) _ (place, e) missing) [
@@ -74,7 +79,8 @@ is_first (Ok u) octets fits e = tt
 is_first (Err NoMemory) octets fits e = tt
 is_first (Err (Bad place fault)) octets fits e = update_fails octets place fault fits e
 
-fault_only : (r : Result Update AttributesFault) (octets : List ℕ) → Gives r (update_at octets) → (place : ℕ) (fault : StreamFault) → update_at octets ≡ Err (place, fault) → (r ≡ Err (Bad place fault)) ⊎ (r ≡ Err NoMemory)
+fault_only : (r : Result Update AttributesFault) (octets : List ℕ) → Gives r (update_at octets) → (place : ℕ) (fault : StreamFault)
+    → update_at octets ≡ Err (place, fault) → (r ≡ Err (Bad place fault)) ⊎ (r ≡ Err NoMemory)
 fault_only (Ok u) octets e place fault h = ok_or_err u (place, fault) (sym e ∙ h)
 fault_only (Err NoMemory) octets e place fault h = inr refl
 fault_only (Err (Bad at other)) octets e place fault h =

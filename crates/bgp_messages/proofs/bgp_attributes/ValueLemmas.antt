@@ -43,7 +43,8 @@ chunks_are (suc k) xs le =
     let (are, same) = chunks_are k (drop 8 xs) more in
     let count : 8 + k * 8 ≡ suc k * 8 = omega arith in (
       (length-take-le 8 xs (omega arith), are),
-      flat_map-cons (λ c. c.0) (comm (take 8 xs)) (chunks k (drop 8 xs)) ∙ ap (λ (ys : List ℕ). take 8 xs ++ ys) same ∙ sym (take-add 8 (k * 8) xs) ∙ ap (λ (n : ℕ). take n xs) count,
+      flat_map-cons (λ c. c.0) (comm (take 8 xs)) (chunks k (drop 8 xs)) ∙ ap (λ (ys : List ℕ). take 8 xs ++ ys) same ∙ sym (take-add 8 (k * 8) xs)
+          ∙ ap (λ (n : ℕ). take n xs) count,
     )
 
 -- Communities are the chunks of their octets.
@@ -76,7 +77,8 @@ comms_again value comms are parts =
     let size : length value ≡ 8 * length comms = ap (λ (xs : List ℕ). length xs) parts ∙ octets_count comms are in
     let whole : length value % 8 ≡ 0 = omega (arith, size) in
     let count : length value / 8 ≡ length comms = omega (arith, size) in
-    let read : comms_in value ≡ comms = ap (λ (n : ℕ). chunks n value) count ∙ ap (λ (xs : List ℕ). chunks (length comms) xs) parts ∙ chunks_again comms are in
+    let read : comms_in value ≡ comms =
+    ap (λ (n : ℕ). chunks n value) count ∙ ap (λ (xs : List ℕ). chunks (length comms) xs) parts ∙ chunks_again comms are in
     rw (eq-eqb (length value % 8) 0 whole, read) refl
 
 misfit_is : (at : ℕ) (e : StreamFault) → (at, e) ≡ misfit → (at ≡ 0) × (e ≡ faults.AttributeLength)
@@ -95,7 +97,8 @@ fail_comms value over = rw (ne_eqb (length value % 8) 0 over) refl
 
 -- ---- tunnels
 
-tunnel_taken_by : (place : ℕ) (value : List ℕ) (a : Attribute) (r : Result Pmsi PmsiFault) → IsOctets value → pmsi_of value ≡ r → tunnel_of place r ≡ Ok a → Means 22 value a
+tunnel_taken_by : (place : ℕ) (value : List ℕ) (a : Attribute) (r : Result Pmsi PmsiFault) → IsOctets value → pmsi_of value ≡ r
+    → tunnel_of place r ≡ Ok a → Means 22 value a
 tunnel_taken_by place value a (Ok pmsi) fits is e = subst (Means 22 value) (ok_is (Tunnel pmsi) a e) (refl, pmsi_taken value pmsi fits is)
 tunnel_taken_by place value a (Err g) fits is e = absurd cc
 
@@ -107,7 +110,8 @@ tunnel_again : (place : ℕ) (value : List ℕ) (pmsi : Pmsi) → tunnels.Spells
 unfolding tunnel_at
 tunnel_again place value pmsi s = ap (tunnel_of place) (pmsi_again pmsi value s)
 
-tunnel_fails_by : (place : ℕ) (value : List ℕ) (at : ℕ) (e : StreamFault) (r : Result Pmsi PmsiFault) → IsOctets value → pmsi_of value ≡ r → tunnel_of place r ≡ Err (at, e) → ValueFault 22 value place at e
+tunnel_fails_by : (place : ℕ) (value : List ℕ) (at : ℕ) (e : StreamFault) (r : Result Pmsi PmsiFault) → IsOctets value → pmsi_of value ≡ r
+    → tunnel_of place r ≡ Err (at, e) → ValueFault 22 value place at e
 tunnel_fails_by place value at e (Ok pmsi) fits is h = absurd cc
 tunnel_fails_by place value at e (Err g) fits is h =
     let made : ℕ × StreamFault = (place + g.place, faults.Pmsi g.reason) in
@@ -115,11 +119,13 @@ tunnel_fails_by place value at e (Err g) fits is h =
     let same : made ≡ given = err_is made given h in
     wrong.in_tunnel g refl (pmsi_fails value g fits is) (sym (ap (λ (x : ℕ × StreamFault). x.0) same)) (sym (ap (λ (x : ℕ × StreamFault). x.1) same))
 
-tunnel_fails : (place : ℕ) (value : List ℕ) (at : ℕ) (e : StreamFault) → IsOctets value → tunnel_at place value ≡ Err (at, e) → ValueFault 22 value place at e
+tunnel_fails : (place : ℕ) (value : List ℕ) (at : ℕ) (e : StreamFault) → IsOctets value → tunnel_at place value ≡ Err (at, e)
+    → ValueFault 22 value place at e
 unfolding tunnel_at
 tunnel_fails place value at e fits h = tunnel_fails_by place value at e (pmsi_of value) fits refl h
 
-fails_tunnel : (place : ℕ) (value : List ℕ) (g : PmsiFault) → pmsi_of value ≡ Err g → tunnel_at place value ≡ Err (place + g.place, faults.Pmsi g.reason)
+fails_tunnel : (place : ℕ) (value : List ℕ) (g : PmsiFault) → pmsi_of value ≡ Err g
+    → tunnel_at place value ≡ Err (place + g.place, faults.Pmsi g.reason)
 unfolding tunnel_at
 fails_tunnel place value g e = ap (tunnel_of place) e
 
@@ -144,7 +150,12 @@ at_tunnel place value = refl
 at_other : (kind place : ℕ) (value : List ℕ) → ¬ (IsReadType kind) → value_at kind place value ≡ Ok (Passed kind)
 unfolding value_at
 at_other kind place value other =
-    rw (ne_eqb kind 14 (λ e. other (inl e)), ne_eqb kind 15 (λ e. other (inr (inl e))), ne_eqb kind 16 (λ e. other (inr (inr (inl e)))), ne_eqb kind 22 (λ e. other (inr (inr (inr e))))) refl
+    rw (
+      ne_eqb kind 14 (λ e. other (inl e)),
+      ne_eqb kind 15 (λ e. other (inr (inl e))),
+      ne_eqb kind 16 (λ e. other (inr (inr (inl e)))),
+      ne_eqb kind 22 (λ e. other (inr (inr (inr e)))),
+    ) refl
 
 -- A type is read or not.
 pub read_type : (kind : ℕ) → IsReadType kind ⊎ ¬ (IsReadType kind)
@@ -169,15 +180,20 @@ read_type kind =
     none a b c d (inr (inr (inl e))) = c e
     none a b c d (inr (inr (inr e))) = d e
 
-taken_by : (kind place : ℕ) (value : List ℕ) (a : Attribute) → IsOctets value → value_at kind place value ≡ Ok a → IsReadType kind ⊎ ¬ (IsReadType kind) → Means kind value a
+taken_by : (kind place : ℕ) (value : List ℕ) (a : Attribute) → IsOctets value → value_at kind place value ≡ Ok a
+    → IsReadType kind ⊎ ¬ (IsReadType kind) → Means kind value a
 taken_by kind place value a fits e (inl (inl is)) =
-    subst (λ (n : ℕ). Means n value a) (sym is) (reach_taken place value a fits (sym (at_reach place value) ∙ ap (λ (n : ℕ). value_at n place value) (sym is) ∙ e))
+    subst (λ (n : ℕ). Means n value a) (sym is) (reach_taken place value a fits
+    (sym (at_reach place value) ∙ ap (λ (n : ℕ). value_at n place value) (sym is) ∙ e))
 taken_by kind place value a fits e (inl (inr (inl is))) =
-    subst (λ (n : ℕ). Means n value a) (sym is) (unreach_taken place value a fits (sym (at_unreach place value) ∙ ap (λ (n : ℕ). value_at n place value) (sym is) ∙ e))
+    subst (λ (n : ℕ). Means n value a) (sym is) (unreach_taken place value a fits
+    (sym (at_unreach place value) ∙ ap (λ (n : ℕ). value_at n place value) (sym is) ∙ e))
 taken_by kind place value a fits e (inl (inr (inr (inl is)))) =
-    subst (λ (n : ℕ). Means n value a) (sym is) (comms_taken value a (sym (at_comms place value) ∙ ap (λ (n : ℕ). value_at n place value) (sym is) ∙ e))
+    subst (λ (n : ℕ). Means n value a) (sym is) (comms_taken value a
+    (sym (at_comms place value) ∙ ap (λ (n : ℕ). value_at n place value) (sym is) ∙ e))
 taken_by kind place value a fits e (inl (inr (inr (inr is)))) =
-    subst (λ (n : ℕ). Means n value a) (sym is) (tunnel_taken place value a fits (sym (at_tunnel place value) ∙ ap (λ (n : ℕ). value_at n place value) (sym is) ∙ e))
+    subst (λ (n : ℕ). Means n value a) (sym is) (tunnel_taken place value a fits
+    (sym (at_tunnel place value) ∙ ap (λ (n : ℕ). value_at n place value) (sym is) ∙ e))
 taken_by kind place value a fits e (inr other) =
     subst (Means kind value) (ok_is (Passed kind) a (sym (at_other kind place value other) ∙ e)) (refl, other)
 
@@ -195,46 +211,61 @@ value_again (Communities comms) place value (are, parts) = at_comms place value 
 value_again (Tunnel pmsi) place value s = at_tunnel place value ∙ tunnel_again place value pmsi s
 value_again (Passed kind) place value s = at_other kind place value s
 
-fails_by : (kind place : ℕ) (value : List ℕ) (at : ℕ) (e : StreamFault) → IsOctets value → value_at kind place value ≡ Err (at, e) → IsReadType kind ⊎ ¬ (IsReadType kind) → ValueFault kind value place at e
+fails_by : (kind place : ℕ) (value : List ℕ) (at : ℕ) (e : StreamFault) → IsOctets value → value_at kind place value ≡ Err (at, e)
+    → IsReadType kind ⊎ ¬ (IsReadType kind) → ValueFault kind value place at e
 fails_by kind place value at e fits h (inl (inl is)) =
-    subst (λ (n : ℕ). ValueFault n value place at e) (sym is) (reach_fails place value at e fits (sym (at_reach place value) ∙ ap (λ (n : ℕ). value_at n place value) (sym is) ∙ h))
+    subst (λ (n : ℕ). ValueFault n value place at e) (sym is)
+    (reach_fails place value at e fits (sym (at_reach place value) ∙ ap (λ (n : ℕ). value_at n place value) (sym is) ∙ h))
 fails_by kind place value at e fits h (inl (inr (inl is))) =
-    subst (λ (n : ℕ). ValueFault n value place at e) (sym is) (unreach_fails place value at e fits (sym (at_unreach place value) ∙ ap (λ (n : ℕ). value_at n place value) (sym is) ∙ h))
+    subst (λ (n : ℕ). ValueFault n value place at e) (sym is)
+    (unreach_fails place value at e fits (sym (at_unreach place value) ∙ ap (λ (n : ℕ). value_at n place value) (sym is) ∙ h))
 fails_by kind place value at e fits h (inl (inr (inr (inl is)))) =
-    subst (λ (n : ℕ). ValueFault n value place at e) (sym is) (comms_fail place value at e (sym (at_comms place value) ∙ ap (λ (n : ℕ). value_at n place value) (sym is) ∙ h))
+    subst (λ (n : ℕ). ValueFault n value place at e) (sym is)
+    (comms_fail place value at e (sym (at_comms place value) ∙ ap (λ (n : ℕ). value_at n place value) (sym is) ∙ h))
 fails_by kind place value at e fits h (inl (inr (inr (inr is)))) =
-    subst (λ (n : ℕ). ValueFault n value place at e) (sym is) (tunnel_fails place value at e fits (sym (at_tunnel place value) ∙ ap (λ (n : ℕ). value_at n place value) (sym is) ∙ h))
+    subst (λ (n : ℕ). ValueFault n value place at e) (sym is)
+    (tunnel_fails place value at e fits (sym (at_tunnel place value) ∙ ap (λ (n : ℕ). value_at n place value) (sym is) ∙ h))
 fails_by kind place value at e fits h (inr other) = ok_or_err (Passed kind) (at, e) (sym (at_other kind place value other) ∙ h)
 
 -- A fault that is answered is there.
-pub value_fails : (kind place : ℕ) (value : List ℕ) (at : ℕ) (e : StreamFault) → IsOctets value → value_at kind place value ≡ Err (at, e) → ValueFault kind value place at e
+pub value_fails : (kind place : ℕ) (value : List ℕ) (at : ℕ) (e : StreamFault) → IsOctets value → value_at kind place value ≡ Err (at, e)
+    → ValueFault kind value place at e
 value_fails kind place value at e fits h = fails_by kind place value at e fits h (read_type kind)
 
 -- the fault at that place
 fault_is : {A : Type 0} (m n : ℕ) (d e : StreamFault) → n ≡ m → e ≡ d → ◌≡◌ {A = Result A (ℕ × StreamFault)} (Err (m, d)) (Err (n, e))
 fault_is m n d e p q i = Err (sym p i, sym q i)
 
-answered : (kind number place : ℕ) (value : List ℕ) (x : Result Attribute (ℕ × StreamFault)) (at : ℕ) (e : StreamFault) → kind ≡ number → value_at number place value ≡ x → x ≡ Err (at, e) → value_at kind place value ≡ Err (at, e)
+answered : (kind number place : ℕ) (value : List ℕ) (x : Result Attribute (ℕ × StreamFault)) (at : ℕ) (e : StreamFault) → kind ≡ number
+    → value_at number place value ≡ x → x ≡ Err (at, e) → value_at kind place value ≡ Err (at, e)
 answered kind number place value x at e is by h = ap (λ (n : ℕ). value_at n place value) is ∙ by ∙ h
 
 -- A fault that is there is answered.
-pub fails_value : (kind place : ℕ) (value : List ℕ) (at : ℕ) (e : StreamFault) → IsOctets value → ValueFault kind value place at e → value_at kind place value ≡ Err (at, e)
+pub fails_value : (kind place : ℕ) (value : List ℕ) (at : ℕ) (e : StreamFault) → IsOctets value → ValueFault kind value place at e
+    → value_at kind place value ≡ Err (at, e)
 fails_value kind place value at e fits (wrong.no_family (inl is) short p q) =
     answered kind 14 place value _ at e is (at_reach place value) ((fails_no_family place value short).0 ∙ fault_is 0 at faults.AttributeLength e p q)
 fails_value kind place value at e fits (wrong.no_family (inr is) short p q) =
-    answered kind 15 place value _ at e is (at_unreach place value) ((fails_no_family place value short).1 ∙ fault_is 0 at faults.AttributeLength e p q)
+    answered kind 15 place value _ at e is (at_unreach place value)
+    ((fails_no_family place value short).1 ∙ fault_is 0 at faults.AttributeLength e p q)
 fails_value kind place value at e fits (wrong.no_hop_len f is parts p q) =
     answered kind 14 place value _ at e is (at_reach place value) (fails_no_hop_len place f value parts ∙ fault_is 0 at faults.AttributeLength e p q)
 fails_value kind place value at e fits (wrong.hop_len f len rest is parts none p q) =
-    answered kind 14 place value _ at e is (at_reach place value) (fails_behind place f value len rest _ parts (hop_wrong f (place + 3) len rest none) ∙ fault_is (place + 3) at faults.NextHop e p q)
+    answered kind 14 place value _ at e is (at_reach place value)
+    (fails_behind place f value len rest _ parts (hop_wrong f (place + 3) len rest none) ∙ fault_is (place + 3) at faults.NextHop e p q)
 fails_value kind place value at e fits (wrong.hop_cut f len rest is parts is_len short p q) =
-    answered kind 14 place value _ at e is (at_reach place value) (fails_behind place f value len rest _ parts (hop_short f (place + 3) len rest is_len short) ∙ fault_is 0 at faults.AttributeLength e p q)
+    answered kind 14 place value _ at e is (at_reach place value)
+    (fails_behind place f value len rest _ parts (hop_short f (place + 3) len rest is_len short) ∙ fault_is 0 at faults.AttributeLength e p q)
 fails_value kind place value at e fits (wrong.in_reach f addr hop reserved nlri inner is s parts in_keys p) =
     let there : at ≡ place + 3 + length hop + 2 + inner = omega (arith, p) in
-    answered kind 14 place value _ at e is (at_reach place value) (fails_behind place f value (length hop) (hop ++ (reserved ∷ nlri)) _ parts (fails_hop f (place + 3) addr hop reserved nlri inner e s in_keys) ∙ fault_is (place + 3 + length hop + 2 + inner) at e e there refl)
+    answered kind 14 place value _ at e is (at_reach place value)
+    (fails_behind place f value (length hop) (hop ++ (reserved ∷ nlri)) _ parts (fails_hop f (place + 3) addr hop reserved nlri inner e s in_keys)
+    ∙ fault_is (place + 3 + length hop + 2 + inner) at e e there refl)
 fails_value kind place value at e fits (wrong.in_unreach f nlri inner is parts in_keys p) =
-    answered kind 15 place value _ at e is (at_unreach place value) (fails_unreach place f value nlri inner e parts in_keys ∙ fault_is (place + 3 + inner) at e e p refl)
+    answered kind 15 place value _ at e is (at_unreach place value)
+    (fails_unreach place f value nlri inner e parts in_keys ∙ fault_is (place + 3 + inner) at e e p refl)
 fails_value kind place value at e fits (wrong.communities is over p q) =
     answered kind 16 place value _ at e is (at_comms place value) (fail_comms value over ∙ fault_is 0 at faults.AttributeLength e p q)
 fails_value kind place value at e fits (wrong.in_tunnel g is first p q) =
-    answered kind 22 place value _ at e is (at_tunnel place value) (fails_tunnel place value g (fails_pmsi value g fits first) ∙ fault_is (place + g.place) at (faults.Pmsi g.reason) e p q)
+    answered kind 22 place value _ at e is (at_tunnel place value)
+    (fails_tunnel place value g (fails_pmsi value g fits first) ∙ fault_is (place + g.place) at (faults.Pmsi g.reason) e p q)

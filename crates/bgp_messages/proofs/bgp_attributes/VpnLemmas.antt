@@ -46,7 +46,9 @@ whole n rest le =
     ∙ ap (λ (xs : List ℕ). take 3 rest ++ (take 8 (drop 3 rest) ++ take (n - 11) xs)) (drop-drop 8 3 rest)
 
 spelled_at : (afi : Afi) (len : ℕ) (rest : List ℕ) → 88 ≤ len → len ≤ 88 + addr_bits afi → octets_for len ≤ length rest
-    → SpellsVpn afi (record { 0 = take 8 (drop 3 rest) }) (record { addr = address afi (len - 88) (take (octets_for len - 11) (drop 11 rest)); bits = len - 88 }) (take (1 + octets_for len) (len ∷ rest))
+    → SpellsVpn afi (record { 0 = take 8 (drop 3 rest) })
+    (record { addr = address afi (len - 88) (take (octets_for len - 11) (drop 11 rest)); bits = len - 88 })
+    (take (1 + octets_for len) (len ∷ rest))
 spelled_at afi len rest low high fits =
     let n : ℕ = octets_for len in
     let least : 11 ≤ n = omega arith in
@@ -73,34 +75,44 @@ pub vpn_taken : (afi : Afi) (xs : List ℕ) (x : Key × ℕ) → vpn_at afi xs �
 unfolding vpn_at
 vpn_taken afi [] x e = absurd cc
 vpn_taken afi (len ∷ rest) x e =
-    let (few, many, short, same) = tests_pass (ltb len 88) (ltb (88 + addr_bits afi) len) (ltb (length rest) (octets_for len)) (vpn_of afi len rest, 1 + octets_for len) x e in
+    let (few, many, short, same) =
+    tests_pass (ltb len 88) (ltb (88 + addr_bits afi) len) (ltb (length rest) (octets_for len)) (vpn_of afi len rest, 1 + octets_for len) x e in
     let fits : octets_for len ≤ length rest = ltb-false _ _ short in
-    subst (λ (y : Key × ℕ). (0 < y.1) × (y.1 ≤ length (len ∷ rest)) × SpellsUnicast afi y.0 (take y.1 (len ∷ rest))) same (omega arith, omega arith, spelled_at afi len rest (ltb-false _ _ few) (ltb-false _ _ many) fits)
+    subst (λ (y : Key × ℕ). (0 < y.1) × (y.1 ≤ length (len ∷ rest)) × SpellsUnicast afi y.0 (take y.1 (len ∷ rest))) same
+    (omega arith, omega arith, spelled_at afi len rest (ltb-false _ _ few) (ltb-false _ _ many) fits)
 
-read_at : (afi : Afi) (len : ℕ) (rest rd octets : List ℕ) (bits n : ℕ) → 88 ≤ len → len ≤ 88 + addr_bits afi → octets_for len ≤ length rest → take 8 (drop 3 rest) ≡ rd → take (octets_for len - 11) (drop 11 rest) ≡ octets → len - 88 ≡ bits → 1 + octets_for len ≡ n
+read_at : (afi : Afi) (len : ℕ) (rest rd octets : List ℕ) (bits n : ℕ) → 88 ≤ len → len ≤ 88 + addr_bits afi → octets_for len ≤ length rest
+    → take 8 (drop 3 rest) ≡ rd → take (octets_for len - 11) (drop 11 rest) ≡ octets → len - 88 ≡ bits → 1 + octets_for len ≡ n
     → vpn_at afi (len ∷ rest) ≡ Some (keys.Unicast (record { 0 = rd }) (record { addr = address afi bits octets; bits = bits }), n)
 unfolding vpn_at
 read_at afi len rest rd octets bits n low high fits p q r s =
-    rw (le-ltb len 88 low, le-ltb (88 + addr_bits afi) len high, le-ltb (length rest) (octets_for len) fits) (λ i. Some (keys.Unicast (record { 0 = p i }) (record { addr = address afi (r i) (q i); bits = r i }), s i))
+    rw (le-ltb len 88 low, le-ltb (88 + addr_bits afi) len high, le-ltb (length rest) (octets_for len) fits)
+    (λ i. Some (keys.Unicast (record { 0 = p i }) (record { addr = address afi (r i) (q i); bits = r i }), s i))
 
 -- What is spelled at the front is read.
-pub vpn_again : (afi : Afi) (rd : Rd) (prefix : Prefix) (text after : List ℕ) → SpellsVpn afi rd prefix text → vpn_at afi (text ++ after) ≡ Some (keys.Unicast rd prefix, length text)
+pub vpn_again : (afi : Afi) (rd : Rd) (prefix : Prefix) (text after : List ℕ) → SpellsVpn afi rd prefix text
+    → vpn_at afi (text ++ after) ≡ Some (keys.Unicast rd prefix, length text)
 vpn_again afi rd prefix text after s =
     let len : ℕ = 88 + prefix.bits in
     let body : List ℕ = s.label ++ (rd.0 ++ s.octets) in
     let rest : List ℕ = body ++ after in
-    let size : length body ≡ octets_for len = omega (arith, s.bits, s.label_len, s.rd_len, s.octets_len, length-append s.label (rd.0 ++ s.octets), length-append rd.0 s.octets) in
+    let size : length body ≡ octets_for len =
+    omega (arith, s.bits, s.label_len, s.rd_len, s.octets_len, length-append s.label (rd.0 ++ s.octets), length-append rd.0 s.octets) in
     let three : drop 3 rest ≡ (rd.0 ++ s.octets) ++ after =
     ap (λ (xs : List ℕ). drop 3 xs) (append_assoc s.label (rd.0 ++ s.octets) after) ∙ drop_at s.label ((rd.0 ++ s.octets) ++ after) 3 s.label_len in
     let there : drop 3 rest ≡ rd.0 ++ (s.octets ++ after) = three ∙ append_assoc rd.0 s.octets after in
     let distinguisher : take 8 (drop 3 rest) ≡ rd.0 = ap (λ (xs : List ℕ). take 8 xs) there ∙ take_at rd.0 (s.octets ++ after) 8 s.rd_len in
-    let behind : drop 11 rest ≡ s.octets ++ after = sym (drop-drop 8 3 rest) ∙ ap (λ (xs : List ℕ). drop 8 xs) there ∙ drop_at rd.0 (s.octets ++ after) 8 s.rd_len in
+    let behind : drop 11 rest ≡ s.octets ++ after =
+    sym (drop-drop 8 3 rest) ∙ ap (λ (xs : List ℕ). drop 8 xs) there ∙ drop_at rd.0 (s.octets ++ after) 8 s.rd_len in
     let count : length s.octets ≡ octets_for len - 11 = omega (arith, s.octets_len) in
-    let octets : take (octets_for len - 11) (drop 11 rest) ≡ s.octets = ap (λ (xs : List ℕ). take (octets_for len - 11) xs) behind ∙ take_at s.octets after (octets_for len - 11) count in
+    let octets : take (octets_for len - 11) (drop 11 rest) ≡ s.octets =
+    ap (λ (xs : List ℕ). take (octets_for len - 11) xs) behind ∙ take_at s.octets after (octets_for len - 11) count in
     let all : 1 + octets_for len ≡ length text = omega (arith, size, ap (λ (xs : List ℕ). length xs) s.parts) in
-    let made : record { addr = address afi prefix.bits s.octets; bits = prefix.bits } ≡ prefix = λ i. record { addr = sym s.addr i; bits = prefix.bits } in
+    let made : record { addr = address afi prefix.bits s.octets; bits = prefix.bits } ≡ prefix =
+    λ i. record { addr = sym s.addr i; bits = prefix.bits } in
     ap (λ (xs : List ℕ). vpn_at afi (xs ++ after)) s.parts
-    ∙ read_at afi len rest rd.0 s.octets prefix.bits (length text) (omega arith) (omega (arith, s.bits)) (omega (arith, size, length-append body after)) distinguisher octets (omega arith) all
+    ∙ read_at afi len rest rd.0 s.octets prefix.bits (length text) (omega arith) (omega (arith, s.bits))
+    (omega (arith, size, length-append body after)) distinguisher octets (omega arith) all
     ∙ ap (λ (p : Prefix). Some (keys.Unicast rd p, length text)) made
 
 -- Where no route is read, there is a fault.
@@ -117,12 +129,18 @@ vpn_fails afi (len ∷ rest) more e =
 -- Where there is one, no route is read.
 pub fails_few : (afi : Afi) (len : ℕ) (rest : List ℕ) → len < 88 → vpn_at afi (len ∷ rest) ≡ None
 unfolding vpn_at
-fails_few afi len rest lt = none_by _ _ (or_left (ltb len 88 || ltb (88 + addr_bits afi) len) (ltb (length rest) (octets_for len)) (or_left (ltb len 88) (ltb (88 + addr_bits afi) len) (lt-ltb len 88 lt)))
+fails_few afi len rest lt =
+    none_by _ _ (or_left (ltb len 88 || ltb (88 + addr_bits afi) len) (ltb (length rest) (octets_for len))
+    (or_left (ltb len 88) (ltb (88 + addr_bits afi) len) (lt-ltb len 88 lt)))
 
 pub fails_many : (afi : Afi) (len : ℕ) (rest : List ℕ) → 88 + addr_bits afi < len → vpn_at afi (len ∷ rest) ≡ None
 unfolding vpn_at
-fails_many afi len rest lt = none_by _ _ (or_left (ltb len 88 || ltb (88 + addr_bits afi) len) (ltb (length rest) (octets_for len)) (or_right (ltb len 88) (ltb (88 + addr_bits afi) len) (lt-ltb (88 + addr_bits afi) len lt)))
+fails_many afi len rest lt =
+    none_by _ _ (or_left (ltb len 88 || ltb (88 + addr_bits afi) len) (ltb (length rest) (octets_for len))
+    (or_right (ltb len 88) (ltb (88 + addr_bits afi) len) (lt-ltb (88 + addr_bits afi) len lt)))
 
 pub fails_short : (afi : Afi) (len : ℕ) (rest : List ℕ) → length rest < octets_for len → vpn_at afi (len ∷ rest) ≡ None
 unfolding vpn_at
-fails_short afi len rest lt = none_by _ _ (or_right (ltb len 88 || ltb (88 + addr_bits afi) len) (ltb (length rest) (octets_for len)) (lt-ltb (length rest) (octets_for len) lt))
+fails_short afi len rest lt =
+    none_by _ _ (or_right (ltb len 88 || ltb (88 + addr_bits afi) len) (ltb (length rest) (octets_for len))
+    (lt-ltb (length rest) (octets_for len) lt))

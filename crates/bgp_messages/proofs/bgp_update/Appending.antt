@@ -25,10 +25,12 @@ put_same r old new x y same h = on_ok r (new ≡ old ++ x) (new ≡ old ++ y) (�
 pub put_two : {X E : Type 0} (r : Result X E) (old a new x y : List ℕ) → a ≡ old ++ x → OnOk r (new ≡ a ++ y) → OnOk r (new ≡ old ++ (x ++ y))
 put_two r old a new x y first h = on_ok r (new ≡ a ++ y) (new ≡ old ++ (x ++ y)) (λ p. p ∙ ap (λ (t : List ℕ). t ++ y) first ∙ append_assoc old x y) h
 
-pub put_three : {X E : Type 0} (r : Result X E) (old a b new x y z : List ℕ) → a ≡ old ++ x → b ≡ a ++ y → OnOk r (new ≡ b ++ z) → OnOk r (new ≡ old ++ (x ++ (y ++ z)))
+pub put_three : {X E : Type 0} (r : Result X E) (old a b new x y z : List ℕ) → a ≡ old ++ x → b ≡ a ++ y → OnOk r (new ≡ b ++ z)
+    → OnOk r (new ≡ old ++ (x ++ (y ++ z)))
 put_three r old a b new x y z first second h = put_two r old a new x (y ++ z) first (put_two r a b new y z second h)
 
-pub put_four : {X E : Type 0} (r : Result X E) (old a b d new x y z w : List ℕ) → a ≡ old ++ x → b ≡ a ++ y → d ≡ b ++ z → OnOk r (new ≡ d ++ w) → OnOk r (new ≡ old ++ (x ++ (y ++ (z ++ w))))
+pub put_four : {X E : Type 0} (r : Result X E) (old a b d new x y z w : List ℕ) → a ≡ old ++ x → b ≡ a ++ y → d ≡ b ++ z → OnOk r (new ≡ d ++ w)
+    → OnOk r (new ≡ old ++ (x ++ (y ++ (z ++ w))))
 put_four r old a b d new x y z w first second third h = put_two r old a new x (y ++ (z ++ w)) first (put_three r a b d new y z w second third h)
 
 -- What was written to the front of octets.
@@ -54,7 +56,15 @@ many_long (Reach advert) w many =
     let b : List ℕ = comms_octets advert.comms in
     let h : List ℕ = attribute_head 192 16 (length b) in
     let t : List ℕ = tunnel_text advert.pmsi in
-    omega (arith, count, size, length-append path_text (a ++ ((h ++ b) ++ t)), length-append a ((h ++ b) ++ t), length-append (h ++ b) t, length-append h b)
+    omega (
+      arith,
+      count,
+      size,
+      length-append path_text (a ++ ((h ++ b) ++ t)),
+      length-append a ((h ++ b) ++ t),
+      length-append (h ++ b) t,
+      length-append h b,
+    )
 many_long (Unreach key) w many = absurd cc
 
 -- ---- octets
@@ -84,7 +94,8 @@ pub message_octets : (attributes : List ℕ) → IsOctets attributes → IsOctet
 message_octets attributes fits =
     let len : ℕ = length attributes in
     let kind : IsOctets (2 ∷ 0 ∷ []) = two_octets 2 0 (omega arith) (omega arith) in
-    octets_append marker (to_be_bytes w16 (23 + len) ++ ((2 ∷ 0 ∷ []) ++ ((0 ∷ []) ++ (to_be_bytes w16 len ++ attributes)))) (repeated_octets 16 255 (omega arith))
+    octets_append marker (to_be_bytes w16 (23 + len) ++ ((2 ∷ 0 ∷ []) ++ ((0 ∷ []) ++ (to_be_bytes w16 len ++ attributes))))
+    (repeated_octets 16 255 (omega arith))
     (octets_append (to_be_bytes w16 (23 + len)) ((2 ∷ 0 ∷ []) ++ ((0 ∷ []) ++ (to_be_bytes w16 len ++ attributes))) (number_octets (23 + len))
     (octets_append (2 ∷ 0 ∷ []) ((0 ∷ []) ++ (to_be_bytes w16 len ++ attributes)) kind
     (octets_append (0 ∷ []) (to_be_bytes w16 len ++ attributes) (repeated_octets 1 0 (omega arith))

@@ -24,7 +24,8 @@ use Rattle.bgp_messages.proofs.bgp_attributes.UpdateLemmas.{update_taken, update
 abbrev two : ℕ → ℕ → ℕ
 two high low = from_be_bytes w16 (high ∷ low ∷ [])
 
-two_is : (high low : ℕ) (rest : List ℕ) → IsOctets (high ∷ low ∷ rest) → (two high low < 2 ^ 16) × (high ∷ (low ∷ rest) ≡ to_be_bytes w16 (two high low) ++ rest)
+two_is : (high low : ℕ) (rest : List ℕ) → IsOctets (high ∷ low ∷ rest)
+    → (two high low < 2 ^ 16) × (high ∷ (low ∷ rest) ≡ to_be_bytes w16 (two high low) ++ rest)
 two_is high low rest fits =
     let f : IsOctets (high ∷ low ∷ []) = octets_before 2 (high ∷ low ∷ rest) fits in
     (wide16.below (high ∷ low ∷ []) f, ap (λ (xs : List ℕ). xs ++ rest) (sym (wide16.back (high ∷ low ∷ []) refl f)))
@@ -38,7 +39,8 @@ behind_ok : {A : Type 0} (n : ℕ) (r : Result A (ℕ × StreamFault)) (x : A) �
 behind_ok n (Ok y) x e = e
 behind_ok n (Err f) x e = absurd cc
 
-behind_err : {A : Type 0} (n : ℕ) (r : Result A (ℕ × StreamFault)) (offset : ℕ) (e : StreamFault) → behind n r ≡ Err (offset, e) → (place : ℕ) × (r ≡ Err (place, e)) × (offset ≡ n + place)
+behind_err : {A : Type 0} (n : ℕ) (r : Result A (ℕ × StreamFault)) (offset : ℕ) (e : StreamFault) → behind n r ≡ Err (offset, e)
+    → (place : ℕ) × (r ≡ Err (place, e)) × (offset ≡ n + place)
 behind_err n (Ok y) offset e h = absurd cc
 behind_err {A} n (Err f) offset e h =
     let p : (n + f.0, f.1) ≡ (offset, e) = err_is {A = A} (n + f.0, f.1) (offset, e) h in
@@ -55,26 +57,35 @@ record SpellsList (u : Update) (xs : List ℕ) : Type 0 where
 
 data ListFault (xs : List ℕ) (offset : ℕ) (e : StreamFault) : Type 0 where
   cut : length xs < 2 → offset ≡ 0 → e ≡ AttributeList → ListFault xs offset e
-  long : (len : ℕ) (rest : List ℕ) → len < 2 ^ 16 → xs ≡ to_be_bytes w16 len ++ rest → length rest < len → offset ≡ 0 → e ≡ AttributeList → ListFault xs offset e
-  inside : (list rest : List ℕ) (place : ℕ) → length list < 2 ^ 16 → xs ≡ to_be_bytes w16 (length list) ++ (list ++ rest) → AttributesFault list place e → offset ≡ 2 + place → ListFault xs offset e
+  long : (len : ℕ) (rest : List ℕ) → len < 2 ^ 16 → xs ≡ to_be_bytes w16 len ++ rest → length rest < len → offset ≡ 0 → e ≡ AttributeList
+      → ListFault xs offset e
+  inside : (list rest : List ℕ) (place : ℕ) → length list < 2 ^ 16 → xs ≡ to_be_bytes w16 (length list) ++ (list ++ rest)
+      → AttributesFault list place e → offset ≡ 2 + place → ListFault xs offset e
 
-list_at_two : (len : ℕ) (rest : List ℕ) → len < 2 ^ 16 → list_at (to_be_bytes w16 len ++ rest) ≡ cond (ltb (length rest) len) (Err (0, AttributeList)) (behind 2 (update_at (take len rest)))
+list_at_two : (len : ℕ) (rest : List ℕ) → len < 2 ^ 16
+    → list_at (to_be_bytes w16 len ++ rest) ≡ cond (ltb (length rest) len) (Err (0, AttributeList)) (behind 2 (update_at (take len rest)))
 unfolding list_at
-list_at_two len rest lt = ap (λ (n : ℕ). cond (ltb (length rest) n) (Err (0, AttributeList)) (behind 2 (update_at (take n rest)))) (wide16.again len lt)
+list_at_two len rest lt =
+    ap (λ (n : ℕ). cond (ltb (length rest) n) (Err (0, AttributeList)) (behind 2 (update_at (take n rest)))) (wide16.again len lt)
 
 list_at_text : (list rest : List ℕ) → length list < 2 ^ 16 → list_at (to_be_bytes w16 (length list) ++ (list ++ rest)) ≡ behind 2 (update_at list)
 list_at_text list rest fits =
     let room : ltb (length (list ++ rest)) (length list) ≡ false = le-ltb _ _ (omega (arith, length-append list rest)) in
-    list_at_two (length list) (list ++ rest) fits ∙ skip (ltb (length (list ++ rest)) (length list)) _ _ room ∙ ap (λ (xs : List ℕ). behind 2 (update_at xs)) (take_at list rest (length list) refl)
+    list_at_two (length list) (list ++ rest) fits ∙ skip (ltb (length (list ++ rest)) (length list)) _ _ room
+    ∙ ap (λ (xs : List ℕ). behind 2 (update_at xs)) (take_at list rest (length list) refl)
 
 list_again : (u : Update) (xs : List ℕ) → SpellsList u xs → list_at xs ≡ Ok u
 list_again u xs s = ap list_at s.parts ∙ list_at_text s.list s.rest s.fits ∙ ap (behind 2) (update_again u s.list s.spelled)
 
 -- octets behind such a number are those and the others
-cut_at_len : (n : ℕ) (xs rest : List ℕ) → xs ≡ to_be_bytes w16 n ++ rest → n ≤ length rest → (length (take n rest) ≡ n) × (xs ≡ to_be_bytes w16 (length (take n rest)) ++ (take n rest ++ drop n rest))
+cut_at_len : (n : ℕ) (xs rest : List ℕ) → xs ≡ to_be_bytes w16 n ++ rest → n ≤ length rest
+    → (length (take n rest) ≡ n) × (xs ≡ to_be_bytes w16 (length (take n rest)) ++ (take n rest ++ drop n rest))
 cut_at_len n xs rest parts le =
-    let len : length (take n rest) ≡ n = length-take-le n rest le in
-    (len, parts ∙ ap (λ (ys : List ℕ). to_be_bytes w16 n ++ ys) (sym (take-append-drop n rest)) ∙ ap (λ (k : ℕ). to_be_bytes w16 k ++ (take n rest ++ drop n rest)) (sym len))
+    let len : length (take n rest) ≡ n = length-take-le n rest le in (
+      len,
+      parts ∙ ap (λ (ys : List ℕ). to_be_bytes w16 n ++ ys) (sym (take-append-drop n rest))
+          ∙ ap (λ (k : ℕ). to_be_bytes w16 k ++ (take n rest ++ drop n rest)) (sym len),
+    )
 
 list_taken : (xs : List ℕ) (u : Update) → IsOctets xs → list_at xs ≡ Ok u → SpellsList u xs
 unfolding list_at
@@ -93,11 +104,13 @@ list_taken (high ∷ low ∷ rest) u fits e =
             rest = drop n rest;
             fits = omega (arith, c.0, t.0);
             parts = c.1;
-            spelled = update_taken (take n rest) u (octets_before n rest (rest_fits high low rest fits)) (behind_ok 2 (update_at (take n rest)) u b.1);
+            spelled =
+                update_taken (take n rest) u (octets_before n rest (rest_fits high low rest fits)) (behind_ok 2 (update_at (take n rest)) u b.1);
           }
     ]
 
-cut_first : (xs : List ℕ) (offset : ℕ) (e : StreamFault) → length xs < 2 → ◌≡◌ {A = ℕ × StreamFault} (0, AttributeList) (offset, e) → ListFault xs offset e
+cut_first : (xs : List ℕ) (offset : ℕ) (e : StreamFault) → length xs < 2 → ◌≡◌ {A = ℕ × StreamFault} (0, AttributeList) (offset, e)
+    → ListFault xs offset e
 cut_first xs offset e lt p = cut lt (sym (ap (λ (q : ℕ × StreamFault). q.0) p)) (sym (ap (λ (q : ℕ × StreamFault). q.1) p))
 
 list_fails : (xs : List ℕ) (offset : ℕ) (e : StreamFault) → IsOctets xs → list_at xs ≡ Err (offset, e) → ListFault xs offset e
@@ -115,7 +128,8 @@ list_fails (high ∷ low ∷ rest) offset e fits h =
           let le : n ≤ length rest = ltb-false _ _ b.0 in
           let c = cut_at_len n (high ∷ low ∷ rest) rest t.1 le in
           let f = behind_err 2 (update_at (take n rest)) offset e b.1 in
-          inside (take n rest) (drop n rest) f.0 (omega (arith, c.0, t.0)) c.1 (update_fails (take n rest) f.0 e (octets_before n rest (rest_fits high low rest fits)) f.1) f.2
+          inside (take n rest) (drop n rest) f.0 (omega (arith, c.0, t.0)) c.1
+          (update_fails (take n rest) f.0 e (octets_before n rest (rest_fits high low rest fits)) f.1) f.2
     ]
 
 err_same : {A : Type 0} (m n : ℕ) (d e : StreamFault) → m ≡ n → d ≡ e → ◌≡◌ {A = Result A (ℕ × StreamFault)} (Err (m, d)) (Err (n, e))
@@ -130,21 +144,27 @@ list_short (a ∷ b ∷ xs) lt = absurd (omega arith)
 fails_list : (xs : List ℕ) (offset : ℕ) (e : StreamFault) → IsOctets xs → ListFault xs offset e → list_at xs ≡ Err (offset, e)
 fails_list xs offset e fits (cut lt at fault) = list_short xs lt ∙ err_same 0 offset AttributeList e (sym at) (sym fault)
 fails_list xs offset e fits (long len rest small parts lt at fault) =
-    ap list_at parts ∙ list_at_two len rest small ∙ take_branch (ltb (length rest) len) _ _ (lt-ltb _ _ lt) ∙ err_same 0 offset AttributeList e (sym at) (sym fault)
+    ap list_at parts ∙ list_at_two len rest small ∙ take_branch (ltb (length rest) len) _ _ (lt-ltb _ _ lt)
+    ∙ err_same 0 offset AttributeList e (sym at) (sym fault)
 fails_list xs offset e fits (inside list rest place small parts faulty at) =
     let f : IsOctets list = IsOctets-before list rest (IsOctets-behind (to_be_bytes w16 (length list)) (list ++ rest) (subst IsOctets parts fits)) in
-    ap list_at parts ∙ list_at_text list rest small ∙ ap (behind 2) (fails_update list place e f faulty) ∙ err_same (2 + place) offset e e (sym at) refl
+    ap list_at parts ∙ list_at_text list rest small ∙ ap (behind 2) (fails_update list place e f faulty)
+    ∙ err_same (2 + place) offset e e (sym at) refl
 
 -- ---- the body: behind the withdrawn routes
 
-body_at_two : (len : ℕ) (rest : List ℕ) → len < 2 ^ 16 → body_at (to_be_bytes w16 len ++ rest) ≡ cond (ltb (length rest) len) (Err (0, AttributeList)) (behind (2 + len) (list_at (drop len rest)))
+body_at_two : (len : ℕ) (rest : List ℕ) → len < 2 ^ 16
+    → body_at (to_be_bytes w16 len ++ rest) ≡ cond (ltb (length rest) len) (Err (0, AttributeList)) (behind (2 + len) (list_at (drop len rest)))
 unfolding body_at
-body_at_two len rest lt = ap (λ (n : ℕ). cond (ltb (length rest) n) (Err (0, AttributeList)) (behind (2 + n) (list_at (drop n rest)))) (wide16.again len lt)
+body_at_two len rest lt =
+    ap (λ (n : ℕ). cond (ltb (length rest) n) (Err (0, AttributeList)) (behind (2 + n) (list_at (drop n rest)))) (wide16.again len lt)
 
-body_at_text : (withdrawn rest : List ℕ) → length withdrawn < 2 ^ 16 → body_at (to_be_bytes w16 (length withdrawn) ++ (withdrawn ++ rest)) ≡ behind (2 + length withdrawn) (list_at rest)
+body_at_text : (withdrawn rest : List ℕ) → length withdrawn < 2 ^ 16
+    → body_at (to_be_bytes w16 (length withdrawn) ++ (withdrawn ++ rest)) ≡ behind (2 + length withdrawn) (list_at rest)
 body_at_text withdrawn rest fits =
     let room : ltb (length (withdrawn ++ rest)) (length withdrawn) ≡ false = le-ltb _ _ (omega (arith, length-append withdrawn rest)) in
-    body_at_two (length withdrawn) (withdrawn ++ rest) fits ∙ skip (ltb (length (withdrawn ++ rest)) (length withdrawn)) _ _ room ∙ ap (λ (xs : List ℕ). behind (2 + length withdrawn) (list_at xs)) (drop_at withdrawn rest (length withdrawn) refl)
+    body_at_two (length withdrawn) (withdrawn ++ rest) fits ∙ skip (ltb (length (withdrawn ++ rest)) (length withdrawn)) _ _ room
+    ∙ ap (λ (xs : List ℕ). behind (2 + length withdrawn) (list_at xs)) (drop_at withdrawn rest (length withdrawn) refl)
 
 pub body_again : (u : Update) (body : List ℕ) → length body < 2 ^ 16 → SpellsBody u body → body_at body ≡ Ok u
 body_again u body small s =
@@ -153,7 +173,8 @@ body_again u body small s =
     ap (λ (xs : List ℕ). length xs) s.parts ∙ omega (arith, length-append s.withdrawn list_text, length-append s.list s.rest) in
     ap body_at s.parts
     ∙ body_at_text s.withdrawn list_text (omega arith)
-    ∙ ap (behind (2 + length s.withdrawn)) (list_again u list_text (record { list = s.list; rest = s.rest; fits = omega arith; parts = refl; spelled = s.spelled }))
+    ∙ ap (behind (2 + length s.withdrawn)) (list_again u list_text
+    (record { list = s.list; rest = s.rest; fits = omega arith; parts = refl; spelled = s.spelled }))
 
 pub body_taken : (body : List ℕ) (u : Update) → IsOctets body → body_at body ≡ Ok u → SpellsBody u body
 unfolding body_at
@@ -167,7 +188,8 @@ body_taken (high ∷ low ∷ rest) u fits e =
       | inr b ↦
           let le : n ≤ length rest = ltb-false _ _ b.0 in
           let c = cut_at_len n (high ∷ low ∷ rest) rest t.1 le in
-          let s = list_taken (drop n rest) u (octets_behind n rest (rest_fits high low rest fits)) (behind_ok (2 + n) (list_at (drop n rest)) u b.1) in
+          let s = list_taken (drop n rest) u (octets_behind n rest (rest_fits high low rest fits)) (behind_ok (2 + n) (list_at (drop n rest)) u b.1)
+          in
           record {
             withdrawn = take n rest;
             list = s.list;
@@ -178,14 +200,20 @@ body_taken (high ∷ low ∷ rest) u fits e =
     ]
 
 -- a fault behind the withdrawn routes
-list_faulty : (withdrawn xs body : List ℕ) (offset place : ℕ) (e : StreamFault) → length withdrawn < 2 ^ 16 → body ≡ to_be_bytes w16 (length withdrawn) ++ (withdrawn ++ xs) → ListFault xs place e → offset ≡ 2 + length withdrawn + place → BodyFault body offset e
-list_faulty withdrawn xs body offset place e small parts (cut lt at fault) there = length_cut withdrawn xs small parts lt (omega (arith, at, there)) fault
+list_faulty : (withdrawn xs body : List ℕ) (offset place : ℕ) (e : StreamFault) → length withdrawn < 2 ^ 16
+    → body ≡ to_be_bytes w16 (length withdrawn) ++ (withdrawn ++ xs) → ListFault xs place e → offset ≡ 2 + length withdrawn + place
+    → BodyFault body offset e
+list_faulty withdrawn xs body offset place e small parts (cut lt at fault) there =
+    length_cut withdrawn xs small parts lt (omega (arith, at, there)) fault
 list_faulty withdrawn xs body offset place e small parts (long len rest fits more lt at fault) there =
-    attributes_long withdrawn len rest small fits (parts ∙ ap (λ (ys : List ℕ). to_be_bytes w16 (length withdrawn) ++ (withdrawn ++ ys)) more) lt (omega (arith, at, there)) fault
+    attributes_long withdrawn len rest small fits (parts ∙ ap (λ (ys : List ℕ). to_be_bytes w16 (length withdrawn) ++ (withdrawn ++ ys)) more) lt
+    (omega (arith, at, there)) fault
 list_faulty withdrawn xs body offset place e small parts (inside list rest inner fits more faulty at) there =
-    in_attributes withdrawn list rest inner small fits (parts ∙ ap (λ (ys : List ℕ). to_be_bytes w16 (length withdrawn) ++ (withdrawn ++ ys)) more) faulty (omega (arith, at, there))
+    in_attributes withdrawn list rest inner small fits (parts ∙ ap (λ (ys : List ℕ). to_be_bytes w16 (length withdrawn) ++ (withdrawn ++ ys)) more)
+    faulty (omega (arith, at, there))
 
-pub body_fails : (body : List ℕ) (offset : ℕ) (e : StreamFault) → IsOctets body → 2 ≤ length body → body_at body ≡ Err (offset, e) → BodyFault body offset e
+pub body_fails : (body : List ℕ) (offset : ℕ) (e : StreamFault) → IsOctets body → 2 ≤ length body → body_at body ≡ Err (offset, e)
+    → BodyFault body offset e
 unfolding body_at
 body_fails [] offset e fits le h = absurd (omega arith)
 body_fails (high ∷ []) offset e fits le h = absurd (omega arith)
@@ -200,14 +228,18 @@ body_fails (high ∷ low ∷ rest) offset e fits le h =
           let le : n ≤ length rest = ltb-false _ _ b.0 in
           let c = cut_at_len n (high ∷ low ∷ rest) rest t.1 le in
           let f = behind_err (2 + n) (list_at (drop n rest)) offset e b.1 in
-          list_faulty (take n rest) (drop n rest) (high ∷ low ∷ rest) offset f.0 e (omega (arith, c.0, t.0)) c.1 (list_fails (drop n rest) f.0 e (octets_behind n rest (rest_fits high low rest fits)) f.1) (omega (arith, f.2, c.0))
+          list_faulty (take n rest) (drop n rest) (high ∷ low ∷ rest) offset f.0 e (omega (arith, c.0, t.0)) c.1
+          (list_fails (drop n rest) f.0 e (octets_behind n rest (rest_fits high low rest fits)) f.1) (omega (arith, f.2, c.0))
     ]
 
 -- the octets behind the withdrawn routes
 behind_withdrawn : (withdrawn xs body : List ℕ) → IsOctets body → body ≡ to_be_bytes w16 (length withdrawn) ++ (withdrawn ++ xs) → IsOctets xs
-behind_withdrawn withdrawn xs body fits parts = IsOctets-behind withdrawn xs (IsOctets-behind (to_be_bytes w16 (length withdrawn)) (withdrawn ++ xs) (subst IsOctets parts fits))
+behind_withdrawn withdrawn xs body fits parts =
+    IsOctets-behind withdrawn xs (IsOctets-behind (to_be_bytes w16 (length withdrawn)) (withdrawn ++ xs) (subst IsOctets parts fits))
 
-faulty_list : (withdrawn xs body : List ℕ) (offset place : ℕ) (e : StreamFault) → IsOctets body → length withdrawn < 2 ^ 16 → body ≡ to_be_bytes w16 (length withdrawn) ++ (withdrawn ++ xs) → ListFault xs place e → offset ≡ 2 + length withdrawn + place → body_at body ≡ Err (offset, e)
+faulty_list : (withdrawn xs body : List ℕ) (offset place : ℕ) (e : StreamFault) → IsOctets body → length withdrawn < 2 ^ 16
+    → body ≡ to_be_bytes w16 (length withdrawn) ++ (withdrawn ++ xs) → ListFault xs place e → offset ≡ 2 + length withdrawn + place
+    → body_at body ≡ Err (offset, e)
 faulty_list withdrawn xs body offset place e fits small parts faulty there =
     ap body_at parts
     ∙ body_at_text withdrawn xs small
@@ -216,10 +248,13 @@ faulty_list withdrawn xs body offset place e fits small parts faulty there =
 
 pub fails_body : (body : List ℕ) (offset : ℕ) (e : StreamFault) → IsOctets body → BodyFault body offset e → body_at body ≡ Err (offset, e)
 fails_body body offset e fits (withdrawn_long len rest small parts lt at fault) =
-    ap body_at parts ∙ body_at_two len rest small ∙ take_branch (ltb (length rest) len) _ _ (lt-ltb _ _ lt) ∙ err_same 0 offset AttributeList e (sym at) (sym fault)
+    ap body_at parts ∙ body_at_two len rest small ∙ take_branch (ltb (length rest) len) _ _ (lt-ltb _ _ lt)
+    ∙ err_same 0 offset AttributeList e (sym at) (sym fault)
 fails_body body offset e fits (length_cut withdrawn rest small parts lt at fault) =
     faulty_list withdrawn rest body offset 0 e fits small parts (cut lt refl fault) (omega (arith, at))
 fails_body body offset e fits (attributes_long withdrawn len rest small fits_len parts lt at fault) =
-    faulty_list withdrawn (to_be_bytes w16 len ++ rest) body offset 0 e fits small parts (long len rest fits_len refl lt refl fault) (omega (arith, at))
+    faulty_list withdrawn (to_be_bytes w16 len ++ rest) body offset 0 e fits small parts (long len rest fits_len refl lt refl fault)
+    (omega (arith, at))
 fails_body body offset e fits (in_attributes withdrawn list rest place small fits_list parts faulty at) =
-    faulty_list withdrawn (to_be_bytes w16 (length list) ++ (list ++ rest)) body offset (2 + place) e fits small parts (inside list rest place fits_list refl faulty refl) (omega (arith, at))
+    faulty_list withdrawn (to_be_bytes w16 (length list) ++ (list ++ rest)) body offset (2 + place) e fits small parts
+    (inside list rest place fits_list refl faulty refl) (omega (arith, at))

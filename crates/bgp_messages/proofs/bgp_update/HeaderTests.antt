@@ -33,7 +33,8 @@ length_wrong len e =
     ]
 
 pub wrong_length_told : (len : ℕ) → (len < 19) ⊎ (4096 < len) → is_length len ≡ false
-wrong_length_told len h = is_not (is_length len) (λ e. let t = length_told len e in elim h [ inl lt ↦ omega (arith, t.0, lt) | inr lt ↦ omega (arith, t.1, lt) ])
+wrong_length_told len h =
+    is_not (is_length len) (λ e. let t = length_told len e in elim h [ inl lt ↦ omega (arith, t.0, lt) | inr lt ↦ omega (arith, t.1, lt) ])
 
 -- ---- the type
 
@@ -54,7 +55,8 @@ type_wrong kind e =
     ]
 
 pub wrong_type_told : (kind : ℕ) → (kind ≡ 0) ⊎ (5 < kind) → is_type kind ≡ false
-wrong_type_told kind h = is_not (is_type kind) (λ e. let t = type_told kind e in elim h [ inl none ↦ omega (arith, t.0, none) | inr lt ↦ omega (arith, t.1, lt) ])
+wrong_type_told kind h =
+    is_not (is_type kind) (λ e. let t = type_told kind e in elim h [ inl none ↦ omega (arith, t.0, none) | inr lt ↦ omega (arith, t.1, lt) ])
 
 -- the types that are passed over
 pub other_type : (kind : ℕ) → 1 ≤ kind → kind ≤ 5 → kind ≢ 2 → (kind ≡ 1) ⊎ ((kind ≡ 3) ⊎ ((kind ≡ 4) ⊎ (kind ≡ 5)))
@@ -62,8 +64,16 @@ other_type kind low high not_update =
     elim (cases_lt kind 2) [
       | inl lt ↦ inl (omega (arith, low, lt))
       | inr two ↦ elim (cases_lt kind 4) [
-        | inl lt ↦ elim (cases_lt kind 3) [ inl lt' ↦ absurd (not_update (omega (arith, two, lt'))) | inr three ↦ inr (inl (omega (arith, lt, three))) ]
-        | inr four ↦ elim (cases_lt kind 5) [ inl lt ↦ inr (inr (inl (omega (arith, four, lt)))) | inr five ↦ inr (inr (inr (omega (arith, five, high)))) ]
+        | inl lt ↦ elim (cases_lt kind 3) [
+          | inl lt' ↦ absurd (not_update (omega (arith, two, lt')))
+          | inr three ↦
+              inr (inl (omega (arith, lt, three)))
+        ]
+        | inr four ↦ elim (cases_lt kind 5) [
+          | inl lt ↦ inr (inr (inl (omega (arith, four, lt))))
+          | inr five ↦
+              inr (inr (inr (omega (arith, five, high))))
+        ]
       ]
     ]
 
@@ -105,7 +115,9 @@ fits_tells kind len update keepalive = by_value (fits_type kind len) refl
     ]
 
 pub wrong_fit_told : (kind len : ℕ) → ((kind ≡ 2) × (len < 23)) ⊎ ((kind ≡ 4) × (len ≢ 19)) → fits_type kind len ≡ false
-wrong_fit_told kind len h = is_not (fits_type kind len) (λ e. let t = fits_told kind len e in elim h [ inl a ↦ let le : 23 ≤ len = t.0 a.0 in omega (arith, a.1, le) | inr b ↦ b.1 (t.1 b.0) ])
+wrong_fit_told kind len h =
+    is_not (fits_type kind len) (λ e. let t = fits_told kind len e in
+    elim h [ inl a ↦ let le : 23 ≤ len = t.0 a.0 in omega (arith, a.1, le) | inr b ↦ b.1 (t.1 b.0) ])
 
 -- ---- the marker
 

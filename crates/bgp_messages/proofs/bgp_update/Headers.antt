@@ -37,7 +37,10 @@ length_headed len kind rest = omega (arith, length-append (header len kind) rest
 by_headed : (len kind : ℕ) (rest : List ℕ) → message_by len kind (header len kind ++ rest) ≡ by_rest len kind rest
 by_headed len kind rest =
     let size : length (header len kind ++ rest) ≡ 19 + length rest = length_headed len kind rest in
-    ap (λ (n : ℕ). cond (not (is_length len)) (bad [] 16 MessageLength) (cond (not (is_type kind)) (bad [] 18 MessageType) (cond (not (fits_type kind len)) (bad [] 16 MessageLength) (cond (ltb n len) more (message_of len (contents kind (take (len - 19) rest))))))) size
+    ap (λ (n : ℕ). cond (not (is_length len)) (bad [] 16 MessageLength)
+    (cond (not (is_type kind)) (bad [] 18 MessageType)
+    (cond (not (fits_type kind len)) (bad [] 16 MessageLength) (cond (ltb n len) more (message_of len (contents kind (take (len - 19) rest)))))))
+    size
 
 -- a header is read
 pub at_header : (len kind : ℕ) (rest : List ℕ) → len < 2 ^ 16 → message_front (header len kind ++ rest) ≡ by_rest len kind rest
@@ -66,7 +69,8 @@ at_other_marker xs le other =
 pub is_headed : (xs : List ℕ) → IsOctets xs → 19 ≤ length xs → take 16 xs ≡ marker → xs ≡ header (len_in xs) (kind_in xs) ++ drop 19 xs
 is_headed xs fits le front =
     let two : length (take 2 (drop 16 xs)) ≡ 2 = length-take-le 2 (drop 16 xs) (omega (arith, length-drop 16 xs, le)) in
-    let len : to_be_bytes w16 (len_in xs) ≡ take 2 (drop 16 xs) = wide16.back (take 2 (drop 16 xs)) two (octets_before 2 (drop 16 xs) (octets_behind 16 xs fits)) in
+    let len : to_be_bytes w16 (len_in xs) ≡ take 2 (drop 16 xs) =
+    wide16.back (take 2 (drop 16 xs)) two (octets_before 2 (drop 16 xs) (octets_behind 16 xs fits)) in
     let kind : drop 18 xs ≡ kind_in xs ∷ drop 19 xs = drop-cons xs 18 0 (omega (arith, le)) in
     sym (take-append-drop 16 xs)
     ∙ ap (λ (ys : List ℕ). ys ++ drop 16 xs) front

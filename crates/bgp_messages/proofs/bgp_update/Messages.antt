@@ -37,7 +37,8 @@ updated_err : (r : Result Update (ℕ × StreamFault)) (f : ℕ × StreamFault) 
 updated_err (Ok u) f e = absurd cc
 updated_err (Err g) f e = let same : g ≡ f = err_is {A = Message} g f e in ap (λ (x : ℕ × StreamFault). Err x) same
 
-contents_taken : (kind : ℕ) (body : List ℕ) (m : Message) → IsOctets body → is_type kind ≡ true → fits_type kind (19 + length body) ≡ true → contents kind body ≡ Ok m → Means m kind body
+contents_taken : (kind : ℕ) (body : List ℕ) (m : Message) → IsOctets body → is_type kind ≡ true → fits_type kind (19 + length body) ≡ true
+    → contents kind body ≡ Ok m → Means m kind body
 contents_taken kind body m fits is fit e =
     elim (chosen (not (eqb kind 2)) (Ok (messages.Other kind)) (updated (body_at body)) (Ok m) e) [
       | inl a ↦
@@ -60,9 +61,15 @@ contents_of_update : (body : List ℕ) (r : Result Update (ℕ × StreamFault)) 
 contents_of_update body r e = ap updated e
 
 contents_again : (m : Message) (kind : ℕ) (body : List ℕ) → length body < 2 ^ 16 → Means m kind body → contents kind body ≡ Ok m
-contents_again (messages.Update u) kind body small (is, s) = ap (λ (k : ℕ). contents k body) is ∙ contents_of_update body (Ok u) (body_again u body small s)
+contents_again (messages.Update u) kind body small (is, s) =
+    ap (λ (k : ℕ). contents k body) is ∙ contents_of_update body (Ok u) (body_again u body small s)
 contents_again (messages.Other k) kind body small (is, other, empty) =
-    let unlike : eqb kind 2 ≡ false = ne_eqb kind 2 (λ update. elim other [ inl a ↦ omega (arith, a, update) | inr b ↦ elim b [ inl a ↦ omega (arith, a, update) | inr d ↦ elim d [ inl a ↦ omega (arith, a, update) | inr a ↦ omega (arith, a, update) ] ] ]) in
+    let unlike : eqb kind 2 ≡ false =
+    ne_eqb kind 2 (λ update. elim other [
+      | inl a ↦ omega (arith, a, update)
+      | inr b ↦
+          elim b [ inl a ↦ omega (arith, a, update) | inr d ↦ elim d [ inl a ↦ omega (arith, a, update) | inr a ↦ omega (arith, a, update) ] ]
+    ]) in
     take_branch (not (eqb kind 2)) (Ok (messages.Other kind)) (updated (body_at body)) (ap not unlike) ∙ ap (λ (n : ℕ). Ok (messages.Other n)) is
 
 -- the length and the type of a message that is spelled
@@ -73,7 +80,11 @@ type_of_message (messages.Other k) kind body (is, other, empty) =
       | inl a ↦ type_tells kind (omega (arith, a)) (omega (arith, a))
       | inr b ↦ elim b [
         | inl a ↦ type_tells kind (omega (arith, a)) (omega (arith, a))
-        | inr d ↦ elim d [ inl a ↦ type_tells kind (omega (arith, a)) (omega (arith, a)) | inr a ↦ type_tells kind (omega (arith, a)) (omega (arith, a)) ]
+        | inr d ↦ elim d [
+          | inl a ↦ type_tells kind (omega (arith, a)) (omega (arith, a))
+          | inr a ↦
+              type_tells kind (omega (arith, a)) (omega (arith, a))
+        ]
       ]
     ]
 
@@ -85,7 +96,11 @@ fit_of_message (messages.Update u) kind body (is, s) =
     fits_tells kind (19 + length body) (λ _. omega (arith, sizes)) (λ keepalive. absurd (omega (arith, is, keepalive)))
 fit_of_message (messages.Other k) kind body (is, other, empty) =
     fits_tells kind (19 + length body)
-    (λ update. absurd (elim other [ inl a ↦ omega (arith, a, update) | inr b ↦ elim b [ inl a ↦ omega (arith, a, update) | inr d ↦ elim d [ inl a ↦ omega (arith, a, update) | inr a ↦ omega (arith, a, update) ] ] ]))
+    (λ update. absurd (elim other [
+      | inl a ↦ omega (arith, a, update)
+      | inr b ↦
+          elim b [ inl a ↦ omega (arith, a, update) | inr d ↦ elim d [ inl a ↦ omega (arith, a, update) | inr a ↦ omega (arith, a, update) ] ]
+    ]))
     (λ keepalive. omega (arith, ap (λ (xs : List ℕ). length xs) (empty keepalive)))
 
 -- ---- what stands behind a header
@@ -98,18 +113,22 @@ record Passed (len kind : ℕ) (rest : List ℕ) : Type 0 where
   fit : fits_type kind len ≡ true
   room : len ≤ 19 + length rest
 
-whole_message : (len : ℕ) (r : Result Message (ℕ × StreamFault)) (n : ℕ) (ms : List Message) → message_of len r ≡ whole n ms → (m : Message) × (r ≡ Ok m) × (len ≡ n) × (ms ≡ m ∷ [])
+whole_message : (len : ℕ) (r : Result Message (ℕ × StreamFault)) (n : ℕ) (ms : List Message) → message_of len r ≡ whole n ms
+    → (m : Message) × (r ≡ Ok m) × (len ≡ n) × (ms ≡ m ∷ [])
 whole_message len (Ok m) n ms e = let w = whole_is {E = StreamFault} len n (m ∷ []) ms e in (m, refl, w.0, sym w.1)
 whole_message len (Err f) n ms e = absurd cc
 
-by_taken : (len kind : ℕ) (rest : List ℕ) (n : ℕ) (ms : List Message) → by_rest len kind rest ≡ whole n ms → Passed len kind rest × ((m : Message) × (contents kind (take (len - 19) rest) ≡ Ok m) × (len ≡ n) × (ms ≡ m ∷ []))
+by_taken : (len kind : ℕ) (rest : List ℕ) (n : ℕ) (ms : List Message) → by_rest len kind rest ≡ whole n ms
+    → Passed len kind rest × ((m : Message) × (contents kind (take (len - 19) rest) ≡ Ok m) × (len ≡ n) × (ms ≡ m ∷ []))
 by_taken len kind rest n ms e =
     let a = not_bad (not (is_length len)) [] 16 MessageLength _ n ms e in
     let b = not_bad (not (is_type kind)) [] 18 MessageType _ n ms a.1 in
     let d = not_bad (not (fits_type kind len)) [] 16 MessageLength _ n ms b.1 in
     let f = not_more (ltb (19 + length rest) len) _ n ms d.1 in
-    let l = length_told len (not-false (is_length len) a.0) in
-    (record { low = l.0; high = l.1; known = not-false (is_type kind) b.0; fit = not-false (fits_type kind len) d.0; room = ltb-false _ _ f.0 }, whole_message len (contents kind (take (len - 19) rest)) n ms f.1)
+    let l = length_told len (not-false (is_length len) a.0) in (
+      record { low = l.0; high = l.1; known = not-false (is_type kind) b.0; fit = not-false (fits_type kind len) d.0; room = ltb-false _ _ f.0 },
+      whole_message len (contents kind (take (len - 19) rest)) n ms f.1,
+    )
 
 -- all tests are passed
 by_passed : (len kind : ℕ) (rest : List ℕ) → Passed len kind rest → by_rest len kind rest ≡ message_of len (contents kind (take (len - 19) rest))
@@ -128,7 +147,15 @@ message_again ms text after s =
     let down : len - 19 ≡ length s.body = omega arith in
     let part : take (len - 19) rest ≡ s.body = take_at s.body after (len - 19) (sym down) in
     let size : length text ≡ len = ap (λ (xs : List ℕ). length xs) s.parts ∙ length_headed len s.kind s.body in
-    let p : Passed len s.kind rest = record { low = omega arith; high = s.within; known = type_of_message s.message s.kind s.body s.means; fit = fit_of_message s.message s.kind s.body s.means; room = omega (arith, length-append s.body after) } in
+    let p : Passed len s.kind rest =
+    record {
+      low = omega arith;
+      high = s.within;
+      known = type_of_message s.message s.kind s.body s.means;
+      fit =
+          fit_of_message s.message s.kind s.body s.means;
+      room = omega (arith, length-append s.body after);
+    } in
     ap (λ (xs : List ℕ). message_front (xs ++ after)) s.parts
     ∙ ap message_front (append_assoc (header len s.kind) s.body after)
     ∙ at_header len s.kind rest (omega (arith, s.within))
@@ -138,7 +165,8 @@ message_again ms text after s =
     ∙ ap (λ (ns : List Message). whole len ns) (sym s.one)
     ∙ ap (λ (n : ℕ). whole n ms) (sym size)
 
-whole_taken : (len kind : ℕ) (rest xs : List ℕ) (n : ℕ) (ms : List Message) → IsOctets xs → xs ≡ header len kind ++ rest → by_rest len kind rest ≡ whole n ms → (n ≤ length xs) × SpellsMessage ms (take n xs)
+whole_taken : (len kind : ℕ) (rest xs : List ℕ) (n : ℕ) (ms : List Message) → IsOctets xs → xs ≡ header len kind ++ rest
+    → by_rest len kind rest ≡ whole n ms → (n ≤ length xs) × SpellsMessage ms (take n xs)
 whole_taken len kind rest xs n ms fits parts e =
     let t = by_taken len kind rest n ms e in
     let p = t.0 in
@@ -147,8 +175,10 @@ whole_taken len kind rest xs n ms fits parts e =
     let size : length body ≡ len - 19 = length-take-le (len - 19) rest (omega (arith, p.room)) in
     let up : 19 + length body ≡ len = omega (arith, p.low) in
     let split : xs ≡ (header len kind ++ body) ++ drop (len - 19) rest =
-    parts ∙ ap (λ (ys : List ℕ). header len kind ++ ys) (sym (take-append-drop (len - 19) rest)) ∙ sym (append_assoc (header len kind) body (drop (len - 19) rest)) in
-    let front : take n xs ≡ header len kind ++ body = ap (take n) split ∙ take_at (header len kind ++ body) (drop (len - 19) rest) n (omega (arith, length_headed len kind body, up, t.1.2)) in
+    parts ∙ ap (λ (ys : List ℕ). header len kind ++ ys) (sym (take-append-drop (len - 19) rest))
+    ∙ sym (append_assoc (header len kind) body (drop (len - 19) rest)) in
+    let front : take n xs ≡ header len kind ++ body =
+    ap (take n) split ∙ take_at (header len kind ++ body) (drop (len - 19) rest) n (omega (arith, length_headed len kind body, up, t.1.2)) in
     let rest_fits : IsOctets rest = IsOctets-behind (header len kind) rest (subst IsOctets parts fits) in (
       omega (arith, all, p.room, t.1.2),
       record {
@@ -158,24 +188,30 @@ whole_taken len kind rest xs n ms fits parts e =
         one = t.1.3;
         parts = front ∙ ap (λ (l : ℕ). header l kind ++ body) (sym up);
         within = omega (arith, up, p.high);
-        means = contents_taken kind body t.1.0 (octets_before (len - 19) rest rest_fits) p.known (subst (λ (l : ℕ). fits_type kind l ≡ true) (sym up) p.fit) t.1.1;
+        means = contents_taken kind body t.1.0 (octets_before (len - 19) rest rest_fits) p.known
+            (subst (λ (l : ℕ). fits_type kind l ≡ true) (sym up) p.fit) t.1.1;
       },
     )
 
-message_taken : (xs : List ℕ) (n : ℕ) (ms : List Message) → IsOctets xs → message_front xs ≡ whole n ms → (n ≤ length xs) × SpellsMessage ms (take n xs)
+message_taken : (xs : List ℕ) (n : ℕ) (ms : List Message) → IsOctets xs → message_front xs ≡ whole n ms
+    → (n ≤ length xs) × SpellsMessage ms (take n xs)
 message_taken xs n ms fits e =
     elim (stands xs fits) [
       | Stands.few lt ↦ absurd (let clash : ◌≡◌ {A = Front Message StreamFault} more (whole n ms) = sym (at_few xs lt) ∙ e in cc)
-      | Stands.other_marker le other ↦ absurd (let clash : ◌≡◌ {A = Front Message StreamFault} (bad [] 0 Marker) (whole n ms) = sym (at_other_marker xs le other) ∙ e in cc)
-      | Stands.headed len kind rest lt parts ↦ whole_taken len kind rest xs n ms fits parts (sym (at_header len kind rest lt) ∙ sym (ap message_front parts) ∙ e)
+      | Stands.other_marker le other ↦ absurd (let clash : ◌≡◌ {A = Front Message StreamFault} (bad [] 0 Marker) (whole n ms) =
+          sym (at_other_marker xs le other) ∙ e in cc)
+      | Stands.headed len kind rest lt parts ↦ whole_taken len kind rest xs n ms fits parts
+          (sym (at_header len kind rest lt) ∙ sym (ap message_front parts) ∙ e)
     ]
 
 -- ---- faults stay
 
 body_same : (len : ℕ) (xs ys : List ℕ) → 19 ≤ length xs → len ≤ length xs → take (len - 19) (drop 19 (xs ++ ys)) ≡ take (len - 19) (drop 19 xs)
-body_same len xs ys le room = ap (take (len - 19)) (drop-append-le 19 xs ys le) ∙ take-append-le (len - 19) (drop 19 xs) ys (omega (arith, length-drop 19 xs, room, le))
+body_same len xs ys le room =
+    ap (take (len - 19)) (drop-append-le 19 xs ys le) ∙ take-append-le (len - 19) (drop 19 xs) ys (omega (arith, length-drop 19 xs, room, le))
 
-message_kept : (xs ys : List ℕ) (ms : List Message) (offset : ℕ) (e : StreamFault) → message_front xs ≡ bad ms offset e → message_front (xs ++ ys) ≡ bad ms offset e
+message_kept : (xs ys : List ℕ) (ms : List Message) (offset : ℕ) (e : StreamFault) → message_front xs ≡ bad ms offset e
+    → message_front (xs ++ ys) ≡ bad ms offset e
 unfolding message_front
 message_kept xs ys ms offset e h =
     let a = not_waiting (ltb (length xs) 19) _ ms offset e h in
@@ -184,10 +220,12 @@ message_kept xs ys ms offset e h =
     let len : ℕ = len_in xs in
     let kind : ℕ = kind_in xs in
     let len_same : len_in (xs ++ ys) ≡ len =
-    ap (λ (zs : List ℕ). from_be_bytes w16 (take 2 zs)) (drop-append-le 16 xs ys (omega (arith, enough))) ∙ ap (from_be_bytes w16) (take-append-le 2 (drop 16 xs) ys (omega (arith, length-drop 16 xs, enough))) in
+    ap (λ (zs : List ℕ). from_be_bytes w16 (take 2 zs)) (drop-append-le 16 xs ys (omega (arith, enough)))
+    ∙ ap (from_be_bytes w16) (take-append-le 2 (drop 16 xs) ys (omega (arith, length-drop 16 xs, enough))) in
     let kind_same : kind_in (xs ++ ys) ≡ kind = get_or_append_left xs ys 0 18 (omega (arith, enough)) in
     skip (ltb (length (xs ++ ys)) 19) more _ (le-ltb _ _ (omega (arith, enough, sizes)))
-    ∙ ap (λ (zs : List ℕ). cond (not (is_marker zs)) (bad [] 0 Marker) (message_by (len_in (xs ++ ys)) (kind_in (xs ++ ys)) (xs ++ ys))) (take-append-le 16 xs ys (omega (arith, enough)))
+    ∙ ap (λ (zs : List ℕ). cond (not (is_marker zs)) (bad [] 0 Marker) (message_by (len_in (xs ++ ys)) (kind_in (xs ++ ys)) (xs ++ ys)))
+    (take-append-le 16 xs ys (omega (arith, enough)))
     ∙ ap (λ (l : ℕ). cond (not (is_marker (take 16 xs))) (bad [] 0 Marker) (message_by l (kind_in (xs ++ ys)) (xs ++ ys))) len_same
     ∙ ap (λ (k : ℕ). cond (not (is_marker (take 16 xs))) (bad [] 0 Marker) (message_by len k (xs ++ ys))) kind_same
     ∙ same_tests (not (is_marker (take 16 xs))) (bad [] 0 Marker) _ _ (bad ms offset e) a.1
@@ -228,21 +266,24 @@ message_waits xs e =
 
 -- ---- first faults
 
-bad_message : (len : ℕ) (r : Result Message (ℕ × StreamFault)) (ms : List Message) (offset : ℕ) (e : StreamFault) → message_of len r ≡ bad ms offset e → (place : ℕ) × (r ≡ Err (place, e)) × (offset ≡ 19 + place) × (ms ≡ [])
+bad_message : (len : ℕ) (r : Result Message (ℕ × StreamFault)) (ms : List Message) (offset : ℕ) (e : StreamFault) → message_of len r ≡ bad ms offset e
+    → (place : ℕ) × (r ≡ Err (place, e)) × (offset ≡ 19 + place) × (ms ≡ [])
 bad_message len (Ok m) ms offset e h = absurd cc
 bad_message len (Err f) ms offset e h =
     let b = bad_is [] ms (19 + f.0) offset f.1 e h in
     (f.0, ap (λ (x : StreamFault). Err (f.0, x)) b.1, sym b.0, sym b.2)
 
 -- only an UPDATE has faults in its body
-body_of_update : (kind : ℕ) (body : List ℕ) (place : ℕ) (e : StreamFault) → contents kind body ≡ Err (place, e) → (kind ≡ 2) × (body_at body ≡ Err (place, e))
+body_of_update : (kind : ℕ) (body : List ℕ) (place : ℕ) (e : StreamFault) → contents kind body ≡ Err (place, e)
+    → (kind ≡ 2) × (body_at body ≡ Err (place, e))
 body_of_update kind body place e h =
     elim (chosen (not (eqb kind 2)) (Ok (messages.Other kind)) (updated (body_at body)) (Err (place, e)) h) [
       | inl a ↦ absurd (let clash : Ok (messages.Other kind) ≡ Err (place, e) = a.1 in cc)
       | inr b ↦ (eqb-true _ _ (not-false (eqb kind 2) b.0), updated_err (body_at body) (place, e) b.1)
     ]
 
-by_fails : (len kind : ℕ) (rest xs : List ℕ) (ms : List Message) (offset : ℕ) (e : StreamFault) → len < 2 ^ 16 → IsOctets rest → xs ≡ header len kind ++ rest → by_rest len kind rest ≡ bad ms offset e → UnitFault xs ms offset e
+by_fails : (len kind : ℕ) (rest xs : List ℕ) (ms : List Message) (offset : ℕ) (e : StreamFault) → len < 2 ^ 16 → IsOctets rest
+    → xs ≡ header len kind ++ rest → by_rest len kind rest ≡ bad ms offset e → UnitFault xs ms offset e
 by_fails len kind rest xs ms offset e small fits parts h =
     elim (chosen (not (is_length len)) (bad [] 16 MessageLength) _ (bad ms offset e) h) [
       | inl a ↦
@@ -269,7 +310,8 @@ by_fails len kind rest xs ms offset e small fits parts h =
     not_true true e = absurd cc
     not_true false e = refl
 
-    inside : 19 ≤ len → len ≤ 4096 → fits_type kind len ≡ true → len ≤ 19 + length rest → message_of len (contents kind (take (len - 19) rest)) ≡ bad ms offset e → UnitFault xs ms offset e
+    inside : 19 ≤ len → len ≤ 4096 → fits_type kind len ≡ true → len ≤ 19 + length rest
+        → message_of len (contents kind (take (len - 19) rest)) ≡ bad ms offset e → UnitFault xs ms offset e
     inside low high fit room g =
         let body : List ℕ = take (len - 19) rest in
         let m = bad_message len (contents kind body) ms offset e g in
@@ -278,17 +320,24 @@ by_fails len kind rest xs ms offset e small fits parts h =
         let up : 19 + length body ≡ len = omega (arith, low) in
         let four : 23 ≤ len = (fits_told kind len fit).0 u.0 in
         let whole_text : xs ≡ header (19 + length body) 2 ++ (body ++ drop (len - 19) rest) =
-        parts ∙ ap (λ (k : ℕ). header len k ++ rest) u.0 ∙ ap (λ (l : ℕ). header l 2 ++ rest) (sym up) ∙ ap (λ (ys : List ℕ). header (19 + length body) 2 ++ ys) (sym (take-append-drop (len - 19) rest)) in
-        (m.3, in_body body (drop (len - 19) rest) m.0 (omega (arith, up, four)) (omega (arith, up, high)) whole_text (body_fails body m.0 e (octets_before (len - 19) rest fits) (omega (arith, up, four)) u.1) m.2)
+        parts ∙ ap (λ (k : ℕ). header len k ++ rest) u.0 ∙ ap (λ (l : ℕ). header l 2 ++ rest) (sym up)
+        ∙ ap (λ (ys : List ℕ). header (19 + length body) 2 ++ ys) (sym (take-append-drop (len - 19) rest)) in (
+          m.3,
+          in_body body (drop (len - 19) rest) m.0 (omega (arith, up, four)) (omega (arith, up, high)) whole_text
+              (body_fails body m.0 e (octets_before (len - 19) rest fits) (omega (arith, up, four)) u.1) m.2,
+        )
 
-message_fails : (xs : List ℕ) (ms : List Message) (offset : ℕ) (e : StreamFault) → IsOctets xs → message_front xs ≡ bad ms offset e → UnitFault xs ms offset e
+message_fails : (xs : List ℕ) (ms : List Message) (offset : ℕ) (e : StreamFault) → IsOctets xs → message_front xs ≡ bad ms offset e
+    → UnitFault xs ms offset e
 message_fails xs ms offset e fits h =
     elim (stands xs fits) [
       | Stands.few lt ↦ absurd (let clash : ◌≡◌ {A = Front Message StreamFault} more (bad ms offset e) = sym (at_few xs lt) ∙ h in cc)
       | Stands.other_marker le other ↦
           let b = bad_is [] ms 0 offset Marker e (sym (at_other_marker xs le other) ∙ h) in
           (sym b.2, wrong_marker le other (sym b.0) (sym b.1))
-      | Stands.headed len kind rest lt parts ↦ by_fails len kind rest xs ms offset e lt (IsOctets-behind (header len kind) rest (subst IsOctets parts fits)) parts (sym (at_header len kind rest lt) ∙ sym (ap message_front parts) ∙ h)
+      | Stands.headed len kind rest lt parts ↦ by_fails len kind rest xs ms offset e lt
+          (IsOctets-behind (header len kind) rest (subst IsOctets parts fits)) parts
+          (sym (at_header len kind rest lt) ∙ sym (ap message_front parts) ∙ h)
     ]
 
 bad_same : (m n : ℕ) (d e : StreamFault) → m ≡ n → d ≡ e → ◌≡◌ {A = Front Message StreamFault} (bad [] m d) (bad [] n e)
@@ -306,7 +355,12 @@ fails_message xs offset e fits (wrong_type len kind rest low high parts wrong at
     ∙ take_branch (not (is_type kind)) (bad [] 18 MessageType) _ (ap not (wrong_type_told kind wrong))
     ∙ bad_same 18 offset MessageType e (sym at) (sym fault)
 fails_message xs offset e fits (length_by_type len kind rest low high parts wrong at fault) =
-    let known : is_type kind ≡ true = elim wrong [ inl a ↦ type_tells kind (omega (arith, a.0)) (omega (arith, a.0)) | inr b ↦ type_tells kind (omega (arith, b.0)) (omega (arith, b.0)) ] in
+    let known : is_type kind ≡ true =
+    elim wrong [
+      | inl a ↦ type_tells kind (omega (arith, a.0)) (omega (arith, a.0))
+      | inr b ↦
+          type_tells kind (omega (arith, b.0)) (omega (arith, b.0))
+    ] in
     ap message_front parts ∙ at_header len kind rest (omega (arith, high))
     ∙ skip (not (is_length len)) (bad [] 16 MessageLength) _ (ap not (length_tells len low high))
     ∙ skip (not (is_type kind)) (bad [] 18 MessageType) _ (ap not known)
@@ -317,7 +371,15 @@ fails_message xs offset e fits (in_body body rest place low high parts faulty at
     let down : len - 19 ≡ length body = omega arith in
     let part : take (len - 19) (body ++ rest) ≡ body = take_at body rest (len - 19) (sym down) in
     let body_fits : IsOctets body = IsOctets-before body rest (IsOctets-behind (header len 2) (body ++ rest) (subst IsOctets parts fits)) in
-    let p : Passed len 2 (body ++ rest) = record { low = omega arith; high = high; known = type_tells 2 (omega arith) (omega arith); fit = fits_tells 2 len (λ _. low) (λ keepalive. absurd (omega (arith, keepalive))); room = omega (arith, length-append body rest) } in
+    let p : Passed len 2 (body ++ rest) =
+    record {
+      low = omega arith;
+      high = high;
+      known = type_tells 2 (omega arith) (omega arith);
+      fit =
+          fits_tells 2 len (λ _. low) (λ keepalive. absurd (omega (arith, keepalive)));
+      room = omega (arith, length-append body rest);
+    } in
     ap message_front parts ∙ at_header len 2 (body ++ rest) (omega (arith, high))
     ∙ by_passed len 2 (body ++ rest) p
     ∙ ap (λ (xs : List ℕ). message_of len (contents 2 xs)) part

@@ -39,7 +39,9 @@ use Rattle.bgp_messages.proofs.bgp_attributes.PrefixLemmas.{prefix_spelled}
 
 -- ---- keys
 
-spells_vpn : (label : List ℕ) (rd : Rd) (addr : Addr) (bits : ℕ) → length label ≡ 3 → length rd.0 ≡ 8 → IsVpnPrefix addr bits → IsOctets (addr_octets addr) → SpellsVpn (afi_of addr) rd (record { addr = addr; bits = bits }) (vpn_text label rd (record { addr = addr; bits = bits }))
+spells_vpn : (label : List ℕ) (rd : Rd) (addr : Addr) (bits : ℕ) → length label ≡ 3 → length rd.0 ≡ 8 → IsVpnPrefix addr bits
+    → IsOctets (addr_octets addr) → SpellsVpn (afi_of addr) rd (record { addr = addr; bits = bits })
+    (vpn_text label rd (record { addr = addr; bits = bits }))
 spells_vpn label rd (V4 octets) bits three eight (len, is) fits = prefix_spelled rd (V4 octets) bits label eight three len fits is
 spells_vpn label rd (V6 octets) bits three eight (len, is) fits = prefix_spelled rd (V6 octets) bits label eight three len fits is
 
@@ -73,7 +75,8 @@ next_hop_spelled (families.Vpn Ipv6) addr is =
     let len : 24 ≡ length hop = omega (arith, s.1) in
     (hop, (replicate 8 0, mapped addr, refl, s.0, refl), ap (λ (n : ℕ). n ∷ hop) len)
 
-reach_spelled : (advert : Advert) → IsWritableAdvert advert → HasOctets advert.key → SpellsReachable (record { next_hop = advert.next_hop; keys = advert.key ∷ [] }) (reach_value advert)
+reach_spelled : (advert : Advert) → IsWritableAdvert advert → HasOctets advert.key
+    → SpellsReachable (record { next_hop = advert.next_hop; keys = advert.key ∷ [] }) (reach_value advert)
 reach_spelled advert w fits =
     let f : Family = family_of advert.key in
     let hop = next_hop_spelled f advert.next_hop w.next_hop in
@@ -103,7 +106,8 @@ record IsShort (flags : ℕ) : Type 0 where
   unset : is_extended flags ≡ false
   set : is_extended (bit_or flags 16) ≡ true
 
-attribute_by : (a : Attribute) (flags : ℕ) (value : List ℕ) (wide : Bool) → ltb 255 (length value) ≡ wide → IsShort flags → length value < 2 ^ 16 → SpellsValue a value
+attribute_by : (a : Attribute) (flags : ℕ) (value : List ℕ) (wide : Bool) → ltb 255 (length value) ≡ wide → IsShort flags → length value < 2 ^ 16
+    → SpellsValue a value
     → SpellsAttribute a (cond wide (bit_or flags 16 ∷ type_of a ∷ to_be_bytes w16 (length value)) (flags ∷ type_of a ∷ length value ∷ []) ++ value)
 attribute_by a flags value true e short few means = record {
   flags = bit_or flags 16;
@@ -115,12 +119,14 @@ attribute_by a flags value true e short few means = record {
 attribute_by a flags value false e short few means = record {
   flags = flags;
   value = value;
-  fits = subst (λ (b : Bool). length value < cond b (2 ^ 16) (2 ^ 8)) (sym short.unset) (let le : length value ≤ 255 = ltb-false _ _ e in omega (arith, le));
+  fits = subst (λ (b : Bool). length value < cond b (2 ^ 16) (2 ^ 8)) (sym short.unset)
+      (let le : length value ≤ 255 = ltb-false _ _ e in omega (arith, le));
   parts = ap (λ (b : Bool). flags ∷ (type_of a ∷ (cond b (to_be_bytes w16 (length value)) (length value ∷ []) ++ value))) (sym short.unset);
   means = means;
 }
 
-attribute_spelled : (a : Attribute) (flags : ℕ) (value : List ℕ) → IsShort flags → length value < 2 ^ 16 → SpellsValue a value → SpellsAttribute a (attribute flags (type_of a) value)
+attribute_spelled : (a : Attribute) (flags : ℕ) (value : List ℕ) → IsShort flags → length value < 2 ^ 16 → SpellsValue a value
+    → SpellsAttribute a (attribute flags (type_of a) value)
 attribute_spelled a flags value short few means = attribute_by a flags value (ltb 255 (length value)) refl short few means
 
 well_known : IsShort 0x40
@@ -134,7 +140,12 @@ transitive = record { unset = refl; set = refl }
 
 -- a type that is not read
 passed_over : (kind : ℕ) → kind < 14 → ¬ (IsReadType kind)
-passed_over kind lt h = elim h [ inl a ↦ omega (arith, a, lt) | inr b ↦ elim b [ inl a ↦ omega (arith, a, lt) | inr d ↦ elim d [ inl a ↦ omega (arith, a, lt) | inr a ↦ omega (arith, a, lt) ] ] ]
+passed_over kind lt h =
+    elim h [
+      | inl a ↦ omega (arith, a, lt)
+      | inr b ↦
+          elim b [ inl a ↦ omega (arith, a, lt) | inr d ↦ elim d [ inl a ↦ omega (arith, a, lt) | inr a ↦ omega (arith, a, lt) ] ]
+    ]
 
 passed_spelled : (kind : ℕ) (value : List ℕ) → kind < 14 → length value < 2 ^ 16 → SpellsAttribute (parts.Passed kind) (attribute 0x40 kind value)
 passed_spelled kind value lt few = attribute_spelled (parts.Passed kind) 0x40 value well_known few (passed_over kind lt)
@@ -152,7 +163,8 @@ tunnel_in None = []
 tunnel_in (Some pmsi) = parts.Tunnel pmsi ∷ []
 
 -- the tunnel stands last
-tunnel_stands : (before : List Attribute) (pmsi : Option Pmsi) → IsTunnel pmsi → length (tunnel_text pmsi) ≤ 4096 → AllByRecursion (λ b. type_of b ≢ 22) before → ArePartsAfter SpellsAttribute IsNew before (tunnel_text pmsi) (tunnel_in pmsi) []
+tunnel_stands : (before : List Attribute) (pmsi : Option Pmsi) → IsTunnel pmsi → length (tunnel_text pmsi) ≤ 4096
+    → AllByRecursion (λ b. type_of b ≢ 22) before → ArePartsAfter SpellsAttribute IsNew before (tunnel_text pmsi) (tunnel_in pmsi) []
 tunnel_stands before None is few new = refl
 tunnel_stands before (Some pmsi) is few new =
     let text : List ℕ = tunnel_text (Some pmsi) in
@@ -160,14 +172,17 @@ tunnel_stands before (Some pmsi) is few new =
     let small : length value < 2 ^ 16 = omega (arith, few, length-append (attribute_head 192 22 (length value)) value) in
     (text, [], attribute_spelled (parts.Tunnel pmsi) 0xC0 value transitive small is, (λ _. new), sym (append-nil text), refl)
 
-advert_stands : (advert : Advert) → IsWritableAdvert advert → HasOctets advert.key → length (advert_text advert) ≤ 4096 → AreAttributes (advert_text advert) (parts.Passed 1 ∷ parts.Passed 2 ∷ parts.Passed 5 ∷ reached advert ∷ parts.Communities advert.comms ∷ tunnel_in advert.pmsi)
+advert_stands : (advert : Advert) → IsWritableAdvert advert → HasOctets advert.key → length (advert_text advert) ≤ 4096
+    → AreAttributes (advert_text advert) (parts.Passed 1 ∷ parts.Passed 2 ∷ parts.Passed 5 ∷ reached advert ∷ parts.Communities advert.comms
+    ∷ tunnel_in advert.pmsi)
 advert_stands advert w fits few =
     let a : List ℕ = reach_value advert in
     let b : List ℕ = comms_octets advert.comms in
     let reach : List ℕ = attribute 0x80 14 a in
     let comms : List ℕ = attribute 0xC0 16 b in
     let tunnel : List ℕ = tunnel_text advert.pmsi in
-    let sizes : length (advert_text advert) ≡ 14 + (length reach + (length comms + length tunnel)) = omega (arith, length-append reach (comms ++ tunnel), length-append comms tunnel) in
+    let sizes : length (advert_text advert) ≡ 14 + (length reach + (length comms + length tunnel)) =
+    omega (arith, length-append reach (comms ++ tunnel), length-append comms tunnel) in
     let small_a : length a < 2 ^ 16 = omega (arith, few, sizes, length-append (attribute_head 128 14 (length a)) a) in
     let small_b : length b < 2 ^ 16 = omega (arith, few, sizes, length-append (attribute_head 192 16 (length b)) b) in (
       attribute 0x40 1 (0 ∷ []),
@@ -199,8 +214,14 @@ advert_stands advert w fits few =
               attribute_spelled (parts.Communities advert.comms) 0xC0 b transitive small_b (w.comms, refl),
               (λ _. (unlike 1 16 (omega arith), (unlike 2 16 (omega arith), (unlike 5 16 (omega arith), (unlike 14 16 (omega arith), tt))))),
               refl,
-              tunnel_stands (parts.Passed 1 ∷ parts.Passed 2 ∷ parts.Passed 5 ∷ reached advert ∷ parts.Communities advert.comms ∷ []) advert.pmsi w.tunnel (omega (arith, few, sizes))
-                  (unlike 1 22 (omega arith), (unlike 2 22 (omega arith), (unlike 5 22 (omega arith), (unlike 14 22 (omega arith), (unlike 16 22 (omega arith), tt))))),
+              tunnel_stands (parts.Passed 1 ∷ parts.Passed 2 ∷ parts.Passed 5 ∷ reached advert ∷ parts.Communities advert.comms ∷ []) advert.pmsi
+                  w.tunnel (omega (arith, few, sizes)) (
+                    unlike 1 22 (omega arith),
+                    (
+                      unlike 2 22 (omega arith),
+                      (unlike 5 22 (omega arith), (unlike 14 22 (omega arith), (unlike 16 22 (omega arith), tt))),
+                    ),
+                  ),
             ),
           ),
         ),
@@ -210,24 +231,44 @@ advert_stands advert w fits few =
     unlike : (m n : ℕ) → m < n → m ≢ n
     unlike m n lt same = omega (arith, lt, same)
 
-advert_says : (key : Key) (next_hop : Addr) (comms : List ExtComm) (pmsi : Option Pmsi) → let advert : Advert = record { key = key; next_hop = next_hop; comms = comms; pmsi = pmsi } in
+advert_says : (key : Key) (next_hop : Addr) (comms : List ExtComm) (pmsi : Option Pmsi) → let advert : Advert =
+    record { key = key; next_hop = next_hop; comms = comms; pmsi = pmsi } in
     let update : Update = record { reach = advert ∷ []; unreach = [] } in
     update ≡ attributes.update_of (parts.Passed 1 ∷ parts.Passed 2 ∷ parts.Passed 5 ∷ reached advert ∷ parts.Communities comms ∷ tunnel_in pmsi)
-advert_says key next_hop comms None = ap (λ (cs : List ExtComm). record { reach = record { key = key; next_hop = next_hop; comms = cs; pmsi = None } ∷ []; unreach = [] }) (sym (append-nil comms))
-advert_says key next_hop comms (Some pmsi) = ap (λ (cs : List ExtComm). record { reach = record { key = key; next_hop = next_hop; comms = cs; pmsi = Some pmsi } ∷ []; unreach = [] }) (sym (append-nil comms))
+advert_says key next_hop comms None =
+    ap (λ (cs : List ExtComm). record { reach = record { key = key; next_hop = next_hop; comms = cs; pmsi = None } ∷ []; unreach = [] })
+    (sym (append-nil comms))
+advert_says key next_hop comms (Some pmsi) =
+    ap (λ (cs : List ExtComm). record { reach = record { key = key; next_hop = next_hop; comms = cs; pmsi = Some pmsi } ∷ []; unreach = [] })
+    (sym (append-nil comms))
 
-attributes_spelled : (change : Change) → IsWritable change → HasOctets (key_of change) → length (attributes_of change) ≤ 4096 → attributes.Spells (update_of change) (attributes_of change)
-attributes_spelled (Reach advert) w fits few =
-    (parts.Passed 1 ∷ parts.Passed 2 ∷ parts.Passed 5 ∷ reached advert ∷ parts.Communities advert.comms ∷ tunnel_in advert.pmsi, advert_stands advert w fits few, advert_says advert.key advert.next_hop advert.comms advert.pmsi)
+attributes_spelled : (change : Change) → IsWritable change → HasOctets (key_of change) → length (attributes_of change) ≤ 4096
+    → attributes.Spells (update_of change) (attributes_of change)
+attributes_spelled (Reach advert) w fits few = (
+  parts.Passed 1 ∷ parts.Passed 2 ∷ parts.Passed 5 ∷ reached advert ∷ parts.Communities advert.comms ∷ tunnel_in advert.pmsi,
+  advert_stands advert w fits few,
+  advert_says advert.key advert.next_hop advert.comms advert.pmsi,
+)
 attributes_spelled (Unreach key) w fits few =
     let a : List ℕ = unreach_value key in
     let text : List ℕ = attribute 0x80 15 a in
-    let small : length a < 2 ^ 16 = omega (arith, few, length-append (attribute_head 128 15 (length a)) a) in
-    (parts.Unreach (Some (key ∷ [])) ∷ [], (text, [], attribute_spelled (parts.Unreach (Some (key ∷ []))) 0x80 a optional small (unreach_spelled key w fits), (λ _. tt), sym (append-nil text), refl), refl)
+    let small : length a < 2 ^ 16 = omega (arith, few, length-append (attribute_head 128 15 (length a)) a) in (
+      parts.Unreach (Some (key ∷ [])) ∷ [],
+      (
+        text,
+        [],
+        attribute_spelled (parts.Unreach (Some (key ∷ []))) 0x80 a optional small (unreach_spelled key w fits),
+        (λ _. tt),
+        sym (append-nil text),
+        refl,
+      ),
+      refl,
+    )
 
 -- ---- messages
 
-message_spelled : (update : Update) (list : List ℕ) → 23 + length list ≤ 4096 → attributes.Spells update list → SpellsMessage (messages.Update update ∷ []) (message_text list)
+message_spelled : (update : Update) (list : List ℕ) → 23 + length list ≤ 4096 → attributes.Spells update list
+    → SpellsMessage (messages.Update update ∷ []) (message_text list)
 message_spelled update list few s =
     let body : List ℕ = (0 ∷ 0 ∷ []) ++ (to_be_bytes w16 (length list) ++ list) in
     let len : 23 + length list ≡ 19 + length body = omega arith in
@@ -238,20 +279,33 @@ message_spelled update list few s =
       one = refl;
       parts = ap (λ (n : ℕ). header n 2 ++ body) len;
       within = omega (arith, few);
-      means = (refl, record { withdrawn = []; list = list; rest = []; parts = ap (λ (xs : List ℕ). (0 ∷ 0 ∷ []) ++ (to_be_bytes w16 (length list) ++ xs)) (sym (append-nil list)); spelled = s });
+      means = (
+        refl,
+        record {
+          withdrawn = [];
+          list = list;
+          rest = [];
+          parts =
+              ap (λ (xs : List ℕ). (0 ∷ 0 ∷ []) ++ (to_be_bytes w16 (length list) ++ xs)) (sym (append-nil list));
+          spelled = s;
+        },
+      );
     }
 
 message_len : (list : List ℕ) → length (message_text list) ≡ 23 + length list
 message_len list = omega arith
 
 -- What is written spells the UPDATE that makes the change.
-pub written_spells : (change : Change) → IsWritable change → HasOctets (key_of change) → length (written change) ≤ 4096 → SpellsMessage (messages.Update (update_of change) ∷ []) (written change)
+pub written_spells : (change : Change) → IsWritable change → HasOctets (key_of change) → length (written change) ≤ 4096
+    → SpellsMessage (messages.Update (update_of change) ∷ []) (written change)
 written_spells change w fits few =
     let le : 23 + length (attributes_of change) ≤ 4096 = omega (arith, few, message_len (attributes_of change)) in
     message_spelled (update_of change) (attributes_of change) le (attributes_spelled change w fits (omega (arith, le)))
 
 -- A fresh stream that is fed it has just that message.
-pub written_fed : (change : Change) → IsWritable change → HasOctets (key_of change) → length (written change) ≤ 4096 → fed message_front unfed (written change) ≡ record { waiting = messages.Update (update_of change) ∷ []; held = []; before = length (written change); fault = None }
+pub written_fed : (change : Change) → IsWritable change → HasOctets (key_of change) → length (written change) ≤ 4096
+    → fed message_front unfed (written change) ≡
+    record { waiting = messages.Update (update_of change) ∷ []; held = []; before = length (written change); fault = None }
 written_fed change w fits few =
     let n : ℕ = length (written change) in
     let place : further 0 n ≡ n = omega (arith, few) in

@@ -22,11 +22,16 @@ given_fits : (n len : ℕ) (rest : List ℕ) → IsOctets (n ∷ (len ∷ rest))
 given_fits n len rest fits = octets_before len rest (λ i. fits (suc (suc i)))
 
 -- Where the fields stand to the end of the length, they are the octets that it gives.
-whole : (len : ℕ) (rest text : List ℕ) (d : Bounded) → Passes (given len rest) text d → d.within ≡ 0 → (take len rest ≡ text) × (length text ≡ len) × (len ≤ length rest)
+whole : (len : ℕ) (rest text : List ℕ) (d : Bounded) → Passes (given len rest) text d → d.within ≡ 0
+    → (take len rest ≡ text) × (length text ≡ len) × (len ≤ length rest)
 whole len rest text d p end =
     let size : length text ≡ len = omega (arith, p.within, end) in
-    let none : d.left ≡ [] = nil_from_length d.left (omega (arith, size, ap (λ (xs : List ℕ). length xs) p.parts, length-append text d.left, length-take len rest)) in
-    (p.parts ∙ ap (λ (xs : List ℕ). text ++ xs) none ∙ append-nil text, size, omega (arith, size, ap (λ (xs : List ℕ). length xs) p.parts, length-append text d.left, length-take len rest))
+    let none : d.left ≡ [] =
+    nil_from_length d.left (omega (arith, size, ap (λ (xs : List ℕ). length xs) p.parts, length-append text d.left, length-take len rest)) in (
+      p.parts ∙ ap (λ (xs : List ℕ). text ++ xs) none ∙ append-nil text,
+      size,
+      omega (arith, size, ap (λ (xs : List ℕ). length xs) p.parts, length-append text d.left, length-take len rest),
+    )
 
 take_two : (n len : ℕ) (rest : List ℕ) → take (len + 2) (n ∷ (len ∷ rest)) ≡ n ∷ (len ∷ take len rest)
 take_two n len rest = let two : len + 2 ≡ suc (suc len) = omega arith in rw two refl
@@ -35,7 +40,8 @@ text_of : (r : Route) (n len : ℕ) (octets : List ℕ) → n ≡ kind r → len
 text_of r n len octets e l o = rw (e, ← l, o) refl
 
 -- What is read is spelled at the front.
-route_taken : (afi : Afi) (bytes : List ℕ) (x : Route × ℕ) → IsOctets bytes → route_at afi bytes ≡ Ok x → Spells afi x.0 (take x.1 bytes) × (x.1 ≤ length bytes)
+route_taken : (afi : Afi) (bytes : List ℕ) (x : Route × ℕ) → IsOctets bytes → route_at afi bytes ≡ Ok x
+    → Spells afi x.0 (take x.1 bytes) × (x.1 ≤ length bytes)
 unfolding route_at
 route_taken afi [] x fits e = absurd cc
 route_taken afi (n ∷ []) x fits e = absurd cc
@@ -54,11 +60,13 @@ written_is_read afi r rest is =
     let n = length (fields r) in
     let front : take n (fields r ++ rest) ≡ fields r = take_at (fields r) rest n refl in
     let d : Bounded = record { left = []; place = 2 + n; within = 0 } in
-    let p : Passes (record { left = fields r; place = 2; within = n }) (fields r) d = record { parts = sym (append-nil (fields r)); place = refl; within = omega arith } in
+    let p : Passes (record { left = fields r; place = 2; within = n }) (fields r) d =
+    record { parts = sym (append-nil (fields r)); place = refl; within = omega arith } in
     let size : n + 2 ≡ suc (suc n) = omega arith in
     rw (front, fields_are_read afi r (record { left = fields r; place = 2; within = n }) d p is refl, size) refl
 
-route_again : (afi : Afi) (bytes : List ℕ) (r : Route) (text rest : List ℕ) → Spells afi r text → bytes ≡ text ++ rest → route_at afi bytes ≡ Ok (r, length text)
+route_again : (afi : Afi) (bytes : List ℕ) (r : Route) (text rest : List ℕ) → Spells afi r text → bytes ≡ text ++ rest
+    → route_at afi bytes ≡ Ok (r, length text)
 route_again afi bytes r text rest spelled parts = rw (parts, spelled.octets) (written_is_read afi r rest spelled.route)
 
 -- A fault that is answered is the first one.
@@ -82,20 +90,25 @@ route_failing afi bytes f (faults.in_fields n len rest parts h) = rw (parts, fie
 -- A fault stands within the octets or right behind them.
 fault_within : (afi : Afi) (bytes : List ℕ) (f : RouteFault) → FirstFault afi bytes f → f.place ≤ length bytes
 fault_within afi bytes f (faults.kind_short none is) = is_near f 0 _ (ap (λ (g : RouteFault). g.place) is) (omega arith)
-fault_within afi bytes f (faults.len_short n one is) = is_near f 1 _ (ap (λ (g : RouteFault). g.place) is) (omega (arith, ap (λ (xs : List ℕ). length xs) one))
-fault_within afi bytes f (faults.in_fields n len rest parts h) = omega (arith, fault_near afi n (given len rest) f h, length-take len rest, ap (λ (xs : List ℕ). length xs) parts)
+fault_within afi bytes f (faults.len_short n one is) =
+    is_near f 1 _ (ap (λ (g : RouteFault). g.place) is) (omega (arith, ap (λ (xs : List ℕ). length xs) one))
+fault_within afi bytes f (faults.in_fields n len rest parts h) =
+    omega (arith, fault_near afi n (given len rest) f h, length-take len rest, ap (λ (xs : List ℕ). length xs) parts)
 
 -- ---- the clauses
 
 pub read_is : (r : Result (Route × ℕ) RouteFault) (afi : Afi) (bytes : List ℕ) → IsOctets bytes → r ≡ route_at afi bytes
-    → IfOk r (λ x. Spells afi x.0 (take x.1 bytes) × (x.1 ≤ length bytes)) × (IfErr r (λ f. FirstFault afi bytes f) × IfErr r (λ f. f.place ≤ length bytes))
+    → IfOk r (λ x. Spells afi x.0 (take x.1 bytes) × (x.1 ≤ length bytes))
+    × (IfErr r (λ f. FirstFault afi bytes f) × IfErr r (λ f. f.place ≤ length bytes))
 read_is (Ok x) afi bytes fits e = (route_taken afi bytes x fits (sym e), (tt, tt))
 read_is (Err f) afi bytes fits e = let first = route_fails afi bytes f fits (sym e) in (tt, (first, fault_within afi bytes f first))
 
-pub spelled_is_read : (r : Result (Route × ℕ) RouteFault) (afi : Afi) (bytes : List ℕ) → r ≡ route_at afi bytes → (route : Route) (text rest : List ℕ) → Spells afi route text → bytes ≡ text ++ rest → r ≡ Ok (route, length text)
+pub spelled_is_read : (r : Result (Route × ℕ) RouteFault) (afi : Afi) (bytes : List ℕ) → r ≡ route_at afi bytes → (route : Route) (text rest : List ℕ)
+    → Spells afi route text → bytes ≡ text ++ rest → r ≡ Ok (route, length text)
 spelled_is_read r afi bytes e route text rest spelled parts = e ∙ route_again afi bytes route text rest spelled parts
 
-pub fault_is_read : (r : Result (Route × ℕ) RouteFault) (afi : Afi) (bytes : List ℕ) → r ≡ route_at afi bytes → (f : RouteFault) → FirstFault afi bytes f → r ≡ Err f
+pub fault_is_read : (r : Result (Route × ℕ) RouteFault) (afi : Afi) (bytes : List ℕ) → r ≡ route_at afi bytes → (f : RouteFault)
+    → FirstFault afi bytes f → r ≡ Err f
 fault_is_read r afi bytes e f first = e ∙ route_failing afi bytes f first
 
 -- Two spellings at one front are one, of one value.

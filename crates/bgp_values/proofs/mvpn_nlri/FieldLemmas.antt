@@ -31,15 +31,20 @@ one_is (x ∷ y ∷ xs) h = absurd (omega (arith, h))
 
 pub octet_format : Format octet_at (λ n. n ∷ []) (λ n. Unit {0}) Open (Lacks 1)
 unfolding octet_at
-octet_format = turned_format (λ xs. get_or xs 0 0) (λ n. n ∷ []) (λ n. Unit {0}) (λ xs fits len. (one_is xs len, tt)) (λ n h. (n ∷ [], refl, refl, refl)) (octets_format 1)
+octet_format =
+    turned_format (λ xs. get_or xs 0 0) (λ n. n ∷ []) (λ n. Unit {0}) (λ xs fits len. (one_is xs len, tt)) (λ n h. (n ∷ [], refl, refl, refl))
+    (octets_format 1)
 
 pub rd_format : Format rd_at (λ rd. rd.0) IsRd Open (Lacks 8)
 unfolding rd_at
-rd_format = turned_format (λ xs. record { 0 = xs }) (λ (rd : Rd). rd.0) IsRd (λ xs fits len. (refl, len)) (λ rd h. (rd.0, refl, refl, h)) (octets_format 8)
+rd_format =
+    turned_format (λ xs. record { 0 = xs }) (λ (rd : Rd). rd.0) IsRd (λ xs fits len. (refl, len)) (λ rd h. (rd.0, refl, refl, h)) (octets_format 8)
 
 pub as_format : Format as_at (λ n. to_be_bytes w32 n) IsAs Open (Lacks 4)
 unfolding as_at
-as_format = turned_format (λ xs. from_be_bytes w32 xs) (λ n. to_be_bytes w32 n) IsAs (λ xs fits len. (sym (wide32.back xs len fits), wide32.below xs fits)) (λ n lt. (to_be_bytes w32 n, sym (wide32.again n lt), refl, refl)) (octets_format 4)
+as_format =
+    turned_format (λ xs. from_be_bytes w32 xs) (λ n. to_be_bytes w32 n) IsAs (λ xs fits len. (sym (wide32.back xs len fits), wide32.below xs fits))
+    (λ n lt. (to_be_bytes w32 n, sym (wide32.again n lt), refl, refl)) (octets_format 4)
 
 -- ---- addresses
 
@@ -107,22 +112,29 @@ no_part_again role addr e h = rw e (true_or_false (is_multicast addr) (λ t. h (
 
 -- the octets of a source or group fail
 abbrev PlainFault : Afi → Role → Bounded → RouteFault → Type 0
-PlainFault afi role b f = Lacks (addr_len afi) b f ⊎ ((addr : Addr) × (e : Bounded) × (role ≡ Group) × IsSource afi addr × Passes b (addr_octets addr) e × ¬ (IsMulticast addr) × Is f b.place GroupNotMulticast)
+PlainFault afi role b f =
+    Lacks (addr_len afi) b f ⊎ ((addr : Addr) × (e : Bounded) × (role ≡ Group) × IsSource afi addr × Passes b (addr_octets addr) e
+    × ¬ (IsMulticast addr) × Is f b.place GroupNotMulticast)
 
-plain_taken : (afi : Afi) (role : Role) (b : Bounded) (x : Addr × Bounded) → plain_at afi role b ≡ Ok x → Passes b (addr_octets x.0) x.1 × IsPart role afi x.0
+plain_taken : (afi : Afi) (role : Role) (b : Bounded) (x : Addr × Bounded) → plain_at afi role b ≡ Ok x
+    → Passes b (addr_octets x.0) x.1 × IsPart role afi x.0
 unfolding plain_at
 plain_taken afi role b x e =
     let o = bind_ok (octets_within (addr_len afi) b) _ x e in
     let t = octets_taken (addr_len afi) b o.0 o.1 in
     let k = checked_ok (is_part role (addr_of afi o.0.0)) (fault b.place GroupNotMulticast) (addr_of afi o.0.0, o.0.1) x o.2 in
-    subst (λ (y : Addr × Bounded). Passes b (addr_octets y.0) y.1 × IsPart role afi y.0) (sym k.1)
-    (passes_is b o.0.0 (addr_octets (addr_of afi o.0.0)) o.0.1 t.0 (plain_of afi o.0.0), part_is role afi (addr_of afi o.0.0) (is_source afi o.0.0 t.1) k.0)
+    subst (λ (y : Addr × Bounded). Passes b (addr_octets y.0) y.1 × IsPart role afi y.0) (sym k.1) (
+      passes_is b o.0.0 (addr_octets (addr_of afi o.0.0)) o.0.1 t.0 (plain_of afi o.0.0),
+      part_is role afi (addr_of afi o.0.0) (is_source afi o.0.0 t.1) k.0,
+    )
 
-plain_again : (afi : Afi) (role : Role) (b : Bounded) (addr : Addr) (d : Bounded) → Passes b (addr_octets addr) d → IsPart role afi addr → plain_at afi role b ≡ Ok (addr, d)
+plain_again : (afi : Afi) (role : Role) (b : Bounded) (addr : Addr) (d : Bounded) → Passes b (addr_octets addr) d → IsPart role afi addr
+    → plain_at afi role b ≡ Ok (addr, d)
 unfolding plain_at
 plain_again afi role b addr d p h =
     let source = part_source role afi addr h in
-    rw (octets_again (addr_len afi) b (addr_octets addr) d p (source_len afi addr source), source_is afi addr source, is_part_again role afi addr h) refl
+    rw (octets_again (addr_len afi) b (addr_octets addr) d p (source_len afi addr source), source_is afi addr source, is_part_again role afi addr h)
+    refl
 
 plain_fails : (afi : Afi) (role : Role) (b : Bounded) (f : RouteFault) → plain_at afi role b ≡ Err f → PlainFault afi role b f
 unfolding plain_at
@@ -133,14 +145,26 @@ plain_fails afi role b f e =
           let t = octets_taken (addr_len afi) b o.0 o.1 in
           let k = checked_err (is_part role (addr_of afi o.0.0)) (fault b.place GroupNotMulticast) (addr_of afi o.0.0, o.0.1) f o.2 in
           let n = no_part role (addr_of afi o.0.0) k.0 in
-          inr (addr_of afi o.0.0, o.0.1, n.0, is_source afi o.0.0 t.1, passes_is b o.0.0 (addr_octets (addr_of afi o.0.0)) o.0.1 t.0 (plain_of afi o.0.0), n.1, k.1)
+          inr (
+            addr_of afi o.0.0,
+            o.0.1,
+            n.0,
+            is_source afi o.0.0 t.1,
+            passes_is b o.0.0 (addr_octets (addr_of afi o.0.0)) o.0.1 t.0 (plain_of afi o.0.0),
+            n.1,
+            k.1,
+          )
     ]
 
 plain_failing : (afi : Afi) (role : Role) (b : Bounded) (f : RouteFault) → PlainFault afi role b f → plain_at afi role b ≡ Err f
 unfolding plain_at
 plain_failing afi role b f (inl lacks) = rw (fail_octets (addr_len afi) b f lacks) refl
 plain_failing afi role b f (inr (addr, e, group, source, p, not, is)) =
-    rw (octets_again (addr_len afi) b (addr_octets addr) e p (source_len afi addr source), source_is afi addr source, no_part_again role addr group not) (err_again (sym is))
+    rw (
+      octets_again (addr_len afi) b (addr_octets addr) e p (source_len afi addr source),
+      source_is afi addr source,
+      no_part_again role addr group not,
+    ) (err_again (sym is))
 
 -- ---- a source or group, or the wildcard
 
@@ -148,7 +172,8 @@ bits_some : (afi : Afi) → bits afi ≢ 0
 bits_some Ipv4 e = omega (arith, e)
 bits_some Ipv6 e = omega (arith, e)
 
-any_or_taken : (afi : Afi) (role : Role) (b : Bounded) (x : Option Addr × Bounded) → IsOctets b.left → any_or_addr_at afi role b ≡ Ok x → Passes b (any_or_sized x.0) x.1 × IsAnyOr (IsPart role afi) x.0
+any_or_taken : (afi : Afi) (role : Role) (b : Bounded) (x : Option Addr × Bounded) → IsOctets b.left → any_or_addr_at afi role b ≡ Ok x
+    → Passes b (any_or_sized x.0) x.1 × IsAnyOr (IsPart role afi) x.0
 unfolding any_or_addr_at
 any_or_taken afi role b x fits e =
     let l = bind_ok (octet_at b) _ x e in
@@ -163,26 +188,34 @@ any_or_taken afi role b x fits e =
             let t = turned_ok Some (plain_at afi role) l.0.1 x good.1 in
             let q = plain_taken afi role l.0.1 t.0 t.1 in
             let both = passes_then b (l.0.0 ∷ []) l.0.1 (addr_octets t.0.0) t.0.1 p q.0 in
-            let text : l.0.0 ∷ addr_octets t.0.0 ≡ sized t.0.0 = ap (λ n. n ∷ addr_octets t.0.0) (eqb-true l.0.0 (bits afi) good.0) ∙ sized_is afi t.0.0 (part_source role afi t.0.0 q.1) in
+            let text : l.0.0 ∷ addr_octets t.0.0 ≡ sized t.0.0 =
+            ap (λ n. n ∷ addr_octets t.0.0) (eqb-true l.0.0 (bits afi) good.0) ∙ sized_is afi t.0.0 (part_source role afi t.0.0 q.1) in
             subst (λ (y : Option Addr × Bounded). Passes b (any_or_sized y.0) y.1 × IsAnyOr (IsPart role afi) y.0) t.2
             (passes_is b (l.0.0 ∷ addr_octets t.0.0) (sized t.0.0) t.0.1 both text, q.1)
         | inr bad ↦ absurd cc
       ]
     ]
 
-any_or_again : (afi : Afi) (role : Role) (b : Bounded) (x : Option Addr) (d : Bounded) → Passes b (any_or_sized x) d → IsAnyOr (IsPart role afi) x → any_or_addr_at afi role b ≡ Ok (x, d)
+any_or_again : (afi : Afi) (role : Role) (b : Bounded) (x : Option Addr) (d : Bounded) → Passes b (any_or_sized x) d → IsAnyOr (IsPart role afi) x
+    → any_or_addr_at afi role b ≡ Ok (x, d)
 unfolding any_or_addr_at
 any_or_again afi role b None d p h = rw (octet_format.again b 0 d p tt tt) refl
 any_or_again afi role b (Some addr) d p h =
     let text = sym (sized_is afi addr (part_source role afi addr h)) in
     let s = passes_split b (bits afi ∷ []) (addr_octets addr) d (passes_is b (sized addr) (bits afi ∷ addr_octets addr) d p text) in
-    rw (octet_format.again b (bits afi) s.0 s.1 tt tt, ne_eqb (bits afi) 0 (bits_some afi), eq-eqb (bits afi) (bits afi) refl, plain_again afi role s.0 addr d s.2 h) refl
+    rw (
+      octet_format.again b (bits afi) s.0 s.1 tt tt,
+      ne_eqb (bits afi) 0 (bits_some afi),
+      eq-eqb (bits afi) (bits afi) refl,
+      plain_again afi role s.0 addr d s.2 h,
+    ) refl
 
 in_plain : (afi : Afi) (role : Role) (b d : Bounded) (f : RouteFault) → Passes b (bits afi ∷ []) d → PlainFault afi role d f → AnyOrFault afi role b f
 in_plain afi role b d f p (inl lacks) = faults.addr_lacks d p lacks
 in_plain afi role b d f p (inr (addr, e, group, source, q, not, is)) = faults.not_multicast addr d e group p source q not is
 
-any_or_fails : (afi : Afi) (role : Role) (b : Bounded) (f : RouteFault) → IsOctets b.left → any_or_addr_at afi role b ≡ Err f → AnyOrFault afi role b f
+any_or_fails : (afi : Afi) (role : Role) (b : Bounded) (f : RouteFault) → IsOctets b.left → any_or_addr_at afi role b ≡ Err f
+    → AnyOrFault afi role b f
 unfolding any_or_addr_at
 any_or_fails afi role b f fits e =
     elim (bind_err (octet_at b) _ f e) [
@@ -208,15 +241,26 @@ any_or_failing afi role b f (faults.len_lacks h) = rw (octet_format.failing b f 
 any_or_failing afi role b f (faults.len_wrong octet d p zero other is) =
     rw (octet_format.again b octet d p tt tt, ne_eqb octet 0 zero, ne_eqb octet (bits afi) other) (err_again (sym is))
 any_or_failing afi role b f (faults.addr_lacks d p h) =
-    rw (octet_format.again b (bits afi) d p tt tt, ne_eqb (bits afi) 0 (bits_some afi), eq-eqb (bits afi) (bits afi) refl, plain_failing afi role d f (inl h)) refl
+    rw (
+      octet_format.again b (bits afi) d p tt tt,
+      ne_eqb (bits afi) 0 (bits_some afi),
+      eq-eqb (bits afi) (bits afi) refl,
+      plain_failing afi role d f (inl h),
+    ) refl
 any_or_failing afi role b f (faults.not_multicast addr d e group p source q not is) =
-    rw (octet_format.again b (bits afi) d p tt tt, ne_eqb (bits afi) 0 (bits_some afi), eq-eqb (bits afi) (bits afi) refl, plain_failing afi role d f (inr (addr, e, group, source, q, not, is))) refl
+    rw (
+      octet_format.again b (bits afi) d p tt tt,
+      ne_eqb (bits afi) 0 (bits_some afi),
+      eq-eqb (bits afi) (bits afi) refl,
+      plain_failing afi role d f (inr (addr, e, group, source, q, not, is)),
+    ) refl
 
 any_or_near : (afi : Afi) (role : Role) (b : Bounded) (f : RouteFault) → AnyOrFault afi role b f → f.place ≤ b.place + length b.left
 any_or_near afi role b f (faults.len_lacks h) = lacks_near 1 b f h
 any_or_near afi role b f (faults.len_wrong octet d p zero other is) = is_near f b.place _ (ap (λ (g : RouteFault). g.place) is) (omega arith)
 any_or_near afi role b f (faults.addr_lacks d p h) = omega (arith, lacks_near (addr_len afi) d f h, passes_end b (bits afi ∷ []) d p)
-any_or_near afi role b f (faults.not_multicast addr d e group p source q not is) = is_near f d.place _ (ap (λ (g : RouteFault). g.place) is) (omega (arith, passes_end b (bits afi ∷ []) d p))
+any_or_near afi role b f (faults.not_multicast addr d e group p source q not is) =
+    is_near f d.place _ (ap (λ (g : RouteFault). g.place) is) (omega (arith, passes_end b (bits afi ∷ []) d p))
 
 pub any_or_format : (afi : Afi) (role : Role) → Format (any_or_addr_at afi role) any_or_sized (IsAnyOr (IsPart role afi)) Open (AnyOrFault afi role)
 any_or_format afi role = record {
@@ -237,7 +281,8 @@ named_err : (place : ℕ) (o : Option Addr × Bounded) (f : RouteFault) → no_w
 named_err place (Some addr, b) f e = absurd cc
 named_err place (None, b) f e = (refl, cc)
 
-addr_taken : (afi : Afi) (role : Role) (b : Bounded) (x : Addr × Bounded) → IsOctets b.left → addr_at afi role b ≡ Ok x → Passes b (sized x.0) x.1 × IsPart role afi x.0
+addr_taken : (afi : Afi) (role : Role) (b : Bounded) (x : Addr × Bounded) → IsOctets b.left → addr_at afi role b ≡ Ok x
+    → Passes b (sized x.0) x.1 × IsPart role afi x.0
 unfolding addr_at
 addr_taken afi role b x fits e =
     let o = bind_ok (any_or_addr_at afi role b) _ x e in
@@ -260,7 +305,8 @@ unfolding addr_at
 addr_failing afi role b f (faults.in_field h) = rw (any_or_failing afi role b f h) refl
 addr_failing afi role b f (faults.wildcard d p is) = rw (any_or_again afi role b None d p tt) (err_again (sym is))
 
-addr_again : (afi : Afi) (role : Role) (b : Bounded) (x : Addr) (d : Bounded) → Passes b (sized x) d → IsPart role afi x → addr_at afi role b ≡ Ok (x, d)
+addr_again : (afi : Afi) (role : Role) (b : Bounded) (x : Addr) (d : Bounded) → Passes b (sized x) d → IsPart role afi x
+    → addr_at afi role b ≡ Ok (x, d)
 unfolding addr_at
 addr_again afi role b x d p h = rw (any_or_again afi role b (Some x) d p h) refl
 
@@ -293,11 +339,13 @@ originator_taken b x e =
     elim (chosen (eqb b.within 4) _ _ _ o.2) [
       | inl short ↦
           let made : Addr × Bounded = (V4 o.0.0, o.0.1) in
-          subst (λ (y : Addr × Bounded). Passes b (addr_octets y.0) y.1 × (IsAddr y.0 × Ends y.1)) (ok_is made x short.1) (t.0, (t.1 ∙ eqb-true b.within 4 short.0, ends))
+          subst (λ (y : Addr × Bounded). Passes b (addr_octets y.0) y.1 × (IsAddr y.0 × Ends y.1)) (ok_is made x short.1)
+          (t.0, (t.1 ∙ eqb-true b.within 4 short.0, ends))
       | inr more ↦ elim (chosen (eqb b.within 16) _ _ _ more.1) [
         | inl long ↦
             let made : Addr × Bounded = (V6 o.0.0, o.0.1) in
-            subst (λ (y : Addr × Bounded). Passes b (addr_octets y.0) y.1 × (IsAddr y.0 × Ends y.1)) (ok_is made x long.1) (t.0, (t.1 ∙ eqb-true b.within 16 long.0, ends))
+            subst (λ (y : Addr × Bounded). Passes b (addr_octets y.0) y.1 × (IsAddr y.0 × Ends y.1)) (ok_is made x long.1)
+            (t.0, (t.1 ∙ eqb-true b.within 16 long.0, ends))
         | inr bad ↦ absurd cc
       ]
     ]
@@ -342,7 +390,16 @@ originator_fails b f e =
     ]
 
 rest_again : (b : Bounded) → b.within ≤ length b.left → (x : List ℕ × Bounded) × (octets_within b.within b ≡ Ok x)
-rest_again b le = (_, octets_again b.within b (take b.within b.left) (record { left = drop b.within b.left; place = b.place + b.within; within = 0 }) (record { parts = sym (take-append-drop b.within b.left); place = ap (λ n. b.place + n) (sym (length-take-le b.within b.left le)); within = omega (arith, length-take-le b.within b.left le) }) (length-take-le b.within b.left le))
+rest_again b le = (
+  _,
+  octets_again b.within b (take b.within b.left) (record { left = drop b.within b.left; place = b.place + b.within; within = 0 })
+      (record {
+        parts = sym (take-append-drop b.within b.left);
+        place = ap (λ n. b.place + n) (sym (length-take-le b.within b.left le));
+        within =
+            omega (arith, length-take-le b.within b.left le);
+      }) (length-take-le b.within b.left le),
+)
 
 originator_failing : (b : Bounded) (f : RouteFault) → OriginatorFault b f → originator_at b ≡ Err f
 unfolding originator_at

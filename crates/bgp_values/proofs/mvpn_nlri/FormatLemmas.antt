@@ -33,33 +33,41 @@ passes_end b text d p = omega (arith, p.place, ap (λ (xs : List ℕ). length xs
 
 -- Octets behind octets are octets.
 pub passes_octets : (b : Bounded) (text : List ℕ) (d : Bounded) → Passes b text d → IsOctets b.left → IsOctets d.left
-passes_octets b text d p fits = subst IsOctets (ap (λ (xs : List ℕ). drop (length text) xs) p.parts ∙ drop_at text d.left (length text) refl) (octets_behind (length text) b.left fits)
+passes_octets b text d p fits =
+    subst IsOctets (ap (λ (xs : List ℕ). drop (length text) xs) p.parts ∙ drop_at text d.left (length text) refl)
+    (octets_behind (length text) b.left fits)
 
 -- What is passed are octets.
 pub passes_text : (b : Bounded) (text : List ℕ) (d : Bounded) → Passes b text d → IsOctets b.left → IsOctets text
-passes_text b text d p fits = subst IsOctets (ap (λ (xs : List ℕ). take (length text) xs) p.parts ∙ take_at text d.left (length text) refl) (octets_before (length text) b.left fits)
+passes_text b text d p fits =
+    subst IsOctets (ap (λ (xs : List ℕ). take (length text) xs) p.parts ∙ take_at text d.left (length text) refl)
+    (octets_before (length text) b.left fits)
 
 pub passes_is : (b : Bounded) (x y : List ℕ) (d : Bounded) → Passes b x d → x ≡ y → Passes b y d
 passes_is b x y d p e = subst (λ (t : List ℕ). Passes b t d) e p
 
 -- ---- so many octets
 
-pub bounded_is : (left : List ℕ) (place within : ℕ) (d : Bounded) → left ≡ d.left → place ≡ d.place → within ≡ d.within → record { left = left; place = place; within = within } ≡ d
+pub bounded_is : (left : List ℕ) (place within : ℕ) (d : Bounded) → left ≡ d.left → place ≡ d.place → within ≡ d.within
+    → record { left = left; place = place; within = within } ≡ d
 bounded_is left place within d p q r = rw (p, q, r) refl
 
-guarded_ok : {A : Type 0} (p q : Bool) (e f : RouteFault) (x y : A) → cond p (Err e) (cond q (Err f) (Ok x)) ≡ Ok y → (p ≡ false) × (q ≡ false) × (x ≡ y)
+guarded_ok : {A : Type 0} (p q : Bool) (e f : RouteFault) (x y : A) → cond p (Err e) (cond q (Err f) (Ok x)) ≡ Ok y
+    → (p ≡ false) × (q ≡ false) × (x ≡ y)
 guarded_ok true q e f x y h = absurd cc
 guarded_ok false true e f x y h = absurd cc
 guarded_ok false false e f x y h = (refl, refl, cc)
 
-guarded_err : {A : Type 0} (p q : Bool) (e f : RouteFault) (x : A) (g : RouteFault) → cond p (Err e) (cond q (Err f) (Ok x)) ≡ Err g → ((p ≡ true) × (g ≡ e)) ⊎ ((p ≡ false) × (q ≡ true) × (g ≡ f))
+guarded_err : {A : Type 0} (p q : Bool) (e f : RouteFault) (x : A) (g : RouteFault) → cond p (Err e) (cond q (Err f) (Ok x)) ≡ Err g
+    → ((p ≡ true) × (g ≡ e)) ⊎ ((p ≡ false) × (q ≡ true) × (g ≡ f))
 guarded_err true q e f x g h = inl (refl, cc)
 guarded_err false true e f x g h = inr (refl, refl, cc)
 guarded_err false false e f x g h = absurd cc
 
 pub octets_taken : (n : ℕ) (b : Bounded) (x : List ℕ × Bounded) → octets_within n b ≡ Ok x → Passes b x.0 x.1 × (length x.0 ≡ n)
 octets_taken n b x e =
-    let g = guarded_ok (ltb b.within n) (ltb (length b.left) n) (fault b.place LengthTooSmall) (fault b.place Short) (take n b.left, record { left = drop n b.left; place = b.place + n; within = b.within - n }) x e in
+    let g = guarded_ok (ltb b.within n) (ltb (length b.left) n) (fault b.place LengthTooSmall) (fault b.place Short)
+    (take n b.left, record { left = drop n b.left; place = b.place + n; within = b.within - n }) x e in
     let len : length (take n b.left) ≡ n = length-take-le n b.left (ltb-false _ _ g.1) in
     subst (λ (y : List ℕ × Bounded). Passes b y.0 y.1 × (length y.0 ≡ n)) g.2
     (record { parts = sym (take-append-drop n b.left); place = rw len refl; within = omega (arith, len, ltb-false _ _ g.0) }, len)
@@ -69,12 +77,15 @@ octets_again n b text d p len =
     let wide : ltb b.within n ≡ false = le-ltb _ _ (omega (arith, p.within, len)) in
     let long : ltb (length b.left) n ≡ false = le-ltb _ _ (omega (arith, len, ap (λ (xs : List ℕ). length xs) p.parts, length-append text d.left)) in
     let front : take n b.left ≡ text = rw p.parts (take_at text d.left n len) in
-    let after : record { left = drop n b.left; place = b.place + n; within = b.within - n } ≡ d = bounded_is (drop n b.left) (b.place + n) (b.within - n) d (rw p.parts (drop_at text d.left n len)) (omega (arith, p.place, len)) (omega (arith, p.within, len)) in
+    let after : record { left = drop n b.left; place = b.place + n; within = b.within - n } ≡ d =
+    bounded_is (drop n b.left) (b.place + n) (b.within - n) d (rw p.parts (drop_at text d.left n len)) (omega (arith, p.place, len))
+    (omega (arith, p.within, len)) in
     rw (wide, long, front, after) refl
 
 pub octets_fail : (n : ℕ) (b : Bounded) (f : RouteFault) → octets_within n b ≡ Err f → Lacks n b f
 octets_fail n b f e =
-    elim (guarded_err (ltb b.within n) (ltb (length b.left) n) (fault b.place LengthTooSmall) (fault b.place Short) (take n b.left, record { left = drop n b.left; place = b.place + n; within = b.within - n }) f e) [
+    elim (guarded_err (ltb b.within n) (ltb (length b.left) n) (fault b.place LengthTooSmall) (fault b.place Short)
+    (take n b.left, record { left = drop n b.left; place = b.place + n; within = b.within - n }) f e) [
       | inl small ↦ faults.too_small (ltb-true _ _ small.0) small.1
       | inr few ↦ faults.short (ltb-false _ _ few.0) (ltb-true _ _ few.1) few.2
     ]
@@ -94,7 +105,8 @@ lacks_near n b f (faults.short le lt is) = is_near f b.place _ (ap (λ (g : Rout
 -- ---- values
 
 -- A value is read exactly where its text stands, and a fault is answered exactly where it is the first one.
-pub record Format {A : Type 0} (read : Bounded → Read A) (text : A → List ℕ) (Meets : A → Type 0) (After : Bounded → Type 0) (Fails : Bounded → RouteFault → Type 0) : Type 0 where
+pub record Format {A : Type 0} (read : Bounded → Read A) (text : A → List ℕ) (Meets : A → Type 0) (After : Bounded → Type 0)
+    (Fails : Bounded → RouteFault → Type 0) : Type 0 where
   pub taken : (b : Bounded) (x : A × Bounded) → IsOctets b.left → read b ≡ Ok x → Passes b (text x.0) x.1 × (Meets x.0 × After x.1)
   pub again : (b : Bounded) (x : A) (d : Bounded) → Passes b (text x) d → Meets x → After d → read b ≡ Ok (x, d)
   pub fails : (b : Bounded) (f : RouteFault) → IsOctets b.left → read b ≡ Err f → Fails b f
@@ -120,7 +132,8 @@ octets_format n = record {
 
 -- ---- a value in the place of the one that was read
 
-pub turned_ok : {A B : Type 0} (f : A → B) (read : Bounded → Read A) (b : Bounded) (x : B × Bounded) → turned f read b ≡ Ok x → (y : A × Bounded) × (read b ≡ Ok y) × ((f y.0, y.1) ≡ x)
+pub turned_ok : {A B : Type 0} (f : A → B) (read : Bounded → Read A) (b : Bounded) (x : B × Bounded) → turned f read b ≡ Ok x
+    → (y : A × Bounded) × (read b ≡ Ok y) × ((f y.0, y.1) ≡ x)
 turned_ok f read b x e =
     let a = bind_ok (read b) _ x e in
     (a.0, a.1, ok_is _ _ a.2)
@@ -132,15 +145,18 @@ turned_err f read b g e =
       | inr second ↦ absurd cc
     ]
 
-pub turned_again : {A B : Type 0} (f : A → B) (read : Bounded → Read A) (b : Bounded) (x : A) (d : Bounded) → read b ≡ Ok (x, d) → turned f read b ≡ Ok (f x, d)
+pub turned_again : {A B : Type 0} (f : A → B) (read : Bounded → Read A) (b : Bounded) (x : A) (d : Bounded) → read b ≡ Ok (x, d)
+    → turned f read b ≡ Ok (f x, d)
 turned_again f read b x d e = rw e refl
 
 pub turned_failing : {A B : Type 0} (f : A → B) (read : Bounded → Read A) (b : Bounded) (g : RouteFault) → read b ≡ Err g → turned f read b ≡ Err g
 turned_failing f read b g e = rw e refl
 
 -- A value that stands for the one that was read, and back, has its format.
-pub turned_format : {A B : Type 0} {read : Bounded → Read A} {text : A → List ℕ} {Meets : A → Type 0} {After : Bounded → Type 0} {Fails : Bounded → RouteFault → Type 0}
-    → (f : A → B) (own : B → List ℕ) (Holds : B → Type 0) → ((x : A) → IsOctets (text x) → Meets x → (text x ≡ own (f x)) × Holds (f x)) → ((y : B) → Holds y → (x : A) × (y ≡ f x) × (own y ≡ text x) × Meets x)
+pub turned_format : {A B : Type 0} {read : Bounded → Read A} {text : A → List ℕ} {Meets : A → Type 0} {After : Bounded → Type 0}
+    {Fails : Bounded → RouteFault → Type 0}
+    → (f : A → B) (own : B → List ℕ) (Holds : B → Type 0) → ((x : A) → IsOctets (text x) → Meets x → (text x ≡ own (f x)) × Holds (f x))
+    → ((y : B) → Holds y → (x : A) × (y ≡ f x) × (own y ≡ text x) × Meets x)
     → Format read text Meets After Fails → Format (turned f read) own Holds After Fails
 turned_format {read} {text} {Meets} {After} {Fails} f own Holds there back format = record {
   taken = λ b x fits e.
@@ -150,7 +166,8 @@ turned_format {read} {text} {Meets} {After} {Fails} f own Holds there back forma
       subst (λ y. Passes b (own y.0) y.1 × (Holds y.0 × After y.1)) t.2 (passes_is b (text t.0.0) (own (f t.0.0)) t.0.1 k.0 w.0, (w.1, k.1.1));
   again = λ b y d p holds end.
       let w = back y holds in
-      subst (λ z. turned f read b ≡ Ok (z, d)) (sym w.1) (turned_again f read b w.0 d (format.again b w.0 d (passes_is b (own y) (text w.0) d p w.2) w.3 end));
+      subst (λ z. turned f read b ≡ Ok (z, d)) (sym w.1)
+      (turned_again f read b w.0 d (format.again b w.0 d (passes_is b (own y) (text w.0) d p w.2) w.3 end));
   fails = λ b g fits e. format.fails b g fits (turned_err f read b g e);
   failing = λ b g h. turned_failing f read b g (format.failing b g h);
   near = format.near;
@@ -158,7 +175,8 @@ turned_format {read} {text} {Meets} {After} {Fails} f own Holds there back forma
 
 -- ---- one value, and another behind it
 
-pub both_format : {A B : Type 0} {first : Bounded → Read A} {second : Bounded → Read B} {text : A → List ℕ} {rest : B → List ℕ} {Meets : A → Type 0} {Holds : B → Type 0} {After : Bounded → Type 0} {Fails Next : Bounded → RouteFault → Type 0}
+pub both_format : {A B : Type 0} {first : Bounded → Read A} {second : Bounded → Read B} {text : A → List ℕ} {rest : B → List ℕ} {Meets : A → Type 0}
+    {Holds : B → Type 0} {After : Bounded → Type 0} {Fails Next : Bounded → RouteFault → Type 0}
     → Format first text Meets Open Fails → Format second rest Holds After Next
     → Format (both first second) (λ x. text x.0 ++ rest x.1) (λ x. Meets x.0 × Holds x.1) After (Then text Meets Fails Next)
 both_format {A} {B} {first} {second} {text} {rest} {Meets} {Holds} {After} {Fails} {Next} one two = record {
@@ -169,7 +187,8 @@ both_format {A} {B} {first} {second} {text} {rest} {Meets} {Holds} {After} {Fail
   near = near;
 }
   where
-    taken : (b : Bounded) (x : (A × B) × Bounded) → IsOctets b.left → both first second b ≡ Ok x → Passes b (text x.0.0 ++ rest x.0.1) x.1 × ((Meets x.0.0 × Holds x.0.1) × After x.1)
+    taken : (b : Bounded) (x : (A × B) × Bounded) → IsOctets b.left → both first second b ≡ Ok x
+        → Passes b (text x.0.0 ++ rest x.0.1) x.1 × ((Meets x.0.0 × Holds x.0.1) × After x.1)
     taken b x fits e =
         let a = bind_ok (first b) _ x e in
         let c = bind_ok (second a.0.1) _ x a.2 in
@@ -178,7 +197,8 @@ both_format {A} {B} {first} {second} {text} {rest} {Meets} {Holds} {After} {Fail
         subst (λ (y : (A × B) × Bounded). Passes b (text y.0.0 ++ rest y.0.1) y.1 × ((Meets y.0.0 × Holds y.0.1) × After y.1)) (ok_is _ _ c.2)
         (passes_then b (text a.0.0) a.0.1 (rest c.0.0) c.0.1 p.0 q.0, ((p.1.0, q.1.0), q.1.1))
 
-    again : (b : Bounded) (x : A × B) (d : Bounded) → Passes b (text x.0 ++ rest x.1) d → Meets x.0 × Holds x.1 → After d → both first second b ≡ Ok (x, d)
+    again : (b : Bounded) (x : A × B) (d : Bounded) → Passes b (text x.0 ++ rest x.1) d → Meets x.0 × Holds x.1 → After d
+        → both first second b ≡ Ok (x, d)
     again b x d p meets end =
         let s = passes_split b (text x.0) (rest x.1) d p in
         rw (one.again b x.0 s.0 s.1 meets.0 tt, two.again s.0 x.1 d s.2 meets.1 end) refl

@@ -29,7 +29,8 @@ IsInter (keys.Selective rd source group originator) = ⊥
 
 abbrev pub IsSelective : Afi → LeafKey → Type 0
 IsSelective afi (keys.Inter rd source_as) = ⊥
-IsSelective afi (keys.Selective rd source group originator) = IsRd rd × (IsAnyOr (IsSource afi) source × (IsAnyOr (IsGroup afi) group × IsAddr originator))
+IsSelective afi (keys.Selective rd source group originator) =
+    IsRd rd × (IsAnyOr (IsSource afi) source × (IsAnyOr (IsGroup afi) group × IsAddr originator))
 
 inter_back : (k : LeafKey) → IsInter k → (x : Rd × ℕ) × (k ≡ inter_of x) × (key_fields k ≡ x.0.0 ++ to_be_bytes w32 x.1) × (IsRd x.0 × IsAs x.1)
 inter_back (keys.Inter rd source_as) h = ((rd, source_as), refl, refl, h)
@@ -39,13 +40,18 @@ pub inter_format : Format inter_at key_fields IsInter Ends InterFault
 unfolding inter_at
 inter_format = turned_format inter_of key_fields IsInter (λ x fits h. (refl, h)) inter_back (both_format rd_format (closed_format as_format))
 
-selective_back : (afi : Afi) (k : LeafKey) → IsSelective afi k → (x : Rd × (Option Addr × (Option Addr × Addr))) × (k ≡ selective_of x) × (key_fields k ≡ x.0.0 ++ (any_or_sized x.1.0 ++ (any_or_sized x.1.1.0 ++ addr_octets x.1.1.1))) × (IsRd x.0 × (IsAnyOr (IsSource afi) x.1.0 × (IsAnyOr (IsGroup afi) x.1.1.0 × IsAddr x.1.1.1)))
+selective_back : (afi : Afi) (k : LeafKey) → IsSelective afi k
+    → (x : Rd × (Option Addr × (Option Addr × Addr))) × (k ≡ selective_of x)
+    × (key_fields k ≡ x.0.0 ++ (any_or_sized x.1.0 ++ (any_or_sized x.1.1.0 ++ addr_octets x.1.1.1)))
+    × (IsRd x.0 × (IsAnyOr (IsSource afi) x.1.0 × (IsAnyOr (IsGroup afi) x.1.1.0 × IsAddr x.1.1.1)))
 selective_back afi (keys.Inter rd source_as) h = absurd h
 selective_back afi (keys.Selective rd source group originator) h = ((rd, (source, (group, originator))), refl, refl, h)
 
 pub selective_format : (afi : Afi) → Format (selective_at afi) key_fields (IsSelective afi) Ends (SelectiveFault afi)
 unfolding selective_at
-selective_format afi = turned_format selective_of key_fields (IsSelective afi) (λ x fits h. (refl, h)) (selective_back afi) (both_format rd_format (both_format (any_or_format afi Source) (both_format (any_or_format afi Group) originator_format)))
+selective_format afi =
+    turned_format selective_of key_fields (IsSelective afi) (λ x fits h. (refl, h)) (selective_back afi)
+    (both_format rd_format (both_format (any_or_format afi Source) (both_format (any_or_format afi Group) originator_format)))
 
 -- the types of keys
 abbrev pub IsKeyKind : ℕ → Type 0
@@ -59,7 +65,8 @@ pub selective_key : (afi : Afi) (k : LeafKey) → IsSelective afi k → IsKey af
 selective_key afi (keys.Inter rd source_as) h = absurd h
 selective_key afi (keys.Selective rd source group originator) h = (h, refl)
 
-pub fields_taken : (afi : Afi) (kind : ℕ) (b : Bounded) (x : LeafKey × Bounded) → IsOctets b.left → IsKeyKind kind → key_fields_at afi kind b ≡ Ok x → Passes b (key_fields x.0) x.1 × (IsKey afi x.0 × ((kind ≡ key_kind x.0) × Ends x.1))
+pub fields_taken : (afi : Afi) (kind : ℕ) (b : Bounded) (x : LeafKey × Bounded) → IsOctets b.left → IsKeyKind kind → key_fields_at afi kind b ≡ Ok x
+    → Passes b (key_fields x.0) x.1 × (IsKey afi x.0 × ((kind ≡ key_kind x.0) × Ends x.1))
 fields_taken afi kind b x fits (inl two) e =
     let t = inter_format.taken b x fits (subst (λ k. key_fields_at afi k b ≡ Ok x) two e) in
     let k = inter_key afi x.0 t.1.0 in
@@ -69,13 +76,17 @@ fields_taken afi kind b x fits (inr three) e =
     let k = selective_key afi x.0 t.1.0 in
     (t.0, (k.0, (three ∙ k.1, t.1.1)))
 
-pub fields_again : (afi : Afi) (k : LeafKey) (b d : Bounded) → Passes b (key_fields k) d → IsKey afi k → Ends d → key_fields_at afi (key_kind k) b ≡ Ok (k, d)
+pub fields_again : (afi : Afi) (k : LeafKey) (b d : Bounded) → Passes b (key_fields k) d → IsKey afi k → Ends d
+    → key_fields_at afi (key_kind k) b ≡ Ok (k, d)
 fields_again afi (keys.Inter rd source_as) b d p h end = inter_format.again b (keys.Inter rd source_as) d p h end
-fields_again afi (keys.Selective rd source group originator) b d p h end = (selective_format afi).again b (keys.Selective rd source group originator) d p h end
+fields_again afi (keys.Selective rd source group originator) b d p h end =
+    (selective_format afi).again b (keys.Selective rd source group originator) d p h end
 
-pub fields_fails : (afi : Afi) (kind : ℕ) (b : Bounded) (f : RouteFault) → IsOctets b.left → IsKeyKind kind → key_fields_at afi kind b ≡ Err f → KeyFieldsFault afi kind b f
+pub fields_fails : (afi : Afi) (kind : ℕ) (b : Bounded) (f : RouteFault) → IsOctets b.left → IsKeyKind kind → key_fields_at afi kind b ≡ Err f
+    → KeyFieldsFault afi kind b f
 fields_fails afi kind b f fits (inl two) e = faults.inter two (inter_format.fails b f fits (subst (λ k. key_fields_at afi k b ≡ Err f) two e))
-fields_fails afi kind b f fits (inr three) e = faults.selective three ((selective_format afi).fails b f fits (subst (λ k. key_fields_at afi k b ≡ Err f) three e))
+fields_fails afi kind b f fits (inr three) e =
+    faults.selective three ((selective_format afi).fails b f fits (subst (λ k. key_fields_at afi k b ≡ Err f) three e))
 
 pub fields_failing : (afi : Afi) (kind : ℕ) (b : Bounded) (f : RouteFault) → KeyFieldsFault afi kind b f → key_fields_at afi kind b ≡ Err f
 fields_failing afi kind b f (faults.inter two h) = subst (λ k. key_fields_at afi k b ≡ Err f) (sym two) (inter_format.failing b f h)
@@ -141,13 +152,15 @@ unfolding key_len_at
 len_taken b x fits e =
     let o = bind_ok (octet_at b) _ x e in
     let k = checked_ok (leb o.0.0 o.0.1.within) (fault b.place LengthTooSmall) o.0 x o.2 in
-    subst (λ (y : ℕ × Bounded). Passes b (y.0 ∷ []) y.1 × (y.0 ≤ y.1.within)) (sym k.1) ((octet_format.taken b o.0 fits o.1).0, leb-true o.0.0 o.0.1.within k.0)
+    subst (λ (y : ℕ × Bounded). Passes b (y.0 ∷ []) y.1 × (y.0 ≤ y.1.within)) (sym k.1)
+    ((octet_format.taken b o.0 fits o.1).0, leb-true o.0.0 o.0.1.within k.0)
 
 len_again : (b : Bounded) (len : ℕ) (d : Bounded) → Passes b (len ∷ []) d → len ≤ d.within → key_len_at b ≡ Ok (len, d)
 unfolding key_len_at
 len_again b len d p le = rw (octet_format.again b len d p tt tt, le-leb len d.within le) refl
 
-len_fails : (b : Bounded) (f : RouteFault) → IsOctets b.left → key_len_at b ≡ Err f → Lacks 1 b f ⊎ ((len : ℕ) × (d : Bounded) × Passes b (len ∷ []) d × (d.within < len) × Is f b.place LengthTooSmall)
+len_fails : (b : Bounded) (f : RouteFault) → IsOctets b.left → key_len_at b ≡ Err f
+    → Lacks 1 b f ⊎ ((len : ℕ) × (d : Bounded) × Passes b (len ∷ []) d × (d.within < len) × Is f b.place LengthTooSmall)
 unfolding key_len_at
 len_fails b f fits e =
     elim (bind_err (octet_at b) _ f e) [
@@ -168,8 +181,10 @@ len_lacks b f h = rw (octet_format.failing b f h) refl
 -- ---- keys
 
 -- Fields that the length of a key bounds are passed within the length that encloses it.
-within_outer : (len : ℕ) (b : Bounded) (text : List ℕ) (d : Bounded) → Passes (bounded len b) text d → len ≤ b.within → Ends d → Passes b text (bounded (b.within - len) d) × (length text ≡ len)
-within_outer len b text d p le end = (record { parts = p.parts; place = p.place; within = omega (arith, p.within, le, end) }, omega (arith, p.within, end))
+within_outer : (len : ℕ) (b : Bounded) (text : List ℕ) (d : Bounded) → Passes (bounded len b) text d → len ≤ b.within → Ends d
+    → Passes b text (bounded (b.within - len) d) × (length text ≡ len)
+within_outer len b text d p le end =
+    (record { parts = p.parts; place = p.place; within = omega (arith, p.within, le, end) }, omega (arith, p.within, end))
 
 key_text : (kind len : ℕ) (k : LeafKey) → kind ≡ key_kind k → length (key_fields k) ≡ len → kind ∷ (len ∷ key_fields k) ≡ key k
 key_text kind len k e l = rw (e, ← l) refl
@@ -187,7 +202,9 @@ key_taken afi b x fits e =
     let r = fields_taken afi kind.0.0 (bounded len.0.0 len.0.1) k.0 behind_len p.1 k.1 in
     let s = within_outer len.0.0 len.0.1 (key_fields k.0.0) k.0.1 r.0 q.1 r.1.1.1 in
     let end : Bounded = bounded (len.0.1.within - len.0.0) k.0.1 in
-    let all = passes_then b (kind.0.0 ∷ []) kind.0.1 (len.0.0 ∷ key_fields k.0.0) end p.0 (passes_then kind.0.1 (len.0.0 ∷ []) len.0.1 (key_fields k.0.0) end q.0 s.0) in
+    let all =
+    passes_then b (kind.0.0 ∷ []) kind.0.1 (len.0.0 ∷ key_fields k.0.0) end p.0
+    (passes_then kind.0.1 (len.0.0 ∷ []) len.0.1 (key_fields k.0.0) end q.0 s.0) in
     let made : LeafKey × Bounded = (k.0.0, end) in
     subst (λ (y : LeafKey × Bounded). Passes b (key y.0) y.1 × IsKey afi y.0) {x = made} (ok_is made x k.2)
     (passes_is b (kind.0.0 ∷ (len.0.0 ∷ key_fields k.0.0)) (key k.0.0) end all (key_text kind.0.0 len.0.0 k.0.0 r.1.1.0 s.1), r.1.0)
@@ -205,7 +222,12 @@ key_again afi b k d p h =
     let le : n ≤ t.0.within = omega (arith, t.2.within) in
     let inner : Passes (bounded n t.0) (key_fields k) (bounded 0 d) = record { parts = t.2.parts; place = t.2.place; within = omega arith } in
     let after : bounded (t.0.within - n) (bounded 0 d) ≡ d = bounded_is d.left d.place (t.0.within - n) d refl refl (omega (arith, t.2.within)) in
-    rw (kind_again b (key_kind k) s.0 s.1 (key_kind_is k), len_again s.0 n t.0 t.1 le, fields_again afi k (bounded n t.0) (bounded 0 d) inner h refl, after) refl
+    rw (
+      kind_again b (key_kind k) s.0 s.1 (key_kind_is k),
+      len_again s.0 n t.0 t.1 le,
+      fields_again afi k (bounded n t.0) (bounded 0 d) inner h refl,
+      after,
+    ) refl
 
 key_fails : (afi : Afi) (b : Bounded) (f : RouteFault) → IsOctets b.left → key_at afi b ≡ Err f → KeyFault afi b f
 unfolding key_at
@@ -224,7 +246,8 @@ key_fails afi b f fits e =
                 let q = len_taken kind.0.1 len.0 behind_kind len.1 in
                 let behind_len = passes_octets kind.0.1 (len.0.0 ∷ []) len.0.1 q.0 behind_kind in
                 elim (bind_err (key_fields_at afi kind.0.0 (bounded len.0.0 len.0.1)) _ f len.2) [
-                  | inl inside ↦ faults.in_fields kind.0.0 len.0.0 kind.0.1 len.0.1 p.0 q.0 q.1 (fields_fails afi kind.0.0 (bounded len.0.0 len.0.1) f behind_len p.1 inside)
+                  | inl inside ↦ faults.in_fields kind.0.0 len.0.0 kind.0.1 len.0.1 p.0 q.0 q.1
+                      (fields_fails afi kind.0.0 (bounded len.0.0 len.0.1) f behind_len p.1 inside)
                   | inr k ↦ absurd cc
                 ]
           ]
@@ -233,7 +256,8 @@ key_fails afi b f fits e =
 key_failing : (afi : Afi) (b : Bounded) (f : RouteFault) → KeyFault afi b f → key_at afi b ≡ Err f
 unfolding key_at key_kind_at
 key_failing afi b f (faults.kind_lacks h) = rw (octet_format.failing b f h) refl
-key_failing afi b f (faults.kind_wrong kind d p two three is) = rw (octet_format.again b kind d p tt tt, ne_eqb kind 2 two, ne_eqb kind 3 three) (err_again (sym is))
+key_failing afi b f (faults.kind_wrong kind d p two three is) =
+    rw (octet_format.again b kind d p tt tt, ne_eqb kind 2 two, ne_eqb kind 3 three) (err_again (sym is))
 key_failing afi b f (faults.len_lacks kind d is_kind p h) = rw (kind_again b kind d p is_kind, len_lacks d f h) refl
 key_failing afi b f (faults.len_past kind len d e is_kind p q lt is) = rw (kind_again b kind d p is_kind, len_past d len e q lt) (err_again (sym is))
 key_failing afi b f (faults.in_fields kind len d e p q le h) =
@@ -243,8 +267,10 @@ key_near : (afi : Afi) (b : Bounded) (f : RouteFault) → KeyFault afi b f → f
 key_near afi b f (faults.kind_lacks h) = lacks_near 1 b f h
 key_near afi b f (faults.kind_wrong kind d p two three is) = is_near f b.place _ (ap (λ (g : RouteFault). g.place) is) (omega arith)
 key_near afi b f (faults.len_lacks kind d is_kind p h) = omega (arith, lacks_near 1 d f h, passes_end b (kind ∷ []) d p)
-key_near afi b f (faults.len_past kind len d e is_kind p q lt is) = is_near f d.place _ (ap (λ (g : RouteFault). g.place) is) (omega (arith, passes_end b (kind ∷ []) d p))
-key_near afi b f (faults.in_fields kind len d e p q le h) = omega (arith, fields_near afi kind (bounded len e) f h, passes_end b (kind ∷ []) d p, passes_end d (len ∷ []) e q)
+key_near afi b f (faults.len_past kind len d e is_kind p q lt is) =
+    is_near f d.place _ (ap (λ (g : RouteFault). g.place) is) (omega (arith, passes_end b (kind ∷ []) d p))
+key_near afi b f (faults.in_fields kind len d e p q le h) =
+    omega (arith, fields_near afi kind (bounded len e) f h, passes_end b (kind ∷ []) d p, passes_end d (len ∷ []) e q)
 
 pub key_format : (afi : Afi) → Format (key_at afi) key (IsKey afi) Open (KeyFault afi)
 key_format afi = record {

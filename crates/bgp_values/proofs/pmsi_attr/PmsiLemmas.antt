@@ -62,7 +62,8 @@ label_room (Some label) low h lt = omega (arith, h.1)
 
 -- ---- label and tunnel
 
-behind_is : (flags kind a b c : ℕ) (octets : List ℕ) (t : Tunnel) (l : Option ℕ) (n : ℕ) → tunnel_of kind octets ≡ Ok t → number a b c ≡ n → label_of n ≡ l
+behind_is : (flags kind a b c : ℕ) (octets : List ℕ) (t : Tunnel) (l : Option ℕ) (n : ℕ) → tunnel_of kind octets ≡ Ok t → number a b c ≡ n
+    → label_of n ≡ l
     → label_behind flags kind (a ∷ b ∷ c ∷ octets) ≡ Ok (record { leaf_info = eqb (bit_and flags 1) 1; tunnel = t; label = l })
 unfolding label_behind
 behind_is flags kind a b c octets t l n tunnel is label = rw (tunnel, is, label) refl
@@ -84,10 +85,12 @@ made flags kind a b c octets t fits le read =
       four_bits = omega arith;
       label = l.0;
       tunnel = q.2;
-      octets = ap (λ (k : ℕ). flags ∷ k ∷ a ∷ b ∷ c ∷ octets) q.0 ∙ ap (λ (xs : List ℕ). flags ∷ type_octet t ∷ a ∷ b ∷ c ∷ xs) q.1 ∙ ap (λ (xs : List ℕ). flags ∷ type_octet t ∷ (xs ++ identifier t)) (sym text);
+      octets = ap (λ (k : ℕ). flags ∷ k ∷ a ∷ b ∷ c ∷ octets) q.0 ∙ ap (λ (xs : List ℕ). flags ∷ type_octet t ∷ a ∷ b ∷ c ∷ xs) q.1
+          ∙ ap (λ (xs : List ℕ). flags ∷ type_octet t ∷ (xs ++ identifier t)) (sym text);
     }
 
-behind_taken : (flags kind : ℕ) (rest : List ℕ) (p : Pmsi) → IsOctets (flags ∷ kind ∷ rest) → kind ≤ 7 → label_behind flags kind rest ≡ Ok p → Spells p (flags ∷ kind ∷ rest)
+behind_taken : (flags kind : ℕ) (rest : List ℕ) (p : Pmsi) → IsOctets (flags ∷ kind ∷ rest) → kind ≤ 7 → label_behind flags kind rest ≡ Ok p
+    → Spells p (flags ∷ kind ∷ rest)
 unfolding label_behind
 behind_taken flags kind [] p fits le e = absurd cc
 behind_taken flags kind (a ∷ []) p fits le e = absurd cc
@@ -96,14 +99,17 @@ behind_taken flags kind (a ∷ b ∷ c ∷ octets) p fits le e =
     let t = bind_ok (tunnel_of kind octets) _ p e in
     subst (λ (q : Pmsi). Spells q (flags ∷ kind ∷ a ∷ b ∷ c ∷ octets)) (ok_is _ p t.2) (made flags kind a b c octets t.0 fits le t.1)
 
-behind_fails : (flags kind : ℕ) (rest : List ℕ) (f : PmsiFault) → IsOctets (flags ∷ kind ∷ rest) → kind ≤ 7 → label_behind flags kind rest ≡ Err f → FirstFault (flags ∷ kind ∷ rest) f
+behind_fails : (flags kind : ℕ) (rest : List ℕ) (f : PmsiFault) → IsOctets (flags ∷ kind ∷ rest) → kind ≤ 7 → label_behind flags kind rest ≡ Err f
+    → FirstFault (flags ∷ kind ∷ rest) f
 unfolding label_behind
 behind_fails flags kind [] f fits le e = faults.label_short flags kind [] refl le (omega arith) (sym (err_is (fault 2 reasons.Short) f e))
 behind_fails flags kind (a ∷ []) f fits le e = faults.label_short flags kind (a ∷ []) refl le (omega arith) (sym (err_is (fault 2 reasons.Short) f e))
-behind_fails flags kind (a ∷ b ∷ []) f fits le e = faults.label_short flags kind (a ∷ b ∷ []) refl le (omega arith) (sym (err_is (fault 2 reasons.Short) f e))
+behind_fails flags kind (a ∷ b ∷ []) f fits le e =
+    faults.label_short flags kind (a ∷ b ∷ []) refl le (omega arith) (sym (err_is (fault 2 reasons.Short) f e))
 behind_fails flags kind (a ∷ b ∷ c ∷ octets) f fits le e =
     elim (bind_err (tunnel_of kind octets) _ f e) [
-      | inl wrong ↦ faults.in_identifier flags kind (a ∷ b ∷ c ∷ []) octets refl refl (tunnel_fails kind octets f (octets_behind 5 (flags ∷ kind ∷ a ∷ b ∷ c ∷ octets) fits) le wrong)
+      | inl wrong ↦ faults.in_identifier flags kind (a ∷ b ∷ c ∷ []) octets refl refl
+          (tunnel_fails kind octets f (octets_behind 5 (flags ∷ kind ∷ a ∷ b ∷ c ∷ octets) fits) le wrong)
       | inr t ↦ absurd cc
     ]
 
@@ -114,7 +120,8 @@ fails_short flags kind (a ∷ []) f few is = err_again (sym is)
 fails_short flags kind (a ∷ b ∷ []) f few is = err_again (sym is)
 fails_short flags kind (a ∷ b ∷ c ∷ octets) f few is = absurd (omega (arith, few))
 
-fails_behind : (flags kind : ℕ) (label octets : List ℕ) (f : PmsiFault) → length label ≡ 3 → tunnel_of kind octets ≡ Err f → label_behind flags kind (label ++ octets) ≡ Err f
+fails_behind : (flags kind : ℕ) (label octets : List ℕ) (f : PmsiFault) → length label ≡ 3 → tunnel_of kind octets ≡ Err f
+    → label_behind flags kind (label ++ octets) ≡ Err f
 unfolding label_behind
 fails_behind flags kind [] octets f len e = absurd (omega (arith, len))
 fails_behind flags kind (a ∷ []) octets f len e = absurd (omega (arith, len))
@@ -145,7 +152,9 @@ pmsi_again p text s =
     let n = 16 * label_bits p.label + s.low in
     let kind = type_octet p.tunnel in
     let number_is = three_again n (label_room p.label s.low s.label s.four_bits) in
-    let behind = behind_is s.flags kind _ _ _ (identifier p.tunnel) p.tunnel p.label n (tunnel_again p.tunnel s.tunnel) number_is (label_again p.label s.low s.label s.four_bits) in
+    let behind =
+    behind_is s.flags kind _ _ _ (identifier p.tunnel) p.tunnel p.label n (tunnel_again p.tunnel s.tunnel) number_is
+    (label_again p.label s.low s.label s.four_bits) in
     let leaf : record { leaf_info = eqb (bit_and s.flags 1) 1; tunnel = p.tunnel; label = p.label } ≡ p = rw (← s.leaf) refl in
     ap pmsi_of s.octets ∙ typed s.flags kind (three n ++ identifier p.tunnel) (type_below p.tunnel s.tunnel) ∙ behind ∙ ap (λ (q : Pmsi). Ok q) leaf
 
@@ -160,7 +169,8 @@ pmsi_fails (flags ∷ kind ∷ rest) f fits e =
       | inr b ↦ behind_fails flags kind rest f fits (ltb-false 7 kind b.0) b.1
     ]
 
-behind_label : (bytes label octets : List ℕ) (flags kind : ℕ) → bytes ≡ flags ∷ kind ∷ (label ++ octets) → length label ≡ 3 → IsOctets bytes → IsOctets octets
+behind_label : (bytes label octets : List ℕ) (flags kind : ℕ) → bytes ≡ flags ∷ kind ∷ (label ++ octets) → length label ≡ 3 → IsOctets bytes
+    → IsOctets octets
 behind_label bytes [] octets flags kind parts len fits = absurd (omega (arith, len))
 behind_label bytes (a ∷ []) octets flags kind parts len fits = absurd (omega (arith, len))
 behind_label bytes (a ∷ b ∷ []) octets flags kind parts len fits = absurd (omega (arith, len))
@@ -173,7 +183,8 @@ unfolding pmsi_of
 fails_pmsi bytes f fits (faults.flags_short parts is) = rw parts (err_again (sym is))
 fails_pmsi bytes f fits (faults.type_short flags parts is) = rw parts (err_again (sym is))
 fails_pmsi bytes f fits (faults.type_wrong flags kind rest parts above is) = rw (parts, lt-ltb 7 kind above) (err_again (sym is))
-fails_pmsi bytes f fits (faults.label_short flags kind rest parts le few is) = ap pmsi_of parts ∙ typed flags kind rest le ∙ fails_short flags kind rest f few is
+fails_pmsi bytes f fits (faults.label_short flags kind rest parts le few is) =
+    ap pmsi_of parts ∙ typed flags kind rest le ∙ fails_short flags kind rest f few is
 fails_pmsi bytes f fits (faults.in_identifier flags kind label octets parts len wrong) =
     ap pmsi_of parts ∙ typed flags kind (label ++ octets) (fault_below kind octets f wrong)
     ∙ fails_behind flags kind label octets f len (fails_tunnel kind octets f (behind_label bytes label octets flags kind parts len fits) wrong)
@@ -195,10 +206,18 @@ identifier_within kind octets f fits (faults.too_long type long is) = is_at f 5 
 fault_within : (bytes : List ℕ) (f : PmsiFault) → IsOctets bytes → FirstFault bytes f → f.place ≤ length bytes
 fault_within bytes f fits (faults.flags_short parts is) = is_at f 0 _ reasons.Short is (omega arith)
 fault_within bytes f fits (faults.type_short flags parts is) = is_at f 1 _ reasons.Short is (omega (arith, ap (λ (xs : List ℕ). length xs) parts))
-fault_within bytes f fits (faults.type_wrong flags kind rest parts above is) = is_at f 1 _ reasons.TunnelType is (omega (arith, ap (λ (xs : List ℕ). length xs) parts))
-fault_within bytes f fits (faults.label_short flags kind rest parts le few is) = is_at f 2 _ reasons.Short is (omega (arith, ap (λ (xs : List ℕ). length xs) parts))
+fault_within bytes f fits (faults.type_wrong flags kind rest parts above is) =
+    is_at f 1 _ reasons.TunnelType is (omega (arith, ap (λ (xs : List ℕ). length xs) parts))
+fault_within bytes f fits (faults.label_short flags kind rest parts le few is) =
+    is_at f 2 _ reasons.Short is (omega (arith, ap (λ (xs : List ℕ). length xs) parts))
 fault_within bytes f fits (faults.in_identifier flags kind label octets parts len wrong) =
-    omega (arith, identifier_within kind octets f (behind_label bytes label octets flags kind parts len fits) wrong, ap (λ (xs : List ℕ). length xs) parts, len, length-append label octets)
+    omega (
+      arith,
+      identifier_within kind octets f (behind_label bytes label octets flags kind parts len fits) wrong,
+      ap (λ (xs : List ℕ). length xs) parts,
+      len,
+      length-append label octets,
+    )
 
 -- ---- what decoding promises
 

@@ -57,7 +57,8 @@ moved_ok : {A : Type 0} (r : Result A FecFault) (x : A) → moved r ≡ Ok x →
 moved_ok (Ok y) x e = let same : y ≡ x = cc in ap (λ b. Ok b) same
 moved_ok (Err f) x e = absurd cc
 
-moved_err : {A : Type 0} (r : Result A FecFault) (f : PmsiFault) → moved r ≡ Err f → (g : FecFault) × (r ≡ Err g) × Is f (5 + g.place) (reasons.Fec g.reason)
+moved_err : {A : Type 0} (r : Result A FecFault) (f : PmsiFault) → moved r ≡ Err f
+    → (g : FecFault) × (r ≡ Err g) × Is f (5 + g.place) (reasons.Fec g.reason)
 moved_err (Ok y) f e = absurd cc
 moved_err (Err g) f e = (g, refl, cc)
 
@@ -101,27 +102,35 @@ mldp_fails octets f fits e =
           let p = fec_taken (start octets) a.0 fits (moved_ok (fec_at (start octets)) a.0 a.1) in
           elim (one_false (is_p2mp x.kind) (eqb a.0.1.place (length octets)) k.0) [
             | inl other ↦ faults.not_p2mp refl x (fec.written x) a.0.1.left p.1 p.0.parts (no_kind x.kind other) k.1
-            | inr more ↦ faults.more_behind refl x (fec.written x) a.0.1.left p.1 p.0.parts (behind octets (fec.written x) a.0.1.left a.0.1.place p.0.parts p.0.place (eqb-false _ _ more)) k.1
+            | inr more ↦ faults.more_behind refl x (fec.written x) a.0.1.left p.1 p.0.parts
+                (behind octets (fec.written x) a.0.1.left a.0.1.place p.0.parts p.0.place (eqb-false _ _ more)) k.1
           ]
     ]
 
 -- what is read where an element stands at the front
-front_again : (octets : List ℕ) (x : Fec) (text rest : List ℕ) → fec.Spells x text → octets ≡ text ++ rest → fec_at (start octets) ≡ Ok (x, record { left = rest; place = 0 + length text })
-front_again octets x text rest spelled parts = fec_again (start octets) x text (record { left = rest; place = 0 + length text }) spelled (record { parts = parts; place = refl })
+front_again : (octets : List ℕ) (x : Fec) (text rest : List ℕ) → fec.Spells x text → octets ≡ text ++ rest
+    → fec_at (start octets) ≡ Ok (x, record { left = rest; place = 0 + length text })
+front_again octets x text rest spelled parts =
+    fec_again (start octets) x text (record { left = rest; place = 0 + length text }) spelled (record { parts = parts; place = refl })
 
-fails_element : (octets : List ℕ) (f : PmsiFault) (g : FecFault) → fec_at (start octets) ≡ Err g → Is f (5 + g.place) (reasons.Fec g.reason) → mldp_of octets ≡ Err f
+fails_element : (octets : List ℕ) (f : PmsiFault) (g : FecFault) → fec_at (start octets) ≡ Err g → Is f (5 + g.place) (reasons.Fec g.reason)
+    → mldp_of octets ≡ Err f
 unfolding mldp_of
 fails_element octets f g read is = rw read (err_again (sym is))
 
-fails_kind : (octets : List ℕ) (f : PmsiFault) (x : Fec) (text rest : List ℕ) → fec.Spells x text → octets ≡ text ++ rest → x.kind ≢ P2mp → Is f 5 reasons.Identifier → mldp_of octets ≡ Err f
+fails_kind : (octets : List ℕ) (f : PmsiFault) (x : Fec) (text rest : List ℕ) → fec.Spells x text → octets ≡ text ++ rest → x.kind ≢ P2mp
+    → Is f 5 reasons.Identifier → mldp_of octets ≡ Err f
 unfolding mldp_of
 fails_kind octets f x text rest spelled parts other is = rw (front_again octets x text rest spelled parts, kind_not x.kind other) (err_again (sym is))
 
-fails_behind : (octets : List ℕ) (f : PmsiFault) (x : Fec) (text rest : List ℕ) → fec.Spells x text → octets ≡ text ++ rest → rest ≢ [] → Is f 5 reasons.Identifier → mldp_of octets ≡ Err f
+fails_behind : (octets : List ℕ) (f : PmsiFault) (x : Fec) (text rest : List ℕ) → fec.Spells x text → octets ≡ text ++ rest → rest ≢ []
+    → Is f 5 reasons.Identifier → mldp_of octets ≡ Err f
 unfolding mldp_of
 fails_behind octets f x text rest spelled parts more is =
-    let other : 0 + length text ≢ length octets = λ same. more (nil_from_length rest (omega (arith, same, ap (λ (xs : List ℕ). length xs) parts, length-append text rest))) in
-    rw (front_again octets x text rest spelled parts, second_false (is_p2mp x.kind) (eqb (0 + length text) (length octets)) (ne_eqb _ _ other)) (err_again (sym is))
+    let other : 0 + length text ≢ length octets =
+    λ same. more (nil_from_length rest (omega (arith, same, ap (λ (xs : List ℕ). length xs) parts, length-append text rest))) in
+    rw (front_again octets x text rest spelled parts, second_false (is_p2mp x.kind) (eqb (0 + length text) (length octets)) (ne_eqb _ _ other))
+    (err_again (sym is))
 
 -- ---- type 6
 
@@ -180,7 +189,8 @@ tunnel_again (tunnels.Other kind octets) h =
     rw (ne_eqb kind 0 h.0.not_none, ne_eqb kind 2 h.0.not_mldp, ne_eqb kind 6 h.0.not_ingress, le-leb (length octets) 96 h.1) refl
 
 -- A fault that is answered is the first one.
-pub tunnel_fails : (kind : ℕ) (octets : List ℕ) (f : PmsiFault) → IsOctets octets → kind ≤ 7 → tunnel_of kind octets ≡ Err f → IdentifierFault kind octets f
+pub tunnel_fails : (kind : ℕ) (octets : List ℕ) (f : PmsiFault) → IsOctets octets → kind ≤ 7 → tunnel_of kind octets ≡ Err f
+    → IdentifierFault kind octets f
 unfolding tunnel_of
 tunnel_fails kind octets f fits le e =
     elim (chosen (eqb kind 0) _ _ _ e) [
@@ -201,11 +211,15 @@ tunnel_fails kind octets f fits le e =
 -- The first fault is answered.
 pub fails_tunnel : (kind : ℕ) (octets : List ℕ) (f : PmsiFault) → IsOctets octets → IdentifierFault kind octets f → tunnel_of kind octets ≡ Err f
 unfolding tunnel_of
-fails_tunnel kind octets f fits (faults.not_empty type more is) = rw (type, ne_eqb (length octets) 0 (λ none. more (nil_from_length octets none))) (err_again (sym is))
+fails_tunnel kind octets f fits (faults.not_empty type more is) =
+    rw (type, ne_eqb (length octets) 0 (λ none. more (nil_from_length octets none))) (err_again (sym is))
 fails_tunnel kind octets f fits (faults.in_element type g first is) = rw type (fails_element octets f g (fails_fec (start octets) g fits first) is)
-fails_tunnel kind octets f fits (faults.not_p2mp type x text rest spelled parts other is) = rw type (fails_kind octets f x text rest spelled parts other is)
-fails_tunnel kind octets f fits (faults.more_behind type x text rest spelled parts more is) = rw type (fails_behind octets f x text rest spelled parts more is)
-fails_tunnel kind octets f fits (faults.no_address type four sixteen is) = rw (type, ne_eqb (length octets) 4 four, ne_eqb (length octets) 16 sixteen) (err_again (sym is))
+fails_tunnel kind octets f fits (faults.not_p2mp type x text rest spelled parts other is) =
+    rw type (fails_kind octets f x text rest spelled parts other is)
+fails_tunnel kind octets f fits (faults.more_behind type x text rest spelled parts more is) =
+    rw type (fails_behind octets f x text rest spelled parts more is)
+fails_tunnel kind octets f fits (faults.no_address type four sixteen is) =
+    rw (type, ne_eqb (length octets) 4 four, ne_eqb (length octets) 16 sixteen) (err_again (sym is))
 fails_tunnel kind octets f fits (faults.too_long type long is) =
     rw (ne_eqb kind 0 type.not_none, ne_eqb kind 2 type.not_mldp, ne_eqb kind 6 type.not_ingress, lt-leb (length octets) 96 long) (err_again (sym is))
 

@@ -39,12 +39,14 @@ first_groups = record {
 -- ---- entries
 
 -- What a message leaves of a join was there, or the message joins it.
-join_left : (pruned joined : Bool) (new old : Option Expiry) → is_some (cond pruned None (cond joined new old)) ≡ true → (is_some old ≡ true) ⊎ (joined ≡ true)
+join_left : (pruned joined : Bool) (new old : Option Expiry) → is_some (cond pruned None (cond joined new old)) ≡ true
+    → (is_some old ≡ true) ⊎ (joined ≡ true)
 join_left true joined new old h = absurd cc
 join_left false true new old h = inr refl
 join_left false false new old h = inl h
 
-at_iface : (same : Bool) (new old : Option Expiry) (P : Type 0) → is_some (cond same new old) ≡ true → (is_some new ≡ true → P) → (is_some old ≡ true → P) → P
+at_iface : (same : Bool) (new old : Option Expiry) (P : Type 0) → is_some (cond same new old) ≡ true → (is_some new ≡ true → P)
+    → (is_some old ≡ true → P) → P
 at_iface true new old P h here there = here h
 at_iface false new old P h here there = there h
 
@@ -74,17 +76,22 @@ module _ (entries : Entries) where
 
 module _ (control : Control) (have : HaveGroups control) where
   -- Selections and peers have no part in it.
-  others : (selections : FinMap pattern_cmp Selected) (peers : FinMap node_cmp Taken) → HaveGroups (record control { selections = selections; peers = peers })
+  others : (selections : FinMap pattern_cmp Selected) (peers : FinMap node_cmp Taken)
+      → HaveGroups (record control { selections = selections; peers = peers })
   others selections peers = record { entries = have.entries; notes = have.notes; flows = have.flows }
 
-  updated : (found : Option Taken) (peers : Taken → FinMap node_cmp Taken) → HaveGroups (elim found [ None ↦ control | Some taken ↦ record control { peers = peers taken } ])
+  updated : (found : Option Taken) (peers : Taken → FinMap node_cmp Taken)
+      → HaveGroups (elim found [ None ↦ control | Some taken ↦ record control { peers = peers taken } ])
   updated None peers = have
   updated (Some taken) peers = others control.selections (peers taken)
 
-  joined : (iface : IfaceId) (message : JoinPrune) (now : ℕ) → HasGroups message → HaveGroups (record control { entries = applied control.entries iface message now })
+  joined : (iface : IfaceId) (message : JoinPrune) (now : ℕ) → HasGroups message
+      → HaveGroups (record control { entries = applied control.entries iface message now })
   joined iface message now has = record {
     entries = λ at source group h e.
-        let there = subst (λ (x : JoinEntry). is_some (maps.get (applied control.entries iface message now) (record { iface = at.iface; entry = x })) ≡ true) e h in
+        let there =
+        subst (λ (x : JoinEntry). is_some (maps.get (applied control.entries iface message now) (record { iface = at.iface; entry = x })) ≡ true)
+        e h in
         elim (applied_there control.entries iface at.iface message now source group there) [
           | inl old ↦ have.entries (record { iface = at.iface; entry = Source source group }) source group old refl
           | inr new ↦ has source group new
@@ -97,7 +104,8 @@ module _ (control : Control) (have : HaveGroups control) where
   noted note is = record {
     entries = have.entries;
     notes = λ other h.
-        elim (or_cases (eq_by_cmp note_cmp other note) (sets.contains control.notes other) (sym (sets.contains-insert note_total control.notes note other) ∙ h)) [
+        elim (or_cases (eq_by_cmp note_cmp other note) (sets.contains control.notes other)
+        (sym (sets.contains-insert note_total control.notes note other) ∙ h)) [
           | inl e ↦ subst (λ (n : Note). IsFlow n.source n.group) (sym (note_exact other note ((Equal-is (note_cmp other note)).0 e))) is
           | inr e ↦ have.notes other e
         ];
@@ -109,7 +117,8 @@ module _ (control : Control) (have : HaveGroups control) where
     entries = have.entries;
     notes = λ other h.
         have.notes other
-        (and_parts (not (eq_by_cmp note_cmp other note)) (sets.contains control.notes other) (sym (sets.contains-remove note_total control.notes note other) ∙ h)).1;
+        (and_parts (not (eq_by_cmp note_cmp other note)) (sets.contains control.notes other)
+        (sym (sets.contains-remove note_total control.notes note other) ∙ h)).1;
     flows = have.flows;
   }
 
@@ -121,16 +130,21 @@ module _ (control : Control) (have : HaveGroups control) where
     flows = have.flows;
   }
 
-pub effect_groups : (place : EdgePlace) (now : ℕ) (control : Control) (call : Call) → HaveGroups control → IsAllowed call → HaveGroups (effect place now control call)
+pub effect_groups : (place : EdgePlace) (now : ℕ) (control : Control) (call : Call) → HaveGroups control → IsAllowed call
+    → HaveGroups (effect place now control call)
 effect_groups place now control (Update peer message) have allowed =
     updated control have (maps.get control.peers peer) (λ taken. maps.insert control.peers peer (fold (taken_change now) taken (changes_of message)))
 effect_groups place now control (Label neighbour message) have allowed = have
 effect_groups place now control (Pim iface message) have allowed = joined control have iface message now allowed
-effect_groups place now control (Active iface source group) have allowed = noted control have (record { iface = iface; source = source; group = group }) allowed
+effect_groups place now control (Active iface source group) have allowed =
+    noted control have (record { iface = iface; source = source; group = group }) allowed
 effect_groups place now control (Idle iface source group) have allowed = ended control have (record { iface = iface; source = source; group = group })
-effect_groups place now control (Select vrf pattern) have allowed = others control have (with_selection now vrf pattern control.selections) control.peers
-effect_groups place now control (Unselect vrf pattern) have allowed = others control have (maps.remove control.selections (record { vrf = vrf; pattern = pattern })) control.peers
-effect_groups place now control (Raised kinds.Bgp peer) have allowed = others control have control.selections (maps.insert control.peers peer maps.empty)
+effect_groups place now control (Select vrf pattern) have allowed =
+    others control have (with_selection now vrf pattern control.selections) control.peers
+effect_groups place now control (Unselect vrf pattern) have allowed =
+    others control have (maps.remove control.selections (record { vrf = vrf; pattern = pattern })) control.peers
+effect_groups place now control (Raised kinds.Bgp peer) have allowed =
+    others control have control.selections (maps.insert control.peers peer maps.empty)
 effect_groups place now control (Raised kinds.Ldp peer) have allowed = have
 effect_groups place now control (Noticed kinds.Bgp peer) have allowed = others control have control.selections (maps.remove control.peers peer)
 effect_groups place now control (Noticed kinds.Ldp peer) have allowed = have

@@ -34,7 +34,8 @@ in_family (V4 own) (V6 a) group s g = absurd s
 in_family (V6 own) (V4 a) group s g = absurd s
 
 -- an (S,G) that an address of a group stands for
-entry_flow : (own : Addr) (kind : SourceKind) (group addr from to : Addr) → IsOf (family_of own) addr → IsMulticast (family_of own) group → entry_by kind group addr ≡ Source from to → IsFlow from to
+entry_flow : (own : Addr) (kind : SourceKind) (group addr from to : Addr) → IsOf (family_of own) addr → IsMulticast (family_of own) group
+    → entry_by kind group addr ≡ Source from to → IsFlow from to
 entry_flow own kinds.Sg group addr from to s g e =
     let sources : addr ≡ from = cc in
     let groups : group ≡ to = cc in
@@ -42,7 +43,8 @@ entry_flow own kinds.Sg group addr from to s g e =
 entry_flow own kinds.Star group addr from to s g e = absurd cc
 entry_flow own kinds.Rpt group addr from to s g e = absurd cc
 
-listed_flow : (own : Addr) (group : Addr) (sources : List JpSource) (from to : Addr) → IsMulticast (family_of own) group → AllByRecursion (IsSource (family_of own)) sources → lists group sources (Source from to) ≡ true → IsFlow from to
+listed_flow : (own : Addr) (group : Addr) (sources : List JpSource) (from to : Addr) → IsMulticast (family_of own) group
+    → AllByRecursion (IsSource (family_of own)) sources → lists group sources (Source from to) ≡ true → IsFlow from to
 listed_flow own group [] from to g all h = absurd cc
 listed_flow own group (source ∷ more) from to g all h =
     elim (or_cases (same_entry (entry_of group source) (Source from to)) (lists group more (Source from to)) h) [
@@ -50,7 +52,8 @@ listed_flow own group (source ∷ more) from to g all h =
       | inr e ↦ listed_flow own group more from to g all.1 e
     ]
 
-joined_flow : (own : Addr) (groups : List Group) (from to : Addr) → AllByRecursion (IsGroup (family_of own)) groups → list_any (λ group. lists group.group group.joins (Source from to)) groups ≡ true → IsFlow from to
+joined_flow : (own : Addr) (groups : List Group) (from to : Addr) → AllByRecursion (IsGroup (family_of own)) groups
+    → list_any (λ group. lists group.group group.joins (Source from to)) groups ≡ true → IsFlow from to
 joined_flow own [] from to all h = absurd cc
 joined_flow own (group ∷ more) from to all h =
     elim (or_cases (lists group.group group.joins (Source from to)) (list_any (λ other. lists other.group other.joins (Source from to)) more) h) [

@@ -73,14 +73,16 @@ module _ (place : EdgePlace) (now : ℕ) (control : Control) (have : HaveGroups 
   flow_groups : (flow : VrfFlow) → is_some (maps.get (flows_at place now control) flow) ≡ true → IsFlow flow.source flow.group
   flow_groups flow h = by (maps.get (flows_at place now control) flow) refl h
     where
-      by : (found : Option (Option Upstream)) → maps.get (flows_at place now control) flow ≡ found → is_some found ≡ true → IsFlow flow.source flow.group
+      by : (found : Option (Option Upstream)) → maps.get (flows_at place now control) flow ≡ found → is_some found ≡ true
+          → IsFlow flow.source flow.group
       by None e some = absurd cc
       by (Some upstream) e some = asked_flow flow upstream ((flows_are place now control flow upstream).0 e)
 
   pub refreshed_groups : HaveGroups (refreshed place now control)
   refreshed_groups = record { entries = have.entries; notes = have.notes; flows = flow_groups }
 
-pub step_groups : (place : EdgePlace) (now : ℕ) (control : Control) (call : Call) → HaveGroups control → AreWritable (effect place now control call) → IsAllowed call → HaveGroups (control_step place now control call)
+pub step_groups : (place : EdgePlace) (now : ℕ) (control : Control) (call : Call) → HaveGroups control → AreWritable (effect place now control call)
+    → IsAllowed call → HaveGroups (control_step place now control call)
 step_groups place now control call have writable allowed = by (is_vrf_step call)
   where
     behind : HaveGroups (effect place now control call)

@@ -17,14 +17,21 @@ none_mapped f (x ∷ xs) is = absurd (omega (arith, ap length is))
 
 module _ (world : World) (d : CopiesData) (stores : Stores world d) where
   numbered_copies : AreNumbered d (length world.datagrams)
-  numbered_copies u n = all_weaker (HasBuffer world.datagrams d.buffers) _ (kept_at d u n) (λ k has. numbered_within world.datagrams k.copy.number has.datagram has.is) (stores.buffers u n)
+  numbered_copies u n =
+      all_weaker (HasBuffer world.datagrams d.buffers) _ (kept_at d u n) (λ k has. numbered_within world.datagrams k.copy.number has.datagram has.is)
+      (stores.buffers u n)
 
   on_links : copies_on_ways (link_ways (scenario_of world)) d ≡ all_copies world
   on_links i = flat_map (λ way. stores.copies way.0 way.1 i) (link_ways (scenario_of world))
 
   module _ (linked : AreLinked world) where
     pub has_ways : HasWays (link_ways (scenario_of world)) d
-    has_ways = record { once = linked.once; all = λ u n none. none_mapped (λ (k : KeptCopy). k.copy) (kept_at d u n) (stores.copies u n ∙ linked.apart u n none) }
+    has_ways =
+        record {
+          once = linked.once;
+          all =
+              λ u n none. none_mapped (λ (k : KeptCopy). k.copy) (kept_at d u n) (stores.copies u n ∙ linked.apart u n none);
+        }
 
     pub as_many_copies : length (all_kept d) ≡ length (all_copies world)
     as_many_copies = as_many_on_ways d (link_ways (scenario_of world)) has_ways ∙ ap (λ (copies : List LinkCopy). length copies) on_links

@@ -14,14 +14,17 @@ module _ {X : Type 0} where
   behind [] x = refl
   behind (y ∷ ys) x = behind ys x
 
-pub numbered_still : (datagrams more : List Datagram) (number : ℕ) (datagram : Datagram) → numbered datagrams number ≡ Some datagram → numbered (datagrams ++ more) number ≡ Some datagram
+pub numbered_still : (datagrams more : List Datagram) (number : ℕ) (datagram : Datagram) → numbered datagrams number ≡ Some datagram
+    → numbered (datagrams ++ more) number ≡ Some datagram
 numbered_still datagrams more zero datagram is = absurd (not_some datagram is)
 numbered_still datagrams more (suc place) datagram is = in_front datagrams more place datagram is
 
-pub numbered_next : (datagrams : List Datagram) (datagram : Datagram) (count : ℕ) → count ≡ length datagrams → numbered (datagrams ++ datagram ∷ []) (count + 1) ≡ Some datagram
+pub numbered_next : (datagrams : List Datagram) (datagram : Datagram) (count : ℕ) → count ≡ length datagrams
+    → numbered (datagrams ++ datagram ∷ []) (count + 1) ≡ Some datagram
 numbered_next datagrams datagram count is =
     ap (numbered (datagrams ++ datagram ∷ [])) (one_more count) ∙ ap (slice_get (datagrams ++ datagram ∷ [])) is ∙ behind datagrams datagram
 
-pub numbered_within : (datagrams : List Datagram) (number : ℕ) (datagram : Datagram) → numbered datagrams number ≡ Some datagram → (0 < number) × (number ≤ length datagrams)
+pub numbered_within : (datagrams : List Datagram) (number : ℕ) (datagram : Datagram) → numbered datagrams number ≡ Some datagram
+    → (0 < number) × (number ≤ length datagrams)
 numbered_within datagrams zero datagram is = absurd (not_some datagram is)
 numbered_within datagrams (suc place) datagram is = (omega arith, omega (arith, slice_get_within datagrams place datagram is))

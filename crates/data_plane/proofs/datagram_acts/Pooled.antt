@@ -36,7 +36,8 @@ same_tests a b c e both = by (c == e) (a == b) refl refl
     by false true p q = absurd (eqb-false c e p (both.0 (eqb-true a b q)))
 
 -- where each copy of a list passes one test exactly where it passes the other
-same_count : (t : KeptCopy → Bool) (s : LinkCopy → Bool) (ks : List KeptCopy) → ((place : ℕ) (k : KeptCopy) → slice_get ks place ≡ Some k → t k ≡ s k.copy) → count_by t ks ≡ count_by s (map (λ (k : KeptCopy). k.copy) ks)
+same_count : (t : KeptCopy → Bool) (s : LinkCopy → Bool) (ks : List KeptCopy)
+    → ((place : ℕ) (k : KeptCopy) → slice_get ks place ≡ Some k → t k ≡ s k.copy) → count_by t ks ≡ count_by s (map (λ (k : KeptCopy). k.copy) ks)
 same_count t s [] each = refl
 same_count t s (k ∷ ks) each = omega (
   arith,
@@ -47,17 +48,20 @@ same_count t s (k ∷ ks) each = omega (
 )
 
 -- where some copy of a list has the buffer, one at some place has it
-copy_with : (name : ℕ) (ks : List KeptCopy) → 0 < count_by (of_buffer name) ks → (place : ℕ) × (k : KeptCopy) × (slice_get ks place ≡ Some k) × (k.buffer ≡ name)
+copy_with : (name : ℕ) (ks : List KeptCopy) → 0 < count_by (of_buffer name) ks
+    → (place : ℕ) × (k : KeptCopy) × (slice_get ks place ≡ Some k) × (k.buffer ≡ name)
 copy_with name [] h = absurd (omega (arith, h))
 copy_with name (k ∷ ks) h = by (k.buffer == name) refl (copy_with name ks)
   where
-    by : (b : Bool) → (k.buffer == name) ≡ b → (0 < count_by (of_buffer name) ks → (place : ℕ) × (x : KeptCopy) × (slice_get ks place ≡ Some x) × (x.buffer ≡ name))
+    by : (b : Bool) → (k.buffer == name) ≡ b → (0 < count_by (of_buffer name) ks
+        → (place : ℕ) × (x : KeptCopy) × (slice_get ks place ≡ Some x) × (x.buffer ≡ name))
         → (place : ℕ) × (x : KeptCopy) × (slice_get (k ∷ ks) place ≡ Some x) × (x.buffer ≡ name)
     by true e rest = (0, k, refl, eqb-true k.buffer name e)
     by false e rest = let found = rest (omega (arith, h, count-cons (of_buffer name) k ks, ap one_if e)) in (suc found.0, found.1, found.2, found.3)
 
 -- where some copy on the ways of a list has the buffer, one on some way has it
-way_with : (name : ℕ) (d : CopiesData) (ways : List (NodeId × NodeId)) → 0 < sum-ways (count_by (of_buffer name)) refl d.ways ways → (u : NodeId) × (n : NodeId) × (0 < count_by (of_buffer name) (kept_at d u n))
+way_with : (name : ℕ) (d : CopiesData) (ways : List (NodeId × NodeId)) → 0 < sum-ways (count_by (of_buffer name)) refl d.ways ways
+    → (u : NodeId) × (n : NodeId) × (0 < count_by (of_buffer name) (kept_at d u n))
 way_with name d [] h = absurd (omega (arith, h))
 way_with name d (w ∷ ws) h = by (count_by (of_buffer name) (kept_at d w.0 w.1)) refl (way_with name d ws)
   where
@@ -75,9 +79,11 @@ module _ (world : World) (d : CopiesData) (stores : Stores world d) (linked : Ar
 
   kept_on_ways : (t : KeptCopy → Bool) → count_by t (all_kept d) ≡ sum-ways (count_by t) refl d.ways ways
   kept_on_ways t =
-      count-all t (maps.entries d.ways) ∙ total_ways (count_by t) refl ways d.ways linked.once (λ way none. ap (count_by t) ((has_ways world d stores linked).all way.0 way.1 none))
+      count-all t (maps.entries d.ways) ∙ total_ways (count_by t) refl ways d.ways linked.once
+      (λ way none. ap (count_by t) ((has_ways world d stores linked).all way.0 way.1 none))
 
-  copies_on : (t : KeptCopy → Bool) (s : LinkCopy → Bool) → ((u n : NodeId) → count_by t (kept_at d u n) ≡ count_by s (world.copies u n)) → (some : List (NodeId × NodeId))
+  copies_on : (t : KeptCopy → Bool) (s : LinkCopy → Bool) → ((u n : NodeId) → count_by t (kept_at d u n) ≡ count_by s (world.copies u n))
+      → (some : List (NodeId × NodeId))
       → sum-ways (count_by t) refl d.ways some ≡ count_by s (flat_map (λ (way : NodeId × NodeId). world.copies way.0 way.1) some)
   copies_on t s each [] = refl
   copies_on t s each (w ∷ ws) = omega (
@@ -98,7 +104,8 @@ module _ (world : World) (d : CopiesData) (stores : Stores world d) (linked : Ar
 
         alone : holders d name ≡ count_by (of_buffer name) (all_kept d)
         alone =
-            ap (λ (o : Option Current). count_by (of_buffer name) (all_kept d) + elim o [ None ↦ 0 | Some current ↦ one_if (current.buffer == name) ]) idle
+            ap (λ (o : Option Current). count_by (of_buffer name) (all_kept d) + elim o [ None ↦ 0 | Some current ↦ one_if (current.buffer == name) ])
+            idle
             ∙ none_more (count_by (of_buffer name) (all_kept d))
 
     module _ (u n : NodeId) (place : ℕ) (k : KeptCopy) (at : slice_get (kept_at d u n) place ≡ Some k) where
@@ -116,14 +123,16 @@ module _ (world : World) (d : CopiesData) (stores : Stores world d) (linked : Ar
       pub has_held : (datagram : Datagram) × (numbered world.datagrams k.copy.number ≡ Some datagram)
           × (maps.get d.buffers k.buffer ≡ Some (held datagram.octets (count_by (of_number k.copy.number) (all_copies world))))
       has_held =
-          let own : HasBuffer world.datagrams d.buffers k = all_at (HasBuffer world.datagrams d.buffers) (kept_at d u n) place k (stores.buffers u n) at in
+          let own : HasBuffer world.datagrams d.buffers k =
+          all_at (HasBuffer world.datagrams d.buffers) (kept_at d u n) place k (stores.buffers u n) at in
           let is = held_from d.buffers k.buffer (kept_lives d u n place k account at) in
           let octets : is.0.octets ≡ own.datagram.octets = some_equal is.0.octets own.datagram.octets (ap octets_of (sym is.1) ∙ own.octets) in
           let count : is.0.count ≡ count_by (of_number k.copy.number) (all_copies world) = ap count_in (sym is.1) ∙ counted in
           (own.datagram, own.is, is.1 ∙ (λ i. Some (held (octets i) (count i))))
 
     -- each buffer is that of some copy
-    pub is_named : (name : ℕ) → IsLive d.buffers name → (u : NodeId) × (n : NodeId) × (place : ℕ) × (k : KeptCopy) × (slice_get (kept_at d u n) place ≡ Some k) × (k.buffer ≡ name)
+    pub is_named : (name : ℕ) → IsLive d.buffers name
+        → (u : NodeId) × (n : NodeId) × (place : ℕ) × (k : KeptCopy) × (slice_get (kept_at d u n) place ≡ Some k) × (k.buffer ≡ name)
     is_named name live =
         let way = way_with name d ways (omega (arith, account.lives name live, held_on_ways name)) in
         let copy = copy_with name (kept_at d way.0 way.1) way.2 in

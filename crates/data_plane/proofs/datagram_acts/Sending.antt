@@ -33,15 +33,19 @@ module _ (now number : ℕ) where
   abbrev waits : Hop → LinkCopy
   waits hop = record { label = hop.branch.label; ttl = 255; put_at = now; number = number }
 
-  pub waiting_more : (hops more : List Hop) (u n : NodeId) → waiting now number (hops ++ more) u n ≡ waiting now number hops u n ++ waiting now number more u n
-  waiting_more hops more u n = ap (map waits) (filter-append (leads_over u n) hops more) ∙ map-append waits (filter (leads_over u n) hops) (filter (leads_over u n) more)
+  pub waiting_more : (hops more : List Hop) (u n : NodeId)
+      → waiting now number (hops ++ more) u n ≡ waiting now number hops u n ++ waiting now number more u n
+  waiting_more hops more u n =
+      ap (map waits) (filter-append (leads_over u n) hops more) ∙ map-append waits (filter (leads_over u n) hops) (filter (leads_over u n) more)
 
-  copies_wait : (buffer : ℕ) (hops : List Hop) → map copy_of (map (λ hop. copy_on 255 now (record { number = number; buffer = buffer }) hop.branch) hops) ≡ map waits hops
+  copies_wait : (buffer : ℕ) (hops : List Hop) → map copy_of
+      (map (λ hop. copy_on 255 now (record { number = number; buffer = buffer }) hop.branch) hops) ≡ map waits hops
   copies_wait buffer [] = refl
   copies_wait buffer (hop ∷ hops) = ap (λ (more : List LinkCopy). waits hop ∷ more) (copies_wait buffer hops)
 
   -- once they are put, whatever their buffer
-  pub put_waits : (buffer : ℕ) (hops : List Hop) (u n : NodeId) → map copy_of (put_on 255 now (record { number = number; buffer = buffer }) hops u n) ≡ waiting now number hops u n
+  pub put_waits : (buffer : ℕ) (hops : List Hop) (u n : NodeId)
+      → map copy_of (put_on 255 now (record { number = number; buffer = buffer }) hops u n) ≡ waiting now number hops u n
   put_waits buffer hops u n = copies_wait buffer (filter (leads_over u n) hops)
 
   waiting_one : (b : Bool) (hop : Hop) (hops : List Hop) → map waits (cond b (hop ∷ hops) hops) ≡ cond b (waits hop ∷ map waits hops) (map waits hops)
@@ -50,7 +54,8 @@ module _ (now number : ℕ) where
 
   -- they are what the network puts on the branches
   pub sent_waits : (node : NodeId) (branches : List TreeBranch) (u n : NodeId)
-      → map copy_of (sent (Some (record { number = number; buffer = 0 })) node 255 now (map hop_of branches) u n) ≡ waiting now number (map (hop_at node) branches) u n
+      → map copy_of (sent (Some (record { number = number; buffer = 0 })) node 255 now (map hop_of branches) u n)
+      ≡ waiting now number (map (hop_at node) branches) u n
   sent_waits node [] u n = nothing (u.0 == node.0)
     where
       nothing : (b : Bool) → map copy_of (cond b [] []) ≡ []
@@ -63,7 +68,8 @@ module _ (now number : ℕ) where
 
 -- ---- it is accepted
 
-pub accepted_sending : (world : World) (copies : CopiesData) (count : ℕ) (hops : List Hop) (datagram : Datagram) → IsIdle world (seen copies count hops) → IsSending (with_datagram datagram world) (count + 1) datagram (seen copies (count + 1) [])
+pub accepted_sending : (world : World) (copies : CopiesData) (count : ℕ) (hops : List Hop) (datagram : Datagram)
+    → IsIdle world (seen copies count hops) → IsSending (with_datagram datagram world) (count + 1) datagram (seen copies (count + 1) [])
 accepted_sending world copies count hops datagram idle = record {
   copies = λ u n. sym (idle.stores.copies u n) ∙ sym (append-nil (copies_at copies u n));
   buffers = λ u n.
@@ -81,7 +87,8 @@ accepted_sending world copies count hops datagram idle = record {
 
 -- ---- it enters at a node
 
-pub entered_sending : (world : World) (copies : CopiesData) (count number : ℕ) (hops new_hops : List Hop) (datagram : Datagram) (node : NodeId) (branches : List TreeBranch)
+pub entered_sending : (world : World) (copies : CopiesData) (count number : ℕ) (hops new_hops : List Hop) (datagram : Datagram) (node : NodeId)
+    (branches : List TreeBranch)
     → new_hops ≡ hops ++ map (hop_at node) branches → IsSending world number datagram (seen copies count hops)
     → IsSending (with_branches node 255 number branches world) number datagram (seen copies count new_hops)
 entered_sending world copies count number hops new_hops datagram node branches are own =
@@ -92,10 +99,13 @@ entered_sending world copies count number hops new_hops datagram node branches a
       copies = λ u n.
           branches_put (record { number = number; buffer = 0 }) node 255 (clock_of world) branches world refl u n
           ∙ (λ i. own.copies u n i ++ sent_waits (clock_of world) number node branches u n i)
-          ∙ append_assoc (copies_at copies u n) (waiting (clock_of world) number hops u n) (waiting (clock_of world) number (map (hop_at node) branches) u n)
-          ∙ ap (λ (more : List LinkCopy). copies_at copies u n ++ more) (sym (waiting_more (clock_of world) number hops (map (hop_at node) branches) u n))
+          ∙ append_assoc (copies_at copies u n) (waiting (clock_of world) number hops u n)
+          (waiting (clock_of world) number (map (hop_at node) branches) u n)
+          ∙ ap (λ (more : List LinkCopy). copies_at copies u n ++ more)
+          (sym (waiting_more (clock_of world) number hops (map (hop_at node) branches) u n))
           ∙ (λ i. copies_at copies u n ++ waiting (sym clock i) number (sym are i) u n);
-      buffers = λ u n. subst (λ (ds : List Datagram). AllByRecursion (HasBuffer ds copies.buffers) (kept_at copies u n)) (sym datagrams) (own.buffers u n);
+      buffers =
+          λ u n. subst (λ (ds : List Datagram). AllByRecursion (HasBuffer ds copies.buffers) (kept_at copies u n)) (sym datagrams) (own.buffers u n);
       none = own.none;
       new = own.new;
       number_is = own.number_is;
@@ -105,10 +115,16 @@ entered_sending world copies count number hops new_hops datagram node branches a
 
 -- ---- its copies are put on links
 
-module _ (world : World) (old new : CopiesData) (count number : ℕ) (hops : List Hop) (datagram : Datagram) (own : IsSending world number datagram (seen old count hops)) (none : new.current ≡ None) where
+module _ (world : World) (old new : CopiesData) (count number : ℕ) (hops : List Hop) (datagram : Datagram)
+    (own : IsSending world number datagram (seen old count hops)) (none : new.current ≡ None) where
   nowhere : length hops ≡ 0 → new ≡ old → IsIdle world (seen new count hops)
   nowhere empty same = subst (λ (d : CopiesData). IsIdle world (seen d count hops)) (sym same) (record {
-    stores = record { copies = λ u n. sym (own.copies u n ∙ ap (λ (more : List LinkCopy). copies_at old u n ++ more) (nothing hops empty u n) ∙ append-nil (copies_at old u n)); buffers = own.buffers };
+    stores = record {
+      copies =
+          λ u n. sym (own.copies u n ∙ ap (λ (more : List LinkCopy). copies_at old u n ++ more) (nothing hops empty u n)
+          ∙ append-nil (copies_at old u n));
+      buffers = own.buffers;
+    };
     none = own.none;
     count = own.count;
   })
@@ -117,7 +133,8 @@ module _ (world : World) (old new : CopiesData) (count number : ℕ) (hops : Lis
       nothing [] e u n = refl
       nothing (hop ∷ more) e u n = absurd (omega (arith, e))
 
-  somewhere : (octets : List ℕ) → octets ≡ datagram.octets → IsSent number octets 255 (clock_of world) hops old new → IsIdle world (seen new count hops)
+  somewhere : (octets : List ℕ) → octets ≡ datagram.octets → IsSent number octets 255 (clock_of world) hops old new
+      → IsIdle world (seen new count hops)
   somewhere octets text is = record {
     stores = record {
       copies = λ u n.
@@ -127,8 +144,10 @@ module _ (world : World) (old new : CopiesData) (count number : ℕ) (hops : Lis
           ∙ sym (own.copies u n);
       buffers = λ u n. subst (AllByRecursion (HasBuffer world.datagrams new.buffers)) (sym (is.copies u n))
           (all_append (HasBuffer world.datagrams new.buffers) (kept_at old u n) (put_on 255 (clock_of world) current hops u n)
-          (all_weaker (HasBuffer world.datagrams old.buffers) (HasBuffer world.datagrams new.buffers) (kept_at old u n) (alive world.datagrams old.buffers new.buffers keeps) (own.buffers u n))
-          (all_map (HasBuffer world.datagrams new.buffers) (λ hop. copy_on 255 (clock_of world) current hop.branch) (filter (leads_over u n) hops) of_it));
+          (all_weaker (HasBuffer world.datagrams old.buffers) (HasBuffer world.datagrams new.buffers) (kept_at old u n)
+          (alive world.datagrams old.buffers new.buffers keeps) (own.buffers u n))
+          (all_map (HasBuffer world.datagrams new.buffers) (λ hop. copy_on 255 (clock_of world) current hop.branch) (filter (leads_over u n) hops)
+          of_it));
     };
     none = none;
     count = own.count;
@@ -138,16 +157,19 @@ module _ (world : World) (old new : CopiesData) (count number : ℕ) (hops : Lis
       current = record { number = number; buffer = is.buffer }
 
       keeps : (name : ℕ) (before : List ℕ) → octets_in old.buffers name ≡ Some before → octets_in new.buffers name ≡ Some before
-      keeps name before e = ap (λ (b : Buffers). octets_in b name) is.buffers ∙ put_keeps old.buffers is.buffer octets (length hops) is.fresh name before e
+      keeps name before e =
+          ap (λ (b : Buffers). octets_in b name) is.buffers ∙ put_keeps old.buffers is.buffer octets (length hops) is.fresh name before e
 
       of_it : (hop : Hop) → HasBuffer world.datagrams new.buffers (copy_on 255 (clock_of world) current hop.branch)
       of_it hop = record {
         datagram = datagram;
         is = own.of_it;
-        octets = ap (λ (b : Buffers). octets_in b is.buffer) is.buffers ∙ put_has old.buffers is.buffer octets (length hops) is.fresh ∙ ap (λ x. Some x) text;
+        octets = ap (λ (b : Buffers). octets_in b is.buffer) is.buffers ∙ put_has old.buffers is.buffer octets (length hops) is.fresh
+            ∙ ap (λ x. Some x) text;
       }
 
-  pub sent_idle : (octets : List ℕ) → octets ≡ datagram.octets → (0 < length hops → IsSent number octets 255 (clock_of world) hops old new) → (length hops ≡ 0 → new ≡ old)
+  pub sent_idle : (octets : List ℕ) → octets ≡ datagram.octets → (0 < length hops → IsSent number octets 255 (clock_of world) hops old new)
+      → (length hops ≡ 0 → new ≡ old)
       → IsIdle world (seen new count hops)
   sent_idle octets text goes stays = by (length hops) refl
     where

@@ -37,19 +37,24 @@ Hold datagrams buffers copies = (u n : NodeId) → AllByRecursion (HasBuffer dat
 -- ---- the copies that stay
 
 -- while buffers live on, with more datagrams
-pub still : (datagrams more : List Datagram) (old new : Buffers) → KeepsBuffers old new → (k : KeptCopy) → HasBuffer datagrams old k → HasBuffer (datagrams ++ more) new k
+pub still : (datagrams more : List Datagram) (old new : Buffers) → KeepsBuffers old new → (k : KeptCopy) → HasBuffer datagrams old k
+    → HasBuffer (datagrams ++ more) new k
 still datagrams more old new keeps k has = record {
   datagram = has.datagram;
   is = numbered_still datagrams more k.copy.number has.datagram has.is;
   octets = keeps k.buffer has.datagram.octets has.octets;
 }
 
-pub alive : (datagrams : List Datagram) (old new : Buffers) → KeepsBuffers old new → (k : KeptCopy) → HasBuffer datagrams old k → HasBuffer datagrams new k
+pub alive : (datagrams : List Datagram) (old new : Buffers) → KeepsBuffers old new → (k : KeptCopy) → HasBuffer datagrams old k
+    → HasBuffer datagrams new k
 alive datagrams old new keeps k has = record { datagram = has.datagram; is = has.is; octets = keeps k.buffer has.datagram.octets has.octets }
 
 -- the buffers of copies live, with the octets that they had
-outlast : (datagrams : List Datagram) (old new : CopiesData) → KeepsOctets old new → IsShared new → Hold datagrams old.buffers new → Hold datagrams new.buffers new
-outlast datagrams old new keeps account hold u n = all_from (HasBuffer datagrams new.buffers) (kept_at new u n) (λ place k is. by k (all_at (HasBuffer datagrams old.buffers) (kept_at new u n) place k (hold u n) is) (kept_lives new u n place k account is))
+outlast : (datagrams : List Datagram) (old new : CopiesData) → KeepsOctets old new → IsShared new → Hold datagrams old.buffers new
+    → Hold datagrams new.buffers new
+outlast datagrams old new keeps account hold u n =
+    all_from (HasBuffer datagrams new.buffers) (kept_at new u n)
+    (λ place k is. by k (all_at (HasBuffer datagrams old.buffers) (kept_at new u n) place k (hold u n) is) (kept_lives new u n place k account is))
   where
     by : (k : KeptCopy) → HasBuffer datagrams old.buffers k → IsLive new.buffers k.buffer → HasBuffer datagrams new.buffers k
     by k has live =
@@ -62,19 +67,26 @@ outlast datagrams old new keeps account hold u n = all_from (HasBuffer datagrams
         }
 
 module _ (P : KeptCopy → Type 0) (old : CopiesData) (all : (u n : NodeId) → AllByRecursion P (kept_at old u n)) where
-  without : (from to : NodeId) (place : ℕ) (u n : NodeId) (b : Bool) → AllByRecursion P (cond b (remove (kept_at old from to) place) (kept_at old u n))
+  without : (from to : NodeId) (place : ℕ) (u n : NodeId) (b : Bool)
+      → AllByRecursion P (cond b (remove (kept_at old from to) place) (kept_at old u n))
   without from to place u n true = all_remove P (kept_at old from to) place (all from to)
   without from to place u n false = all u n
 
-  removed : (new : CopiesData) (from to : NodeId) (place : ℕ) → ((u n : NodeId) → kept_at new u n ≡ cond (is_at from to u n) (remove (kept_at old from to) place) (kept_at old u n))
+  removed : (new : CopiesData) (from to : NodeId) (place : ℕ)
+      → ((u n : NodeId) → kept_at new u n ≡ cond (is_at from to u n) (remove (kept_at old from to) place) (kept_at old u n))
       → (u n : NodeId) → AllByRecursion P (kept_at new u n)
   removed new from to place each u n = subst (AllByRecursion P) (sym (each u n)) (without from to place u n (is_at from to u n))
 
 -- ---- nothing is there
 
-pub nothing_idle : (copies : CopiesData) (hops : List Hop) → copies ≡ no_copies → (scenario : Scenario) (cores : Cores) → IsIdle (start scenario cores) (view copies 0 hops)
+pub nothing_idle : (copies : CopiesData) (hops : List Hop) → copies ≡ no_copies → (scenario : Scenario) (cores : Cores)
+    → IsIdle (start scenario cores) (view copies 0 hops)
 nothing_idle copies hops is scenario cores = subst (λ (d : CopiesData). IsIdle (start scenario cores) (view d 0 hops)) (sym is) (record {
-  stores = record { copies = λ u n. ap (map (λ (k : KeptCopy). k.copy)) (nothing u n); buffers = λ u n. subst (AllByRecursion (HasBuffer [] no_copies.buffers)) (sym (nothing u n)) tt };
+  stores = record {
+    copies = λ u n. ap (map (λ (k : KeptCopy). k.copy)) (nothing u n);
+    buffers =
+        λ u n. subst (AllByRecursion (HasBuffer [] no_copies.buffers)) (sym (nothing u n)) tt;
+  };
   none = refl;
   count = refl;
 })
@@ -84,12 +96,15 @@ nothing_idle copies hops is scenario cores = subst (λ (d : CopiesData). IsIdle 
 
 -- ---- the datagram leaves
 
-same_datagrams : (node : NodeId) (ttl number : ℕ) (branches : List TreeBranch) (world : World) → (with_branches node ttl number branches world).datagrams ≡ world.datagrams
+same_datagrams : (node : NodeId) (ttl number : ℕ) (branches : List TreeBranch) (world : World)
+    → (with_branches node ttl number branches world).datagrams ≡ world.datagrams
 same_datagrams node ttl number [] world = refl
 same_datagrams node ttl number (branch ∷ more) world =
-    same_datagrams node ttl number more (with_copies node branch.node (world.copies node branch.node ++ acts.copy_on world ttl number branch ∷ []) world)
+    same_datagrams node ttl number more (with_copies node branch.node (world.copies node branch.node ++ acts.copy_on world ttl number branch ∷ [])
+    world)
 
-all_sent : (P : KeptCopy → Type 0) (current : Current) (node : NodeId) (ttl now : ℕ) (branches : List Branch) → ((branch : Branch) → P (copy_on ttl now current branch))
+all_sent : (P : KeptCopy → Type 0) (current : Current) (node : NodeId) (ttl now : ℕ) (branches : List Branch)
+    → ((branch : Branch) → P (copy_on ttl now current branch))
     → (u n : NodeId) → AllByRecursion P (sent (Some current) node ttl now branches u n)
 all_sent P current node ttl now branches each u n = by (u.0 == node.0)
   where
@@ -97,7 +112,8 @@ all_sent P current node ttl now branches each u n = by (u.0 == node.0)
     by true = all_map P (copy_on ttl now current) (filter (λ branch. n.0 == branch.node.0) branches) each
     by false = tt
 
-pub left_handles : (world : World) (old new : CopiesData) (count number : ℕ) (hops : List Hop) (datagram : Datagram) (node : NodeId) (ttl : ℕ) (branches : List TreeBranch)
+pub left_handles : (world : World) (old new : CopiesData) (count number : ℕ) (hops : List Hop) (datagram : Datagram) (node : NodeId) (ttl : ℕ)
+    (branches : List TreeBranch)
     → Handles world number datagram (view old count hops)
     → ((u n : NodeId) → kept_at new u n ≡ kept_at old u n ++ sent old.current node ttl (clock_of world) (map hop_of branches) u n)
     → new.current ≡ old.current → KeepsBuffers old.buffers new.buffers
@@ -106,7 +122,8 @@ left_handles world old new count number hops datagram node ttl branches own each
     let datagrams = same_datagrams node ttl number branches world in
     record {
       stores = record {
-        copies = subst (λ (m : ℕ). HasCopies new (with_branches node ttl m branches world)) own.number_is (sent_as old new world own.current node ttl branches own.stores.copies put);
+        copies = subst (λ (m : ℕ). HasCopies new (with_branches node ttl m branches world)) own.number_is
+            (sent_as old new world own.current node ttl branches own.stores.copies put);
         buffers = λ u n. subst (λ (ds : List Datagram). AllByRecursion (HasBuffer ds new.buffers) (kept_at new u n)) (sym datagrams) (hold u n);
       };
       current = own.current;
@@ -129,13 +146,16 @@ left_handles world old new count number hops datagram node ttl branches own each
 
     hold : (u n : NodeId) → AllByRecursion (HasBuffer world.datagrams new.buffers) (kept_at new u n)
     hold u n = subst (AllByRecursion (HasBuffer world.datagrams new.buffers)) (sym (put u n))
-        (all_append (HasBuffer world.datagrams new.buffers) (kept_at old u n) (sent (Some own.current) node ttl (clock_of world) (map hop_of branches) u n)
-        (all_weaker (HasBuffer world.datagrams old.buffers) (HasBuffer world.datagrams new.buffers) (kept_at old u n) (alive world.datagrams old.buffers new.buffers keeps) (own.stores.buffers u n))
+        (all_append (HasBuffer world.datagrams new.buffers) (kept_at old u n)
+        (sent (Some own.current) node ttl (clock_of world) (map hop_of branches) u n)
+        (all_weaker (HasBuffer world.datagrams old.buffers) (HasBuffer world.datagrams new.buffers) (kept_at old u n)
+        (alive world.datagrams old.buffers new.buffers keeps) (own.stores.buffers u n))
         (all_sent (HasBuffer world.datagrams new.buffers) own.current node ttl (clock_of world) (map hop_of branches) of_it u n))
 
 -- ---- a copy lands
 
-pub landed_handles : (world : World) (old new : CopiesData) (count : ℕ) (hops : List Hop) (from to : NodeId) (place : ℕ) (landed : Landed) → IsIdle world (view old count hops)
+pub landed_handles : (world : World) (old new : CopiesData) (count : ℕ) (hops : List Hop) (from to : NodeId) (place : ℕ) (landed : Landed)
+    → IsIdle world (view old count hops)
     → option_map landed_of (slice_get (kept_at old from to) (place - 1)) ≡ Some landed
     → ((u n : NodeId) → kept_at new u n ≡ cond (is_at from to u n) (remove (kept_at old from to) (place - 1)) (kept_at old u n))
     → new.current ≡ option_map current_of (slice_get (kept_at old from to) (place - 1)) → new.buffers ≡ old.buffers
@@ -159,7 +179,8 @@ landed_handles world old new count hops from to place landed idle told each curr
             stores = record {
               copies = left_as old new world from to place idle.stores.copies each;
               buffers = removed (HasBuffer world.datagrams new.buffers) old
-                  (λ u n. subst (λ (b : Buffers). AllByRecursion (HasBuffer world.datagrams b) (kept_at old u n)) (sym buffers) (idle.stores.buffers u n)) new from to (place - 1) each;
+                  (λ u n. subst (λ (b : Buffers). AllByRecursion (HasBuffer world.datagrams b) (kept_at old u n)) (sym buffers)
+                  (idle.stores.buffers u n)) new from to (place - 1) each;
             };
             current = current_of k;
             is = current ∙ ap (option_map current_of) is;
@@ -172,12 +193,15 @@ landed_handles world old new count hops from to place landed idle told each curr
 
 -- ---- the datagram is no longer handled, a copy is dropped, and old copies are
 
-pub finished_idle : (world : World) (old new : CopiesData) (count number : ℕ) (hops : List Hop) (datagram : Datagram) → Handles world number datagram (view old count hops)
+pub finished_idle : (world : World) (old new : CopiesData) (count number : ℕ) (hops : List Hop) (datagram : Datagram)
+    → Handles world number datagram (view old count hops)
     → new.current ≡ None → new.ways ≡ old.ways → KeepsOctets old new → IsShared new → IsIdle world (view new count hops)
 finished_idle world old new count number hops datagram own none ways keeps account = record {
   stores = record {
     copies = λ u n. ap (map (λ (k : KeptCopy). k.copy)) (same u n) ∙ own.stores.copies u n;
-    buffers = outlast world.datagrams old new keeps account (λ u n. subst (AllByRecursion (HasBuffer world.datagrams old.buffers)) (sym (same u n)) (own.stores.buffers u n));
+    buffers =
+        outlast world.datagrams old new keeps account
+        (λ u n. subst (AllByRecursion (HasBuffer world.datagrams old.buffers)) (sym (same u n)) (own.stores.buffers u n));
   };
   none = none;
   count = own.count;
@@ -186,13 +210,16 @@ finished_idle world old new count number hops datagram own none ways keeps accou
     same : (u n : NodeId) → kept_at new u n ≡ kept_at old u n
     same u n = ap (λ (w : Ways). kept_at (record old { ways = w }) u n) ways
 
-pub dropped_idle : (world : World) (old new : CopiesData) (count : ℕ) (hops : List Hop) (from to : NodeId) (place : ℕ) → IsIdle world (view old count hops)
+pub dropped_idle : (world : World) (old new : CopiesData) (count : ℕ) (hops : List Hop) (from to : NodeId) (place : ℕ)
+    → IsIdle world (view old count hops)
     → ((u n : NodeId) → kept_at new u n ≡ cond (is_at from to u n) (remove (kept_at old from to) (place - 1)) (kept_at old u n))
     → new.current ≡ None → KeepsOctets old new → IsShared new → IsIdle (without_copy world from to place) (view new count hops)
 dropped_idle world old new count hops from to place idle each none keeps account = record {
   stores = record {
     copies = left_as old new world from to place idle.stores.copies each;
-    buffers = outlast world.datagrams old new keeps account (removed (HasBuffer world.datagrams old.buffers) old idle.stores.buffers new from to (place - 1) each);
+    buffers =
+        outlast world.datagrams old new keeps account
+        (removed (HasBuffer world.datagrams old.buffers) old idle.stores.buffers new from to (place - 1) each);
   };
   none = none;
   count = idle.count;
@@ -206,7 +233,8 @@ aged_idle world old new count hops idle each current keeps account = record {
     copies = aged_as old new world idle.stores.copies each;
     buffers = outlast world.datagrams old new keeps account (λ u n.
         subst (AllByRecursion (HasBuffer world.datagrams old.buffers)) (sym (each u n))
-        (all_filter (HasBuffer world.datagrams old.buffers) (is_recent (clock_of world) (scenario_of world).life) (kept_at old u n) (idle.stores.buffers u n)));
+        (all_filter (HasBuffer world.datagrams old.buffers) (is_recent (clock_of world) (scenario_of world).life) (kept_at old u n)
+        (idle.stores.buffers u n)));
   };
   none = current ∙ idle.none;
   count = idle.count;

@@ -11,11 +11,14 @@ use Rattle.network_defs.specs.World.{Datagram, World}
 use Rattle.data_plane.specs.datagram_acts.DatagramsView.{DatagramsView}
 use Rattle.data_plane.specs.datagram_acts.Stored.{Handles, IsNumber}
 
-pub same_number : (world : World) (number kept : ℕ) (datagram : Datagram) (view : DatagramsView) → Handles world number datagram view → IsNumber kept view.copies.current → kept ≡ number
+pub same_number : (world : World) (number kept : ℕ) (datagram : Datagram) (view : DatagramsView) → Handles world number datagram view
+    → IsNumber kept view.copies.current → kept ≡ number
 same_number world number kept datagram view own is = sym (subst (IsNumber kept) own.is is) ∙ own.number_is
 
-pub told_lines : (before between behind : List ReportLine) (node : NodeId) (ttl number kept : ℕ) (octets stored : List ℕ) (outs : List IfaceId) (branches : List Branch)
-    → kept ≡ number → stored ≡ octets → between ≡ before ++ map (λ iface. told.Out kept iface stored) outs → behind ≡ between ++ map (hop_line node ttl kept) branches
+pub told_lines : (before between behind : List ReportLine) (node : NodeId) (ttl number kept : ℕ) (octets stored : List ℕ) (outs : List IfaceId)
+    (branches : List Branch)
+    → kept ≡ number → stored ≡ octets → between ≡ before ++ map (λ iface. told.Out kept iface stored) outs
+    → behind ≡ between ++ map (hop_line node ttl kept) branches
     → behind ≡ before ++ (map (λ iface. told.Out number iface octets) outs ++ map (hop_line node ttl number) branches)
 told_lines before between behind node ttl number kept octets stored outs branches same text first last =
     last ∙ ap (λ (lines : List ReportLine). lines ++ map (hop_line node ttl kept) branches) first

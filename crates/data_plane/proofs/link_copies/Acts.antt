@@ -17,25 +17,31 @@ use Rattle.data_plane.proofs.link_copies.Pools.{held_from, live_from, back_count
 use Rattle.data_plane.proofs.link_copies.Holdings.{passes, is_pair, length_total, held_total, are_held, shared_behind}
 
 -- what is handled holds its buffer
-pub finish_live : (ways : WayMap) (current : Current) (before : Buffers) → IsShared (data_of ways (Some current) before) → 0 < count_of before current.buffer
+pub finish_live : (ways : WayMap) (current : Current) (before : Buffers) → IsShared (data_of ways (Some current) before)
+    → 0 < count_of before current.buffer
 finish_live ways current before account = omega (arith, account.counted current.buffer, ap one_if (eq-eqb current.buffer current.buffer refl))
 
 -- ---- a copy lands
 
 module _ (old new : WayMap) (way : NodeId × NodeId) (place : ℕ) (k : KeptCopy) (buffers : Buffers)
-    (each : (q : NodeId × NodeId) → kept.get is_way new q ≡ cond (is_way way q) (option_map (λ copies. remove copies place) (kept.get is_way old q)) (kept.get is_way old q))
+    (each : (q : NodeId × NodeId) → kept.get is_way new q
+    ≡ cond (is_way way q) (option_map (λ copies. remove copies place) (kept.get is_way old q)) (kept.get is_way old q))
     (is : slice_get (copies_on old way) place ≡ Some k) where
-  taken : (f : List KeptCopy → ℕ) → f [] ≡ 0 → total f (ways_of new) + f (copies_on old way) ≡ total f (ways_of old) + f (remove (copies_on old way) place)
+  taken : (f : List KeptCopy → ℕ) → f [] ≡ 0 → total f (ways_of new) + f (copies_on old way)
+      ≡ total f (ways_of old) + f (remove (copies_on old way) place)
   taken f nothing = at (kept.get is_way old way) refl
     where
       same : (o : Option (List KeptCopy)) → kept.get is_way old way ≡ o → (q : NodeId × NodeId) → (b : Bool) → is_way way q ≡ b
-          → cond b (option_map (λ copies. remove copies place) (kept.get is_way old q)) (kept.get is_way old q) ≡ cond b (option_map (λ copies. remove copies place) o) (kept.get is_way old q)
+          → cond b (option_map (λ copies. remove copies place) (kept.get is_way old q)) (kept.get is_way old q)
+          ≡ cond b (option_map (λ copies. remove copies place) o) (kept.get is_way old q)
       same o e q true t = ap (option_map (λ copies. remove copies place)) (ap (kept.get is_way old) (sym (way_equal way q t)) ∙ e)
       same o e q false t = refl
 
-      at : (o : Option (List KeptCopy)) → kept.get is_way old way ≡ o → total f (ways_of new) + f (copies_on old way) ≡ total f (ways_of old) + f (remove (copies_on old way) place)
+      at : (o : Option (List KeptCopy)) → kept.get is_way old way ≡ o
+          → total f (ways_of new) + f (copies_on old way) ≡ total f (ways_of old) + f (remove (copies_on old way) place)
       at o e = total_changes f nothing old new way (option_map (λ copies. remove copies place) o) (λ q. each q ∙ same o e q (is_way way q) refl)
-          ∙ ap (λ (copies : List KeptCopy). total f (ways_of old) + f copies) (removed_in place o ∙ ap (λ (x : Option (List KeptCopy)). remove (copies_in x) place) (sym e))
+          ∙ ap (λ (copies : List KeptCopy). total f (ways_of old) + f copies)
+          (removed_in place o ∙ ap (λ (x : Option (List KeptCopy)). remove (copies_in x) place) (sym e))
 
   lands_holding : (test : ℕ → ℕ → Bool) → holding test (data_of new (Some (current_of k)) buffers) ≡ holding test (data_of old None buffers)
   lands_holding test = omega (
@@ -108,7 +114,8 @@ module _ (old new : WayMap) (way : NodeId × NodeId) (k : KeptCopy) (current : C
       (subst AreHeld (sym is) (share_held before current.buffer live.0 live.1 (are_held was account)))
       (λ number name h. by number name (is_pair number name current.number current.buffer) refl h) account
     where
-      by : (number name : ℕ) (b : Bool) → is_pair number name current.number current.buffer ≡ b → 0 < holders_for now number name → 0 < holders_for was number name
+      by : (number name : ℕ) (b : Bool) → is_pair number name current.number current.buffer ≡ b → 0 < holders_for now number name
+          → 0 < holders_for was number name
       by number name true e h = omega (arith, ap one_if e)
       by number name false e h = omega (arith, h, ap one_if e, put_holding (is_pair number name))
 
@@ -134,10 +141,14 @@ module _ (ways : WayMap) (current : Current) (before behind : Buffers) (is : beh
 
 -- ---- the ways are the same
 
-pub same_shared : (old new : WayMap) (current : Option Current) (buffers : Buffers) → ((q : NodeId × NodeId) → kept.get is_way new q ≡ kept.get is_way old q)
+pub same_shared : (old new : WayMap) (current : Option Current) (buffers : Buffers)
+    → ((q : NodeId × NodeId) → kept.get is_way new q ≡ kept.get is_way old q)
     → IsShared (data_of old current buffers) → IsShared (data_of new current buffers)
-same_shared old new current buffers each account = subst (λ (w : Ways). IsShared (record { ways = w; current = current; buffers = buffers })) (sym (unchanged old new each)) account
+same_shared old new current buffers each account =
+    subst (λ (w : Ways). IsShared (record { ways = w; current = current; buffers = buffers })) (sym (unchanged old new each)) account
 
-pub same_count : (old new : WayMap) (current : Option Current) (buffers : Buffers) → ((q : NodeId × NodeId) → kept.get is_way new q ≡ kept.get is_way old q)
+pub same_count : (old new : WayMap) (current : Option Current) (buffers : Buffers)
+    → ((q : NodeId × NodeId) → kept.get is_way new q ≡ kept.get is_way old q)
     → length (all_kept (data_of new current buffers)) ≡ length (all_kept (data_of old current buffers))
-same_count old new current buffers each = ap (λ (w : Ways). length (all_kept (record { ways = w; current = current; buffers = buffers }))) (unchanged old new each)
+same_count old new current buffers each =
+    ap (λ (w : Ways). length (all_kept (record { ways = w; current = current; buffers = buffers }))) (unchanged old new each)

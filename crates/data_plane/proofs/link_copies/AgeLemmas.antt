@@ -19,7 +19,8 @@ module _ (m : WayMap) (current : Option Current) (buffers : Buffers) (unique : I
   length_sum = length_total (data_of m current buffers) ∙ total_is length m.entries unique
 
   held_sum : (test : ℕ → ℕ → Bool) → holding test (data_of m current buffers) ≡ sum_over (count_by (passes test)) m + own test current
-  held_sum test = held_total test (data_of m current buffers) ∙ ap (λ (n : ℕ). n + own test current) (total_is (count_by (passes test)) m.entries unique)
+  held_sum test =
+      held_total test (data_of m current buffers) ∙ ap (λ (n : ℕ). n + own test current) (total_is (count_by (passes test)) m.entries unique)
 
   -- no more copies have a buffer than hold it
   pub held_most : IsShared (data_of m current buffers) → (name : ℕ) → sum_over (with_buffer name) m ≤ count_of buffers name
@@ -52,7 +53,8 @@ module _ (old new : WayMap) (current : Option Current) (before behind : Buffers)
         )) account
 
   -- what is left of each way
-  pub age_seen : length old.entries ≤ n → (d : CopiesData) → data_of old current before ≡ d → (u v : NodeId) → copies_in (maps.get (ways_of new) (u, v)) ≡ filter (is_recent now life) (kept_at d u v)
+  pub age_seen : length old.entries ≤ n → (d : CopiesData) → data_of old current before ≡ d → (u v : NodeId)
+      → copies_in (maps.get (ways_of new) (u, v)) ≡ filter (is_recent now life) (kept_at d u v)
   age_seen all d is u v =
       copies_seen new (u, v)
       ∙ ap (λ (es : List Entry). copies_in (lookup (is_way (u, v)) es)) aged

@@ -16,7 +16,8 @@ first way copies es = (way, copies) ∷ es
 -- ---- one way's copies become others
 
 module _ (f : List KeptCopy → ℕ) where
-  pub sum-set : (es : List Entry) (i : ℕ) (x w : List KeptCopy) → slice_get (values_of es) i ≡ Some x → sum_in f (set_value_at es i w) + f x ≡ sum_in f es + f w
+  pub sum-set : (es : List Entry) (i : ℕ) (x w : List KeptCopy) → slice_get (values_of es) i ≡ Some x
+      → sum_in f (set_value_at es i w) + f x ≡ sum_in f es + f w
   sum-set [] i x w e = absurd (not_some x e)
   sum-set (e ∷ es) zero x w is = omega (arith, sum-cons f (e.0, w) es, sum-cons f e es, ap f (some_equal e.1 x is))
   sum-set (e ∷ es) (suc i) x w is = omega (arith, sum-cons f e (set_value_at es i w), sum-cons f e es, sum-set es i x w is)
@@ -29,7 +30,8 @@ module _ (f : List KeptCopy → ℕ) where
 -- ---- the copies of one way age, and of one way after another
 
 module _ (now life : ℕ) where
-  pub set-aged : (es : List Entry) (i : ℕ) (x : List KeptCopy) → slice_get (values_of es) i ≡ Some x → set_value_at es i (recent now life x) ≡ aged_at now life i es
+  pub set-aged : (es : List Entry) (i : ℕ) (x : List KeptCopy) → slice_get (values_of es) i ≡ Some x
+      → set_value_at es i (recent now life x) ≡ aged_at now life i es
   set-aged [] i x e = absurd (not_some x e)
   set-aged (e ∷ es) zero x is = ap (λ (y : List KeptCopy). first e.0 (recent now life y) es) (sym (some_equal e.1 x is))
   set-aged (e ∷ es) (suc i) x is = ap (λ (rest : List Entry). e ∷ rest) (set-aged es i x is)
@@ -56,14 +58,16 @@ module _ (now life : ℕ) where
   aged-keys [] (suc n) = refl
   aged-keys (e ∷ es) (suc n) = ap (λ (ways : List (NodeId × NodeId)). e.0 ∷ ways) (aged-keys es n)
 
-  pub aged-seen : (es : List Entry) (n : ℕ) → length es ≤ n → (way : NodeId × NodeId) → copies_in (lookup (is_way way) (aged_to now life n es)) ≡ recent now life (copies_in (lookup (is_way way) es))
+  pub aged-seen : (es : List Entry) (n : ℕ) → length es ≤ n → (way : NodeId × NodeId)
+      → copies_in (lookup (is_way way) (aged_to now life n es)) ≡ recent now life (copies_in (lookup (is_way way) es))
   aged-seen [] zero all way = refl
   aged-seen [] (suc n) all way = refl
   aged-seen (e ∷ es) zero all way = absurd (omega (arith, all))
   aged-seen (e ∷ es) (suc n) all way = by (is_way way e.0) (aged-seen es n (omega (arith, all)) way)
     where
       by : (b : Bool) → copies_in (lookup (is_way way) (aged_to now life n es)) ≡ recent now life (copies_in (lookup (is_way way) es))
-          → copies_in (cond b (Some (recent now life e.1)) (lookup (is_way way) (aged_to now life n es))) ≡ recent now life (copies_in (cond b (Some e.1) (lookup (is_way way) es)))
+          → copies_in (cond b (Some (recent now life e.1)) (lookup (is_way way) (aged_to now life n es)))
+          ≡ recent now life (copies_in (cond b (Some e.1) (lookup (is_way way) es)))
       by true rest = refl
       by false rest = rest
 
@@ -71,4 +75,10 @@ module _ (now life : ℕ) where
   aged-fewer t es zero = omega arith
   aged-fewer t [] (suc n) = omega arith
   aged-fewer t (e ∷ es) (suc n) =
-      omega (arith, sum-cons (count_by t) (e.0, recent now life e.1) (aged_to now life n es), sum-cons (count_by t) e es, recent-fewer now life t e.1, aged-fewer t es n)
+      omega (
+        arith,
+        sum-cons (count_by t) (e.0, recent now life e.1) (aged_to now life n es),
+        sum-cons (count_by t) e es,
+        recent-fewer now life t e.1,
+        aged-fewer t es n,
+      )

@@ -21,7 +21,8 @@ has number cs = list_any (λ copy. copy.number == number) cs
 -- ---- who passes a test
 
 -- where some pass a test, there is one that does, and it counts for every test that it passes
-pub member : (t : KeptCopy → Bool) (ks : List KeptCopy) → 0 < count_by t ks → (x : KeptCopy) × (t x ≡ true) × ((s : KeptCopy → Bool) → s x ≡ true → 0 < count_by s ks)
+pub member : (t : KeptCopy → Bool) (ks : List KeptCopy) → 0 < count_by t ks
+    → (x : KeptCopy) × (t x ≡ true) × ((s : KeptCopy → Bool) → s x ≡ true → 0 < count_by s ks)
 member t [] h = absurd (omega (arith, h))
 member t (k ∷ ks) h = by (t k) refl (member t ks)
   where
@@ -36,7 +37,8 @@ pub any_of : (number : ℕ) (ks : List KeptCopy) → 0 < count_by (numbered numb
 any_of number [] h = absurd (omega (arith, h))
 any_of number (k ∷ ks) h = by (k.copy.number == number) refl (any_of number ks)
   where
-    by : (b : Bool) → (k.copy.number == number) ≡ b → (0 < count_by (numbered number) ks → has number (copies ks) ≡ true) → (b || has number (copies ks)) ≡ true
+    by : (b : Bool) → (k.copy.number == number) ≡ b → (0 < count_by (numbered number) ks → has number (copies ks) ≡ true)
+        → (b || has number (copies ks)) ≡ true
     by true e rest = refl
     by false e rest = rest (omega (arith, h, count-cons (numbered number) k ks, ap one_if e))
 
@@ -44,7 +46,8 @@ pub none_of : (number : ℕ) (ks : List KeptCopy) → count_by (numbered number)
 none_of number [] h = refl
 none_of number (k ∷ ks) h = by (k.copy.number == number) refl (none_of number ks)
   where
-    by : (b : Bool) → (k.copy.number == number) ≡ b → (count_by (numbered number) ks ≡ 0 → has number (copies ks) ≡ false) → (b || has number (copies ks)) ≡ false
+    by : (b : Bool) → (k.copy.number == number) ≡ b → (count_by (numbered number) ks ≡ 0 → has number (copies ks) ≡ false)
+        → (b || has number (copies ks)) ≡ false
     by true e rest = absurd (omega (arith, h, count-cons (numbered number) k ks, ap one_if e))
     by false e rest = rest (omega (arith, h, count-cons (numbered number) k ks, ap one_if e))
 
@@ -75,7 +78,8 @@ module _ (c : LinkCopy) (cs : List LinkCopy) where
       by false e rest = ap (λ (n : ℕ). n + one_if (has (suc last) cs)) rest
 
   -- it is the only copy of its datagram
-  pub first : has c.number cs ≡ false → 0 < c.number → (last : ℕ) → c.number ≤ last → datagrams_with_copy (c ∷ cs) last ≡ datagrams_with_copy cs last + 1
+  pub first : has c.number cs ≡ false → 0 < c.number → (last : ℕ) → c.number ≤ last
+      → datagrams_with_copy (c ∷ cs) last ≡ datagrams_with_copy cs last + 1
   first none some zero h = absurd (omega (arith, some, h))
   first none some (suc last) h = by (c.number == suc last) refl (first none some last)
     where

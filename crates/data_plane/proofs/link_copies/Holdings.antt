@@ -42,13 +42,16 @@ length_total d = length-all (maps.entries d.ways)
 pub count_none : (d : CopiesData) (t : KeptCopy → Bool) → ((u n : NodeId) → count_by t (kept_at d u n) ≡ 0) → count_by t (all_kept d) ≡ 0
 count_none d t each = count-all t (maps.entries d.ways) ∙ total_none (count_by t) refl (maps.len d.ways) d.ways refl (λ way. each way.0 way.1)
 
-pub none_pass : (P : KeptCopy → Type 0) (t : KeptCopy → Bool) → ((k : KeptCopy) → P k → t k ≡ false) → (ks : List KeptCopy) → AllByRecursion P ks → count_by t ks ≡ 0
+pub none_pass : (P : KeptCopy → Type 0) (t : KeptCopy → Bool) → ((k : KeptCopy) → P k → t k ≡ false) → (ks : List KeptCopy) → AllByRecursion P ks
+    → count_by t ks ≡ 0
 none_pass P t fails [] all = refl
-none_pass P t fails (k ∷ ks) all = omega (arith, count-cons t k ks, ap (λ (b : Bool). cond {A = ℕ} b 1 0) (fails k all.0), none_pass P t fails ks all.1)
+none_pass P t fails (k ∷ ks) all =
+    omega (arith, count-cons t k ks, ap (λ (b : Bool). cond {A = ℕ} b 1 0) (fails k all.0), none_pass P t fails ks all.1)
 
 pub lacks_none : (d : CopiesData) (number : ℕ) → LacksNumber d number → copies_of d number ≡ 0
 lacks_none d number lacks =
-    count_none d (λ k. k.copy.number == number) (λ u n. none_pass (λ k. k.copy.number ≢ number) (λ k. k.copy.number == number) (λ k apart. ne_eqb k.copy.number number apart) (kept_at d u n) (lacks u n))
+    count_none d (λ k. k.copy.number == number) (λ u n. none_pass (λ k. k.copy.number ≢ number) (λ k. k.copy.number == number)
+    (λ k apart. ne_eqb k.copy.number number apart) (kept_at d u n) (lacks u n))
 
 pub held_total : (test : ℕ → ℕ → Bool) (d : CopiesData) → holding test d ≡ total (count_by (passes test)) d.ways + own test d.current
 held_total test d = ap (λ (n : ℕ). n + own test d.current) (count-all (passes test) (maps.entries d.ways))
@@ -62,7 +65,8 @@ are_held d shared name held is =
     by : maps.get d.buffers name ≡ Some held → IsLive d.buffers name
     by e = subst (λ (o : Option Held). T (is_some o)) (sym e) tt
 
-pub lives_from : (d : CopiesData) → ((name : ℕ) → count_of d.buffers name ≡ holders d name) → AreHeld d.buffers → (name : ℕ) → IsLive d.buffers name → 0 < holders d name
+pub lives_from : (d : CopiesData) → ((name : ℕ) → count_of d.buffers name ≡ holders d name) → AreHeld d.buffers → (name : ℕ) → IsLive d.buffers name
+    → 0 < holders d name
 lives_from d counted all name live =
     let is = held_from d.buffers name live in
     omega (arith, counted name, ap count_in is.1, all name is.0 is.1)

@@ -60,7 +60,10 @@ count-less t s each [] = omega arith
 count-less t s each (k ∷ ks) = by (t k) (s k) refl refl (count-less t s each ks)
   where
     by : (a b : Bool) → t k ≡ a → s k ≡ b → count_by t ks ≤ count_by s ks → count_by t (k ∷ ks) ≤ count_by s (k ∷ ks)
-    by true true e d rest = omega (arith, count-cons t k ks, count-cons s k ks, ap (λ (b : Bool). cond {A = ℕ} b 1 0) e, ap (λ (b : Bool). cond {A = ℕ} b 1 0) d, rest)
+    by true true e d rest =
+        omega (arith, count-cons t k ks, count-cons s k ks, ap (λ (b : Bool). cond {A = ℕ} b 1 0) e, ap (λ (b : Bool). cond {A = ℕ} b 1 0) d, rest)
     by true false e d rest = absurd (true≢false (sym (each k e) ∙ d))
-    by false true e d rest = omega (arith, count-cons t k ks, count-cons s k ks, ap (λ (b : Bool). cond {A = ℕ} b 1 0) e, ap (λ (b : Bool). cond {A = ℕ} b 1 0) d, rest)
-    by false false e d rest = omega (arith, count-cons t k ks, count-cons s k ks, ap (λ (b : Bool). cond {A = ℕ} b 1 0) e, ap (λ (b : Bool). cond {A = ℕ} b 1 0) d, rest)
+    by false true e d rest =
+        omega (arith, count-cons t k ks, count-cons s k ks, ap (λ (b : Bool). cond {A = ℕ} b 1 0) e, ap (λ (b : Bool). cond {A = ℕ} b 1 0) d, rest)
+    by false false e d rest =
+        omega (arith, count-cons t k ks, count-cons s k ks, ap (λ (b : Bool). cond {A = ℕ} b 1 0) e, ap (λ (b : Bool). cond {A = ℕ} b 1 0) d, rest)

@@ -26,15 +26,18 @@ module _ {X Y : Type 0} (f : X → Y) where
   map-filtered p q same [] = refl
   map-filtered p q same (x ∷ xs) = by (p x) (map-filtered p q same xs) ∙ (λ i. cond (same x i) (f x ∷ filter q (map f xs)) (filter q (map f xs)))
     where
-      by : (b : Bool) → map f (filter p xs) ≡ filter q (map f xs) → map f (cond b (x ∷ filter p xs) (filter p xs)) ≡ cond b (f x ∷ filter q (map f xs)) (filter q (map f xs))
+      by : (b : Bool) → map f (filter p xs) ≡ filter q (map f xs)
+          → map f (cond b (x ∷ filter p xs) (filter p xs)) ≡ cond b (f x ∷ filter q (map f xs)) (filter q (map f xs))
       by true rest = ap (λ (ys : List Y). f x ∷ ys) rest
       by false rest = rest
 
 pub left_as : (old new : CopiesData) (world : World) (from to : NodeId) (place : ℕ) → HasCopies old world
-    → ((u n : NodeId) → kept_at new u n ≡ cond (is_at from to u n) (remove (kept_at old from to) (place - 1)) (kept_at old u n)) → HasCopies new (without_copy world from to place)
+    → ((u n : NodeId) → kept_at new u n ≡ cond (is_at from to u n) (remove (kept_at old from to) (place - 1)) (kept_at old u n))
+    → HasCopies new (without_copy world from to place)
 left_as old new world from to place has each u n = ap (map copy_of) (each u n) ∙ by (is_at from to u n)
   where
-    by : (b : Bool) → map copy_of (cond b (remove (kept_at old from to) (place - 1)) (kept_at old u n)) ≡ cond b (remove (world.copies from to) (place - 1)) (world.copies u n)
+    by : (b : Bool) → map copy_of (cond b (remove (kept_at old from to) (place - 1)) (kept_at old u n))
+        ≡ cond b (remove (world.copies from to) (place - 1)) (world.copies u n)
     by true = map-removed copy_of (kept_at old from to) (place - 1) ∙ ap (λ (copies : List LinkCopy). remove copies (place - 1)) (has from to)
     by false = has u n
 
@@ -42,7 +45,8 @@ pub aged_as : (old new : CopiesData) (world : World) → HasCopies old world
     → ((u n : NodeId) → kept_at new u n ≡ filter (is_recent (clock_of world) (scenario_of world).life) (kept_at old u n)) → HasCopies new (aged world)
 aged_as old new world has each u n =
     ap (map copy_of) (each u n)
-    ∙ map-filtered copy_of (is_recent (clock_of world) (scenario_of world).life) (λ copy. nat_le (clock_of world) (copy.put_at + (scenario_of world).life)) (λ k. refl) (kept_at old u n)
+    ∙ map-filtered copy_of (is_recent (clock_of world) (scenario_of world).life)
+    (λ copy. nat_le (clock_of world) (copy.put_at + (scenario_of world).life)) (λ k. refl) (kept_at old u n)
     ∙ ap (filter (λ copy. nat_le (clock_of world) (copy.put_at + (scenario_of world).life))) (has u n)
 
 -- ---- copies on branches
@@ -53,11 +57,14 @@ module _ (current : Current) (from : NodeId) (ttl now : ℕ) where
 
   -- the first branch, and the others
   pub put-cons : (branch : TreeBranch) (more : List TreeBranch) (u n : NodeId)
-      → put_on (branch ∷ more) u n ≡ cond (is_at from branch.node u n) (copy_of (copy_on ttl now current (hop_of branch)) ∷ put_on more u n) (put_on more u n)
+      → put_on (branch ∷ more) u n ≡ cond (is_at from branch.node u n) (copy_of (copy_on ttl now current (hop_of branch)) ∷ put_on more u n)
+      (put_on more u n)
   put-cons branch more u n = by (u.0 == from.0) (n.0 == branch.node.0)
     where
-      by : (a b : Bool) → map copy_of (cond a (map (copy_on ttl now current) (cond b (hop_of branch ∷ filter (λ b. n.0 == b.node.0) (map hop_of more)) (filter (λ b. n.0 == b.node.0) (map hop_of more)))) [])
-          ≡ cond (a && b) (copy_of (copy_on ttl now current (hop_of branch)) ∷ map copy_of (cond a (map (copy_on ttl now current) (filter (λ b. n.0 == b.node.0) (map hop_of more))) []))
+      by : (a b : Bool) → map copy_of (cond a (map (copy_on ttl now current)
+          (cond b (hop_of branch ∷ filter (λ b. n.0 == b.node.0) (map hop_of more)) (filter (λ b. n.0 == b.node.0) (map hop_of more)))) [])
+          ≡ cond (a && b) (copy_of (copy_on ttl now current (hop_of branch))
+          ∷ map copy_of (cond a (map (copy_on ttl now current) (filter (λ b. n.0 == b.node.0) (map hop_of more))) []))
           (map copy_of (cond a (map (copy_on ttl now current) (filter (λ b. n.0 == b.node.0) (map hop_of more))) []))
       by true true = refl
       by true false = refl
@@ -65,13 +72,15 @@ module _ (current : Current) (from : NodeId) (ttl now : ℕ) where
 
   pub branches_put : (branches : List TreeBranch) (world : World) → clock_of world ≡ now → (u n : NodeId)
       → (with_branches from ttl current.number branches world).copies u n ≡ world.copies u n ++ put_on branches u n
-  branches_put [] world clock u n = sym (append-nil (world.copies u n)) ∙ ap (λ (more : List LinkCopy). world.copies u n ++ more) (nothing (u.0 == from.0))
+  branches_put [] world clock u n =
+      sym (append-nil (world.copies u n)) ∙ ap (λ (more : List LinkCopy). world.copies u n ++ more) (nothing (u.0 == from.0))
     where
       nothing : (b : Bool) → [] ≡ map copy_of (cond b [] [])
       nothing true = refl
       nothing false = refl
   branches_put (branch ∷ more) world clock u n =
-      branches_put more (with_copies from branch.node (world.copies from branch.node ++ acts.copy_on world ttl current.number branch ∷ []) world) clock u n
+      branches_put more (with_copies from branch.node (world.copies from branch.node ++ acts.copy_on world ttl current.number branch ∷ []) world)
+      clock u n
       ∙ by (is_at from branch.node u n) refl
       ∙ ap (λ (copies : List LinkCopy). world.copies u n ++ copies) (sym (put-cons branch more u n))
     where
@@ -83,7 +92,8 @@ module _ (current : Current) (from : NodeId) (ttl now : ℕ) where
           ≡ world.copies u n ++ cond b (copy_of (copy_on ttl now current (hop_of branch)) ∷ put_on more u n) (put_on more u n)
       by true e =
           append_assoc (world.copies from branch.node) (acts.copy_on world ttl current.number branch ∷ []) (put_on more u n)
-          ∙ (λ i. world.copies (sym (way_equal (u, n) (from, branch.node) e) i).0 (sym (way_equal (u, n) (from, branch.node) e) i).1 ++ same i ∷ put_on more u n)
+          ∙ (λ i. world.copies (sym (way_equal (u, n) (from, branch.node) e) i).0 (sym (way_equal (u, n) (from, branch.node) e) i).1 ++ same i
+          ∷ put_on more u n)
       by false e = refl
 
 pub sent_as : (old new : CopiesData) (world : World) (current : Current) (from : NodeId) (ttl : ℕ) (branches : List TreeBranch) → HasCopies old world

@@ -8,18 +8,21 @@ use Rattle.data_plane.proofs.link_copies.Basics.{one_more, some_equal, not_some}
 use Rattle.data_plane.proofs.link_copies.Lists.{count-cons}
 
 module _ (now life : ℕ) where
-  recent-cons : (k : KeptCopy) (ks : List KeptCopy) (f : List KeptCopy → ℕ) (b : Bool) → is_recent now life k ≡ b → f (recent now life (k ∷ ks)) ≡ cond b (f (k ∷ recent now life ks)) (f (recent now life ks))
+  recent-cons : (k : KeptCopy) (ks : List KeptCopy) (f : List KeptCopy → ℕ) (b : Bool) → is_recent now life k ≡ b
+      → f (recent now life (k ∷ ks)) ≡ cond b (f (k ∷ recent now life ks)) (f (recent now life ks))
   recent-cons k ks f true e = λ i. f (cond (e i) (k ∷ recent now life ks) (recent now life ks))
   recent-cons k ks f false e = λ i. f (cond (e i) (k ∷ recent now life ks) (recent now life ks))
 
-  pub gone-cons : (name : ℕ) (k : KeptCopy) (ks : List KeptCopy) → gone now life name (k ∷ ks) ≡ cond (not (is_recent now life k) && (k.buffer == name)) 1 0 + gone now life name ks
+  pub gone-cons : (name : ℕ) (k : KeptCopy) (ks : List KeptCopy)
+      → gone now life name (k ∷ ks) ≡ cond (not (is_recent now life k) && (k.buffer == name)) 1 0 + gone now life name ks
   gone-cons name k ks = count-cons (λ x. not (is_recent now life x) && (x.buffer == name)) k ks
 
   pub recent-parts : (name : ℕ) (ks : List KeptCopy) → with_buffer name (recent now life ks) + gone now life name ks ≡ with_buffer name ks
   recent-parts name [] = refl
   recent-parts name (k ∷ ks) = by (is_recent now life k) refl (recent-parts name ks)
     where
-      by : (b : Bool) → is_recent now life k ≡ b → with_buffer name (recent now life ks) + gone now life name ks ≡ with_buffer name ks → with_buffer name (recent now life (k ∷ ks)) + gone now life name (k ∷ ks) ≡ with_buffer name (k ∷ ks)
+      by : (b : Bool) → is_recent now life k ≡ b → with_buffer name (recent now life ks) + gone now life name ks ≡ with_buffer name ks
+          → with_buffer name (recent now life (k ∷ ks)) + gone now life name (k ∷ ks) ≡ with_buffer name (k ∷ ks)
       by true e rest = omega (
         arith,
         recent-cons k ks (with_buffer name) true e,
@@ -42,7 +45,8 @@ module _ (now life : ℕ) where
   recent-fewer t [] = omega arith
   recent-fewer t (k ∷ ks) = by (is_recent now life k) refl (recent-fewer t ks)
     where
-      by : (b : Bool) → is_recent now life k ≡ b → count_by t (recent now life ks) ≤ count_by t ks → count_by t (recent now life (k ∷ ks)) ≤ count_by t (k ∷ ks)
+      by : (b : Bool) → is_recent now life k ≡ b → count_by t (recent now life ks) ≤ count_by t ks
+          → count_by t (recent now life (k ∷ ks)) ≤ count_by t (k ∷ ks)
       by true e rest = omega (arith, recent-cons k ks (count_by t) true e, count-cons t k (recent now life ks), count-cons t k ks, rest)
       by false e rest = omega (arith, recent-cons k ks (count_by t) false e, count-cons t k ks, rest)
 
@@ -59,7 +63,12 @@ module _ (now life : ℕ) where
       → gone now life name (take (suc i) ks) ≡ gone now life name (take i ks) + cond (not (is_recent now life k) && (k.buffer == name)) 1 0
   gone-next name [] i k e = absurd (not_some k e)
   gone-next name (x ∷ xs) zero k e =
-      omega (arith, gone-cons name x [], ap (λ (y : KeptCopy). cond {A = ℕ} (not (is_recent now life y) && (y.buffer == name)) 1 0) (some_equal x k e))
+      omega (
+        arith,
+        gone-cons name x [],
+        ap (λ (y : KeptCopy). cond {A = ℕ} (not (is_recent now life y) && (y.buffer == name)) 1 0)
+            (some_equal x k e),
+      )
   gone-next name (x ∷ xs) (suc i) k e = omega (arith, gone-cons name x (take (suc i) xs), gone-cons name x (take i xs), gone-next name xs i k e)
 
   pub gone-more : (name : ℕ) (ks : List KeptCopy) (i : ℕ) (k : KeptCopy) → slice_get ks i ≡ Some k

@@ -33,7 +33,8 @@ held_from m name live = by (get m name) refl live
 -- ---- a buffer is given back
 
 module _ (m : Buffers) (k : ℕ) (live : 0 < count_of m k) where
-  back : (name : ℕ) (h : Held) → get m k ≡ Some h → (b : Bool) → (k == name) ≡ b → count_of (given_back m k) name + one_if (k == name) ≡ count_of m name
+  back : (name : ℕ) (h : Held) → get m k ≡ Some h → (b : Bool) → (k == name) ≡ b
+      → count_of (given_back m k) name + one_if (k == name) ≡ count_of m name
   back name h e true same =
       let one : k ≡ name = eqb-true k name same in
       subst (λ (n : ℕ). count_of (given_back m k) n + one_if (k == name) ≡ count_of m n) one (by (h.count == 1) refl)
@@ -55,7 +56,8 @@ module _ (m : Buffers) (k : ℕ) (live : 0 < count_of m k) where
       → (octets_in m name ≡ Some g.octets) × (AreHeld m → 0 < g.count)
   fading h e name g is true same =
       let one : name ≡ k = eqb-true name k same in
-      subst (λ (n : ℕ). (octets_in m n ≡ Some g.octets) × (AreHeld m → 0 < g.count)) (sym one) (by (h.count == 1) refl (ap (get (given_back m k)) (sym one) ∙ is))
+      subst (λ (n : ℕ). (octets_in m n ≡ Some g.octets) × (AreHeld m → 0 < g.count)) (sym one)
+      (by (h.count == 1) refl (ap (get (given_back m k)) (sym one) ∙ is))
     where
       by : (b : Bool) → (h.count == 1) ≡ b → get (given_back m k) k ≡ Some g → (octets_in m k ≡ Some g.octets) × (AreHeld m → 0 < g.count)
       by true l is = absurd (not_some g (sym (got_ended m k h e (eqb-true h.count 1 l)) ∙ is))
@@ -75,7 +77,8 @@ module _ (m : Buffers) (k : ℕ) (live : 0 < count_of m k) where
         held = λ all name g e. (fading is.0 is.1 name g e (name == k) refl).1 all;
       }
     where
-      by : (h : Held) → get m k ≡ Some h → (name : ℕ) (behind : List ℕ) (o : Option Held) → get (given_back m k) name ≡ o → octets_in (given_back m k) name ≡ Some behind → octets_in m name ≡ Some behind
+      by : (h : Held) → get m k ≡ Some h → (name : ℕ) (behind : List ℕ) (o : Option Held) → get (given_back m k) name ≡ o
+          → octets_in (given_back m k) name ≡ Some behind → octets_in m name ≡ Some behind
       by h is name behind None e octets = absurd (not_some behind (sym (ap octets_of e) ∙ octets))
       by h is name behind (Some g) e octets = (fading h is name g e (name == k) refl).0 ∙ sym (ap octets_of e) ∙ octets
 
@@ -126,11 +129,14 @@ module _ (m : Buffers) (k : ℕ) (octets : List ℕ) (count : ℕ) (none : get m
 
 -- ---- the octets behind a call
 
-pub kept_octets : (old new : Buffers) → KeepsBuffers old new → (name : ℕ) (before behind : List ℕ) → octets_in old name ≡ Some before → octets_in new name ≡ Some behind → before ≡ behind
+pub kept_octets : (old new : Buffers) → KeepsBuffers old new → (name : ℕ) (before behind : List ℕ) → octets_in old name ≡ Some before
+    → octets_in new name ≡ Some behind → before ≡ behind
 kept_octets old new keeps name before behind e d = some_equal before behind (sym (keeps name before e) ∙ d)
 
-pub faded_octets : (old new : Buffers) → Fades old new → (name : ℕ) (before behind : List ℕ) → octets_in old name ≡ Some before → octets_in new name ≡ Some behind → before ≡ behind
+pub faded_octets : (old new : Buffers) → Fades old new → (name : ℕ) (before behind : List ℕ) → octets_in old name ≡ Some before
+    → octets_in new name ≡ Some behind → before ≡ behind
 faded_octets old new fades name before behind e d = some_equal before behind (sym e ∙ fades.octets name behind d)
 
 pub fades_twice : (a b c : Buffers) → Fades a b → Fades b c → Fades a c
-fades_twice a b c first last = record { octets = λ name behind e. first.octets name behind (last.octets name behind e); held = λ all. last.held (first.held all) }
+fades_twice a b c first last =
+    record { octets = λ name behind e. first.octets name behind (last.octets name behind e); held = λ all. last.held (first.held all) }

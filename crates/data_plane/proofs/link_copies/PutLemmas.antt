@@ -97,7 +97,8 @@ module _ (ttl now : ℕ) (datagram : Current) where
       }
 
   -- of the first hops
-  pub first_put : (hops : List Hop) (place : ℕ) (d : Hop) (old mid new : WayMap) (k : KeptCopy) → place < length hops → ArePut ttl now datagram (take place hops) old mid → IsUnique is_way new
+  pub first_put : (hops : List Hop) (place : ℕ) (d : Hop) (old mid new : WayMap) (k : KeptCopy) → place < length hops
+      → ArePut ttl now datagram (take place hops) old mid → IsUnique is_way new
       → k ≡ copy_over (get_or hops place d)
       → ((q : NodeId × NodeId) → kept.get is_way new q
       ≡ cond (is_way ((get_or hops place d).from, (get_or hops place d).branch.node) q)

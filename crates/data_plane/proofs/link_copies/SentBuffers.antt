@@ -54,7 +54,8 @@ module _ (old new : WayMap) (number name more : ℕ) (before behind : Buffers)
     before_it : (n b : ℕ) → is_pair n b number name ≡ false → 0 < holders_for is_now n b → 0 < holders_for was n b
     before_it n b e h = omega (arith, h, grown_holding (is_pair n b), ap (λ (x : Bool). cond x more 0) e)
 
-    named : (n b m a : ℕ) → 0 < holders_for is_now n b → 0 < holders_for is_now m a → (x y : Bool) → is_pair n b number name ≡ x → is_pair m a number name ≡ y → (n ≡ m) ↔ (b ≡ a)
+    named : (n b m a : ℕ) → 0 < holders_for is_now n b → 0 < holders_for is_now m a → (x y : Bool) → is_pair n b number name ≡ x
+        → is_pair m a number name ≡ y → (n ≡ m) ↔ (b ≡ a)
     named n b m a h g true true e d =
         let one = is_pair_of n b number name e in
         let two = is_pair_of m a number name d in
@@ -72,7 +73,8 @@ module _ (old new : WayMap) (number name more : ℕ) (before behind : Buffers)
     -- where the new buffer counts the new copies, all buffers count theirs
     pub sent_shared : ((q : ℕ) → count_of behind q ≡ count_of before q + cond (name == q) more 0) → AreHeld behind → IsShared is_now
     sent_shared counts all =
-        let counted : (q : ℕ) → count_of behind q ≡ holders is_now q = λ q. omega (arith, counts q, account.counted q, grown_holding (λ n b. b == q)) in
+        let counted : (q : ℕ) → count_of behind q ≡ holders is_now q =
+        λ q. omega (arith, counts q, account.counted q, grown_holding (λ n b. b == q)) in
         record {
           counted = counted;
           lives = lives_from is_now counted all;
@@ -106,13 +108,16 @@ module _ (old new : WayMap) (number name put ttl now : ℕ) (hops : List Hop) (o
   pub all_sent : 0 < length hops → length hops ≤ put → IsShared (data_of new None opened)
   all_sent some all =
       let whole : put ≡ length hops = omega (arith, most, all) in
-      sent_shared old new number name put before opened grows none fresh account (λ q. counts q ∙ ap (λ (n : ℕ). count_of before q + cond (name == q) n 0) (sym whole)) (held_all some)
+      sent_shared old new number name put before opened grows none fresh account
+      (λ q. counts q ∙ ap (λ (n : ℕ). count_of before q + cond (name == q) n 0) (sym whole)) (held_all some)
 
   -- they are the first ones, and the buffer no longer counts the others
-  pub first_sent : 0 < length hops → (pool : Buffers) → ((q : ℕ) → count_of pool q + cond (name == q) (length hops - put) 0 ≡ count_of opened q) → Fades opened pool
+  pub first_sent : 0 < length hops → (pool : Buffers) → ((q : ℕ) → count_of pool q + cond (name == q) (length hops - put) 0 ≡ count_of opened q)
+      → Fades opened pool
       → IsShared (data_of new None pool)
   first_sent some pool fewer fades =
-      sent_shared old new number name put before pool grows none fresh account (λ q. rest (name == q) (count_of pool q) (count_of before q) (fewer q ∙ counts q)) (fades.held (held_all some))
+      sent_shared old new number name put before pool grows none fresh account
+      (λ q. rest (name == q) (count_of pool q) (count_of before q) (fewer q ∙ counts q)) (fades.held (held_all some))
     where
       rest : (b : Bool) (left own : ℕ) → left + cond b (length hops - put) 0 ≡ own + cond b (length hops) 0 → left ≡ own + cond b put 0
       rest true left own e = omega (arith, e, most)
@@ -128,7 +133,9 @@ module _ (old new : WayMap) (number name put ttl now : ℕ) (hops : List Hop) (o
 -- ---- nothing is there
 
 nothing_kept : (m : WayMap) → m.entries ≡ [] → (buffers : Buffers) → all_kept (data_of m None buffers) ≡ []
-nothing_kept m empty buffers = ap (λ (es : List Entry). flat_map (λ (e : Entry). e.1) es) (ap (λ (es : List Entry). maps.entries (maps.from_entries {R = way_cmp} es)) empty ∙ none_kept)
+nothing_kept m empty buffers =
+    ap (λ (es : List Entry). flat_map (λ (e : Entry). e.1) es)
+    (ap (λ (es : List Entry). maps.entries (maps.from_entries {R = way_cmp} es)) empty ∙ none_kept)
 
 module _ (m : WayMap) (empty : m.entries ≡ []) (buffers : Buffers) (none : buffers ≡ maps.empty) where
   abbrev start : CopiesData

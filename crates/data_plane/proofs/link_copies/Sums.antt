@@ -34,7 +34,8 @@ pub unchanged : (old new : WayMap) → ((q : NodeId × NodeId) → kept.get is_w
 unchanged old new each = same_map way_cmp_total way_cmp_exact (ways_of new) (ways_of old) (λ q. way_seen new q ∙ each q ∙ sym (way_seen old q))
 
 -- a way that gets the copies that it has stays
-pub stays : (m : WayMap) (way : NodeId × NodeId) (x : List KeptCopy) → kept.get is_way m way ≡ Some x → (q : NodeId × NodeId) → cond (is_way way q) (Some x) (kept.get is_way m q) ≡ kept.get is_way m q
+pub stays : (m : WayMap) (way : NodeId × NodeId) (x : List KeptCopy) → kept.get is_way m way ≡ Some x → (q : NodeId × NodeId)
+    → cond (is_way way q) (Some x) (kept.get is_way m q) ≡ kept.get is_way m q
 stays m way x is q = by (is_way way q) refl
   where
     by : (b : Bool) → is_way way q ≡ b → cond b (Some x) (kept.get is_way m q) ≡ kept.get is_way m q
@@ -56,7 +57,8 @@ module _ (f : List KeptCopy → ℕ) where
   sum-put : (k : NodeId × NodeId) (v : List KeptCopy) (es : List Entry) → find way_cmp k es ≡ None → sum_in f (put way_cmp k v es) ≡ f v + sum_in f es
   sum-put k v [] none = sum-cons (k, v) []
   sum-put k v (e ∷ es) none =
-      elim (way_cmp k e.0) as (λ r. way_cmp k e.0 ≡ r → cond (is_eq r) (Some e.1) (find way_cmp k es) ≡ None → sum_in f (maps.Entries.by_order r ((k, v) ∷ e ∷ es) ((e.0, v) ∷ es) (e ∷ put way_cmp k v es)) ≡ f v + sum_in f (e ∷ es)) [
+      elim (way_cmp k e.0) as (λ r. way_cmp k e.0 ≡ r → cond (is_eq r) (Some e.1) (find way_cmp k es) ≡ None
+      → sum_in f (maps.Entries.by_order r ((k, v) ∷ e ∷ es) ((e.0, v) ∷ es) (e ∷ put way_cmp k v es)) ≡ f v + sum_in f (e ∷ es)) [
         | Less ↦ λ r n. sum-cons (k, v) (e ∷ es)
         | Equal ↦ λ r n. absurd (not_some e.1 (sym n))
         | Greater ↦ λ r n. omega (arith, sum-cons e (put way_cmp k v es), sum-put k v es n, sum-cons e es)
@@ -65,7 +67,8 @@ module _ (f : List KeptCopy → ℕ) where
   total-new : (m : Ways) (k : NodeId × NodeId) (v : List KeptCopy) → get m k ≡ None → total f (insert m k v) ≡ f v + total f m
   total-new m k v none = ap (sum_in f) (entries-insert way_cmp_total m k v) ∙ sum-put k v (entries m) (sym (get-entries m k) ∙ none)
 
-is_there : (m : Ways) (k q : NodeId × NodeId) (b : Bool) (o other : Option (List KeptCopy)) → get m k ≡ o → (b ≡ false → other ≡ get m q) → eq_by_cmp way_cmp q k ≡ b → cond b o other ≡ get m q
+is_there : (m : Ways) (k q : NodeId × NodeId) (b : Bool) (o other : Option (List KeptCopy)) → get m k ≡ o → (b ≡ false → other ≡ get m q)
+    → eq_by_cmp way_cmp q k ≡ b → cond b o other ≡ get m q
 is_there m k q true o other e same tie = sym e ∙ ap (get m) (sym (way_equal q k (sym (tied q k) ∙ tie)))
 is_there m k q false o other e same tie = same refl
 
@@ -85,10 +88,12 @@ module _ (f : List KeptCopy → ℕ) (nothing : f [] ≡ 0) where
   parts m k (Some x) e =
       ap (total f) (sym (same_map way_cmp_total way_cmp_exact (insert (remove m k) k x) m (λ q.
       get-insert way_cmp_total (remove m k) k x q
-      ∙ is_there m k q (eq_by_cmp way_cmp q k) (Some x) (get (remove m k) q) e (λ apart. get-remove way_cmp_total m k q ∙ (λ i. cond (apart i) None (get m q))) refl)))
+      ∙ is_there m k q (eq_by_cmp way_cmp q k) (Some x) (get (remove m k) q) e
+      (λ apart. get-remove way_cmp_total m k q ∙ (λ i. cond (apart i) None (get m q))) refl)))
       ∙ total-new f (remove m k) k x (get-remove way_cmp_total m k k ∙ (λ i. cond (at_itself k i) None (get m k)))
 
-  changed : (m n : Ways) (k : NodeId × NodeId) (now : Option (List KeptCopy)) → ((q : NodeId × NodeId) → get n q ≡ cond (eq_by_cmp way_cmp q k) now (get m q))
+  changed : (m n : Ways) (k : NodeId × NodeId) (now : Option (List KeptCopy))
+      → ((q : NodeId × NodeId) → get n q ≡ cond (eq_by_cmp way_cmp q k) now (get m q))
       → total f n + f (copies_in (get m k)) ≡ total f m + f (copies_in now)
   changed m n k now each =
       let here : get n k ≡ now = each k ∙ (λ i. cond (at_itself k i) now (get m k)) in
@@ -98,7 +103,8 @@ module _ (f : List KeptCopy → ℕ) (nothing : f [] ≡ 0) where
       omega (arith, parts n k now here, parts m k (get m k) refl, ap (total f) rest)
 
   -- the copies of one way become these
-  pub total_changes : (old new : WayMap) (k : NodeId × NodeId) (now : Option (List KeptCopy)) → ((q : NodeId × NodeId) → kept.get is_way new q ≡ cond (is_way k q) now (kept.get is_way old q))
+  pub total_changes : (old new : WayMap) (k : NodeId × NodeId) (now : Option (List KeptCopy))
+      → ((q : NodeId × NodeId) → kept.get is_way new q ≡ cond (is_way k q) now (kept.get is_way old q))
       → total f (ways_of new) + f (copies_on old k) ≡ total f (ways_of old) + f (copies_in now)
   total_changes old new k now each =
       ap (λ (copies : List KeptCopy). total f (ways_of new) + f copies) (sym (copies_seen old k))
@@ -126,23 +132,28 @@ module _ (f : List KeptCopy → ℕ) (nothing : f [] ≡ 0) where
   total_none zero m size each = ap (sum_in f) (no_length (entries m) (sym (len-entries m) ∙ size))
   total_none (suc n) m size each = by (entries m) refl (total_none n)
     where
-      by : (es : List Entry) → entries m ≡ es → ((m : Ways) → len m ≡ n → ((q : NodeId × NodeId) → f (copies_in (get m q)) ≡ 0) → total f m ≡ 0) → total f m ≡ 0
+      by : (es : List Entry) → entries m ≡ es → ((m : Ways) → len m ≡ n → ((q : NodeId × NodeId) → f (copies_in (get m q)) ≡ 0) → total f m ≡ 0)
+          → total f m ≡ 0
       by [] e rest = absurd (omega (arith, size, len-entries m, ap (λ (es : List Entry). length es) e))
       by (e ∷ es) is rest =
-          let here : get m e.0 ≡ Some e.1 = get-entries m e.0 ∙ ap (find way_cmp e.0) is ∙ (λ i. cond (at_itself e.0 i) (Some e.1) (find way_cmp e.0 es)) in
-          let fewer : len (remove m e.0) ≡ n = len-remove way_cmp_total m e.0 ∙ (λ i. cond (is_some (here i)) (len m - 1) (len m)) ∙ ap (λ (k : ℕ). k - 1) size ∙ one_less n in
+          let here : get m e.0 ≡ Some e.1 =
+          get-entries m e.0 ∙ ap (find way_cmp e.0) is ∙ (λ i. cond (at_itself e.0 i) (Some e.1) (find way_cmp e.0 es)) in
+          let fewer : len (remove m e.0) ≡ n =
+          len-remove way_cmp_total m e.0 ∙ (λ i. cond (is_some (here i)) (len m - 1) (len m)) ∙ ap (λ (k : ℕ). k - 1) size ∙ one_less n in
           omega (
             arith,
             parts f nothing m e.0 (Some e.1) here,
             ap (λ (o : Option (List KeptCopy)). f (copies_in o)) here,
             each e.0,
-            rest (remove m e.0) fewer (λ q. ap (λ (o : Option (List KeptCopy)). f (copies_in o)) (get-remove way_cmp_total m e.0 q) ∙ without (eq_by_cmp way_cmp q e.0) (get m q) (each q)),
+            rest (remove m e.0) fewer (λ q. ap (λ (o : Option (List KeptCopy)). f (copies_in o)) (get-remove way_cmp_total m e.0 q)
+                ∙ without (eq_by_cmp way_cmp q e.0) (get m q) (each q)),
           )
 
   abbrev pub sum-ways : (m : Ways) (ways : List (NodeId × NodeId)) → ℕ
   sum-ways m ways = sum_by (λ (way : NodeId × NodeId). f (copies_in (get m way))) ways
 
-  pub ways-cons : (m : Ways) (way : NodeId × NodeId) (ways : List (NodeId × NodeId)) → sum-ways m (way ∷ ways) ≡ f (copies_in (get m way)) + sum-ways m ways
+  pub ways-cons : (m : Ways) (way : NodeId × NodeId) (ways : List (NodeId × NodeId))
+      → sum-ways m (way ∷ ways) ≡ f (copies_in (get m way)) + sum-ways m ways
   ways-cons m way ways = sum_by-cons (λ (way : NodeId × NodeId). f (copies_in (get m way))) way ways
 
   gone_there : (m : Ways) (way q : NodeId × NodeId) → is_way way q ≡ true → get (remove m way) q ≡ None
@@ -151,7 +162,8 @@ module _ (f : List KeptCopy → ℕ) (nothing : f [] ≡ 0) where
   same_there : (m : Ways) (way q : NodeId × NodeId) → is_way way q ≡ false → get (remove m way) q ≡ get m q
   same_there m way q e = get-remove way_cmp_total m way q ∙ (λ i. cond ((tied q way ∙ turned q way ∙ e) i) None (get m q))
 
-  others : (m : Ways) (way : NodeId × NodeId) (ways : List (NodeId × NodeId)) → AllByRecursion (λ w. is_way way w ≡ false) ways → sum-ways (remove m way) ways ≡ sum-ways m ways
+  others : (m : Ways) (way : NodeId × NodeId) (ways : List (NodeId × NodeId)) → AllByRecursion (λ w. is_way way w ≡ false) ways
+      → sum-ways (remove m way) ways ≡ sum-ways m ways
   others m way [] h = refl
   others m way (w ∷ ws) h = omega (
     arith,
@@ -162,7 +174,8 @@ module _ (f : List KeptCopy → ℕ) (nothing : f [] ≡ 0) where
   )
 
   -- the same over the ways of a list that has each way once, and each that has copies
-  pub total_ways : (ways : List (NodeId × NodeId)) (m : Ways) → IsDistinct is_way ways → ((q : NodeId × NodeId) → list_any (is_way q) ways ≡ false → f (copies_in (get m q)) ≡ 0) → total f m ≡ sum-ways m ways
+  pub total_ways : (ways : List (NodeId × NodeId)) (m : Ways) → IsDistinct is_way ways
+      → ((q : NodeId × NodeId) → list_any (is_way q) ways ≡ false → f (copies_in (get m q)) ≡ 0) → total f m ≡ sum-ways m ways
   total_ways [] m once all = total_none (len m) m refl (λ q. all q refl)
   total_ways (w ∷ ws) m once all = omega (
     arith,
@@ -183,7 +196,9 @@ lookup_apart q [] h = refl
 lookup_apart q (e ∷ es) h = rw h.0 (lookup_apart q es h.1)
 
 pub none_kept : entries (from_entries {X = List KeptCopy} {R = way_cmp} []) ≡ []
-none_kept = no_length (entries (from_entries {X = List KeptCopy} {R = way_cmp} [])) (sym (len-entries (from_entries {X = List KeptCopy} {R = way_cmp} [])) ∙ len-empty way_cmp (List KeptCopy))
+none_kept =
+    no_length (entries (from_entries {X = List KeptCopy} {R = way_cmp} []))
+    (sym (len-entries (from_entries {X = List KeptCopy} {R = way_cmp} [])) ∙ len-empty way_cmp (List KeptCopy))
 
 module _ (f : List KeptCopy → ℕ) where
   pub total_is : (es : List Entry) → IsDistinct is_way (keys_of es) → total f (from_entries es) ≡ sum_in f es

@@ -33,7 +33,8 @@ on_ways d (w ∷ ws) = omega (
 )
 
 pub as_many_on_ways : (d : CopiesData) (ways : List Way) → HasWays ways d → length (all_kept d) ≡ length (copies_on_ways ways d)
-as_many_on_ways d ways on = length_total d ∙ total_ways length refl ways d.ways on.once (λ way none. ap length (on.all way.0 way.1 none)) ∙ sym (on_ways d ways)
+as_many_on_ways d ways on =
+    length_total d ∙ total_ways length refl ways d.ways on.once (λ way none. ap length (on.all way.0 way.1 none)) ∙ sym (on_ways d ways)
 
 -- ---- which datagrams
 
@@ -45,7 +46,8 @@ is_some_of : (number : ℕ) (cs : List LinkCopy) → has number cs ≡ is_positi
 is_some_of number [] = refl
 is_some_of number (c ∷ cs) = by (c.number == number) (is_some_of number cs) ∙ ap is_positive (sym (sum_by-cons (λ x. one_if (is_of number x)) c cs))
   where
-    by : (b : Bool) → has number cs ≡ is_positive (count_by (is_of number) cs) → (b || has number cs) ≡ is_positive (one_if b + count_by (is_of number) cs)
+    by : (b : Bool) → has number cs ≡ is_positive (count_by (is_of number) cs)
+        → (b || has number cs) ≡ is_positive (one_if b + count_by (is_of number) cs)
     by true rest = ap is_positive (one_more (count_by (is_of number) cs))
       where
         one_more : (n : ℕ) → suc n ≡ 1 + n
@@ -57,9 +59,11 @@ is_some_of number (c ∷ cs) = by (c.number == number) (is_some_of number cs) �
 
 of_copies : (number : ℕ) (ks : List KeptCopy) → count_by (is_of number) (copies ks) ≡ count_by (numbered number) ks
 of_copies number [] = refl
-of_copies number (k ∷ ks) = omega (arith, sum_by-cons (λ x. one_if (is_of number x)) k.copy (copies ks), count-cons (numbered number) k ks, of_copies number ks)
+of_copies number (k ∷ ks) =
+    omega (arith, sum_by-cons (λ x. one_if (is_of number x)) k.copy (copies ks), count-cons (numbered number) k ks, of_copies number ks)
 
-of_ways : (number : ℕ) (d : CopiesData) (ways : List Way) → count_by (is_of number) (copies_on_ways ways d) ≡ sum-ways (count_by (numbered number)) refl d.ways ways
+of_ways : (number : ℕ) (d : CopiesData) (ways : List Way)
+    → count_by (is_of number) (copies_on_ways ways d) ≡ sum-ways (count_by (numbered number)) refl d.ways ways
 of_ways number d [] = refl
 of_ways number d (w ∷ ws) = omega (
   arith,
@@ -69,7 +73,8 @@ of_ways number d (w ∷ ws) = omega (
   of_ways number d ws,
 )
 
-one_number : (d : CopiesData) (ways : List Way) → HasWays ways d → (number : ℕ) → has number (copies (all_kept d)) ≡ has number (copies_on_ways ways d)
+one_number : (d : CopiesData) (ways : List Way) → HasWays ways d → (number : ℕ)
+    → has number (copies (all_kept d)) ≡ has number (copies_on_ways ways d)
 one_number d ways on number =
     is_some_of number (copies (all_kept d))
     ∙ ap is_positive (of_copies number (all_kept d) ∙ count-all (numbered number) (maps.entries d.ways)
@@ -77,9 +82,11 @@ one_number d ways on number =
     ∙ sym (of_ways number d ways))
     ∙ sym (is_some_of number (copies_on_ways ways d))
 
-one_count : (cs ds : List LinkCopy) → ((number : ℕ) → has number cs ≡ has number ds) → (last : ℕ) → datagrams_with_copy cs last ≡ datagrams_with_copy ds last
+one_count : (cs ds : List LinkCopy) → ((number : ℕ) → has number cs ≡ has number ds) → (last : ℕ)
+    → datagrams_with_copy cs last ≡ datagrams_with_copy ds last
 one_count cs ds each zero = refl
 one_count cs ds each (suc last) = λ i. one_count cs ds each last i + one_if (each (suc last) i)
 
-pub datagrams_on_ways : (d : CopiesData) (ways : List Way) (last : ℕ) → HasWays ways d → datagrams_with_copy (copies (all_kept d)) last ≡ datagrams_with_copy (copies_on_ways ways d) last
+pub datagrams_on_ways : (d : CopiesData) (ways : List Way) (last : ℕ) → HasWays ways d
+    → datagrams_with_copy (copies (all_kept d)) last ≡ datagrams_with_copy (copies_on_ways ways d) last
 datagrams_on_ways d ways last on = one_count (copies (all_kept d)) (copies_on_ways ways d) (one_number d ways on) last

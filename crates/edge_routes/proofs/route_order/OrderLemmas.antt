@@ -43,7 +43,8 @@ append_cmp [] [] x y h = refl
 append_cmp [] (n ∷ b) x y h = absurd (omega (arith, h))
 append_cmp (m ∷ a) [] x y h = absurd (omega (arith, h))
 append_cmp (m ∷ a) (n ∷ b) x y h =
-    ap (ordering_then (nat_cmp m n)) (append_cmp a b x y (omega (arith, h))) ∙ sym (then_again (nat_cmp m n) (slice_cmp nat_cmp a b) (slice_cmp nat_cmp x y))
+    ap (ordering_then (nat_cmp m n)) (append_cmp a b x y (omega (arith, h)))
+    ∙ sym (then_again (nat_cmp m n) (slice_cmp nat_cmp a b) (slice_cmp nat_cmp x y))
 
 moved : (k a b : ℕ) (o : Ordering) → MatchOrdering o (a < b) (a ≡ b) (b < a) → MatchOrdering o (k + a < k + b) (k + a ≡ k + b) (k + b < k + a)
 moved k a b Less h = omega (arith, h)
@@ -69,7 +70,9 @@ vpn_cmp rd other_rd prefix other h k =
 -- the parts behind the text of a unicast key: its Route Distinguisher and length tie where the text does
 parts_tied : (family bits rd rest addr : Ordering)
     → ordering_then (ordering_then family (ordering_then (ordering_then bits rd) rest)) addr
-    ≡ ordering_then (ordering_then family Equal) (ordering_then (ordering_then (ordering_then bits rd) rest) (ordering_then rd (ordering_then addr (ordering_then (ordering_then bits Equal) Equal))))
+    ≡ ordering_then (ordering_then family Equal)
+    (ordering_then (ordering_then (ordering_then bits rd) rest)
+    (ordering_then rd (ordering_then addr (ordering_then (ordering_then bits Equal) Equal))))
 parts_tied Less bits rd rest addr = refl
 parts_tied Greater bits rd rest addr = refl
 parts_tied Equal Less rd rest addr = refl
@@ -83,7 +86,8 @@ parts_tied Equal Equal Equal Equal Equal = refl
 parts_tied Equal Equal Equal Equal Greater = refl
 
 pub unicast_cmp : (rd other_rd : Rd) (prefix other : Prefix) → IsVpn rd prefix → IsVpn other_rd other
-    → ordering_then (ordering_then (nat_cmp (afi_number (afi_of prefix.addr)) (afi_number (afi_of other.addr))) (slice_cmp nat_cmp (vpn_text [] rd prefix) (vpn_text [] other_rd other)))
+    → ordering_then (ordering_then (nat_cmp (afi_number (afi_of prefix.addr)) (afi_number (afi_of other.addr)))
+    (slice_cmp nat_cmp (vpn_text [] rd prefix) (vpn_text [] other_rd other)))
     (slice_cmp nat_cmp (addr_key prefix.addr) (addr_key other.addr))
     ≡ key_cmp (Unicast rd prefix) (Unicast other_rd other)
 unicast_cmp rd other_rd prefix other h k =
@@ -96,7 +100,8 @@ unicast_cmp rd other_rd prefix other h k =
     let others : List ℕ = take (octets_for other.bits) (addr_octets other.addr) in
     let e = vpn_cmp rd other_rd prefix other h k in
     subst (λ (o : Ordering). ordering_then (ordering_then family o) addr
-    ≡ ordering_then (ordering_then family Equal) (ordering_then o (ordering_then rds (ordering_then addr (ordering_then (ordering_then bits Equal) Equal)))))
+    ≡ ordering_then (ordering_then family Equal)
+    (ordering_then o (ordering_then rds (ordering_then addr (ordering_then (ordering_then bits Equal) Equal)))))
     e (parts_tied family bits rds (slice_cmp nat_cmp own others) addr)
 
 -- ---- multicast keys
@@ -106,13 +111,16 @@ rest_tied : (afi : Afi) (own other : Route) → Spells afi own (written own) →
 rest_tied afi own other h k tied =
     let text = slice_cmp-IsAntisymmetric nat_cmp-IsAntisymmetric (written own) (written other) tied in
     let same = (one afi own other (written own) (written other) [] [] h k (ap (λ (t : List ℕ). t ++ []) text)).0 in
-    subst (λ (route : Route). parts_cmp (route_parts own) (route_parts route) ≡ Equal) same (tied_itself (lists_total (lists_total nat_cmp_total)) (route_parts own))
+    subst (λ (route : Route). parts_cmp (route_parts own) (route_parts route) ≡ Equal) same
+    (tied_itself (lists_total (lists_total nat_cmp_total)) (route_parts own))
 
 pub mcast_cmp : (afi other_afi : Afi) (own other : Route) → Spells afi own (written own) → Spells other_afi other (written other)
     → ordering_then (nat_cmp (afi_number afi) (afi_number other_afi)) (slice_cmp nat_cmp (written own) (written other))
     ≡ key_cmp (Mcast afi own) (Mcast other_afi other)
-mcast_cmp Ipv4 Ipv4 own other h k = then_tied (slice_cmp nat_cmp (written own) (written other)) (parts_cmp (route_parts own) (route_parts other)) (rest_tied Ipv4 own other h k)
-mcast_cmp Ipv6 Ipv6 own other h k = then_tied (slice_cmp nat_cmp (written own) (written other)) (parts_cmp (route_parts own) (route_parts other)) (rest_tied Ipv6 own other h k)
+mcast_cmp Ipv4 Ipv4 own other h k =
+    then_tied (slice_cmp nat_cmp (written own) (written other)) (parts_cmp (route_parts own) (route_parts other)) (rest_tied Ipv4 own other h k)
+mcast_cmp Ipv6 Ipv6 own other h k =
+    then_tied (slice_cmp nat_cmp (written own) (written other)) (parts_cmp (route_parts own) (route_parts other)) (rest_tied Ipv6 own other h k)
 mcast_cmp Ipv4 Ipv6 own other h k = refl
 mcast_cmp Ipv6 Ipv4 own other h k = refl
 
@@ -121,5 +129,6 @@ mcast_cmp Ipv6 Ipv4 own other h k = refl
 pub two_told : (r a b x y : Ordering) → r ≡ ordering_then a b → a ≡ x → b ≡ y → r ≡ ordering_then x y
 two_told r a b x y e h k = e ∙ λ i. ordering_then (h i) (k i)
 
-pub three_told : (r t a b d x y z : Ordering) → r ≡ ordering_then t d → t ≡ ordering_then a b → a ≡ x → b ≡ y → d ≡ z → r ≡ ordering_then (ordering_then x y) z
+pub three_told : (r t a b d x y z : Ordering) → r ≡ ordering_then t d → t ≡ ordering_then a b → a ≡ x → b ≡ y → d ≡ z
+    → r ≡ ordering_then (ordering_then x y) z
 three_told r t a b d x y z e f h k l = two_told r t d (ordering_then x y) z e (two_told t a b x y f h k) l

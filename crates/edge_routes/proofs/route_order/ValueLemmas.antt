@@ -16,7 +16,8 @@ same_comm own other =
     let decides = bytes_decides own.0 other.0 in
     (λ h. let e = decides.0 h in λ i. record { 0 = e i }, λ e. decides.1 (ap (λ (comm : ExtComm). comm.0) e))
 
-pub same_comms : (own other : List ExtComm) → (pointwise comms.eq-value.it own other ≡ true → own ≡ other) × (own ≡ other → pointwise comms.eq-value.it own other ≡ true)
+pub same_comms : (own other : List ExtComm) → (pointwise comms.eq-value.it own other ≡ true → own ≡ other)
+    × (own ≡ other → pointwise comms.eq-value.it own other ≡ true)
 same_comms own other = pointwise_decides same_comm own other
 
 -- ---- values

@@ -29,13 +29,15 @@ use Rattle.edge_control.proofs.SoundLemmas.{sound_full}
 
 module _ (kept : Kept) (sound : IsSound kept) where
   -- a peer from which a route was taken is a node
-  pub taken_node : (peer : NodeId) (key : Key) (route : TakenRoute) → maps.get (taken_from (control_of kept) peer) key ≡ Some route → peer.0 < length kept.home.scenario.nodes
+  pub taken_node : (peer : NodeId) (key : Key) (route : TakenRoute) → maps.get (taken_from (control_of kept) peer) key ≡ Some route
+      → peer.0 < length kept.home.scenario.nodes
   taken_node peer key route h =
       let table = table_of (control_of kept) peer key route h in
       sound.peers peer (ap (λ (o : Option Taken). is_some o) (entry_get node_cmp_total kept.peers peer table.table table.of_peer))
 
   -- the VRF and the tree at a place stand together
-  pub it_there : (number : ℕ) (own : OwnVrf) (tree : TreeData) → slice_get (vrfs_of kept.home) number ≡ Some own → slice_get kept.trees number ≡ Some tree
+  pub it_there : (number : ℕ) (own : OwnVrf) (tree : TreeData) → slice_get (vrfs_of kept.home) number ≡ Some own
+      → slice_get kept.trees number ≡ Some tree
       → Among (record { own = own; tree = tree }) (trees_of kept)
   it_there number own tree h k = it_among kept number (record { own = own; tree = tree }) (there (vrfs_of kept.home) kept.trees number own tree h k)
 
@@ -48,10 +50,12 @@ module _ (kept : Kept) (sound : IsSound kept) where
         (of_each (λ (t : TreeData). AreOfCore nodes t.vrf.routes.learned) kept.trees (are_of_core kept sound nodes count) at.it.tree among)
 
     pub place_core : (number : ℕ) (tree : TreeData) → slice_get kept.trees number ≡ Some tree → AreOfCore nodes tree.vrf.routes.learned
-    place_core number tree at = all_at (λ (t : TreeData). AreOfCore nodes t.vrf.routes.learned) kept.trees number tree (are_of_core kept sound nodes count) at
+    place_core number tree at =
+        all_at (λ (t : TreeData). AreOfCore nodes t.vrf.routes.learned) kept.trees number tree (are_of_core kept sound nodes count) at
 
 -- the costs by which the edge knows its core are least
-pub home_costs : (home : Home) (core : Topology) (walks : Core) (me : NodeId) → IsHome home.scenario home.me → core.nodes ≡ length home.scenario.nodes → IsCoreOf core.nodes core.links walks
+pub home_costs : (home : Home) (core : Topology) (walks : Core) (me : NodeId) → IsHome home.scenario home.me → core.nodes ≡ length home.scenario.nodes
+    → IsCoreOf core.nodes core.links walks
     → me ≡ home.me → AreCosts core me (walks.cost me)
 home_costs home core walks me is count of_core same =
     let within = slice_get_within home.scenario.nodes home.me.0 is.edge.node is.edge.at in

@@ -49,5 +49,6 @@ module _ (kept : Kept) (tables : FinMap node_cmp Taken) (are : tables ≡ kept.p
     pub none_passes : None ≡ entries_at tables → false ≡ list_any test (maps.entries (taken_from (control_of kept) edge))
     none_passes e = ap (list_any test) (sym (no_table kept.peers edge (e ∙ ap entries_at are)))
 
-    pub any_passes : (all : List (Key × TakenRoute)) → Some all ≡ entries_at tables → list_any test all ≡ list_any test (maps.entries (taken_from (control_of kept) edge))
+    pub any_passes : (all : List (Key × TakenRoute)) → Some all ≡ entries_at tables
+        → list_any test all ≡ list_any test (maps.entries (taken_from (control_of kept) edge))
     any_passes all e = ap (list_any test) (sym (some_table kept.peers edge all (e ∙ ap entries_at are)))

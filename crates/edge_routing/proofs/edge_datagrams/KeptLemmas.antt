@@ -33,7 +33,8 @@ use Rattle.edge_routing.specs.edge_datagrams.Datagrams.{AreOfOctets, branches_on
 
 -- ---- the tunnel
 
-branches_where : (part : LabelData) (a b : Bool) (fec : Fec) → branches_on part (cond (a && b) (Some fec) None) ≡ cond a (cond b (branches_of part fec) []) []
+branches_where : (part : LabelData) (a b : Bool) (fec : Fec)
+    → branches_on part (cond (a && b) (Some fec) None) ≡ cond a (cond b (branches_of part fec) []) []
 branches_where part true true fec = refl
 branches_where part true false fec = refl
 branches_where part false b fec = refl
@@ -48,17 +49,25 @@ module _ (kept : Kept) (sound : IsSound kept) (octets : AreOfOctets kept) (walks
   have_spellings : HaveSpellings control
   have_spellings peer key route h =
       let table = table_of control peer key route h in
-      let is = octets.taken peer table.table (entry_get node_cmp_total kept.peers peer table.table table.of_peer) key (ap (λ (o : Option TakenRoute). is_some o) (entry_get key_total table.table key route table.among)) in
+      let is = octets.taken peer table.table (entry_get node_cmp_total kept.peers peer table.table table.of_peer) key
+      (ap (λ (o : Option TakenRoute). is_some o) (entry_get key_total table.table key route table.among)) in
       (writable_key key is, octets_key key is)
 
   pub are_whole : (own : OwnVrf) → AreWhole (known_routes place control own)
   are_whole own = prefixes_whole place control own sound.home.rules octets.sites have_spellings
 
-  module _ (vrf : VrfId) (tree : TreeData) (own : OwnVrf) (at : IsTreeAt kept vrf tree) (a : Among own (own_vrfs place)) (e : own.id ≡ vrf) (now : ℕ) (site : SiteId) (flow : Flow) (part : LabelData) where
-    pub outs_told : outgoing tree.vrf (walks.cost kept.home.me) now flow (origins.Site site) ≡ (entering_fate place now (edge_with kept part) own site flow.source flow.group).outs
-    outs_told = sym (entering_outs place control own (as_wanted tree) (tree_between kept walks vrf tree own sound at a e) flow now site sound.home.rules sound.peers (are_whole own) (edge_with kept part) refl)
+  module _ (vrf : VrfId) (tree : TreeData) (own : OwnVrf) (at : IsTreeAt kept vrf tree) (a : Among own (own_vrfs place)) (e : own.id ≡ vrf) (now : ℕ)
+      (site : SiteId) (flow : Flow) (part : LabelData) where
+    pub outs_told : outgoing tree.vrf (walks.cost kept.home.me) now flow (origins.Site site)
+        ≡ (entering_fate place now (edge_with kept part) own site flow.source flow.group).outs
+    outs_told =
+        sym (entering_outs place control own (as_wanted tree) (tree_between kept walks vrf tree own sound at a e) flow now site sound.home.rules
+        sound.peers (are_whole own) (edge_with kept part) refl)
 
-    pub branches_told : branches_on part (tunnel_from place tree (origins.Site site) flow) ≡ (entering_fate place now (edge_with kept part) own site flow.source flow.group).branches
+    pub branches_told : branches_on part (tunnel_from place tree (origins.Site site) flow)
+        ≡ (entering_fate place now (edge_with kept part) own site flow.source flow.group).branches
     branches_told =
-        branches_where part (is_from (origins.Site site) (chosen_for tree.vrf.routes (walks.cost kept.home.me) flow)) (has_join tree flow) (tunnel_for place tree flow)
-        ∙ sym (entering_branches place control own (as_wanted tree) (tree_between kept walks vrf tree own sound at a e) flow now site sound.home.rules sound.peers (are_whole own) (edge_with kept part) refl)
+        branches_where part (is_from (origins.Site site) (chosen_for tree.vrf.routes (walks.cost kept.home.me) flow)) (has_join tree flow)
+        (tunnel_for place tree flow)
+        ∙ sym (entering_branches place control own (as_wanted tree) (tree_between kept walks vrf tree own sound at a e) flow now site sound.home.rules
+        sound.peers (are_whole own) (edge_with kept part) refl)

@@ -39,12 +39,14 @@ use Rattle.edge_routing.proofs.edge_datagrams.KeptLemmas.{are_whole}
 -- ---- lists
 
 -- one more of a list
-one_behind : {X Y : Type 0} (f : X → List Y) (xs : List X) (n : ℕ) (x : X) → slice_get xs n ≡ Some x → flat_map f (take (suc n) xs) ≡ flat_map f (take n xs) ++ f x
+one_behind : {X Y : Type 0} (f : X → List Y) (xs : List X) (n : ℕ) (x : X) → slice_get xs n ≡ Some x
+    → flat_map f (take (suc n) xs) ≡ flat_map f (take n xs) ++ f x
 one_behind f [] n x e = absurd cc
 one_behind f (y ∷ ys) zero x e = (let same : y ≡ x = cc in append-nil (f y) ∙ ap f same)
 one_behind f (y ∷ ys) (suc n) x e = ap (λ zs. f y ++ zs) (one_behind f ys n x e) ∙ sym (append_assoc (f y) (flat_map f (take n ys)) (f x))
 
-one_more : {X Y : Type 0} (f : X → List Y) (xs : List X) (n : ℕ) (x : X) → slice_get xs n ≡ Some x → flat_map f (take (n + 1) xs) ≡ flat_map f (take n xs) ++ f x
+one_more : {X Y : Type 0} (f : X → List Y) (xs : List X) (n : ℕ) (x : X) → slice_get xs n ≡ Some x
+    → flat_map f (take (n + 1) xs) ≡ flat_map f (take n xs) ++ f x
 one_more f xs n x e = ap (λ (m : ℕ). flat_map f (take m xs)) (add-one n) ∙ one_behind f xs n x e
 
 none_told : {X Y : Type 0} (f : X → List Y) (xs : List X) → ((x : X) → f x ≡ []) → flat_map f xs ≡ []
@@ -65,7 +67,8 @@ passed_over : {X : Type 0} (p : X → Bool) (xs : List X) → position p xs ≡ 
 passed_over p xs e n x at = by (p x) refl
   where
     by : (b : Bool) → p x ≡ b → b ≡ false
-    by true t = absurd (never (nat_lt (position_or_len p xs) (length xs)) (position_or_len p xs) (lt-ltb _ _ (any_before p xs (any_at p xs n x at t))) e)
+    by true t =
+        absurd (never (nat_lt (position_or_len p xs) (length xs)) (position_or_len p xs) (lt-ltb _ _ (any_before p xs (any_at p xs n x at t))) e)
     by false t = refl
 
 -- ---- the root of a tunnel
@@ -124,10 +127,14 @@ module _ (kept : Kept) (sound : IsSound kept) (walks : Core) (now : ℕ) (fec : 
 
   -- where no node is the root, nothing leaves
   pub none_leave : node_with kept.home.scenario fec.root ≡ None → flat_map leaves_at (own_vrfs place) ≡ []
-  none_leave e = none_told leaves_at (own_vrfs place) (λ own. no_outs place now (control_of kept) own fec flow (λ peer up same. no_root kept.home.scenario fec.root e peer (sound.peers peer up) same))
+  none_leave e =
+      none_told leaves_at (own_vrfs place) (λ own. no_outs place now (control_of kept) own fec flow
+      (λ peer up same. no_root kept.home.scenario fec.root e peer (sound.peers peer up) same))
 
-  module _ (octets : AreOfOctets kept) (root : NodeId) (within : root.0 < length kept.home.scenario.nodes) (rooted : addr_of kept.home.scenario root ≡ fec.root)
-      (number : ℕ) (own : OwnVrf) (tree : TreeData) (own_at : slice_get (vrfs_of kept.home) number ≡ Some own) (tree_at : slice_get kept.trees number ≡ Some tree) where
+  module _ (octets : AreOfOctets kept) (root : NodeId) (within : root.0 < length kept.home.scenario.nodes)
+      (rooted : addr_of kept.home.scenario root ≡ fec.root)
+      (number : ℕ) (own : OwnVrf) (tree : TreeData) (own_at : slice_get (vrfs_of kept.home) number ≡ Some own)
+      (tree_at : slice_get kept.trees number ≡ Some tree) where
     abbrev imported : Bool
     imported = imports place (control_of kept) own root fec
 
@@ -136,7 +143,9 @@ module _ (kept : Kept) (sound : IsSound kept) (walks : Core) (now : ℕ) (fec : 
 
     leave_is : leaves_at own ≡ cond imported all []
     leave_is =
-        outs_are place now (control_of kept) own fec flow (as_wanted tree) (between_at kept (sound_between kept sound) walks (record { own = own; tree = tree }) (it_there kept sound number own tree own_at tree_at)) root
+        outs_are place now (control_of kept) own fec flow (as_wanted tree)
+        (between_at kept (sound_between kept sound) walks (record { own = own; tree = tree })
+        (it_there kept sound number own tree own_at tree_at)) root
         sound.home.rules sound.peers within rooted (are_whole kept sound octets walks own)
 
     pub leave_empty : (outs : List IfaceId) → outs ≡ all → outs ≡ [] → outs ≡ leaves_at own
@@ -150,18 +159,23 @@ module _ (kept : Kept) (sound : IsSound kept) (walks : Core) (now : ℕ) (fec : 
 
 -- ---- VRF by VRF
 
-pub tree_read : (trees kept : List TreeData) (number : ℕ) (tree : TreeData) → trees ≡ kept → number < length kept → tree ≡ get_or trees number tree → slice_get kept number ≡ Some tree
-tree_read trees kept number tree e within is = slice_get_read kept (length kept) number tree refl within (is ∙ ap (λ (ts : List TreeData). get_or ts number tree) e)
+pub tree_read : (trees kept : List TreeData) (number : ℕ) (tree : TreeData) → trees ≡ kept → number < length kept → tree ≡ get_or trees number tree
+    → slice_get kept number ≡ Some tree
+tree_read trees kept number tree e within is =
+    slice_get_read kept (length kept) number tree refl within (is ∙ ap (λ (ts : List TreeData). get_or ts number tree) e)
 
-pub within_trees : (kept : Kept) → IsSound kept → (trees : List TreeData) (number : ℕ) → trees ≡ kept.trees → number < length (vrfs_of kept.home) → number < length trees
+pub within_trees : (kept : Kept) → IsSound kept → (trees : List TreeData) (number : ℕ) → trees ≡ kept.trees → number < length (vrfs_of kept.home)
+    → number < length trees
 within_trees kept sound trees number e within =
     let many = as_many kept sound in
     let same = ap (λ (ts : List TreeData). length ts) e in
     omega (arith, many, same, within)
 
 -- the interfaces of one VRF more
-pub outs_more : (f : OwnVrf → List IfaceId) (vrfs : List OwnVrf) (number : ℕ) (old more slice new : List IfaceId) → number < length vrfs → old ≡ flat_map f (take number vrfs)
-    → ((own : OwnVrf) → slice_get vrfs number ≡ Some own → more ≡ f own) → slice ≡ more → new ≡ old ++ slice → new ≡ flat_map f (take (number + 1) vrfs)
+pub outs_more : (f : OwnVrf → List IfaceId) (vrfs : List OwnVrf) (number : ℕ) (old more slice new : List IfaceId) → number < length vrfs
+    → old ≡ flat_map f (take number vrfs)
+    → ((own : OwnVrf) → slice_get vrfs number ≡ Some own → more ≡ f own) → slice ≡ more → new ≡ old ++ slice
+    → new ≡ flat_map f (take (number + 1) vrfs)
 outs_more f vrfs number old more slice new within before of_own same e =
     let own = some_place vrfs number within in
     e ∙ (λ i. before i ++ (same ∙ of_own own.0 own.1) i) ∙ sym (one_more f vrfs number own.0 own.1)

@@ -28,7 +28,8 @@ module _ (home : Home) (walks : Core) (tree : TreeData) (from : Origin) (flow : 
   abbrev accepts : Bool
   accepts = is_from from (chosen_for tree.vrf.routes (walks.cost home.me) flow)
 
-  pub tunnel_some : (accepted joined : Bool) (fec : Fec) → accepted ≡ accepts → accepted ≡ true → joined ≡ has_join tree flow → joined ≡ true → fec ≡ tunnel_for (place_of home walks) tree flow
+  pub tunnel_some : (accepted joined : Bool) (fec : Fec) → accepted ≡ accepts → accepted ≡ true → joined ≡ has_join tree flow → joined ≡ true
+      → fec ≡ tunnel_for (place_of home walks) tree flow
       → Some fec ≡ tunnel_from (place_of home walks) tree from flow
   tunnel_some accepted joined fec is a has j e =
       ap (λ (f : Fec). Some f) e ∙ some_where accepts (has_join tree flow) (tunnel_for (place_of home walks) tree flow) (sym is ∙ a) (sym has ∙ j)

@@ -42,14 +42,23 @@ module _ (place : EdgePlace) (peer : NodeId) (rd : Rd) (source_as : ℕ) (flow :
       let rds : own_rd.0 ≡ rd.0 = (bytes_decides own_rd.0 rd.0).0 rest.0 in
       let systems : own_as ≡ source_as = eqb-true own_as source_as rest.1 in
       record {
-        join = record { edge = edge; rd = own_rd; import = (import.addr, import.number); source_as = own_as; source = flow.source; group = flow.group };
+        join = record {
+          edge = edge;
+          rd = own_rd;
+          import = (import.addr, import.number);
+          source_as = own_as;
+          source = flow.source;
+          group =
+              flow.group;
+        };
         at = refl;
         key = λ i. (record { 0 = edges i }, join_key (afi_of flow.source) (record { 0 = rds i }) (systems i) flow);
         is = sym passed.1;
       }
 
   -- a flow that has the same join has the same of it
-  joined_again : (up : Option (Option Upstream)) (own : Option (Option Upstream)) (value : Value) → join_to place peer rd source_as own ≡ Some value → (join : TreeJoin)
+  joined_again : (up : Option (Option Upstream)) (own : Option (Option Upstream)) (value : Value) → join_to place peer rd source_as own ≡ Some value
+      → (join : TreeJoin)
       → join_at (flow_in vrf flow) own ≡ Some join → join_at (flow_in vrf flow) up ≡ Some join → join_to place peer rd source_as up ≡ Some value
   joined_again None own value h join e f = absurd cc
   joined_again (Some None) own value h join e f = absurd cc
@@ -58,12 +67,30 @@ module _ (place : EdgePlace) (peer : NodeId) (rd : Rd) (source_as : ℕ) (flow :
   joined_again (Some (Some (Remote edge rd_here import system))) (Some None) value h join e f = absurd cc
   joined_again (Some (Some (Remote edge rd_here import system))) (Some (Some (Site site))) value h join e f = absurd cc
   joined_again (Some (Some (Remote edge rd_here import system))) (Some (Some (Remote other rd_there named number))) value h join e f =
-      let one : record { edge = edge; rd = rd_here; import = (import.addr, import.number); source_as = system; source = flow.source; group = flow.group } ≡ join = same_Some _ join f in
-      let two : record { edge = other; rd = rd_there; import = (named.addr, named.number); source_as = number; source = flow.source; group = flow.group } ≡ join = same_Some _ join e in
+      let one : record {
+        edge = edge;
+        rd = rd_here;
+        import = (import.addr, import.number);
+        source_as = system;
+        source = flow.source;
+        group =
+            flow.group;
+      } ≡ join = same_Some _ join f in
+      let two : record {
+        edge = other;
+        rd = rd_there;
+        import = (named.addr, named.number);
+        source_as = number;
+        source = flow.source;
+        group =
+            flow.group;
+      } ≡ join = same_Some _ join e in
       let same = one ∙ sym two in
-      ap (λ (j : TreeJoin). join_to place peer rd source_as (Some (Some (Remote j.edge j.rd (record { addr = j.import.0; number = j.import.1 }) j.source_as)))) same ∙ h
+      ap (λ (j : TreeJoin). join_to place peer rd source_as
+      (Some (Some (Remote j.edge j.rd (record { addr = j.import.0; number = j.import.1 }) j.source_as)))) same ∙ h
 
-pub others_alike : (place : EdgePlace) (old : Control) (flows : FinMap flow_cmp (Option Upstream)) (joins : List TreeJoin) → AreChanged old.flows flows joins
+pub others_alike : (place : EdgePlace) (old : Control) (flows : FinMap flow_cmp (Option Upstream)) (joins : List TreeJoin)
+    → AreChanged old.flows flows joins
     → AreOthersAlike place old (with_flows old flows) (keys_of joins)
 others_alike place old flows joins changed peer rd source_as flow apart vrf =
     by (join_to place peer rd source_as (get flows (flow_in vrf flow))) (join_to place peer rd source_as (get old.flows (flow_in vrf flow))) refl refl
@@ -81,7 +108,10 @@ others_alike place old flows joins changed peer rd source_as flow apart vrf =
           | inr a ↦ absurd (not_listed joined.join joined.key a)
         ]
 
-    by : (new was : Option Value) → join_to place peer rd source_as (get flows (flow_in vrf flow)) ≡ new → join_to place peer rd source_as (get old.flows (flow_in vrf flow)) ≡ was → new ≡ was
+    by : (new was : Option Value) → join_to place peer rd source_as (get flows (flow_in vrf flow)) ≡ new
+        → join_to place peer rd source_as (get old.flows (flow_in vrf flow)) ≡ was → new ≡ was
     by None None e f = refl
-    by (Some value) was e f = sym (still (get flows (flow_in vrf flow)) (get old.flows (flow_in vrf flow)) value e (changed.made (flow_in vrf flow))) ∙ f
-    by None (Some value) e f = sym e ∙ still (get old.flows (flow_in vrf flow)) (get flows (flow_in vrf flow)) value f (changed.left (flow_in vrf flow))
+    by (Some value) was e f =
+        sym (still (get flows (flow_in vrf flow)) (get old.flows (flow_in vrf flow)) value e (changed.made (flow_in vrf flow))) ∙ f
+    by None (Some value) e f =
+        sym e ∙ still (get old.flows (flow_in vrf flow)) (get flows (flow_in vrf flow)) value f (changed.left (flow_in vrf flow))

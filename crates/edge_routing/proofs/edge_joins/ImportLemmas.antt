@@ -22,15 +22,19 @@ module _ {X Y : Type 0} (tell : X → Option Y) where
   first_step : (x : X) (xs : List X) (o : Option Y) → tell x ≡ o → first_told tell (x ∷ xs) ≡ (elim o [ None ↦ first_told tell xs | Some y ↦ Some y ])
   first_step x xs o e = ap (λ (t : Option Y). elim t [ None ↦ first_told tell xs | Some y ↦ Some y ]) e
 
-  pub first_more : (xs : List X) (i : ℕ) (d : X) (o : Option Y) → i < length xs → first_told tell xs ≡ first_told tell (drop i xs) → o ≡ tell (get_or xs i d) → is_some o ≡ false
+  pub first_more : (xs : List X) (i : ℕ) (d : X) (o : Option Y) → i < length xs → first_told tell xs ≡ first_told tell (drop i xs)
+      → o ≡ tell (get_or xs i d) → is_some o ≡ false
       → first_told tell xs ≡ first_told tell (drop (i + 1) xs)
-  first_more xs i d None lt was is none = was ∙ ap (first_told tell) (drop_more xs i d lt) ∙ first_step (get_or xs i d) (drop (i + 1) xs) None (sym is)
+  first_more xs i d None lt was is none =
+      was ∙ ap (first_told tell) (drop_more xs i d lt) ∙ first_step (get_or xs i d) (drop (i + 1) xs) None (sym is)
   first_more xs i d (Some y) lt was is none = absurd (let bad : true ≡ false = none in cc)
 
-  pub first_here : (xs : List X) (i : ℕ) (d : X) (o : Option Y) → i < length xs → first_told tell xs ≡ first_told tell (drop i xs) → o ≡ tell (get_or xs i d) → is_some o ≡ true
+  pub first_here : (xs : List X) (i : ℕ) (d : X) (o : Option Y) → i < length xs → first_told tell xs ≡ first_told tell (drop i xs)
+      → o ≡ tell (get_or xs i d) → is_some o ≡ true
       → o ≡ first_told tell xs
   first_here xs i d None lt was is some = absurd (let bad : false ≡ true = some in cc)
-  first_here xs i d (Some y) lt was is some = sym (was ∙ ap (first_told tell) (drop_more xs i d lt) ∙ first_step (get_or xs i d) (drop (i + 1) xs) (Some y) (sym is))
+  first_here xs i d (Some y) lt was is some =
+      sym (was ∙ ap (first_told tell) (drop_more xs i d lt) ∙ first_step (get_or xs i d) (drop (i + 1) xs) (Some y) (sym is))
 
   pub first_none : (xs : List X) (i : ℕ) → length xs ≤ i → first_told tell xs ≡ first_told tell (drop i xs) → None ≡ first_told tell xs
   first_none xs i le was = sym (was ∙ ap (first_told tell) (drop_all i xs le))
@@ -51,7 +55,8 @@ module _ (place : EdgePlace) (join : TreeJoin) where
       by true = refl
       by false = refl
 
-  told_one : (tree : TreeData) → join_of place join.edge join.rd join.source_as (flow_in join) (as_wanted tree) ≡ option_map (value_by place) (import_at join tree)
+  told_one : (tree : TreeData) → join_of place join.edge join.rd join.source_as (flow_in join) (as_wanted tree)
+      ≡ option_map (value_by place) (import_at join tree)
   told_one tree = tells (upstream_of (maps.get tree.vrf.flows (flow_in join)))
 
   told_next : (tree : TreeData) (trees : List TreeData) (rest : Option Value) (more : Option (Addr × ℕ)) → rest ≡ option_map (value_by place) more
@@ -59,7 +64,8 @@ module _ (place : EdgePlace) (join : TreeJoin) where
       ≡ option_map (value_by place) (elim (import_at join tree) [ None ↦ more | Some y ↦ Some y ])
   told_next tree trees rest more h = ap (λ (o : Option Value). elim o [ None ↦ rest | Some y ↦ Some y ]) (told_one tree) ∙ by (import_at join tree)
     where
-      by : (o : Option (Addr × ℕ)) → (elim (option_map (value_by place) o) [ None ↦ rest | Some y ↦ Some y ]) ≡ option_map (value_by place) (elim o [ None ↦ more | Some y ↦ Some y ])
+      by : (o : Option (Addr × ℕ)) → (elim (option_map (value_by place) o) [ None ↦ rest | Some y ↦ Some y ])
+          ≡ option_map (value_by place) (elim o [ None ↦ more | Some y ↦ Some y ])
       by None = h
       by (Some import) = refl
 
@@ -67,4 +73,5 @@ module _ (place : EdgePlace) (join : TreeJoin) where
       ≡ option_map (value_by place) (first_told (import_at join) trees)
   values_told [] = refl
   values_told (tree ∷ trees) =
-      told_next tree trees (first_told (join_of place join.edge join.rd join.source_as (flow_in join)) (map as_wanted trees)) (first_told (import_at join) trees) (values_told trees)
+      told_next tree trees (first_told (join_of place join.edge join.rd join.source_as (flow_in join)) (map as_wanted trees))
+      (first_told (import_at join) trees) (values_told trees)

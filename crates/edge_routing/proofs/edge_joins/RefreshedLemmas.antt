@@ -51,19 +51,27 @@ join_ipv4 peer value by h =
     ap (λ (j : JoinBy). afi_of j.import.addr) (sym passed.1) ∙ import_ipv4 comm.0 first.0 comm.2
 
 module _ (place : EdgePlace) (control : Control) (edge : NodeId) (rd : Rd) (import : Import) (source_as : ℕ) where
-  of_origin : (prefix : Prefix) (origin : Origin) → upstream_by place control (record { prefix = prefix; origin = origin }) ≡ Some (Remote edge rd import source_as) → afi_of import.addr ≡ Ipv4
+  of_origin : (prefix : Prefix) (origin : Origin)
+      → upstream_by place control (record { prefix = prefix; origin = origin }) ≡ Some (Remote edge rd import source_as) → afi_of import.addr ≡ Ipv4
   of_origin prefix (origins.Local site) h = absurd cc
   of_origin prefix (origins.Remote peer address own_rd) h =
-      let first = chained (maps.get (taken_from control peer) (Unicast own_rd prefix)) (λ taken. join_by address taken.value >>? λ by. Some (Remote peer own_rd by.import by.source_as)) (Remote edge rd import source_as) h in
-      let second = chained (join_by address first.0.value) (λ by. Some (Remote peer own_rd by.import by.source_as)) (Remote edge rd import source_as) first.2 in
+      let first =
+      chained (maps.get (taken_from control peer) (Unicast own_rd prefix))
+      (λ taken. join_by address taken.value >>? λ by. Some (Remote peer own_rd by.import by.source_as)) (Remote edge rd import source_as) h in
+      let second =
+      chained (join_by address first.0.value) (λ by. Some (Remote peer own_rd by.import by.source_as)) (Remote edge rd import source_as) first.2
+      in
       let said : Some (Remote peer own_rd second.0.import second.0.source_as) ≡ Some (Remote edge rd import source_as) = second.2 in
       let imports : second.0.import ≡ import = cc in
       ap (λ (i : Import). afi_of i.addr) (sym imports) ∙ join_ipv4 address first.0.value second.0 second.1
 
-  of_choice : (own : OwnVrf) (source group : Addr) → upstream_for place control own source group ≡ Some (Remote edge rd import source_as) → afi_of import.addr ≡ Ipv4
+  of_choice : (own : OwnVrf) (source group : Addr) → upstream_for place control own source group ≡ Some (Remote edge rd import source_as)
+      → afi_of import.addr ≡ Ipv4
   of_choice own source group h =
       let routes = known_routes place control own in
-      let chosen = chained (best_route (costs_of place own routes source group) routes source) (upstream_by place control) (Remote edge rd import source_as) h in
+      let chosen =
+      chained (best_route (costs_of place own routes source group) routes source) (upstream_by place control) (Remote edge rd import source_as) h
+      in
       of_origin chosen.0.prefix chosen.0.origin chosen.2
 
 pub refreshed_ipv4 : (place : EdgePlace) (now : ℕ) (control : Control) → HaveIpv4Imports (refreshed place now control)

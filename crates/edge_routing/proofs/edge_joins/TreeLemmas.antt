@@ -40,26 +40,32 @@ use Rattle.edge_routing.specs.edge_joins.Upstreams.{HaveIpv4Imports, import_at, 
 use Rattle.edge_routing.proofs.edge_joins.ImportLemmas.{value_by, values_told}
 
 -- each tree is that of its VRF, and so the trees are those of the VRFs
-pub one_by_one : (place : EdgePlace) (control : Control) (its : List OwnTree) → AllByRecursion (λ (it : OwnTree). IsTreeOf place control it.own it.tree) its
+pub one_by_one : (place : EdgePlace) (control : Control) (its : List OwnTree)
+    → AllByRecursion (λ (it : OwnTree). IsTreeOf place control it.own it.tree) its
     → AreTreesOf place control (map (λ (it : OwnTree). it.own) its) (map (λ (it : OwnTree). it.tree) its)
 one_by_one place control [] h = tt
 one_by_one place control (it ∷ its) h = (h.0, one_by_one place control its h.1)
 
 -- the trees are those of the VRFs, but for what they want
-pub are_trees : (kept : Kept) (core : Core) → IsSound kept → AreTreesOf (place_of kept.home core) (control_of kept) (own_vrfs (place_of kept.home core)) (map as_wanted kept.trees)
+pub are_trees : (kept : Kept) (core : Core) → IsSound kept
+    → AreTreesOf (place_of kept.home core) (control_of kept) (own_vrfs (place_of kept.home core)) (map as_wanted kept.trees)
 are_trees kept core sound =
     let wanted : Kept = with_trees as_wanted kept in
-    let pairs : AreTreesOf (place_of kept.home core) (control_of wanted) (map (λ (it : OwnTree). it.own) (trees_of wanted)) (map (λ (it : OwnTree). it.tree) (trees_of wanted)) =
+    let pairs : AreTreesOf (place_of kept.home core) (control_of wanted) (map (λ (it : OwnTree). it.own) (trees_of wanted))
+    (map (λ (it : OwnTree). it.tree) (trees_of wanted)) =
     one_by_one (place_of kept.home core) (control_of wanted) (trees_of wanted) (sound.trees.each core) in
     let named : AreTreesOf (place_of kept.home core) (control_of wanted) (own_vrfs (place_of kept.home core)) (map as_wanted kept.trees) =
     subst₂ (AreTreesOf (place_of kept.home core) (control_of wanted)) sound.trees.all sound.trees.full pairs in
-    subst (λ (c : Control). AreTreesOf (place_of kept.home core) c (own_vrfs (place_of kept.home core)) (map as_wanted kept.trees)) (wanted_control kept) named
+    subst (λ (c : Control). AreTreesOf (place_of kept.home core) c (own_vrfs (place_of kept.home core)) (map as_wanted kept.trees))
+    (wanted_control kept) named
 
 -- the join that the edge holds is the one by the first import that the trees have for it
 pub held_by_trees : (kept : Kept) (core : Core) → IsSound kept → AreOfVrfs (place_of kept.home core) (control_of kept) → (join : TreeJoin)
-    → maps.get (held_for (place_of kept.home core) (control_of kept) join.edge) (key_of join).1 ≡ option_map (value_by (place_of kept.home core)) (first_told (import_at join) kept.trees)
+    → maps.get (held_for (place_of kept.home core) (control_of kept) join.edge) (key_of join).1
+    ≡ option_map (value_by (place_of kept.home core)) (first_told (import_at join) kept.trees)
 held_by_trees kept core sound of_vrfs join =
-    joins_are (place_of kept.home core) (control_of kept) join.edge join.rd join.source_as (flow_in join) (map as_wanted kept.trees) (are_trees kept core sound) of_vrfs
+    joins_are (place_of kept.home core) (control_of kept) join.edge join.rd join.source_as (flow_in join) (map as_wanted kept.trees)
+    (are_trees kept core sound) of_vrfs
     ∙ values_told (place_of kept.home core) join kept.trees
 
 -- ---- imports of IPv4
@@ -74,22 +80,29 @@ module _ (control : Control) (ipv4 : HaveIpv4Imports control) (join : TreeJoin) 
       let one = same_Some (record { edge = edge; rd = rd; import = (own.addr, own.number); source_as = source_as }) found h in
       ap (λ (i : Addr × ℕ). afi_of i.0) (sym same ∙ ap (λ (u : uppers.Upstream). u.import) (sym one)) ∙ ipv4 flow edge rd own source_as at
 
-  of_tree : (place : EdgePlace) (own : OwnVrf) (tree : TreeData) (import : Addr × ℕ) → IsTreeOf place control own (as_wanted tree) → import_at join tree ≡ Some import → afi_of import.0 ≡ Ipv4
+  of_tree : (place : EdgePlace) (own : OwnVrf) (tree : TreeData) (import : Addr × ℕ) → IsTreeOf place control own (as_wanted tree)
+      → import_at join tree ≡ Some import → afi_of import.0 ≡ Ipv4
   of_tree place own tree import is h =
-      let found = chained (upstream_of (maps.get tree.vrf.flows (flow_in join))) (λ up. only_if (is_join_to join.edge join.rd join.source_as up) up.import) import h in
-      of_upstream (trees_of_vrfs.flow_in own.id (flow_in join)) import (maps.get control.flows (trees_of_vrfs.flow_in own.id (flow_in join))) refl found.0
+      let found =
+      chained (upstream_of (maps.get tree.vrf.flows (flow_in join))) (λ up. only_if (is_join_to join.edge join.rd join.source_as up) up.import)
+      import h in
+      of_upstream (trees_of_vrfs.flow_in own.id (flow_in join)) import (maps.get control.flows (trees_of_vrfs.flow_in own.id (flow_in join))) refl
+      found.0
       (sym (ap upstream_of (is.flows (flow_in join))) ∙ found.1)
       (cond_some (is_join_to join.edge join.rd join.source_as found.0) found.0.import import found.2).1
 
-  next_of_ipv4 : (place : EdgePlace) (own : OwnVrf) (tree : TreeData) (rest : Option (Addr × ℕ)) (import : Addr × ℕ) → IsTreeOf place control own (as_wanted tree)
-      → (rest ≡ Some import → afi_of import.0 ≡ Ipv4) → (elim (import_at join tree) [ None ↦ rest | Some y ↦ Some y ]) ≡ Some import → afi_of import.0 ≡ Ipv4
+  next_of_ipv4 : (place : EdgePlace) (own : OwnVrf) (tree : TreeData) (rest : Option (Addr × ℕ)) (import : Addr × ℕ)
+      → IsTreeOf place control own (as_wanted tree)
+      → (rest ≡ Some import → afi_of import.0 ≡ Ipv4) → (elim (import_at join tree) [ None ↦ rest | Some y ↦ Some y ]) ≡ Some import
+      → afi_of import.0 ≡ Ipv4
   next_of_ipv4 place own tree rest import is more h = by (import_at join tree) refl h
     where
       by : (o : Option (Addr × ℕ)) → import_at join tree ≡ o → (elim o [ None ↦ rest | Some y ↦ Some y ]) ≡ Some import → afi_of import.0 ≡ Ipv4
       by None e g = more g
       by (Some found) e g = of_tree place own tree import is (e ∙ g)
 
-  first_of_ipv4 : (place : EdgePlace) (vrfs : List OwnVrf) (trees : List TreeData) (import : Addr × ℕ) → AreTreesOf place control vrfs (map as_wanted trees)
+  first_of_ipv4 : (place : EdgePlace) (vrfs : List OwnVrf) (trees : List TreeData) (import : Addr × ℕ)
+      → AreTreesOf place control vrfs (map as_wanted trees)
       → first_told (import_at join) trees ≡ Some import → afi_of import.0 ≡ Ipv4
   first_of_ipv4 place vrfs [] import are h = absurd cc
   first_of_ipv4 place [] (tree ∷ trees) import are h = absurd are
@@ -99,18 +112,22 @@ module _ (control : Control) (ipv4 : HaveIpv4Imports control) (join : TreeJoin) 
 pub is_ipv4 : (kept : Kept) (core : Core) → IsSound kept → HaveIpv4Imports (control_of kept) → (join : TreeJoin) (import : Addr × ℕ)
     → first_told (import_at join) kept.trees ≡ Some import → afi_of import.0 ≡ Ipv4
 is_ipv4 kept core sound ipv4 join import h =
-    first_of_ipv4 (control_of kept) ipv4 join (place_of kept.home core) (own_vrfs (place_of kept.home core)) kept.trees import (are_trees kept core sound) h
+    first_of_ipv4 (control_of kept) ipv4 join (place_of kept.home core) (own_vrfs (place_of kept.home core)) kept.trees import
+    (are_trees kept core sound) h
 
 -- a core of which nothing is asked
 abbrev pub no_core : Core
 no_core = record { cost = λ from to. 0; toward = λ from to. None }
 
 -- where the edge has no VRF there is no import
-no_vrf : (kept : Kept) (core : Core) → IsSound kept → own_vrfs (place_of kept.home core) ≡ [] → (join : TreeJoin) → first_told (import_at join) kept.trees ≡ None
+no_vrf : (kept : Kept) (core : Core) → IsSound kept → own_vrfs (place_of kept.home core) ≡ [] → (join : TreeJoin)
+    → first_told (import_at join) kept.trees ≡ None
 no_vrf kept core sound none join =
-    by kept.trees (subst (λ (vrfs : List OwnVrf). AreTreesOf (place_of kept.home core) (control_of kept) vrfs (map as_wanted kept.trees)) none (are_trees kept core sound))
+    by kept.trees (subst (λ (vrfs : List OwnVrf). AreTreesOf (place_of kept.home core) (control_of kept) vrfs (map as_wanted kept.trees)) none
+    (are_trees kept core sound))
   where
-    by : (trees : List TreeData) → AreTreesOf (place_of kept.home core) (control_of kept) [] (map as_wanted trees) → first_told (import_at join) trees ≡ None
+    by : (trees : List TreeData) → AreTreesOf (place_of kept.home core) (control_of kept) [] (map as_wanted trees)
+        → first_told (import_at join) trees ≡ None
     by [] h = refl
     by (tree ∷ trees) h = absurd h
 
@@ -122,7 +139,8 @@ pub record IsRemote (join : TreeJoin) (import : Addr × ℕ) (up : RemoteUpstrea
   pub system : up.source_as ≡ join.source_as
   pub names : as_import up.import ≡ record { addr = import.0; number = import.1 }
 
-is_remote : (join : TreeJoin) (addr : Addr) (number : ℕ) (up : RemoteUpstream) → remote_by join (addr, number) ≡ Some up → IsRemote join (addr, number) up
+is_remote : (join : TreeJoin) (addr : Addr) (number : ℕ) (up : RemoteUpstream) → remote_by join (addr, number) ≡ Some up
+    → IsRemote join (addr, number) up
 is_remote join (V6 addr) number up h = absurd cc
 is_remote join (V4 addr) number up h =
     let one = same_Some (record { rd = join.rd; import = record { addr = addr; number = number }; source_as = join.source_as }) up h in
@@ -153,15 +171,19 @@ module _ (kept : Kept) (core : Core) (sound : IsSound kept) (join : TreeJoin) wh
 
   -- the edge holds the join that is found
   pub found_held : AreOfVrfs place (control_of kept) → (up : RemoteUpstream) → (first_told (import_at join) kept.trees >>? remote_by join) ≡ Some up
-      → maps.get (held_for place (control_of kept) join.edge) (join_key (afi_of join.source) up.rd up.source_as (flow_in join)) ≡ Some (value_towards place (as_import up.import))
+      → maps.get (held_for place (control_of kept) join.edge) (join_key (afi_of join.source) up.rd up.source_as (flow_in join))
+      ≡ Some (value_towards place (as_import up.import))
   found_held of_vrfs up h =
       let found = chained (first_told (import_at join) kept.trees) (remote_by join) up h in
       let is = is_remote join found.0.0 found.0.1 up found.2 in
-      ap (λ (k : NodeId × Key). maps.get (held_for place (control_of kept) join.edge) k.1) (sym (found_key join (first_told (import_at join) kept.trees) up h))
-      ∙ held_by_trees kept core sound of_vrfs join ∙ ap (option_map (value_by place)) found.1 ∙ ap (λ (i : Import). Some (value_towards place i)) (sym is.names)
+      ap (λ (k : NodeId × Key). maps.get (held_for place (control_of kept) join.edge) k.1)
+      (sym (found_key join (first_told (import_at join) kept.trees) up h))
+      ∙ held_by_trees kept core sound of_vrfs join ∙ ap (option_map (value_by place)) found.1
+      ∙ ap (λ (i : Import). Some (value_towards place i)) (sym is.names)
 
   -- and none where none is found
-  pub none_held : AreOfVrfs place (control_of kept) → HaveIpv4Imports (control_of kept) → (first_told (import_at join) kept.trees >>? remote_by join) ≡ None → held ≡ None
+  pub none_held : AreOfVrfs place (control_of kept) → HaveIpv4Imports (control_of kept)
+      → (first_told (import_at join) kept.trees >>? remote_by join) ≡ None → held ≡ None
   none_held of_vrfs ipv4 h = held_by_trees kept core sound of_vrfs join ∙ by (first_told (import_at join) kept.trees) refl h
     where
       by : (o : Option (Addr × ℕ)) → first_told (import_at join) kept.trees ≡ o → (o >>? remote_by join) ≡ None → option_map (value_by place) o ≡ None
@@ -174,15 +196,18 @@ module _ (kept : Kept) (core : Core) (sound : IsSound kept) (join : TreeJoin) wh
   some_vrf home (own ∷ vrfs) same are none up h = absurd cc
   some_vrf home [] same are none up h =
       let empty : own_vrfs place ≡ [] = ap (λ (h : Home). own_vrfs (place_of h core)) (sym same) ∙ sym (are.vrfs core) in
-      let nothing : (first_told (import_at join) kept.trees >>? remote_by join) ≡ None = ap (λ (o : Option (Addr × ℕ)). o >>? remote_by join) (no_vrf kept core sound empty join) in
+      let nothing : (first_told (import_at join) kept.trees >>? remote_by join) ≡ None =
+      ap (λ (o : Option (Addr × ℕ)). o >>? remote_by join) (no_vrf kept core sound empty join) in
       let bad : None ≡ Some up = sym nothing ∙ h in cc
 
 -- the first VRF of the edge says its address
-pub first_at : (kept : Kept) (core : Core) (home : Home) (vrfs : List homes.OwnVrf) (own : homes.OwnVrf) → home ≡ kept.home → AreOwn home vrfs → slice_get vrfs 0 ≡ Some own
+pub first_at : (kept : Kept) (core : Core) (home : Home) (vrfs : List homes.OwnVrf) (own : homes.OwnVrf) → home ≡ kept.home → AreOwn home vrfs
+    → slice_get vrfs 0 ≡ Some own
     → IsAt (place_of kept.home core) own.local
 first_at kept core home [] own same are h = absurd cc
 first_at kept core home (first ∷ vrfs) own same are h =
     let one : first ≡ own = same_Some first own h in
     let says = are.say.0 in
     subst (λ (o : homes.OwnVrf). IsAt (place_of kept.home core) o.local) one
-    (subst (λ (h : Home). IsAt (place_of h core) first.local) same (record { addr = are.own_addr ∙ ap (λ (a : List ℕ). V4 a) (sym says.addr); system = sym says.system }))
+    (subst (λ (h : Home). IsAt (place_of h core) first.local) same
+    (record { addr = are.own_addr ∙ ap (λ (a : List ℕ). V4 a) (sym says.addr); system = sym says.system }))

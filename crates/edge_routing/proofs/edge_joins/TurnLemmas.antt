@@ -49,7 +49,8 @@ all_alike t = each_itself IsToldAlike alike_itself t
 one_node : (own other : NodeId) → own.0 ≡ other.0 → own ≡ other
 one_node own other h = λ i. record { 0 = h i }
 
-both_alike : (change : Table → Table) (old new : Option PeerTable) → Both {A = PeerTable} {B = PeerTable} (λ before behind. behind ≡ record before { set = change before.set }) old new
+both_alike : (change : Table → Table) (old new : Option PeerTable)
+    → Both {A = PeerTable} {B = PeerTable} (λ before behind. behind ≡ record before { set = change before.set }) old new
     → Both IsToldAlike old new
 both_alike change None None h = tt
 both_alike change None (Some new) h = h
@@ -63,7 +64,8 @@ both_same old new h = subst (λ (o : Option PeerTable). Both IsToldAlike old o) 
     by None = tt
     by (Some own) = alike_itself own
 
-pub alike_at : (change : Table → Table) (peer : NodeId) (old new : Tables) → AtPeer peer (λ before behind. behind ≡ record before { set = change before.set }) old new → EachPeer IsToldAlike old new
+pub alike_at : (change : Table → Table) (peer : NodeId) (old new : Tables)
+    → AtPeer peer (λ before behind. behind ≡ record before { set = change before.set }) old new → EachPeer IsToldAlike old new
 alike_at change peer old new at other = elim (cases_Bool (other.0 == peer.0)) [
   | inl tied ↦
       subst (λ (n : NodeId). Both IsToldAlike (get old n) (get new n)) (sym (one_node other peer (eqb-true other.0 peer.0 tied)))
@@ -74,7 +76,8 @@ alike_at change peer old new at other = elim (cases_Bool (other.0 == peer.0)) [
 ]
 
 pub alike_either : {X E : Type 0} (result : Result X E) (change : Table → Table) (peer : NodeId) (old new : Tables)
-    → OnOk result (AtPeer peer (λ before behind. behind ≡ record before { set = change before.set }) old new) → OnErr result (new ≡ old) → EachPeer IsToldAlike old new
+    → OnOk result (AtPeer peer (λ before behind. behind ≡ record before { set = change before.set }) old new) → OnErr result (new ≡ old)
+    → EachPeer IsToldAlike old new
 alike_either (Ok x) change peer old new h k = alike_at change peer old new h
 alike_either (Err e) change peer old new h k = subst (λ (t : Tables). EachPeer IsToldAlike old t) (sym k) (all_alike old)
 
@@ -86,7 +89,8 @@ among_left [] (suc i) key a = a
 among_left (join ∷ joins) (suc i) key a = inr (among_left joins i key a)
 
 -- more of them may be left
-all_but_more : (place : EdgePlace) (control : Control) (joins : List TreeJoin) (i : ℕ) (t : Tables) → HoldAllBut place control (keys_of (drop i joins)) t → HoldAllBut place control (keys_of joins) t
+all_but_more : (place : EdgePlace) (control : Control) (joins : List TreeJoin) (i : ℕ) (t : Tables)
+    → HoldAllBut place control (keys_of (drop i joins)) t → HoldAllBut place control (keys_of joins) t
 all_but_more place control joins i t hold =
     record { elsewhere = λ peer table key at apart. hold.elsewhere peer table key at (λ a. apart (among_left joins i (peer, key) a)) }
 
@@ -107,26 +111,33 @@ module _ (kept : Kept) where
   abbrev pub DoneOne : TreeJoin → Tables → Tables → Type 0
   DoneOne join old new =
       (core : Core) (but : List (NodeId × Key)) → AreOfVrfs (place_of kept.home core) (control_of kept) → HaveIpv4Imports (control_of kept)
-      → HoldAllBut (place_of kept.home core) (control_of kept) (key_of join ∷ but) old → HoldAllBut (place_of kept.home core) (control_of kept) but new
+      → HoldAllBut (place_of kept.home core) (control_of kept) (key_of join ∷ but) old
+      → HoldAllBut (place_of kept.home core) (control_of kept) but new
 
   -- the first joins are done
   abbrev pub Way : List TreeJoin → ℕ → Tables → Tables → Type 0
   Way joins i old new = Done (keys_of joins) (keys_of (drop i joins)) old new
 
-  pub way_more : (joins : List TreeJoin) (i : ℕ) → i < length joins → (s t u : Tables) → Way joins i s t → DoneOne (get_or joins i no_join) t u → Way joins (i + 1) s u
+  pub way_more : (joins : List TreeJoin) (i : ℕ) → i < length joins → (s t u : Tables) → Way joins i s t → DoneOne (get_or joins i no_join) t u
+      → Way joins (i + 1) s u
   way_more joins i lt s t u way one core of_vrfs ipv4 hold =
-      let left : keys_of (drop i joins) ≡ key_of (get_or joins i no_join) ∷ keys_of (drop (i + 1) joins) = ap keys_of (drop_more joins i no_join lt) in
+      let left : keys_of (drop i joins) ≡ key_of (get_or joins i no_join) ∷ keys_of (drop (i + 1) joins) =
+      ap keys_of (drop_more joins i no_join lt) in
       one core (keys_of (drop (i + 1) joins)) of_vrfs ipv4
       (subst (λ (l : List (NodeId × Key)). HoldAllBut (place_of kept.home core) (control_of kept) l t) left (way core of_vrfs ipv4 hold))
 
-  pub way_end : (joins : List TreeJoin) (i : ℕ) → length joins ≤ i → (s t : Tables) → Way joins i s t → (core : Core) → AreOfVrfs (place_of kept.home core) (control_of kept) → HaveIpv4Imports (control_of kept)
+  pub way_end : (joins : List TreeJoin) (i : ℕ) → length joins ≤ i → (s t : Tables) → Way joins i s t → (core : Core)
+      → AreOfVrfs (place_of kept.home core) (control_of kept) → HaveIpv4Imports (control_of kept)
       → HoldAllBut (place_of kept.home core) (control_of kept) (keys_of joins) s → HoldAll (place_of kept.home core) (control_of kept) t
   way_end joins i le s t way core of_vrfs ipv4 hold =
       ended (place_of kept.home core) (control_of kept) t
-      (subst (λ (l : List (NodeId × Key)). HoldAllBut (place_of kept.home core) (control_of kept) l t) (ap keys_of (drop_all i joins le)) (way core of_vrfs ipv4 hold))
+      (subst (λ (l : List (NodeId × Key)). HoldAllBut (place_of kept.home core) (control_of kept) l t) (ap keys_of (drop_all i joins le))
+      (way core of_vrfs ipv4 hold))
 
-  pub way_cut : (joins : List TreeJoin) (i : ℕ) (s t u : Tables) → Way joins i s t → u ≡ t → (core : Core) → AreOfVrfs (place_of kept.home core) (control_of kept) → HaveIpv4Imports (control_of kept)
-      → HoldAllBut (place_of kept.home core) (control_of kept) (keys_of joins) s → HoldAllBut (place_of kept.home core) (control_of kept) (keys_of joins) u
+  pub way_cut : (joins : List TreeJoin) (i : ℕ) (s t u : Tables) → Way joins i s t → u ≡ t → (core : Core)
+      → AreOfVrfs (place_of kept.home core) (control_of kept) → HaveIpv4Imports (control_of kept)
+      → HoldAllBut (place_of kept.home core) (control_of kept) (keys_of joins) s
+      → HoldAllBut (place_of kept.home core) (control_of kept) (keys_of joins) u
   way_cut joins i s t u way same core of_vrfs ipv4 hold =
       subst (HoldAllBut (place_of kept.home core) (control_of kept) (keys_of joins)) (sym same)
       (all_but_more (place_of kept.home core) (control_of kept) joins i t (way core of_vrfs ipv4 hold))

@@ -39,18 +39,23 @@ is_it : (fec : Fec) (o : Option Fec) → o ≡ Some fec → is_tunnel fec o ≡ 
 is_it fec o h = ap (is_tunnel fec) h ∙ same_fec_from fec fec refl
 
 -- an inclusive route is one of the peer that is the tunnel's root
-inclusive_root : (own : OwnVrf) (addr : Addr) (key : Key) (route : TakenRoute) (fec : Fec) → imported_inclusive own.vrf addr (key, route) ≡ Some fec → fec.root ≡ addr
+inclusive_root : (own : OwnVrf) (addr : Addr) (key : Key) (route : TakenRoute) (fec : Fec) → imported_inclusive own.vrf addr (key, route) ≡ Some fec
+    → fec.root ≡ addr
 inclusive_root own addr key route fec h =
-    let first = chained (inclusive_of key) (λ originator. only_if (is_admitted own.vrf route.value.comms) route.value >>? λ value. tunnel_by addr originator value) fec h in
+    let first =
+    chained (inclusive_of key) (λ originator. only_if (is_admitted own.vrf route.value.comms) route.value >>? λ value. tunnel_by addr originator
+    value) fec h in
     let second = chained (only_if (is_admitted own.vrf route.value.comms) route.value) (λ value. tunnel_by addr first.0 value) fec first.2 in
     root_by addr first.0 second.0 fec second.2
 
 -- ---- one VRF after another
 
-pub any_at : {X : Type 0} (p : X → Bool) (xs : List X) (n : ℕ) (x : X) (result : Bool) → n < length xs → x ≡ get_or xs n x → result ≡ p x → result ≡ true → true ≡ list_any p xs
+pub any_at : {X : Type 0} (p : X → Bool) (xs : List X) (n : ℕ) (x : X) (result : Bool) → n < length xs → x ≡ get_or xs n x → result ≡ p x
+    → result ≡ true → true ≡ list_any p xs
 any_at p xs n x result within is e h = sym (list_any_at p xs n x within (ap p (sym is) ∙ sym e ∙ h))
 
-pub none_more : {X : Type 0} (p : X → Bool) (xs : List X) (n : ℕ) (x : X) (result : Bool) → n < length xs → x ≡ get_or xs n x → list_any p (take n xs) ≡ false → result ≡ p x → result ≡ false
+pub none_more : {X : Type 0} (p : X → Bool) (xs : List X) (n : ℕ) (x : X) (result : Bool) → n < length xs → x ≡ get_or xs n x
+    → list_any p (take n xs) ≡ false → result ≡ p x → result ≡ false
     → list_any p (take (n + 1) xs) ≡ false
 none_more p xs n x result within is before e h = list_any_more p xs n x within ∙ (λ i. before i || (ap p (sym is) ∙ sym e ∙ h) i)
 
@@ -70,7 +75,8 @@ module _ (kept : Kept) (sound : IsSound kept) (core : Core) (fec : Fec) where
 
   pub no_inclusive : node_with kept.home.scenario fec.root ≡ None → IsInclusive place control fec → ⊥
   no_inclusive none is =
-      no_root kept.home.scenario fec.root none is.peer (taken_node kept sound is.peer is.key is.route is.taken) (sym (inclusive_root is.own (addr_of kept.home.scenario is.peer) is.key is.route fec is.imported))
+      no_root kept.home.scenario fec.root none is.peer (taken_node kept sound is.peer is.key is.route is.taken)
+      (sym (inclusive_root is.own (addr_of kept.home.scenario is.peer) is.key is.route fec is.imported))
 
   module _ (root : NodeId) (rooted : node_with kept.home.scenario fec.root ≡ Some root) where
     abbrev imports_one : OwnVrf → Bool
@@ -101,15 +107,19 @@ module _ (kept : Kept) (sound : IsSound kept) (core : Core) (fec : Fec) where
     inclusive_to : IsInclusive place control fec → list_any imports_one (own_vrfs place) ≡ true
     inclusive_to is =
         let within = taken_node kept sound is.peer is.key is.route is.taken in
-        let same : is.peer ≡ root = one_root is.peer within (inclusive_root is.own (addr_of kept.home.scenario is.peer) is.key is.route fec is.imported) in
-        let taken : maps.get (taken_from control root) is.key ≡ Some is.route = subst (λ (n : NodeId). maps.get (taken_from control n) is.key ≡ Some is.route) same is.taken in
+        let same : is.peer ≡ root =
+        one_root is.peer within (inclusive_root is.own (addr_of kept.home.scenario is.peer) is.key is.route fec is.imported) in
+        let taken : maps.get (taken_from control root) is.key ≡ Some is.route =
+        subst (λ (n : NodeId). maps.get (taken_from control n) is.key ≡ Some is.route) same is.taken in
         let imported : imported_inclusive is.own.vrf (addr_of kept.home.scenario root) (is.key, is.route) ≡ Some fec =
         subst (λ (n : NodeId). imported_inclusive is.own.vrf (addr_of kept.home.scenario n) (is.key, is.route) ≡ Some fec) same is.imported in
         any_from imports_one is.own (own_vrfs place) is.of_edge
-        (any_from (test is.own) (is.key, is.route) (maps.entries (taken_from control root)) (get_entry key_exact (taken_from control root) is.key is.route taken)
+        (any_from (test is.own) (is.key, is.route) (maps.entries (taken_from control root))
+        (get_entry key_exact (taken_from control root) is.key is.route taken)
         (is_it fec (imported_inclusive is.own.vrf (addr_of kept.home.scenario root) (is.key, is.route)) imported))
 
-    pub inclusive_is : (result : Bool) (vrfs : List home_vrfs.OwnVrf) → AreOwn kept.home vrfs → result ≡ list_any (λ own. imports_one (as_own own)) vrfs → (result ≡ true) ↔ IsInclusive place control fec
+    pub inclusive_is : (result : Bool) (vrfs : List home_vrfs.OwnVrf) → AreOwn kept.home vrfs
+        → result ≡ list_any (λ own. imports_one (as_own own)) vrfs → (result ≡ true) ↔ IsInclusive place control fec
     inclusive_is result vrfs are e =
         let told : result ≡ list_any imports_one (own_vrfs place) = e ∙ any_own imports_one vrfs ∙ ap (list_any imports_one) (are.vrfs core) in
         (λ h. inclusive_from (sym told ∙ h), λ is. told ∙ inclusive_to is)

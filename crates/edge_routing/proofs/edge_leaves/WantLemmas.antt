@@ -23,8 +23,10 @@ use Rattle.control_laws.specs.Control.{AreTrees, Kept, OwnTree, control_of, own_
 
 -- ---- the trees
 
-trees_of_each : (place : EdgePlace) (control : Control) (owns : List OwnVrf) (trees : List TreeData) → AllByRecursion (λ (it : OwnTree). IsTreeOf place control it.own it.tree) (own_trees owns trees)
-    → map (λ (it : OwnTree). it.own) (own_trees owns trees) ≡ owns → map (λ (it : OwnTree). it.tree) (own_trees owns trees) ≡ trees → AreTreesOf place control owns trees
+trees_of_each : (place : EdgePlace) (control : Control) (owns : List OwnVrf) (trees : List TreeData)
+    → AllByRecursion (λ (it : OwnTree). IsTreeOf place control it.own it.tree) (own_trees owns trees)
+    → map (λ (it : OwnTree). it.own) (own_trees owns trees) ≡ owns → map (λ (it : OwnTree). it.tree) (own_trees owns trees) ≡ trees
+    → AreTreesOf place control owns trees
 trees_of_each place control [] [] h e k = tt
 trees_of_each place control [] (tree ∷ trees) h e k = absurd cc
 trees_of_each place control (own ∷ owns) [] h e k = absurd cc
@@ -43,7 +45,8 @@ module _ (kept : Kept) (trees : AreTrees kept) (core : Core) where
   are_trees_of : AreTreesOf place (control_of kept) (own_vrfs place) kept.trees
   are_trees_of = trees_of_each place (control_of kept) (own_vrfs place) kept.trees (trees.each core) trees.all trees.full
 
-  module _ (fec : Fec) (inclusive wanted : Bool) (is : (inclusive ≡ true) ↔ IsInclusive place (control_of kept) fec) (any : wanted ≡ list_any (wants_it fec) kept.trees) where
+  module _ (fec : Fec) (inclusive wanted : Bool) (is : (inclusive ≡ true) ↔ IsInclusive place (control_of kept) fec)
+      (any : wanted ≡ list_any (wants_it fec) kept.trees) where
     wanted_in : wanted ≡ true → IsWantedIn kept.trees fec
     wanted_in h = (let found = any_among (wants_it fec) kept.trees (sym any ∙ h) in record { tree = found.0; among = found.1; wants = found.2 })
 
@@ -64,8 +67,10 @@ module _ (kept : Kept) (trees : AreTrees kept) (core : Core) where
 
 -- one of which a VRF imports an inclusive route
 pub leaf_inclusive : (kept : Kept) → AreTrees kept → (core : Core) (fec : Fec) (inclusive : Bool) → inclusive ≡ true
-    → (inclusive ≡ true) ↔ IsInclusive (place_of kept.home core) (control_of kept) fec → inclusive ≡ sets.contains (leaves (place_of kept.home core) (control_of kept)) fec
-leaf_inclusive kept trees core fec inclusive h is = h ∙ sym ((leaves_are (place_of kept.home core) (control_of kept) kept.trees fec (are_trees_of kept trees core)).1 (inl (is.0 h)))
+    → (inclusive ≡ true) ↔ IsInclusive (place_of kept.home core) (control_of kept) fec
+    → inclusive ≡ sets.contains (leaves (place_of kept.home core) (control_of kept)) fec
+leaf_inclusive kept trees core fec inclusive h is =
+    h ∙ sym ((leaves_are (place_of kept.home core) (control_of kept) kept.trees fec (are_trees_of kept trees core)).1 (inl (is.0 h)))
 
 -- ---- those that are wanted
 
@@ -85,12 +90,17 @@ listed p fecs fec h = either (list_any (same_fec fec) (filter p fecs)) (p fec) t
         any_from (same_fec fec) found.0 (filter p fecs) (among_filter p found.0 fecs (ap p (sym same) ∙ k) found.1) found.2
 
 -- one more of the list, where it is wanted and where it is not
-pub more_wanted : (p : Fec → Bool) (fecs found new : List Fec) (n : ℕ) (fec : Fec) (passes : Bool) → n < length fecs → fec ≡ get_or fecs n fec → found ≡ filter p (take n fecs) → passes ≡ p fec
+pub more_wanted : (p : Fec → Bool) (fecs found new : List Fec) (n : ℕ) (fec : Fec) (passes : Bool) → n < length fecs → fec ≡ get_or fecs n fec
+    → found ≡ filter p (take n fecs) → passes ≡ p fec
     → passes ≡ true → new ≡ found ++ fec ∷ [] → new ≡ filter p (take (n + 1) fecs)
 more_wanted p fecs found new n fec passes within is before e so added =
-    added ∙ (λ i. before i ++ is i ∷ []) ∙ ap (λ (b : Bool). filter p (take n fecs) ++ cond b (get_or fecs n fec ∷ []) []) (sym so ∙ e ∙ ap p is) ∙ sym (filter_more p fecs n fec within)
+    added ∙ (λ i. before i ++ is i ∷ []) ∙ ap (λ (b : Bool). filter p (take n fecs) ++ cond b (get_or fecs n fec ∷ []) []) (sym so ∙ e ∙ ap p is)
+    ∙ sym (filter_more p fecs n fec within)
 
-pub none_wanted : (p : Fec → Bool) (fecs found new : List Fec) (n : ℕ) (fec : Fec) (passes : Bool) → n < length fecs → fec ≡ get_or fecs n fec → found ≡ filter p (take n fecs) → passes ≡ p fec
+pub none_wanted : (p : Fec → Bool) (fecs found new : List Fec) (n : ℕ) (fec : Fec) (passes : Bool) → n < length fecs → fec ≡ get_or fecs n fec
+    → found ≡ filter p (take n fecs) → passes ≡ p fec
     → passes ≡ false → new ≡ found → new ≡ filter p (take (n + 1) fecs)
 none_wanted p fecs found new n fec passes within is before e so same =
-    same ∙ before ∙ sym (append-nil (filter p (take n fecs))) ∙ ap (λ (b : Bool). filter p (take n fecs) ++ cond b (get_or fecs n fec ∷ []) []) (sym so ∙ e ∙ ap p is) ∙ sym (filter_more p fecs n fec within)
+    same ∙ before ∙ sym (append-nil (filter p (take n fecs)))
+    ∙ ap (λ (b : Bool). filter p (take n fecs) ++ cond b (get_or fecs n fec ∷ []) []) (sym so ∙ e ∙ ap p is)
+    ∙ sym (filter_more p fecs n fec within)

@@ -39,8 +39,10 @@ found_map f g [] = refl
 found_map f g (x ∷ xs) = ap (found_or (f (g x))) (found_map f g xs)
 
 -- one more of the VRFs
-pub told_more : (peer : Addr) (key : Key) (value : Value) (vrfs : List homes.OwnVrf) (n : ℕ) (own : homes.OwnVrf) → n < length vrfs → own ≡ get_or vrfs n own
-    → told_to peer key value (take (n + 1) vrfs) ≡ told_to peer key value (take n vrfs) ++ listed (imported_inclusive own.local.vrf peer (key, route_of value))
+pub told_more : (peer : Addr) (key : Key) (value : Value) (vrfs : List homes.OwnVrf) (n : ℕ) (own : homes.OwnVrf) → n < length vrfs
+    → own ≡ get_or vrfs n own
+    → told_to peer key value (take (n + 1) vrfs) ≡ told_to peer key value (take n vrfs)
+    ++ listed (imported_inclusive own.local.vrf peer (key, route_of value))
 told_more peer key value vrfs n own lt is =
     let find : homes.OwnVrf → Option Fec = λ own. imported_inclusive own.local.vrf peer (key, route_of value) in
     ap (found_in find) (take_more vrfs n own lt) ∙ found_append find (take n vrfs) (get_or vrfs n own ∷ [])

@@ -73,7 +73,9 @@ module _ (home : Home) (core : Core) (peer : NodeId) where
     listed_from : list_any (same_fec fec) (told_by_all home peer entries) ≡ true → IsInclusiveFrom (place_of home core) control peer fec
     listed_from h =
         let found = any_among (same_fec fec) (told_by_all home peer entries) h in
-        let entry = flat_map_among by_entry fec entries (subst (λ (x : Fec). Among x (told_by_all home peer entries)) (sym (same_fec_equal fec found.0 found.2)) found.1) in
+        let entry =
+        flat_map_among by_entry fec entries (subst (λ (x : Fec). Among x (told_by_all home peer entries))
+        (sym (same_fec_equal fec found.0 found.2)) found.1) in
         let own = found_among (by_route entry.0.0 entry.0.1) fec (own_vrfs (place_of home core)) entry.2 in
         record {
           own = own.0;
@@ -124,7 +126,8 @@ withdrawn : (now : ℕ) (peer : NodeId) (key : Key) (old : Control) (o : Option 
 withdrawn now peer key old None e = route_is old peer key ∙ ap (λ (o : Option Taken). o >>? λ (taken : Taken). maps.get taken key) e
 withdrawn now peer key old (Some taken) e = (changed old peer taken e now (updates.Unreach key)).is
 
-pub withdrawn_route : (now : ℕ) (peer : NodeId) (key : Key) (old : Control) → route_at (changed_by now peer (updates.Unreach key ∷ []) old).peers peer key ≡ None
+pub withdrawn_route : (now : ℕ) (peer : NodeId) (key : Key) (old : Control)
+    → route_at (changed_by now peer (updates.Unreach key ∷ []) old).peers peer key ≡ None
 withdrawn_route now peer key old =
     sym (route_is (changed_by now peer (updates.Unreach key ∷ []) old) peer key) ∙ withdrawn now peer key old (maps.get old.peers peer) refl
 
@@ -141,16 +144,19 @@ module _ (now : ℕ) (peer : NodeId) (change : Change) (home : Home) where
       let first = route_at old.peers peer (key_of change) in
       let next = route_at new.peers peer (key_of change) in
       let changes =
-      subst (λ (c : Control). Changes (tables_of old) (tables_of c) peer (key_of change) first (route_at c.peers peer (key_of change))) (sym is) (one_changes now peer change old) in (
+      subst (λ (c : Control). Changes (tables_of old) (tables_of c) peer (key_of change) first (route_at c.peers peer (key_of change))) (sym is)
+      (one_changes now peer change old) in (
         inner.0,
-        untold_stays (place_of home core) fec old new peer (key_of change) first next changes (untold home core peer (key_of change) first fec inner.1)
+        untold_stays (place_of home core) fec old new peer (key_of change) first next changes
+            (untold home core peer (key_of change) first fec inner.1)
             (untold home core peer (key_of change) next fec outer.1),
       )
 
 -- A change is taken, where the tunnels of the old route and of the new one are listed.
 pub change_taken : (now : ℕ) (peer : NodeId) (change : Change) (old new : Kept) (before after : List Fec) → new.home ≡ old.home
     → wants_of new.trees ≡ wants_of old.trees → control_of new ≡ changed_by now peer (change ∷ []) (control_of old)
-    → after ≡ (before ++ told_of now peer change old.home old.peers) ++ told_of now peer change old.home new.peers → AreTaken now peer (change ∷ []) old new before after
+    → after ≡ (before ++ told_of now peer change old.home old.peers) ++ told_of now peer change old.home new.peers
+    → AreTaken now peer (change ∷ []) old new before after
 change_taken now peer change old new before after home wants control is = record {
   home = home;
   wants = wants;
@@ -165,14 +171,16 @@ pub withdrawal_taken : (now : ℕ) (peer : NodeId) (key : Key) (old new : Kept) 
     → wants_of new.trees ≡ wants_of old.trees → control_of new ≡ changed_by now peer (updates.Unreach key ∷ []) (control_of old)
     → after ≡ before ++ told_at old.home peer key (route_at old.peers peer key) → AreTaken now peer (updates.Unreach key ∷ []) old new before after
 withdrawal_taken now peer key old new before after home wants control is =
-    let gone : route_at new.peers peer key ≡ None = ap (λ (c : Control). route_at c.peers peer key) control ∙ withdrawn_route now peer key (control_of old) in
+    let gone : route_at new.peers peer key ≡ None =
+    ap (λ (c : Control). route_at c.peers peer key) control ∙ withdrawn_route now peer key (control_of old) in
     let first = before ++ told_at old.home peer key (route_at old.peers peer key) in
     change_taken now peer (updates.Unreach key) old new before after home wants control
     (is ∙ sym (append-nil first) ∙ ap (λ (route : Option TakenRoute). first ++ told_at old.home peer key route) (sym gone))
 
 -- ---- rows of changes
 
-listed_then : (place : EdgePlace) (a b c : Control) (xs ys zs : List Fec) → AreListed place a xs b ys → AreListed place b ys c zs → AreListed place a xs c zs
+listed_then : (place : EdgePlace) (a b c : Control) (xs ys zs : List Fec) → AreListed place a xs b ys → AreListed place b ys c zs
+    → AreListed place a xs c zs
 listed_then place a b c xs ys zs h k fec none =
     let second = k fec none in
     let first = h fec second.0 in
@@ -187,7 +195,8 @@ none_taken now peer kept fecs = record {
   tunnels = λ core fec none. (none, ((λ is. is), (λ is. is)));
 }
 
-changed_twice : (now : ℕ) (peer : NodeId) (xs ys : List Change) (old : Control) → changed_by now peer ys (changed_by now peer xs old) ≡ changed_by now peer (xs ++ ys) old
+changed_twice : (now : ℕ) (peer : NodeId) (xs ys : List Change) (old : Control)
+    → changed_by now peer ys (changed_by now peer xs old) ≡ changed_by now peer (xs ++ ys) old
 changed_twice now peer xs ys old =
     let step : Tables → Change → Tables = λ tables change. changed_at peer (λ taken. taken_change now taken change) tables in
     ap (λ (tables : Tables). record old { peers = tables })
@@ -196,7 +205,8 @@ changed_twice now peer xs ys old =
     ∙ sym (fold-append step old.peers xs ys) ∙ one_after_another now peer (xs ++ ys) old.peers)
 
 -- one row behind another
-pub taken_then : (now : ℕ) (peer : NodeId) (xs ys : List Change) (a b c : Kept) (first second third : List Fec) → AreTaken now peer xs a b first second
+pub taken_then : (now : ℕ) (peer : NodeId) (xs ys : List Change) (a b c : Kept) (first second third : List Fec)
+    → AreTaken now peer xs a b first second
     → AreTaken now peer ys b c second third → AreTaken now peer (xs ++ ys) a c first third
 taken_then now peer xs ys a b c first second third h k = record {
   home = k.home ∙ h.home;
@@ -216,7 +226,8 @@ abbrev with_peers : Control → Tables → Control
 with_peers old tables = record old { peers = tables }
 
 -- what the changes of a message make is what the message makes
-pub update_is : (now : ℕ) (peer : NodeId) (message : Message) (old : Control) → changed_by now peer (changes_of message) old ≡ with_update now peer message old
+pub update_is : (now : ℕ) (peer : NodeId) (message : Message) (old : Control)
+    → changed_by now peer (changes_of message) old ≡ with_update now peer message old
 update_is now peer message old = by (maps.get old.peers peer)
   where
     by : (o : Option Taken) → with_peers old (elim o [ None ↦ old.peers | Some taken ↦ maps.insert old.peers peer (row_of now message taken) ])

@@ -30,12 +30,14 @@ pub neither : (a b : Bool) → (a || b) ≡ false → (a ≡ false) × (b ≡ fa
 neither true b h = absurd (let bad : true ≡ false = h in cc)
 neither false b h = (refl, h)
 
-pub unlisted : (fec : Fec) (xs ys : List Fec) → list_any (same_fec fec) (xs ++ ys) ≡ false → (list_any (same_fec fec) xs ≡ false) × (list_any (same_fec fec) ys ≡ false)
+pub unlisted : (fec : Fec) (xs ys : List Fec) → list_any (same_fec fec) (xs ++ ys) ≡ false
+    → (list_any (same_fec fec) xs ≡ false) × (list_any (same_fec fec) ys ≡ false)
 unlisted fec xs ys h = neither (list_any (same_fec fec) xs) (list_any (same_fec fec) ys) (sym (list_any-append (same_fec fec) xs ys) ∙ h)
 
 module _ (place : EdgePlace) (fec : Fec) where
   -- an inclusive route that stands behind a step as before it
-  stands : (old new : Control) (is : IsInclusive place old fec) → tables_of new is.peer is.key ≡ tables_of old is.peer is.key → IsInclusive place new fec
+  stands : (old new : Control) (is : IsInclusive place old fec) → tables_of new is.peer is.key ≡ tables_of old is.peer is.key
+      → IsInclusive place new fec
   stands old new is same = record {
     own = is.own;
     of_edge = is.of_edge;
@@ -55,23 +57,27 @@ module _ (place : EdgePlace) (fec : Fec) where
   at_key : (control : Control) (peer : NodeId) (key : Key) (route : Option TakenRoute) → tables_of control peer key ≡ route
       → (is : IsInclusive place control fec) → Here peer key is.peer is.key → told_inclusive place is.own peer key route ≡ Some fec
   at_key control peer key route at is here =
-      ap (λ (o : Option TakenRoute). told_inclusive place is.own peer key o) (sym at ∙ (λ i. tables_of control (sym here.0 i) (sym here.1 i)) ∙ is.taken)
+      ap (λ (o : Option TakenRoute). told_inclusive place is.own peer key o)
+      (sym at ∙ (λ i. tables_of control (sym here.0 i) (sym here.1 i)) ∙ is.taken)
       ∙ (λ i. imported_inclusive is.own.vrf (addr_of place.scenario (sym here.0 i)) (sym here.1 i, is.route)) ∙ is.imported
 
-  carried : (old new : Control) (peer : NodeId) (key : Key) (before after : Option TakenRoute) → Changes (tables_of old) (tables_of new) peer key before after
+  carried : (old new : Control) (peer : NodeId) (key : Key) (before after : Option TakenRoute)
+      → Changes (tables_of old) (tables_of new) peer key before after
       → IsUntold peer key before → IsInclusive place old fec → IsInclusive place new fec
   carried old new peer key before after changes untold is = elim (here_or_not peer key is.peer is.key) [
     | inl here ↦ absurd (untold is.own is.of_edge (at_key old peer key before changes.was is here))
     | inr apart ↦ stands old new is (changes.rest is.peer is.key apart)
   ]
 
-  back : (old new : Control) (peer : NodeId) (key : Key) (before after : Option TakenRoute) → Changes (tables_of old) (tables_of new) peer key before after
+  back : (old new : Control) (peer : NodeId) (key : Key) (before after : Option TakenRoute)
+      → Changes (tables_of old) (tables_of new) peer key before after
       → Changes (tables_of new) (tables_of old) peer key after before
   back old new peer key before after changes =
       record { was = changes.is; is = changes.was; rest = λ q k apart. sym (changes.rest q k apart) }
 
   -- A tunnel by which neither the old nor the new route is imported stays.
-  pub untold_stays : (old new : Control) (peer : NodeId) (key : Key) (before after : Option TakenRoute) → Changes (tables_of old) (tables_of new) peer key before after
+  pub untold_stays : (old new : Control) (peer : NodeId) (key : Key) (before after : Option TakenRoute)
+      → Changes (tables_of old) (tables_of new) peer key before after
       → IsUntold peer key before → IsUntold peer key after → IsInclusive place old fec ↔ IsInclusive place new fec
   untold_stays old new peer key before after changes gone come = (
     carried old new peer key before after changes gone,
@@ -106,13 +112,16 @@ module _ (place : EdgePlace) (fec : Fec) where
 
 -- ---- laws
 
-pub lost_tunnels : (place : EdgePlace) (old : Control) (peer : NodeId) (fecs : List Fec) → HasAllFrom place old peer fecs → AreTunnels place old (without_table peer old) fecs
+pub lost_tunnels : (place : EdgePlace) (old : Control) (peer : NodeId) (fecs : List Fec) → HasAllFrom place old peer fecs
+    → AreTunnels place old (without_table peer old) fecs
 lost_tunnels place old peer fecs has fec none =
     others_stay place fec old (without_table peer old) peer (removed_loses old peer) (λ is. not_both (list_any (same_fec fec) fecs) (has fec is) none)
 
-pub raised_tunnels : (place : EdgePlace) (old : Control) (peer : NodeId) (fecs : List Fec) → HasAllFrom place old peer fecs → AreTunnels place old (with_table peer maps.empty old) fecs
+pub raised_tunnels : (place : EdgePlace) (old : Control) (peer : NodeId) (fecs : List Fec) → HasAllFrom place old peer fecs
+    → AreTunnels place old (with_table peer maps.empty old) fecs
 raised_tunnels place old peer fecs has fec none =
-    others_stay place fec old (with_table peer maps.empty old) peer (raised_loses old peer) (λ is. not_both (list_any (same_fec fec) fecs) (has fec is) none)
+    others_stay place fec old (with_table peer maps.empty old) peer (raised_loses old peer)
+    (λ is. not_both (list_any (same_fec fec) fecs) (has fec is) none)
 
 -- the routes of the same tables
 same_tables : (old new : Control) → old.peers ≡ new.peers → (peer : NodeId) (key : Key) → tables_of new peer key ≡ tables_of old peer key
@@ -152,7 +161,8 @@ run_tunnels place now control fecs fec none = (
       }),
 )
 
-pub two_tunnels : (place : EdgePlace) (first second third : Control) (fecs more : List Fec) → AreTunnels place first second fecs → AreTunnels place second third more
+pub two_tunnels : (place : EdgePlace) (first second third : Control) (fecs more : List Fec) → AreTunnels place first second fecs
+    → AreTunnels place second third more
     → AreTunnels place first third (fecs ++ more)
 two_tunnels place first second third fecs more h k fec none =
     let apart = unlisted fec fecs more none in

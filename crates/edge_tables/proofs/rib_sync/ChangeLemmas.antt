@@ -21,7 +21,8 @@ is_false : (b : Bool) → b ≢ true → b ≡ false
 is_false true h = absurd (h refl)
 is_false false h = refl
 
-differs : {V : Type 0} (same : V → V → Bool) → IsExact same → (told : Option V) (value : V) → told ≢ Some value → option_eq same told (Some value) ≡ false
+differs : {V : Type 0} (same : V → V → Bool) → IsExact same → (told : Option V) (value : V) → told ≢ Some value
+    → option_eq same told (Some value) ≡ false
 differs same exact None value h = refl
 differs same exact (Some old) value h = is_false (same old value) (λ e. h (ap (λ v. Some v) ((exact old value).0 e)))
 
@@ -29,7 +30,8 @@ equal : {V : Type 0} (same : V → V → Bool) → IsExact same → (set : Optio
 equal same exact None = refl
 equal same exact (Some value) = ap (λ b. cond (not b) (Some value) None) ((exact value value).1 refl)
 
-gone_at : {V : Type 0} (old : Option V) (new : Option (News V)) (set : Option V) → Agrees old new set → cond (is_none set) (told_by old new set) None ≡ old
+gone_at : {V : Type 0} (old : Option V) (new : Option (News V)) (set : Option V) → Agrees old new set
+    → cond (is_none set) (told_by old new set) None ≡ old
 gone_at (Some value) new set h = ap (λ o. cond (is_none o) (Some value) None) h.0
 gone_at None (Some n) set h = ap (λ o. cond (is_none o) n.told None) h.0
 gone_at None None None h = refl
@@ -47,7 +49,8 @@ reached : {K V : Type 0} (es : List (K × News V)) → map (λ e. Reach e.0 e.1)
 reached [] = refl
 reached (e ∷ es) = ap (λ (rest : List _). Reach e.0 e.1.value ∷ rest) (reached es)
 
-module _ {K V : Type 0} (cmp : K → K → Ordering) (total : IsTotalOrder cmp) (keys : IsAntisymmetric cmp) (same : V → V → Bool) (values : IsExact same) (kept : Kept K V) (well : IsWell cmp kept) where
+module _ {K V : Type 0} (cmp : K → K → Ordering) (total : IsTotalOrder cmp) (keys : IsAntisymmetric cmp) (same : V → V → Bool) (values : IsExact same)
+    (kept : Kept K V) (well : IsWell cmp kept) where
   abbrev rib : RibOut cmp V
   rib = kept_rib cmp kept
 
@@ -70,13 +73,18 @@ module _ {K V : Type 0} (cmp : K → K → Ordering) (total : IsTotalOrder cmp) 
       (λ own tied. λ i. not (option_eq same (get_tied total rib.told q own tied i) (get_tied total rib.set q own tied i)))
       ∙ (λ i. cond (not (option_eq same (told_by_at up q i) (get-set cmp total kept q i))) (get-set cmp total kept q i) None)
       ∙ news_at same values (tree.get cmp kept.gone q) (tree.get cmp kept.news q) (tree.get cmp kept.set q) (well.agrees q)
-      ∙ sym (get-from_sorted cmp (map valued kept.news.entries) q news_sorted ∙ find-valued cmp kept.news.entries q ∙ ap (option_map (λ (n : News V). n.value)) (find-lookup cmp kept.news.entries q)))
+      ∙ sym (get-from_sorted cmp (map valued kept.news.entries) q news_sorted ∙ find-valued cmp kept.news.entries q
+      ∙ ap (option_map (λ (n : News V). n.value)) (find-lookup cmp kept.news.entries q)))
 
   withdrawn : kept.up ≡ true → withdrawals (lost rib.told rib.set) ≡ map (λ e. Unreach e.0) kept.gone.entries
-  withdrawn up = ap withdrawals (lost_is up) ∙ ap (map (λ e. Unreach e.0)) (entries-from_sorted cmp kept.gone.entries (sorted cmp kept.gone.entries well.gone_ordered))
+  withdrawn up =
+      ap withdrawals (lost_is up) ∙ ap (map (λ e. Unreach e.0))
+      (entries-from_sorted cmp kept.gone.entries (sorted cmp kept.gone.entries well.gone_ordered))
 
   advertised : kept.up ≡ true → advertisements (news same rib.told rib.set) ≡ map (λ e. Reach e.0 e.1.value) kept.news.entries
-  advertised up = ap advertisements (news_is up) ∙ ap (map (λ e. Reach e.0 e.1)) (entries-from_sorted cmp (map valued kept.news.entries) news_sorted) ∙ reached kept.news.entries
+  advertised up =
+      ap advertisements (news_is up) ∙ ap (map (λ e. Reach e.0 e.1)) (entries-from_sorted cmp (map valued kept.news.entries) news_sorted)
+      ∙ reached kept.news.entries
 
   pending_up : (up : Bool) → kept.up ≡ up → changes_in kept.gone kept.news ≡ cond up (changes same rib.told rib.set) []
   pending_up true is = λ i. sym (withdrawn is) i ++ sym (advertised is) i

@@ -23,7 +23,8 @@ both false b p q = absurd p
 abbrev pub valued : {K V : Type 0} → K × News V → K × V
 valued entry = (entry.0, entry.1.value)
 
-valued_head : {V : Type 0} (b : Bool) (news : News V) (rest : Option (News V)) → cond b (Some news.value) (option_map (λ n. n.value) rest) ≡ option_map (λ n. n.value) (cond b (Some news) rest)
+valued_head : {V : Type 0} (b : Bool) (news : News V) (rest : Option (News V))
+    → cond b (Some news.value) (option_map (λ n. n.value) rest) ≡ option_map (λ n. n.value) (cond b (Some news) rest)
 valued_head true news rest = refl
 valued_head false news rest = refl
 

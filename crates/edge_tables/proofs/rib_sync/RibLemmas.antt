@@ -23,21 +23,25 @@ abbrev says_or : {V E : Type 0} → (E → Option V) → Option E → Option V �
 says_or says None old = old
 says_or says (Some entry) old = says entry
 
-says_head : {V E : Type 0} (says : E → Option V) (b : Bool) (entry : E) (rest : Option E) (old : Option V) → cond b (says entry) (says_or says rest old) ≡ says_or says (cond b (Some entry) rest) old
+says_head : {V E : Type 0} (says : E → Option V) (b : Bool) (entry : E) (rest : Option E) (old : Option V)
+    → cond b (says entry) (says_or says rest old) ≡ says_or says (cond b (Some entry) rest) old
 says_head says true entry rest old = refl
 says_head says false entry rest old = refl
 
-told_cases : {V : Type 0} (old : Option V) (new : Option (News V)) (set : Option V) → says_or (λ v. Some v) old (says_or (λ n. n.told) new set) ≡ told_by old new set
+told_cases : {V : Type 0} (old : Option V) (new : Option (News V)) (set : Option V)
+    → says_or (λ v. Some v) old (says_or (λ n. n.told) new set) ≡ told_by old new set
 told_cases (Some value) new set = refl
 told_cases None (Some news) set = refl
 told_cases None None set = refl
 
 module _ {K V : Type 0} (cmp : K → K → Ordering) (total : IsTotalOrder cmp) where
-  get-changed : (old : FinMap cmp V) (key : K) (value : Option V) (q : K) → get (applied old (change_to key value)) q ≡ cond (eq_by_cmp cmp q key) value (get old q)
+  get-changed : (old : FinMap cmp V) (key : K) (value : Option V) (q : K)
+      → get (applied old (change_to key value)) q ≡ cond (eq_by_cmp cmp q key) value (get old q)
   get-changed old key None q = get-remove total old key q
   get-changed old key (Some value) q = get-insert total old key value q
 
-  get-overlaid : {E : Type 0} (says : E → Option V) (table : FinMap cmp V) (es : List (K × E)) (q : K) → get (overlaid says table es) q ≡ says_or says (lookup (is_at (cmp q)) es) (get table q)
+  get-overlaid : {E : Type 0} (says : E → Option V) (table : FinMap cmp V) (es : List (K × E)) (q : K)
+      → get (overlaid says table es) q ≡ says_or says (lookup (is_at (cmp q)) es) (get table q)
   get-overlaid says table [] q = refl
   get-overlaid says table (e ∷ es) q =
       get-changed (overlaid says table es) e.0 (says e.1) q
@@ -48,10 +52,13 @@ module _ {K V : Type 0} (cmp : K → K → Ordering) (total : IsTotalOrder cmp) 
   told_when kept up =
       cond up (overlaid (λ value. Some value) (overlaid (λ n. n.told) (from_entries kept.set.entries) kept.news.entries) kept.gone.entries) empty
 
-  get-told_when : (kept : Kept K V) (up : Bool) (q : K) → get (told_when kept up) q ≡ told_if up (tree.get cmp kept.gone q) (tree.get cmp kept.news q) (tree.get cmp kept.set q)
+  get-told_when : (kept : Kept K V) (up : Bool) (q : K)
+      → get (told_when kept up) q ≡ told_if up (tree.get cmp kept.gone q) (tree.get cmp kept.news q) (tree.get cmp kept.set q)
   get-told_when kept true q =
       get-overlaid (λ value. Some value) (overlaid (λ n. n.told) (from_entries kept.set.entries) kept.news.entries) kept.gone.entries q
-      ∙ ap (says_or (λ value. Some value) (tree.get cmp kept.gone q)) (get-overlaid (λ n. n.told) (from_entries kept.set.entries) kept.news.entries q ∙ ap (says_or (λ n. n.told) (tree.get cmp kept.news q)) (get-tree cmp total kept.set q))
+      ∙ ap (says_or (λ value. Some value) (tree.get cmp kept.gone q))
+      (get-overlaid (λ n. n.told) (from_entries kept.set.entries) kept.news.entries q
+      ∙ ap (says_or (λ n. n.told) (tree.get cmp kept.news q)) (get-tree cmp total kept.set q))
       ∙ told_cases (tree.get cmp kept.gone q) (tree.get cmp kept.news q) (tree.get cmp kept.set q)
   get-told_when kept false q = get-empty cmp q
 
@@ -63,7 +70,8 @@ module _ {K V : Type 0} (cmp : K → K → Ordering) (total : IsTotalOrder cmp) 
 
   -- a change of one key, as the map and as the table has it
   get-change : (old new : BTreeMap K V) (table : FinMap cmp V) (change : Change K V)
-      → ((q : K) → tree.get cmp new q ≡ cond (eq_by_cmp cmp (key_of change) q) (value_of change) (tree.get cmp old q)) → ((q : K) → get table q ≡ tree.get cmp old q)
+      → ((q : K) → tree.get cmp new q ≡ cond (eq_by_cmp cmp (key_of change) q) (value_of change) (tree.get cmp old q))
+      → ((q : K) → get table q ≡ tree.get cmp old q)
       → (q : K) → tree.get cmp new q ≡ get (applied table change) q
   get-change old new table change is table_is q =
       is q
@@ -71,7 +79,8 @@ module _ {K V : Type 0} (cmp : K → K → Ordering) (total : IsTotalOrder cmp) 
       ∙ ap (cond (eq_by_cmp cmp q (key_of change)) (value_of change)) (sym (table_is q))
       ∙ sym (get-applied total table change q)
 
-  pub same_rib : IsAntisymmetric cmp → (a b : RibOut cmp V) → a.up ≡ b.up → ((q : K) → get a.set q ≡ get b.set q) → ((q : K) → get a.told q ≡ get b.told q) → a ≡ b
+  pub same_rib : IsAntisymmetric cmp → (a b : RibOut cmp V) → a.up ≡ b.up → ((q : K) → get a.set q ≡ get b.set q)
+      → ((q : K) → get a.told q ≡ get b.told q) → a ≡ b
   same_rib exact a b up set told =
       let sets = same_map total exact a.set b.set set in
       let tolds = same_map total exact a.told b.told told in
@@ -85,7 +94,8 @@ module _ {K V : Type 0} (cmp : K → K → Ordering) (total : IsTotalOrder cmp) 
 
   -- ---- the calls of an outbox
 
-  pub began : (kept : Kept K V) → kept.up ≡ false → kept.set.entries ≡ [] → rib_out cmp (rows_of (kept_rib cmp kept)) ≡ record { up = false; set = empty; told = empty }
+  pub began : (kept : Kept K V) → kept.up ≡ false → kept.set.entries ≡ []
+      → rib_out cmp (rows_of (kept_rib cmp kept)) ≡ record { up = false; set = empty; told = empty }
   began kept up set = seen (kept_rib cmp kept) ∙ (λ i. record { up = up i; set = from_entries (set i); told = told_when kept (up i) })
 
   pub changed : IsAntisymmetric cmp → (old : Rows K V) (from to : Kept K V) (change : Change K V) → rows_of (kept_rib cmp from) ≡ old
@@ -103,7 +113,8 @@ module _ {K V : Type 0} (cmp : K → K → Ordering) (total : IsTotalOrder cmp) 
       → to.up ≡ from.up → ((q : K) → told_at cmp to q ≡ told_at cmp from q) → ((q : K) → set_at cmp to q ≡ set_at cmp from q)
       → rows_of (kept_rib cmp to) ≡ old
   unchanged exact old from to is up told set =
-      ap rows_of (same_rib exact (kept_rib cmp to) (kept_rib cmp from) up (λ q. get-set to q ∙ set q ∙ sym (get-set from q)) (λ q. get-told to q ∙ told q ∙ sym (get-told from q)))
+      ap rows_of (same_rib exact (kept_rib cmp to) (kept_rib cmp from) up (λ q. get-set to q ∙ set q ∙ sym (get-set from q))
+      (λ q. get-told to q ∙ told q ∙ sym (get-told from q)))
       ∙ is
 
   pub replayed : IsAntisymmetric cmp → (old : Rows K V) (from to : Kept K V) → rows_of (kept_rib cmp from) ≡ old
@@ -144,7 +155,8 @@ module _ {K V : Type 0} (cmp : K → K → Ordering) (total : IsTotalOrder cmp) 
 
   -- ---- the calls of an inbox
 
-  pub taken : IsAntisymmetric cmp → (rows : List (K × V)) (from to : BTreeMap K V) (change : Change K V) → from.entries ≡ rows → IsOrdered cmp from → IsOrdered cmp to
+  pub taken : IsAntisymmetric cmp → (rows : List (K × V)) (from to : BTreeMap K V) (change : Change K V) → from.entries ≡ rows → IsOrdered cmp from
+      → IsOrdered cmp to
       → ((q : K) → tree.get cmp to q ≡ cond (eq_by_cmp cmp (key_of change) q) (value_of change) (tree.get cmp from q))
       → rib_in cmp to.entries ≡ applied (rib_in cmp rows) change
   taken exact rows from to change is was now set =

@@ -85,17 +85,21 @@ both_true false b h = absurd cc
 from_peer : (peer originator : Addr) (value : Value) (fec : Fec) → tunnel_by peer originator value ≡ Some fec → originator ≡ peer
 from_peer peer originator value fec h =
     next_some (λ (fec : Fec). only_if (same_addr fec.root peer && same_addr originator peer) fec) (lsp_of value.pmsi) fec h
-    (λ found is k. same_addr_equal originator peer (both_true (same_addr found.root peer) (same_addr originator peer) (if_some (same_addr found.root peer && same_addr originator peer) found fec k).0).1)
+    (λ found is k. same_addr_equal originator peer
+    (both_true (same_addr found.root peer) (same_addr originator peer)
+    (if_some (same_addr found.root peer && same_addr originator peer) found fec k).0).1)
 
 -- the key of a route that is imported, and its originator
 record IsImported (peer : Addr) (key : Key) (route : SelectiveRoute) : Type 0 where
   pub named : IsKeyOf key route
   pub originator : route.originator ≡ peer
 
-is_imported : (vrf : Vrf) (peer : Addr) (entry : Key × TakenRoute) (found : ImportedSelective) → imported_selective vrf peer entry ≡ Some found → IsImported peer entry.0 found.route
+is_imported : (vrf : Vrf) (peer : Addr) (entry : Key × TakenRoute) (found : ImportedSelective) → imported_selective vrf peer entry ≡ Some found
+    → IsImported peer entry.0 found.route
 is_imported vrf peer entry found h =
     next_some
-    (λ (route : SelectiveRoute). only_if (is_admitted vrf entry.1.value.comms) entry.1.value >>? λ value. tunnel_by peer route.originator value >>? λ fec. Some (record { route = route; fec = fec }))
+    (λ (route : SelectiveRoute). only_if (is_admitted vrf entry.1.value.comms) entry.1.value >>? λ value. tunnel_by peer route.originator value >>?
+    λ fec. Some (record { route = route; fec = fec }))
     (selective_of entry.0) found h
     (λ route is k.
     next_some (λ (value : Value). tunnel_by peer route.originator value >>? λ fec. Some (record { route = route; fec = fec }))
@@ -107,7 +111,8 @@ is_imported vrf peer entry found h =
     subst (λ (r : SelectiveRoute). IsImported peer entry.0 r) same
     (record { named = selective_key entry.0 route is; originator = from_peer peer route.originator value fec is_fec }))))
 
-one_selective : (peer : Addr) (own next : Key) (found also : SelectiveRoute) → IsWritableKey own → IsWritableKey next → IsImported peer own found → IsImported peer next also
+one_selective : (peer : Addr) (own next : Key) (found also : SelectiveRoute) → IsWritableKey own → IsWritableKey next → IsImported peer own found
+    → IsImported peer next also
     → found.rd ≡ also.rd → found.source ≡ also.source → found.group ≡ also.group → own ≡ next
 one_selective peer own next found also h k a b rd source group =
     let originator : found.originator ≡ also.originator = a.originator ∙ sym b.originator in
@@ -118,7 +123,8 @@ one_selective peer own next found also h k a b rd source group =
     let afi = by_pattern a.named.afi b.named.afi found.source found.group a.named.used used mine.1.0 theirs.1.0 mine.1.1.0 theirs.1.1.0 in
     a.named.is ∙ (λ i. key_of (afi i) (same i)) ∙ sym b.named.is
 
-pub selective_one : (vrf other : Vrf) (peer : Addr) (own next : Key × TakenRoute) (found also : ImportedSelective) → IsWritableKey own.0 → IsWritableKey next.0
+pub selective_one : (vrf other : Vrf) (peer : Addr) (own next : Key × TakenRoute) (found also : ImportedSelective) → IsWritableKey own.0
+    → IsWritableKey next.0
     → imported_selective vrf peer own ≡ Some found → imported_selective other peer next ≡ Some also
     → found.route.rd ≡ also.route.rd → found.route.source ≡ also.route.source → found.route.group ≡ also.route.group → own.0 ≡ next.0
 selective_one vrf other peer own next found also h k a b =
@@ -139,7 +145,8 @@ record IsJoinOf (place : EdgePlace) (vrf : Vrf) (key : Key) (flow : FlowRoute) :
   pub afi : Afi
   pub is : key ≡ join_key afi place vrf flow
 
-is_join : (place : EdgePlace) (vrf : Vrf) (key : Key) (taken : TakenRoute) (flow : FlowRoute) → imported_join place vrf (key, taken) ≡ Some flow → IsJoinOf place vrf key flow
+is_join : (place : EdgePlace) (vrf : Vrf) (key : Key) (taken : TakenRoute) (flow : FlowRoute) → imported_join place vrf (key, taken) ≡ Some flow
+    → IsJoinOf place vrf key flow
 is_join place vrf (Unicast rd prefix) taken flow h = absurd cc
 is_join place vrf (Mcast afi (routes.Intra rd originator)) taken flow h = absurd cc
 is_join place vrf (Mcast afi (routes.Inter rd source_as)) taken flow h = absurd cc

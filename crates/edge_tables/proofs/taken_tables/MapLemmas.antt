@@ -74,7 +74,8 @@ module _ {K X : Type 0} {R : K → K → Ordering} (total : IsTotalOrder R) (exa
       (λ q. get-entries new q ∙ ap (find R q) is ∙ sym (get-from_entries total (map (each g) (entries old)) q))
 
   -- entries of a list that are those of another one, each changed
-  pub same_listed : (g : K → X → X) (old new : List (K × X)) → new ≡ map (each g) old → from_entries {R = R} new ≡ from_entries (map (each g) (entries (from_entries {R = R} old)))
+  pub same_listed : (g : K → X → X) (old new : List (K × X)) → new ≡ map (each g) old
+      → from_entries {R = R} new ≡ from_entries (map (each g) (entries (from_entries {R = R} old)))
   same_listed g old new is =
       same_map total exact (from_entries new) (from_entries (map (each g) (entries (from_entries {R = R} old))))
       (λ q. ap (λ (l : List (K × X)). get (from_entries {R = R} l) q) is
@@ -103,27 +104,32 @@ as_seen (e ∷ es) = ap (λ (rest : List _). e ∷ rest) (as_seen es)
 
 pub table_ran : {F : Type 0} (T : F → Key → TakenRoute → Bool → TakenRoute → F → Type 0) (g : Key → TakenRoute → TakenRoute) (f : F)
     → ((k : Key) (v : TakenRoute) (b : Bool) (w : TakenRoute) (to : F) → T f k v b w to → (b ≡ true) × (w ≡ g k v) × (to ≡ f))
-    → (old new : Taken) → RetainsPairs T f (entries old) (entries new) → new ≡ from_entries (map (λ (e : Key × TakenRoute). (e.0, g e.0 e.1)) (entries old))
+    → (old new : Taken) → RetainsPairs T f (entries old) (entries new)
+    → new ≡ from_entries (map (λ (e : Key × TakenRoute). (e.0, g e.0 e.1)) (entries old))
 table_ran T g f step old new r =
     same_each key_total key_exact g old new
-    (sym (as_seen (entries new)) ∙ keyed T (λ k. k) (λ v. v) g f step (entries old) (entries new) r ∙ ap (map (λ (e : Key × TakenRoute). (e.0, g e.0 e.1))) (as_seen (entries old)))
+    (sym (as_seen (entries new)) ∙ keyed T (λ k. k) (λ v. v) g f step (entries old) (entries new) r
+    ∙ ap (map (λ (e : Key × TakenRoute). (e.0, g e.0 e.1))) (as_seen (entries old)))
 
 abbrev node_of : ℕ → NodeId
 node_of number = record { 0 = number }
 
 pub tables_ran : {F : Type 0} (T : F → ℕ → Rows → Bool → Rows → F → Type 0) (g : NodeId → Taken → Taken) (f : F)
     → ((k : ℕ) (v : Rows) (b : Bool) (w : Rows) (to : F) → T f k v b w to → (b ≡ true) × (taken_in w ≡ g (record { 0 = k }) (taken_in v)) × (to ≡ f))
-    → (es kept : List (ℕ × Rows)) → RetainsPairs T f es kept → tables_of kept ≡ from_entries (map (λ (e : NodeId × Taken). (e.0, g e.0 e.1)) (entries (tables_of es)))
+    → (es kept : List (ℕ × Rows)) → RetainsPairs T f es kept
+    → tables_of kept ≡ from_entries (map (λ (e : NodeId × Taken). (e.0, g e.0 e.1)) (entries (tables_of es)))
 tables_ran T g f step es kept r =
     same_listed node_total node_exact g (map slot_of es) (map slot_of kept) (keyed T node_of taken_in g f step es kept r)
 
 -- ---- the table of a peer
 
-joined : (b : Bool) (rows : Rows) (rest : Option Rows) → cond b (Some (taken_in rows)) (option_map taken_in rest) ≡ option_map taken_in (cond b (Some rows) rest)
+joined : (b : Bool) (rows : Rows) (rest : Option Rows)
+    → cond b (Some (taken_in rows)) (option_map taken_in rest) ≡ option_map taken_in (cond b (Some rows) rest)
 joined true rows rest = refl
 joined false rows rest = refl
 
-find_slot : (slots : List (ℕ × Rows)) (peer : NodeId) → find node_cmp peer (map slot_of slots) ≡ option_map taken_in (lookup (is_at (nat_cmp peer.0)) slots)
+find_slot : (slots : List (ℕ × Rows)) (peer : NodeId)
+    → find node_cmp peer (map slot_of slots) ≡ option_map taken_in (lookup (is_at (nat_cmp peer.0)) slots)
 find_slot [] peer = refl
 find_slot (slot ∷ slots) peer =
     ap (cond (is_at (nat_cmp peer.0) slot.0) (Some (taken_in slot.1))) (find_slot slots peer)
@@ -137,14 +143,17 @@ abbrev pub Becomes : List (ℕ × Rows) → List (ℕ × Rows) → NodeId → Op
 Becomes old new peer rows = (q : ℕ) → lookup (is_at (nat_cmp q)) new ≡ cond (is_at (nat_cmp peer.0) q) rows (lookup (is_at (nat_cmp q)) old)
 
 module _ (old new : List (ℕ × Rows)) (peer : NodeId) where
-  under : (b : Bool) (rows there : Option Rows) → option_map taken_in (cond b rows there) ≡ cond b (option_map taken_in rows) (option_map taken_in there)
+  under : (b : Bool) (rows there : Option Rows)
+      → option_map taken_in (cond b rows there) ≡ cond b (option_map taken_in rows) (option_map taken_in there)
   under true rows there = refl
   under false rows there = refl
 
-  get_became : (rows : Option Rows) → Becomes old new peer rows → (q : NodeId) → get (tables_of new) q ≡ cond (eq_by_cmp node_cmp q peer) (option_map taken_in rows) (get (tables_of old) q)
+  get_became : (rows : Option Rows) → Becomes old new peer rows → (q : NodeId)
+      → get (tables_of new) q ≡ cond (eq_by_cmp node_cmp q peer) (option_map taken_in rows) (get (tables_of old) q)
   get_became rows h q =
       at_of new q ∙ ap (option_map taken_in) (h q.0) ∙ under (is_at (nat_cmp peer.0) q.0) rows (lookup (is_at (nat_cmp q.0)) old)
-      ∙ ap (λ (b : Bool). cond b (option_map taken_in rows) (option_map taken_in (lookup (is_at (nat_cmp q.0)) old))) ((eq_by_cmp_equiv node_total).symm peer q)
+      ∙ ap (λ (b : Bool). cond b (option_map taken_in rows) (option_map taken_in (lookup (is_at (nat_cmp q.0)) old)))
+      ((eq_by_cmp_equiv node_total).symm peer q)
       ∙ ap (cond (eq_by_cmp node_cmp q peer) (option_map taken_in rows)) (sym (at_of old q))
 
   pub inserted : (rows : Rows) → Becomes old new peer (Some rows) → tables_of new ≡ insert (tables_of old) peer (taken_in rows)
@@ -194,7 +203,8 @@ changed_there tables peer change old new there is = ap (insert tables peer) is �
 same_twice : (tables : Tables) (peer : NodeId) (first second : Taken) → insert (insert tables peer first) peer second ≡ insert tables peer second
 same_twice tables peer first second =
     same_map node_total node_exact (insert (insert tables peer first) peer second) (insert tables peer second)
-    (λ q. get-insert node_total (insert tables peer first) peer second q ∙ ap (cond (eq_by_cmp node_cmp q peer) (Some second)) (get-insert node_total tables peer first q)
+    (λ q. get-insert node_total (insert tables peer first) peer second q
+    ∙ ap (cond (eq_by_cmp node_cmp q peer) (Some second)) (get-insert node_total tables peer first q)
     ∙ by (eq_by_cmp node_cmp q peer) (get tables q) ∙ sym (get-insert node_total tables peer second q))
   where
     by : (b : Bool) (o : Option Taken) → cond b (Some second) (cond b (Some first) o) ≡ cond b (Some second) o
@@ -213,7 +223,8 @@ changed_twice tables peer first second None none =
     ∙ unchanged_at tables peer (λ taken. second (first taken)) none
 changed_twice tables peer first second (Some taken) there =
     ap (changed_at peer second) (sym (changed_there tables peer first taken (first taken) there refl))
-    ∙ sym (changed_there (insert tables peer (first taken)) peer second (first taken) (second (first taken)) (there_now tables peer (first taken)) refl)
+    ∙ sym (changed_there (insert tables peer (first taken)) peer second (first taken) (second (first taken)) (there_now tables peer (first taken))
+    refl)
     ∙ same_twice tables peer (first taken) (second (first taken))
     ∙ changed_there tables peer (λ (t : Taken). second (first t)) taken (second (first taken)) there refl
 
@@ -240,7 +251,9 @@ module _ (old new : List (ℕ × Rows)) (tables : Tables) (peer : NodeId) (there
   changed_by change is = wrote ∙ changed_there tables peer change (taken_in there) (taken_in rows) (some_there old tables peer view there at) is
 
   pub left : rows ≡ there → tables_of new ≡ tables
-  left is = wrote ∙ put_itself node_total node_exact tables peer (taken_in rows) (some_there old tables peer view there at ∙ ap (λ (r : Rows). Some (taken_in r)) (sym is))
+  left is =
+      wrote ∙ put_itself node_total node_exact tables peer (taken_in rows)
+      (some_there old tables peer view there at ∙ ap (λ (r : Rows). Some (taken_in r)) (sym is))
 
 -- ---- routes
 
@@ -248,7 +261,8 @@ news_off : (value : Value) (o : Option TakenRoute) → is_news value o ≡ false
 news_off value None h now = absurd cc
 news_off value (Some old) h now = by (same_value old.value value) refl h
   where
-    by : (b : Bool) → same_value old.value value ≡ b → not b ≡ false → ◌≡◌ {A = Option TakenRoute} (Some old) (Some (cond b old (record { value = value; since = now; run = false })))
+    by : (b : Bool) → same_value old.value value ≡ b → not b ≡ false
+        → ◌≡◌ {A = Option TakenRoute} (Some old) (Some (cond b old (record { value = value; since = now; run = false })))
     by true e k = refl
     by false e k = absurd cc
 
@@ -256,21 +270,26 @@ abbrev news_by : Key → Value → Option Taken → Bool
 news_by key value o = elim o [ None ↦ false | Some taken ↦ is_news value (get taken key) ]
 
 -- an equal route changes nothing
-pub equal_stays : (taken : Taken) (key : Key) (value : Value) (now : ℕ) → is_news value (get taken key) ≡ false → taken ≡ insert taken key (learned now value (get taken key))
-equal_stays taken key value now h = sym (put_itself key_total key_exact taken key (learned now value (get taken key)) (news_off value (get taken key) h now))
+pub equal_stays : (taken : Taken) (key : Key) (value : Value) (now : ℕ) → is_news value (get taken key) ≡ false
+    → taken ≡ insert taken key (learned now value (get taken key))
+equal_stays taken key value now h =
+    sym (put_itself key_total key_exact taken key (learned now value (get taken key)) (news_off value (get taken key) h now))
 
 pub no_news : (tables : Tables) (peer : NodeId) (key : Key) (value : Value) → get tables peer ≡ None → false ≡ is_news_at tables peer key value
 no_news tables peer key value none = sym (ap (news_by key value) none)
 
-pub news_there : (tables : Tables) (peer : NodeId) (key : Key) (value : Value) (taken : Taken) → get tables peer ≡ Some taken → is_news value (get taken key) ≡ is_news_at tables peer key value
+pub news_there : (tables : Tables) (peer : NodeId) (key : Key) (value : Value) (taken : Taken) → get tables peer ≡ Some taken
+    → is_news value (get taken key) ≡ is_news_at tables peer key value
 news_there tables peer key value taken there = sym (ap (news_by key value) there)
 
 -- another one is learned at the clock
-pub news_learned : (value : Value) (o : Option TakenRoute) (now : ℕ) → is_news value o ≡ true → learned now value o ≡ record { value = value; since = now; run = false }
+pub news_learned : (value : Value) (o : Option TakenRoute) (now : ℕ) → is_news value o ≡ true
+    → learned now value o ≡ record { value = value; since = now; run = false }
 news_learned value None now h = refl
 news_learned value (Some old) now h = by (same_value old.value value) h
   where
-    by : (b : Bool) → not b ≡ true → cond b old (record { value = value; since = now; run = false }) ≡ record { value = value; since = now; run = false }
+    by : (b : Bool) → not b ≡ true → cond b old (record { value = value; since = now; run = false })
+        ≡ record { value = value; since = now; run = false }
     by true e = absurd cc
     by false e = refl
 
@@ -298,7 +317,8 @@ route_spelled taken key route old h q there = by (eq_by_cmp key_cmp q key) refl 
     by true e k = subst IsSpelledKey (sym (one_key key_exact q key e)) h
     by false e k = old q k
 
-pub learned_spelled : {E : Type 0} (r : Result Bool E) (there rows : Rows) (key : Key) (route : TakenRoute) → OnOk r (taken_in rows ≡ insert (taken_in there) key route) → OnErr r (rows ≡ there)
+pub learned_spelled : {E : Type 0} (r : Result Bool E) (there rows : Rows) (key : Key) (route : TakenRoute)
+    → OnOk r (taken_in rows ≡ insert (taken_in there) key route) → OnErr r (rows ≡ there)
     → IsSpelledKey key → IsSpelled (taken_in there) → IsSpelled (taken_in rows)
 learned_spelled (Ok news) there rows key route ok err writable h = subst IsSpelled (sym ok) (route_spelled (taken_in there) key route h writable)
 learned_spelled (Err e) there rows key route ok err writable h = subst (λ (r : Rows). IsSpelled (taken_in r)) (sym err) h
@@ -324,7 +344,8 @@ others_spelled tables peer old q at there = by (eq_by_cmp node_cmp q peer) (sym 
     by true k = no_some at k
     by false k = old q at k
 
-pub slot_spelled : (old new : List (ℕ × Rows)) (peer : NodeId) (there rows : Rows) → Some there ≡ lookup (is_at (nat_cmp peer.0)) old → Becomes old new peer (Some rows)
+pub slot_spelled : (old new : List (ℕ × Rows)) (peer : NodeId) (there rows : Rows) → Some there ≡ lookup (is_at (nat_cmp peer.0)) old
+    → Becomes old new peer (Some rows)
     → AreSpelled (tables_of old) → (IsSpelled (taken_in there) → IsSpelled (taken_in rows)) → AreSpelled (tables_of new)
 slot_spelled old new peer there rows at becomes h step =
     subst AreSpelled (sym (inserted old new peer rows becomes))
@@ -334,7 +355,8 @@ some_mapped : {A : Type 0} (g : A → A) (o : Option A) → is_some (option_map 
 some_mapped g None h = h
 some_mapped g (Some x) h = refl
 
-each_spelled : (g : Key → TakenRoute → TakenRoute) (taken : Taken) → IsSpelled taken → IsSpelled (from_entries (map (λ (e : Key × TakenRoute). (e.0, g e.0 e.1)) (entries taken)))
+each_spelled : (g : Key → TakenRoute → TakenRoute) (taken : Taken) → IsSpelled taken
+    → IsSpelled (from_entries (map (λ (e : Key × TakenRoute). (e.0, g e.0 e.1)) (entries taken)))
 each_spelled g taken old q there = old q (some_mapped (g q) (get taken q) (sym (ap is_some (get_each key_total key_exact g taken q)) ∙ there))
 
 -- ---- the delays of a node
@@ -355,7 +377,8 @@ module _ (vrfs : List Local) (nodes : List Node) (delay now : ℕ) where
     where
       by : (o : Option Taken) → get tables q ≡ o → option_map (node_run vrfs nodes delay now q) o ≡ Some at → IsSpelled at
       by None e k = no_some at k
-      by (Some taken) e k = subst IsSpelled (one_some (node_run vrfs nodes delay now q taken) at k) (node_spelled taken (slice_get nodes q.0) (old q taken e))
+      by (Some taken) e k =
+          subst IsSpelled (one_some (node_run vrfs nodes delay now q taken) at k) (node_spelled taken (slice_get nodes q.0) (old q taken e))
 
 -- ---- the delays by the place of the edge
 
@@ -369,7 +392,8 @@ module _ (place : EdgePlace) (vrfs : List Local) (nodes : List Node) (delay now 
       let p : Vrf → Bool = λ vrf. is_some (imported_selective vrf (addr_of place.scenario peer) entry) in
       sym (any_vrf p (λ (own : Local). own.vrf) vrfs) ∙ ap (list_any p) h.own ∙ any_vrf p (λ (own : OwnVrf). own.vrf) (own_vrfs place)
 
-  route_is : (peer : NodeId) (entry : Key × TakenRoute) → ◌≡◌ {A = Key × TakenRoute} (entry.0, run_at vrfs delay now (addr_of place.scenario peer) entry.0 entry.1) (route_run place now peer entry)
+  route_is : (peer : NodeId) (entry : Key × TakenRoute)
+      → ◌≡◌ {A = Key × TakenRoute} (entry.0, run_at vrfs delay now (addr_of place.scenario peer) entry.0 entry.1) (route_run place now peer entry)
   route_is peer entry = λ i. (entry.0, record entry.1 { run = entry.1.run || (imports_is peer entry i && nat_le (entry.1.since + h.wait i) now) })
 
   abbrev run_in : NodeId → Taken → Taken
@@ -378,7 +402,8 @@ module _ (place : EdgePlace) (vrfs : List Local) (nodes : List Node) (delay now 
   table_is : (peer : NodeId) (taken : Taken) → table_run vrfs delay now (addr_of place.scenario peer) taken ≡ run_in peer taken
   table_is peer taken = λ i. from_entries (map (λ (entry : Key × TakenRoute). route_is peer entry i) (entries taken))
 
-  node_is : (peer : NodeId) (taken : Taken) (o : Option Node) → slice_get nodes peer.0 ≡ o → is_some o ≡ true → at_node vrfs nodes delay now taken o ≡ run_in peer taken
+  node_is : (peer : NodeId) (taken : Taken) (o : Option Node) → slice_get nodes peer.0 ≡ o → is_some o ≡ true
+      → at_node vrfs nodes delay now taken o ≡ run_in peer taken
   node_is peer taken None e k = no_key k
   node_is peer taken (Some node) e k =
       let addr : addr_of place.scenario peer ≡ node.addr = ap (addr_in) (ap (λ (l : List Node). slice_get l peer.0) (sym h.network) ∙ e) in
@@ -390,7 +415,8 @@ module _ (place : EdgePlace) (vrfs : List Local) (nodes : List Node) (delay now 
   pub run_is : run_tables vrfs nodes delay now tables ≡ peers_run place now tables
   run_is =
       same_map node_total node_exact (run_tables vrfs nodes delay now tables) (peers_run place now tables)
-      (λ q. get_each node_total node_exact (node_run vrfs nodes delay now) tables q ∙ by q (get tables q) refl ∙ sym (get_each node_total node_exact run_in tables q))
+      (λ q. get_each node_total node_exact (node_run vrfs nodes delay now) tables q ∙ by q (get tables q) refl
+      ∙ sym (get_each node_total node_exact run_in tables q))
     where
       by : (q : NodeId) (o : Option Taken) → get tables q ≡ o → option_map (node_run vrfs nodes delay now q) o ≡ option_map (run_in q) o
       by q None e = refl

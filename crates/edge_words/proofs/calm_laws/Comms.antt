@@ -32,17 +32,21 @@ all_of P x (y ∷ ys) h (inr a) = all_of P x ys (λ k d less. h (suc k) d (omega
 
 -- ---- imports
 
-import_back : (addr : Addr) (number : ℕ) → IsIpv4 addr → number < 2 ^ 16 → import_in (import_comm (record { addr = addr; number = number })) ≡ Some (record { addr = addr; number = number })
+import_back : (addr : Addr) (number : ℕ) → IsIpv4 addr → number < 2 ^ 16
+    → import_in (import_comm (record { addr = addr; number = number })) ≡ Some (record { addr = addr; number = number })
 import_back (V6 octets) number is less = absurd is
 import_back (V4 []) number is less = absurd (omega (arith, is))
 import_back (V4 (a ∷ [])) number is less = absurd (omega (arith, is))
 import_back (V4 (a ∷ b ∷ [])) number is less = absurd (omega (arith, is))
 import_back (V4 (a ∷ b ∷ c ∷ [])) number is less = absurd (omega (arith, is))
-import_back (V4 (a ∷ b ∷ c ∷ d ∷ [])) number is less = ap (λ (n : ℕ). Some (record { addr = V4 (a ∷ b ∷ c ∷ d ∷ []); number = n })) (from_be_bytes-to_be_bytes_2 number less)
+import_back (V4 (a ∷ b ∷ c ∷ d ∷ [])) number is less =
+    ap (λ (n : ℕ). Some (record { addr = V4 (a ∷ b ∷ c ∷ d ∷ []); number = n })) (from_be_bytes-to_be_bytes_2 number less)
 import_back (V4 (a ∷ b ∷ c ∷ d ∷ e ∷ more)) number is less = absurd (omega (arith, is))
 
 import_by_kind : (comm : ExtComm) (front : List ℕ) → kind comm ≡ front → pointwise nat_eq front (0x01 ∷ 0x0B ∷ []) ≡ false → import_in comm ≡ None
-import_by_kind comm front e h = ap (λ (b : Bool). cond b (Some (record { addr = V4 (take 4 (drop 2 comm.0)); number = from_be_bytes w16 (drop 6 comm.0) })) None) (ap (λ (xs : List ℕ). pointwise nat_eq xs (0x01 ∷ 0x0B ∷ [])) e ∙ h)
+import_by_kind comm front e h =
+    ap (λ (b : Bool). cond b (Some (record { addr = V4 (take 4 (drop 2 comm.0)); number = from_be_bytes w16 (drop 6 comm.0) })) None)
+    (ap (λ (xs : List ℕ). pointwise nat_eq xs (0x01 ∷ 0x0B ∷ [])) e ∙ h)
 
 no_import : (target : Target) → IsTarget target → import_in target.0 ≡ None
 no_import target is = elim is.1 [
@@ -55,9 +59,11 @@ no_import target is = elim is.1 [
 source_as_back : (number : ℕ) → number < 2 ^ 16 → source_as_in (source_as_comm number) ≡ Some number
 source_as_back number less = ap (λ (n : ℕ). Some n) (from_be_bytes-to_be_bytes_2 number less)
 
-source_as_by_kind : (comm : ExtComm) (front : List ℕ) → kind comm ≡ front → pointwise nat_eq front (0x00 ∷ 0x09 ∷ []) ≡ false → source_as_in comm ≡ None
+source_as_by_kind : (comm : ExtComm) (front : List ℕ) → kind comm ≡ front → pointwise nat_eq front (0x00 ∷ 0x09 ∷ []) ≡ false
+    → source_as_in comm ≡ None
 source_as_by_kind comm front e h =
-    ap (λ (b : Bool). cond (b && pointwise nat_eq (drop 4 comm.0) (0 ∷ 0 ∷ 0 ∷ 0 ∷ [])) (Some (from_be_bytes w16 (take 2 (drop 2 comm.0)))) None) (ap (λ (xs : List ℕ). pointwise nat_eq xs (0x00 ∷ 0x09 ∷ [])) e ∙ h)
+    ap (λ (b : Bool). cond (b && pointwise nat_eq (drop 4 comm.0) (0 ∷ 0 ∷ 0 ∷ 0 ∷ [])) (Some (from_be_bytes w16 (take 2 (drop 2 comm.0)))) None)
+    (ap (λ (xs : List ℕ). pointwise nat_eq xs (0x00 ∷ 0x09 ∷ [])) e ∙ h)
 
 no_source_as : (target : Target) → IsTarget target → source_as_in target.0 ≡ None
 no_source_as target is = elim is.1 [
@@ -67,31 +73,37 @@ no_source_as target is = elim is.1 [
 
 -- ---- all communities of a unicast route
 
-none_of : {B : Type 0} (f : ExtComm → Option B) (vrf : Vrf) → All IsTarget vrf.targets → ((target : Target) → IsTarget target → f target.0 ≡ None) → (comm : ExtComm) → Among comm (target_comms vrf) → f comm ≡ None
+none_of : {B : Type 0} (f : ExtComm → Option B) (vrf : Vrf) → All IsTarget vrf.targets → ((target : Target) → IsTarget target → f target.0 ≡ None)
+    → (comm : ExtComm) → Among comm (target_comms vrf) → f comm ≡ None
 none_of f vrf each none comm a =
     let by = map_among (λ (t : Target). t.0) comm vrf.targets a in
     ap f by.2 ∙ none by.0 (all_of IsTarget by.0 vrf.targets each by.1)
 
-imports_found : (vrf : Vrf) (import : Import) (number : ℕ) → All IsTarget vrf.targets → IsIpv4 import.addr → import.number < 2 ^ 16 → found_in import_in (target_comms vrf ++ (import_comm import ∷ source_as_comm number ∷ [])) ≡ import ∷ []
+imports_found : (vrf : Vrf) (import : Import) (number : ℕ) → All IsTarget vrf.targets → IsIpv4 import.addr → import.number < 2 ^ 16
+    → found_in import_in (target_comms vrf ++ (import_comm import ∷ source_as_comm number ∷ [])) ≡ import ∷ []
 imports_found vrf import number each is less =
     found_behind import_in (target_comms vrf) (import_comm import ∷ source_as_comm number ∷ []) (none_of import_in vrf each no_import)
     ∙ found_step import_in (import_comm import) (source_as_comm number ∷ []) (Some import) (import_back import.addr import.number is less)
 
-source_ass_found : (vrf : Vrf) (import : Import) (number : ℕ) → All IsTarget vrf.targets → number < 2 ^ 16 → found_in source_as_in (target_comms vrf ++ (import_comm import ∷ source_as_comm number ∷ [])) ≡ number ∷ []
+source_ass_found : (vrf : Vrf) (import : Import) (number : ℕ) → All IsTarget vrf.targets → number < 2 ^ 16
+    → found_in source_as_in (target_comms vrf ++ (import_comm import ∷ source_as_comm number ∷ [])) ≡ number ∷ []
 source_ass_found vrf import number each less =
     found_behind source_as_in (target_comms vrf) (import_comm import ∷ source_as_comm number ∷ []) (none_of source_as_in vrf each no_source_as)
     ∙ found_step source_as_in (source_as_comm number) [] (Some number) (source_as_back number less)
 
 -- ---- the address of an edge
 
-addr_at : (scenario : Scenario) (number : ℕ) (node : Node) → slice_get scenario.nodes number ≡ Some node → addr_of scenario (record { 0 = number }) ≡ node.addr
+addr_at : (scenario : Scenario) (number : ℕ) (node : Node) → slice_get scenario.nodes number ≡ Some node
+    → addr_of scenario (record { 0 = number }) ≡ node.addr
 addr_at scenario number node e = ap (λ (o : Option Node). elim o [ None ↦ V4 [] | Some found ↦ found.addr ]) e
 
 pub own_ipv4 : (place : EdgePlace) (own : OwnVrf) → Rules place.scenario → Among own (own_vrfs place) → IsIpv4 (own_addr place)
 own_ipv4 place own rules a =
     let edge = (own_rules place own rules a).edge in
-    let at : slice_get place.scenario.nodes place.me.0 ≡ Some edge.node = ap (slice_get place.scenario.nodes) (sym (own_edge place own a)) ∙ edge.at in
-    subst IsIpv4 (sym (addr_at place.scenario place.me.0 edge.node at)) (all_at (λ node. IsIpv4 node.addr) place.scenario.nodes rules.core.ipv4 place.me.0 edge.node at)
+    let at : slice_get place.scenario.nodes place.me.0 ≡ Some edge.node =
+    ap (slice_get place.scenario.nodes) (sym (own_edge place own a)) ∙ edge.at in
+    subst IsIpv4 (sym (addr_at place.scenario place.me.0 edge.node at))
+    (all_at (λ node. IsIpv4 node.addr) place.scenario.nodes rules.core.ipv4 place.me.0 edge.node at)
 
 -- ---- a unicast route of an edge
 
@@ -105,9 +117,11 @@ joins_by place own rules a =
     let peer = own_addr place in
     let by : JoinBy = record { import = own_import place own.vrf; source_as = place.scenario.system } in
     let comms : List ExtComm = target_comms own.vrf ++ (import_comm (own_import place own.vrf) ∷ source_as_comm place.scenario.system ∷ []) in
-    ap (λ (found : List Import). only_one found >>? λ import. only_one (found_in source_as_in comms) >>? λ source_as. only_if (same_addr import.addr peer && same_addr peer peer) (record { import = import; source_as = source_as }))
+    ap (λ (found : List Import). only_one found >>? λ import. only_one (found_in source_as_in comms) >>? λ source_as. only_if
+    (same_addr import.addr peer && same_addr peer peer) (record { import = import; source_as = source_as }))
     (imports_found own.vrf (own_import place own.vrf) place.scenario.system is.each (own_ipv4 place own rules a) (omega (arith, number)))
-    ∙ ap (λ (found : List ℕ). only_one found >>? λ source_as. only_if (same_addr peer peer && same_addr peer peer) (record { import = own_import place own.vrf; source_as = source_as }))
+    ∙ ap (λ (found : List ℕ). only_one found >>? λ source_as. only_if (same_addr peer peer && same_addr peer peer)
+    (record { import = own_import place own.vrf; source_as = source_as }))
     (source_ass_found own.vrf (own_import place own.vrf) place.scenario.system is.each (omega (arith, system)))
     ∙ passes (same_addr peer peer && same_addr peer peer) by (ap (λ (b : Bool). b && b) (same_addr_equiv.refl peer))
 
@@ -123,14 +137,17 @@ second (a ∷ []) = 0
 second [] = 0
 
 -- a target of a VRF that is among them is a target of the VRF whose route it is
-pub unicast_target : (place : EdgePlace) (own : OwnVrf) (target : Target) → IsTarget target → Among target.0 (unicast_value place own.vrf).comms → Among target own.vrf.targets
+pub unicast_target : (place : EdgePlace) (own : OwnVrf) (target : Target) → IsTarget target → Among target.0 (unicast_value place own.vrf).comms
+    → Among target own.vrf.targets
 unicast_target place own target is a =
     elim (among_either target.0 (target_comms own.vrf) (import_comm (own_import place own.vrf) ∷ source_as_comm place.scenario.system ∷ []) a) [
       | inl b ↦ among_comms own.vrf target b
       | inr b ↦ elim b [
-        | inl e ↦ absurd (not_kind target (import_comm (own_import place own.vrf)) is e (λ k. let bad : 11 ≡ 2 = ap second k in omega (arith, bad)) (λ k. let bad : 11 ≡ 2 = ap second k in omega (arith, bad)))
+        | inl e ↦ absurd (not_kind target (import_comm (own_import place own.vrf)) is e (λ k. let bad : 11 ≡ 2 = ap second k in omega (arith, bad))
+            (λ k. let bad : 11 ≡ 2 = ap second k in omega (arith, bad)))
         | inr c ↦ elim c [
-          | inl e ↦ absurd (not_kind target (source_as_comm place.scenario.system) is e (λ k. let bad : 9 ≡ 2 = ap second k in omega (arith, bad)) (λ k. let bad : 9 ≡ 2 = ap second k in omega (arith, bad)))
+          | inl e ↦ absurd (not_kind target (source_as_comm place.scenario.system) is e (λ k. let bad : 9 ≡ 2 = ap second k in omega (arith, bad))
+              (λ k. let bad : 9 ≡ 2 = ap second k in omega (arith, bad)))
           | inr d ↦ absurd d
         ]
       ]

@@ -44,13 +44,16 @@ no_flows f none (x ∷ xs) = ap (λ front. front ++ flat_map f xs) (none x) ∙ 
 
 blank_possible : (place : EdgePlace) (own : OwnVrf) → possible_flows place no_control own ≡ []
 blank_possible place own =
-    ap (λ (es : List (IfaceEntry × Expiry)). found_in (joined_by place own) (map (λ e. e.0) es) ++ active_flows place no_control own) (empty_entries entry_cmp)
-    ∙ ap (λ (notes : List Note). map noted_flow (filter (λ note. is_iface_of place.scenario own.id note.iface) notes) ++ flat_map (active_from own) (maps.entries (maps.empty {X = Taken} {R = node_cmp}))) (none_in_order note_total)
+    ap (λ (es : List (IfaceEntry × Expiry)). found_in (joined_by place own) (map (λ e. e.0) es) ++ active_flows place no_control own)
+    (empty_entries entry_cmp)
+    ∙ ap (λ (notes : List Note). map noted_flow (filter (λ note. is_iface_of place.scenario own.id note.iface) notes)
+    ++ flat_map (active_from own) (maps.entries (maps.empty {X = Taken} {R = node_cmp}))) (none_in_order note_total)
     ∙ ap (flat_map (active_from own)) (empty_entries {V = Taken} node_cmp)
 
 blank : (place : EdgePlace) → flows_at place 0 no_control ≡ maps.empty
 blank place = ap maps.from_entries (no_flows (vrf_flows place 0 no_control)
-    (λ own. ap (λ (flows : List FlowRoute). map (with_upstream place no_control own) (filter (is_flow place 0 no_control own) flows)) (blank_possible place own)) (own_vrfs place))
+    (λ own. ap (λ (flows : List FlowRoute). map (with_upstream place no_control own) (filter (is_flow place 0 no_control own) flows))
+    (blank_possible place own)) (own_vrfs place))
 
 pub fresh_stands : (place : EdgePlace) (now : ℕ) → Stands place now no_control
 fresh_stands place now = (0, omega arith, sym (blank place))
@@ -61,11 +64,13 @@ refreshed_stands place now control = (now, le_refl now, refl)
 pub later_stands : (place : EdgePlace) (now later : ℕ) (control : Control) → now ≤ later → Stands place now control → Stands place later control
 later_stands place now later control le h = (h.0, le_trans h.1 le, h.2)
 
-pub step_stands : (place : EdgePlace) (now : ℕ) (old : Control) (call : Call) → Stands place now old → Stands place now (control_step place now old call)
+pub step_stands : (place : EdgePlace) (now : ℕ) (old : Control) (call : Call) → Stands place now old
+    → Stands place now (control_step place now old call)
 step_stands place now old (steps.Update peer message) h = refreshed_stands place now (steps.effect place now old (steps.Update peer message))
 step_stands place now old (steps.Label neighbour message) h = refreshed_stands place now old
 step_stands place now old (steps.Pim iface message) h = refreshed_stands place now (steps.effect place now old (steps.Pim iface message))
-step_stands place now old (steps.Active iface source group) h = refreshed_stands place now (steps.effect place now old (steps.Active iface source group))
+step_stands place now old (steps.Active iface source group) h =
+    refreshed_stands place now (steps.effect place now old (steps.Active iface source group))
 step_stands place now old (steps.Idle iface source group) h = refreshed_stands place now (steps.effect place now old (steps.Idle iface source group))
 step_stands place now old (steps.Select vrf pattern) h = (h.0, h.1, h.2)
 step_stands place now old (steps.Unselect vrf pattern) h = (h.0, h.1, h.2)
@@ -77,18 +82,25 @@ step_stands place now old steps.Rerouted h = refreshed_stands place now old
 -- ---- a network
 
 stepped_stands : (network : EdgeNetwork) (at : NodeId) (call : Call) → FlowsStand network → FlowsStand (stepped network at call)
-stepped_stands network at call h n = elim (n.0 == at.0) as (λ b. n.0 == at.0 ≡ b → Stands (place_of network n) network.clock (cond b (control_step (place_of network at) network.clock (network.node at) call) (network.node n))) [
-  | true ↦ λ e. subst (λ (m : NodeId). Stands (place_of network m) network.clock (control_step (place_of network at) network.clock (network.node at) call)) (sym (node_equal n at e)) (step_stands (place_of network at) network.clock (network.node at) call (h at))
-  | false ↦ λ e. h n
-] refl
+stepped_stands network at call h n =
+    elim (n.0 == at.0) as (λ b. n.0 == at.0 ≡ b → Stands (place_of network n) network.clock
+    (cond b (control_step (place_of network at) network.clock (network.node at) call) (network.node n))) [
+      | true ↦ λ e. subst (λ (m : NodeId). Stands (place_of network m) network.clock
+          (control_step (place_of network at) network.clock (network.node at) call)) (sym (node_equal n at e))
+          (step_stands (place_of network at) network.clock (network.node at) call (h at))
+      | false ↦ λ e. h n
+    ] refl
 
-delivered_stands : (network : EdgeNetwork) (a b : NodeId) (same up : Bool) (changes : List (Change Key Value)) → FlowsStand network → FlowsStand (delivered network a b same up changes)
-delivered_stands network a b false true (change ∷ rest) h = stepped_stands (left_in_transit network a b rest) b (steps.Update a (message_of change)) (λ n. h n)
+delivered_stands : (network : EdgeNetwork) (a b : NodeId) (same up : Bool) (changes : List (Change Key Value)) → FlowsStand network
+    → FlowsStand (delivered network a b same up changes)
+delivered_stands network a b false true (change ∷ rest) h =
+    stepped_stands (left_in_transit network a b rest) b (steps.Update a (message_of change)) (λ n. h n)
 delivered_stands network a b false true [] h = h
 delivered_stands network a b false false changes h = h
 delivered_stands network a b true up changes h = h
 
-selected_stands : (network : EdgeNetwork) (n : NodeId) (vrf : VrfId) (pattern : Pattern) (b : Bool) → FlowsStand network → FlowsStand (selected network n vrf pattern b)
+selected_stands : (network : EdgeNetwork) (n : NodeId) (vrf : VrfId) (pattern : Pattern) (b : Bool) → FlowsStand network
+    → FlowsStand (selected network n vrf pattern b)
 selected_stands network n vrf pattern true h = h
 selected_stands network n vrf pattern false h = stepped_stands network n (steps.Select vrf pattern) h
 
@@ -115,7 +127,8 @@ restart_stands network at h n = elim (n.0 == at.0) as (λ b. Stands (place_of ne
 rerouted_stands : (network : EdgeNetwork) (at : NodeId) (core : Core) → FlowsStand network → FlowsStand (act network (acts.Reroute at core))
 rerouted_stands network at core h n = elim (cases_Bool (n.0 == at.0)) [
   | inl e ↦ subst (λ (m : NodeId). Stands (place_of known m) network.clock (at_node at new network.node m)) (sym (node_equal n at e)) here
-  | inr e ↦ subst (λ (b : Bool). Stands (record { scenario = network.scenario; core = cond b core (network.core n); me = n }) network.clock (cond b new (network.node n))) (sym e) (h n)
+  | inr e ↦ subst (λ (b : Bool). Stands (record { scenario = network.scenario; core = cond b core (network.core n); me = n }) network.clock
+      (cond b new (network.node n))) (sym e) (h n)
 ]
   where
     known : EdgeNetwork
@@ -128,7 +141,8 @@ rerouted_stands network at core h n = elim (cases_Bool (n.0 == at.0)) [
     itself x = grind (arith, nat_tests)
 
     here : Stands (place_of known at) network.clock (at_node at new network.node at)
-    here = subst (λ (b : Bool). Stands (place_of known at) network.clock (cond b new (network.node at))) (sym (itself at.0)) (refreshed_stands (place_of known at) network.clock (network.node at))
+    here = subst (λ (b : Bool). Stands (place_of known at) network.clock (cond b new (network.node at))) (sym (itself at.0))
+        (refreshed_stands (place_of known at) network.clock (network.node at))
 
 act_stands : (network : EdgeNetwork) (what : Act) → FlowsStand network → FlowsStand (act network what)
 act_stands network (acts.Deliver a b) h = delivered_stands network a b (a.0 == b.0) (is_up (network.node b) a) (network.direction a b).transit h
@@ -138,13 +152,16 @@ act_stands network (acts.LabelNotice n neighbour) h = stepped_stands network n (
 act_stands network (acts.Pim n iface message) h = stepped_stands network n (steps.Pim iface message) h
 act_stands network (acts.Active n iface source group) h = stepped_stands network n (steps.Active iface source group) h
 act_stands network (acts.Idle n iface source group) h = stepped_stands network n (steps.Idle iface source group) h
-act_stands network (acts.Select n vrf pattern) h = selected_stands network n vrf pattern (is_some (maps.get (network.node n).selections (record { vrf = vrf; pattern = pattern }))) h
+act_stands network (acts.Select n vrf pattern) h =
+    selected_stands network n vrf pattern (is_some (maps.get (network.node n).selections (record { vrf = vrf; pattern = pattern }))) h
 act_stands network (acts.Unselect n vrf pattern) h = stepped_stands network n (steps.Unselect vrf pattern) h
 act_stands network (acts.Lose a b) h = λ n. h n
-act_stands network (acts.Notice a b) h = noticed_stands network a b ((network.direction a b).joined || (network.direction b a).joined) (is_up (network.node a) b) h
+act_stands network (acts.Notice a b) h =
+    noticed_stands network a b ((network.direction a b).joined || (network.direction b a).joined) (is_up (network.node a) b) h
 act_stands network (acts.Raise a b) h = raised_stands network a b (a.0 == b.0) (is_up (network.node a) b) (is_up (network.node b) a) h
 act_stands network (acts.Restart n) h = restart_stands network n h
-act_stands network (acts.Tick ticks) h = λ n. later_stands (place_of network n) network.clock (network.clock + ticks) (network.node n) (omega arith) (h n)
+act_stands network (acts.Tick ticks) h =
+    λ n. later_stands (place_of network n) network.clock (network.clock + ticks) (network.node n) (omega arith) (h n)
 act_stands network (acts.Timers n) h = stepped_stands network n steps.Timers h
 act_stands network (acts.Reroute n core) h = rerouted_stands network n core h
 
@@ -152,5 +169,13 @@ pub run_stands : (network : EdgeNetwork) (all : List Act) → FlowsStand network
 run_stands network [] h = h
 run_stands network (first ∷ more) h = run_stands (act network first) more (act_stands network first h)
 
-pub start_stands : (scenario : Scenario) (core : NodeId → Core) → FlowsStand (record { clock = 0; scenario = scenario; core = core; node = λ n. no_control; direction = λ a b. record { joined = false; transit = [] } })
+pub start_stands : (scenario : Scenario) (core : NodeId → Core)
+    → FlowsStand (record {
+      clock = 0;
+      scenario = scenario;
+      core = core;
+      node = λ n. no_control;
+      direction =
+          λ a b. record { joined = false; transit = [] };
+    })
 start_stands scenario core n = fresh_stands (record { scenario = scenario; core = core n; me = n }) 0

@@ -39,7 +39,8 @@ abbrev join_key : VrfFlow → Rd → ℕ → Key
 join_key flow rd source_as = Mcast (afi_of flow.source) (routes.SourceJoin rd source_as flow.source flow.group)
 
 -- the join of a flow is held towards the root
-join_stands : (network : EdgeNetwork) (root egress : NodeId) (flow : VrfFlow) (rd : Rd) (import : Import) (source_as : ℕ) → maps.get (network.node egress).flows flow ≡ Some (Some (Remote root rd import source_as))
+join_stands : (network : EdgeNetwork) (root egress : NodeId) (flow : VrfFlow) (rd : Rd) (import : Import) (source_as : ℕ)
+    → maps.get (network.node egress).flows flow ≡ Some (Some (Remote root rd import source_as))
     → (value : Value) × (maps.get (held_for (place_of network egress) (network.node egress) root) (join_key flow rd source_as) ≡ Some value)
 join_stands network root egress flow rd import source_as h =
     let place : EdgePlace = place_of network egress in
@@ -47,21 +48,26 @@ join_stands network root egress flow rd import source_as h =
     let entry : Key × Value = (join_key flow rd source_as, value) in
     let up : Option Upstream = Some (Remote root rd import source_as) in
     some_join place (network.node egress) root (join_key flow rd source_as) value
-    (among_found (join_route place root) (flow, up) entry (maps.entries (network.node egress).flows) (get_entry flow_exact (network.node egress).flows flow up h)
+    (among_found (join_route place root) (flow, up) entry (maps.entries (network.node egress).flows)
+    (get_entry flow_exact (network.node egress).flows flow up h)
     (ap (λ (b : Bool). cond b (Some entry) None) (eq-eqb root.0 root.0 refl)))
 
 -- whichever flow has put the join, it names one VRF of the root
-one_target : (network : EdgeNetwork) (root egress : NodeId) (flow : VrfFlow) (rd : Rd) (source_as : ℕ) (root_vrf : OwnVrf) (value : Value) → Rule network → FlowsStand network → CalmSession network root egress
-    → Among root_vrf (own_vrfs (place_of network root)) → rd ≡ root_vrf.vrf.rd → JoinHeld (place_of network egress) (network.node egress) root (join_key flow rd source_as, value)
+one_target : (network : EdgeNetwork) (root egress : NodeId) (flow : VrfFlow) (rd : Rd) (source_as : ℕ) (root_vrf : OwnVrf) (value : Value)
+    → Rule network → FlowsStand network → CalmSession network root egress
+    → Among root_vrf (own_vrfs (place_of network root)) → rd ≡ root_vrf.vrf.rd
+    → JoinHeld (place_of network egress) (network.node egress) root (join_key flow rd source_as, value)
     → value.comms ≡ import_target (own_import (place_of network root) root_vrf.vrf) ∷ []
 one_target network root egress flow rd source_as root_vrf value rule stand calm a e held =
     let got = entry_get flow_total (network.node egress).flows held.flow held.up held.among in
     let is = is_flow_of network egress held.flow held.up stand got in
     let join = held.is in
-    let by = root_of network root egress is.own held.flow.source held.flow.group join.rd join.import join.source_as rule calm is.among (sym is.is ∙ join.remote) in
+    let by = root_of network root egress is.own held.flow.source held.flow.group join.rd join.import join.source_as rule calm is.among
+    (sym is.is ∙ join.remote) in
     let keys : join_key flow rd source_as ≡ join_key held.flow join.rd join.source_as = join.key in
     let rds : rd ≡ join.rd = cc in
-    let one : root_vrf ≡ by.root_vrf = one_rd (place_of network root) root_vrf by.root_vrf rule.scenario a by.of_root (sym e ∙ rds ∙ by.distinguisher) in
+    let one : root_vrf ≡ by.root_vrf =
+    one_rd (place_of network root) root_vrf by.root_vrf rule.scenario a by.of_root (sym e ∙ rds ∙ by.distinguisher) in
     join.comms ∙ ap (λ (i : Import). import_target i ∷ []) (by.named ∙ ap (λ (o : OwnVrf). own_import (place_of network root) o.vrf) (sym one))
 
 -- ---- at the root
@@ -72,28 +78,39 @@ same_octets xs ys e = (bytes_decides xs ys).1 e
 has_it : (wanted : ExtComm) (comms : List ExtComm) → comms ≡ wanted ∷ [] → has_comm wanted comms ≡ true
 has_it wanted comms e = ap (has_comm wanted) e ∙ or_left (pointwise nat_eq wanted.0 wanted.0) false (same_octets wanted.0 wanted.0 refl)
 
-join_imported : (place : EdgePlace) (vrf : Vrf) (flow : VrfFlow) (rd : Rd) (source_as : ℕ) (taken : TakenRoute) → rd ≡ vrf.rd → source_as ≡ place.scenario.system → taken.value.comms ≡ import_target (own_import place vrf) ∷ []
+join_imported : (place : EdgePlace) (vrf : Vrf) (flow : VrfFlow) (rd : Rd) (source_as : ℕ) (taken : TakenRoute) → rd ≡ vrf.rd
+    → source_as ≡ place.scenario.system → taken.value.comms ≡ import_target (own_import place vrf) ∷ []
     → imported_join place vrf (join_key flow rd source_as, taken) ≡ Some (record { source = flow.source; group = flow.group })
 join_imported place vrf flow rd source_as taken e n c =
-    passes (pointwise nat_eq rd.0 vrf.rd.0 && (source_as == place.scenario.system) && has_comm (import_target (own_import place vrf)) taken.value.comms) (record { source = flow.source; group = flow.group })
-    (and_from (pointwise nat_eq rd.0 vrf.rd.0 && (source_as == place.scenario.system)) (has_comm (import_target (own_import place vrf)) taken.value.comms)
-    (and_from (pointwise nat_eq rd.0 vrf.rd.0) (source_as == place.scenario.system) (same_octets rd.0 vrf.rd.0 (ap (λ (r : Rd). r.0) e)) (eq-eqb source_as place.scenario.system n))
+    passes (pointwise nat_eq rd.0 vrf.rd.0 && (source_as == place.scenario.system)
+    && has_comm (import_target (own_import place vrf)) taken.value.comms) (record { source = flow.source; group = flow.group })
+    (and_from (pointwise nat_eq rd.0 vrf.rd.0 && (source_as == place.scenario.system))
+    (has_comm (import_target (own_import place vrf)) taken.value.comms)
+    (and_from (pointwise nat_eq rd.0 vrf.rd.0) (source_as == place.scenario.system) (same_octets rd.0 vrf.rd.0 (ap (λ (r : Rd). r.0) e))
+    (eq-eqb source_as place.scenario.system n))
     (has_it (import_target (own_import place vrf)) taken.value.comms c))
 
 own_flow : (source group : Addr) → same_flow source group (record { source = source; group = group }) ≡ true
 own_flow source group = and_from (same_addr source source) (same_addr group group) (same_addr_equiv.refl source) (same_addr_equiv.refl group)
 
-pub joined : (network : EdgeNetwork) (root egress : NodeId) (flow : VrfFlow) (rd : Rd) (import : Import) (source_as : ℕ) (root_vrf : OwnVrf) → Rule network → FlowsStand network → CalmSession network root egress
-    → maps.get (network.node egress).flows flow ≡ Some (Some (Remote root rd import source_as)) → Among root_vrf (own_vrfs (place_of network root)) → rd ≡ root_vrf.vrf.rd → source_as ≡ network.scenario.system
+pub joined : (network : EdgeNetwork) (root egress : NodeId) (flow : VrfFlow) (rd : Rd) (import : Import) (source_as : ℕ) (root_vrf : OwnVrf)
+    → Rule network → FlowsStand network → CalmSession network root egress
+    → maps.get (network.node egress).flows flow ≡ Some (Some (Remote root rd import source_as)) → Among root_vrf (own_vrfs (place_of network root))
+    → rd ≡ root_vrf.vrf.rd → source_as ≡ network.scenario.system
     → is_joined_in (place_of network root) (network.node root) root_vrf flow.source flow.group ≡ true
 joined network root egress flow rd import source_as root_vrf rule stand calm h a e n =
     let place : EdgePlace = place_of network root in
     let key : Key = join_key flow rd source_as in
     let stands = join_stands network root egress flow rd import source_as h in
-    let comms = one_target network root egress flow rd source_as root_vrf stands.0 rule stand calm a e (join_held (place_of network egress) (network.node egress) root (afi_of flow.source) rd source_as flow.source flow.group stands.0 stands.1) in
+    let comms =
+    one_target network root egress flow rd source_as root_vrf stands.0 rule stand calm a e
+    (join_held (place_of network egress) (network.node egress) root (afi_of flow.source) rd source_as flow.source flow.group stands.0 stands.1) in
     let taken = held_taken network egress root key stands.0 rule (turned network root egress calm) stands.1 in
     let table = taken_from (network.node root) egress in
     let read = join_imported place root_vrf.vrf flow rd source_as taken.0 e n (ap (λ (v : Value). v.comms) taken.2 ∙ comms) in
-    let found = among_found (imported_join place root_vrf.vrf) (key, taken.0) (record { source = flow.source; group = flow.group }) (maps.entries table) (get_entry key_exact table key taken.0 taken.1) read in
-    any_from (is_joined_by place root_vrf flow.source flow.group) (egress, table) (maps.entries (network.node root).peers) (among_peers (network.node root) egress (near_up network root egress rule calm))
+    let found =
+    among_found (imported_join place root_vrf.vrf) (key, taken.0) (record { source = flow.source; group = flow.group }) (maps.entries table)
+    (get_entry key_exact table key taken.0 taken.1) read in
+    any_from (is_joined_by place root_vrf flow.source flow.group) (egress, table) (maps.entries (network.node root).peers)
+    (among_peers (network.node root) egress (near_up network root egress rule calm))
     (any_from (same_flow flow.source flow.group) (record { source = flow.source; group = flow.group }) _ found (own_flow flow.source flow.group))

@@ -62,7 +62,8 @@ flat_map_among f y (x ∷ xs) a = elim (among_either y (f x) (flat_map f xs) a) 
 
 -- ---- those that pass
 
-filter_one : {X : Type 0} (p : X → Bool) (x y : X) (ys : List X) (t : Bool) → p y ≡ t → (Among x (filter p ys) → Among x ys × (p x ≡ true)) → Among x (cond t (y ∷ filter p ys) (filter p ys)) → Among x (y ∷ ys) × (p x ≡ true)
+filter_one : {X : Type 0} (p : X → Bool) (x y : X) (ys : List X) (t : Bool) → p y ≡ t → (Among x (filter p ys) → Among x ys × (p x ≡ true))
+    → Among x (cond t (y ∷ filter p ys) (filter p ys)) → Among x (y ∷ ys) × (p x ≡ true)
 filter_one p x y ys true h k (inl e) = (inl e, ap p e ∙ h)
 filter_one p x y ys true h k (inr a) = let both = k a in (inr both.0, both.1)
 filter_one p x y ys false h k a = let both = k a in (inr both.0, both.1)
@@ -71,7 +72,8 @@ pub filter_among : {X : Type 0} (p : X → Bool) (x : X) (xs : List X) → Among
 filter_among p x [] a = absurd a
 filter_among p x (y ∷ ys) a = filter_one p x y ys (p y) refl (filter_among p x ys) a
 
-kept_one : {X : Type 0} (p : X → Bool) (x y : X) (ys : List X) (t : Bool) → p y ≡ t → p x ≡ true → (Among x ys → Among x (filter p ys)) → Among x (y ∷ ys) → Among x (cond t (y ∷ filter p ys) (filter p ys))
+kept_one : {X : Type 0} (p : X → Bool) (x y : X) (ys : List X) (t : Bool) → p y ≡ t → p x ≡ true → (Among x ys → Among x (filter p ys))
+    → Among x (y ∷ ys) → Among x (cond t (y ∷ filter p ys) (filter p ys))
 kept_one p x y ys true h r k (inl e) = inl e
 kept_one p x y ys true h r k (inr a) = inr (k a)
 kept_one p x y ys false h r k (inl e) = absurd (not_both (p y) (ap p (sym e) ∙ r) h)
@@ -103,7 +105,8 @@ pub found_step : {A B : Type 0} (f : A → Option B) (x : A) (xs : List A) (o : 
 found_step f x xs None e = ap (λ (o : Option _). elim o [ None ↦ found_in f xs | Some found ↦ found ∷ found_in f xs ]) e
 found_step f x xs (Some y) e = ap (λ (o : Option _). elim o [ None ↦ found_in f xs | Some found ↦ found ∷ found_in f xs ]) e
 
-among_one : {A B : Type 0} (x : A) (y : B) (xs : List A) (f : A → Option B) (z : A) (o : Option B) → f z ≡ o → f x ≡ Some y → (Among x xs → Among y (found_in f xs)) → Among x (z ∷ xs) → Among y (found_one o (found_in f xs))
+among_one : {A B : Type 0} (x : A) (y : B) (xs : List A) (f : A → Option B) (z : A) (o : Option B) → f z ≡ o → f x ≡ Some y
+    → (Among x xs → Among y (found_in f xs)) → Among x (z ∷ xs) → Among y (found_one o (found_in f xs))
 among_one x y xs f z None e h k (inl same) = absurd (let bad : None ≡ Some y = sym e ∙ ap f (sym same) ∙ h in cc)
 among_one x y xs f z None e h k (inr a) = k a
 among_one x y xs f z (Some w) e h k (inl same) = inl (let both : Some y ≡ Some w = sym h ∙ ap f same ∙ e in cc)
@@ -111,9 +114,12 @@ among_one x y xs f z (Some w) e h k (inr a) = inr (k a)
 
 pub among_found : {A B : Type 0} (f : A → Option B) (x : A) (y : B) (xs : List A) → Among x xs → f x ≡ Some y → Among y (found_in f xs)
 among_found f x y [] a h = absurd a
-among_found f x y (z ∷ xs) a h = subst (Among y) (sym (found_step f z xs (f z) refl)) (among_one x y xs f z (f z) refl h (λ b. among_found f x y xs b h) a)
+among_found f x y (z ∷ xs) a h =
+    subst (Among y) (sym (found_step f z xs (f z) refl)) (among_one x y xs f z (f z) refl h (λ b. among_found f x y xs b h) a)
 
-one_among : {A B : Type 0} (f : A → Option B) (y : B) (z : A) (xs : List A) (o : Option B) → f z ≡ o → (Among y (found_in f xs) → (x : A) × Among x xs × (f x ≡ Some y)) → Among y (found_one o (found_in f xs)) → (x : A) × Among x (z ∷ xs) × (f x ≡ Some y)
+one_among : {A B : Type 0} (f : A → Option B) (y : B) (z : A) (xs : List A) (o : Option B) → f z ≡ o
+    → (Among y (found_in f xs) → (x : A) × Among x xs × (f x ≡ Some y)) → Among y (found_one o (found_in f xs))
+    → (x : A) × Among x (z ∷ xs) × (f x ≡ Some y)
 one_among f y z xs None e k a = let b = k a in (b.0, inr b.1, b.2)
 one_among f y z xs (Some w) e k (inl same) = (z, inl refl, e ∙ ap (λ v. Some v) (sym same))
 one_among f y z xs (Some w) e k (inr a) = let b = k a in (b.0, inr b.1, b.2)

@@ -26,7 +26,8 @@ Found P None k = ⊥
 Found P (Some v) k = P k v
 
 module _ {K V : Type 0} {R : K → K → Ordering} (total : IsTotalOrder R) where
-  some_tied : (k : K) (v : V) (es : List (K × V)) (e : K × V) (b : Bool) → (Among (k, v) es → (w : V) × (find R k es ≡ Some w)) → (((k, v) ≡ e → b ≡ true)) → Among (k, v) (e ∷ es) → (w : V) × (cond b (Some e.1) (find R k es) ≡ Some w)
+  some_tied : (k : K) (v : V) (es : List (K × V)) (e : K × V) (b : Bool) → (Among (k, v) es → (w : V) × (find R k es ≡ Some w))
+      → (((k, v) ≡ e → b ≡ true)) → Among (k, v) (e ∷ es) → (w : V) × (cond b (Some e.1) (find R k es) ≡ Some w)
   some_tied k v es e true rest tied a = (e.1, refl)
   some_tied k v es e false rest tied (inl same) = absurd (let bad : false ≡ true = tied same in cc)
   some_tied k v es e false rest tied (inr a) = rest a
@@ -39,7 +40,8 @@ module _ {K V : Type 0} {R : K → K → Ordering} (total : IsTotalOrder R) wher
   not_below : (k : K) (v : V) (x : K) (es : List (K × V)) → T (below_all R x es) → Among (k, v) es → eq_by_cmp R k x ≡ true → ⊥
   not_below k v x [] h a e = a
   not_below k v x (f ∷ es) h (inl same) e =
-      let less : is_eq (R x k) ≡ false = ap (λ (y : K × V). is_eq (R x y.0)) same ∙ not_tied (R x f.0) (front_of (is_lt (R x f.0)) (below_all R x es) h) in
+      let less : is_eq (R x k) ≡ false =
+      ap (λ (y : K × V). is_eq (R x y.0)) same ∙ not_tied (R x f.0) (front_of (is_lt (R x f.0)) (below_all R x es) h) in
       let tied : R k x ≡ Equal = (Equal-is (R k x)).0 e in
       not_both (is_eq (R x k)) (ap is_eq (sym (total.congr k x k tied) ∙ tied_itself total k)) less
   not_below k v x (f ∷ es) h (inr a) e = not_below k v x es (back_of (is_lt (R x f.0)) (below_all R x es) h) a e
@@ -72,10 +74,12 @@ module _ {K V : Type 0} {R : K → K → Ordering} (exact : IsAntisymmetric R) w
   get_entry m k v h = found_stands k v (maps.entries m) (sym (maps.get-entries m k) ∙ h)
 
 -- what is found in a list whose values are changed
-pub find-map : {K V W : Type 0} (R : K → K → Ordering) (f : V → W) (k : K) (es : List (K × V)) → find R k (map (λ (e : K × V). (e.0, f e.1)) es) ≡ option_map f (find R k es)
+pub find-map : {K V W : Type 0} (R : K → K → Ordering) (f : V → W) (k : K) (es : List (K × V))
+    → find R k (map (λ (e : K × V). (e.0, f e.1)) es) ≡ option_map f (find R k es)
 find-map R f k [] = refl
 find-map R f k (e ∷ es) =
-    elim (eq_by_cmp R k e.0) as (λ b. cond b (Some (f e.1)) (find R k (map (λ (e : _). (e.0, f e.1)) es)) ≡ option_map f (cond b (Some e.1) (find R k es))) [
+    elim (eq_by_cmp R k e.0) as (λ b. cond b (Some (f e.1)) (find R k (map (λ (e : _). (e.0, f e.1)) es))
+    ≡ option_map f (cond b (Some e.1) (find R k es))) [
       | true ↦ refl
       | false ↦ find-map R f k es
     ]

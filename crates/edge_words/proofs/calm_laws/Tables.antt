@@ -35,13 +35,15 @@ near_up network a b rule calm = rule.ends a b calm.two calm.joined
 pub far_up : (network : EdgeNetwork) (a b : NodeId) → Rule network → CalmSession network a b → is_up (network.node b) a ≡ true
 far_up network a b rule calm = near_up network b a rule (turned network a b calm)
 
-taken_value : (control : Control) (peer : NodeId) (key : Key) → maps.get (taken_values control peer) key ≡ value_in (maps.get (taken_from control peer) key)
+taken_value : (control : Control) (peer : NodeId) (key : Key)
+    → maps.get (taken_values control peer) key ≡ value_in (maps.get (taken_from control peer) key)
 taken_value control peer key =
     maps.get-from_entries key_total (map (λ (entry : Key × TakenRoute). (entry.0, entry.1.value)) (maps.entries (taken_from control peer))) key
     ∙ find-map key_cmp (λ (route : TakenRoute). route.value) key (maps.entries (taken_from control peer))
     ∙ ap value_in (sym (maps.get-entries (taken_from control peer) key))
 
-told_up : (place : EdgePlace) (control : Control) (peer : NodeId) → is_some (maps.get control.peers peer) ≡ true → told place control peer ≡ held_for place control peer
+told_up : (place : EdgePlace) (control : Control) (peer : NodeId) → is_some (maps.get control.peers peer) ≡ true
+    → told place control peer ≡ held_for place control peer
 told_up place control peer up = ap (λ (b : Bool). cond b (held_for place control peer) maps.empty) up
 
 nothing_pending : (from to : Option Value) (pending : List (Option Value)) → pending ≡ [] → Leads from pending to → from ≡ to
@@ -51,7 +53,8 @@ nothing_pending from to pending e h = subst (λ (values : List (Option Value)). 
 pub calm_key : (network : EdgeNetwork) (root egress : NodeId) → Rule network → CalmSession network root egress → (key : Key) →
     value_in (maps.get (taken_from (network.node egress) root) key) ≡ maps.get (held_for (place_of network root) (network.node root) egress) key
 calm_key network root egress rule calm key =
-    nothing_pending (value_in (maps.get (taken_from (network.node egress) root) key)) (maps.get (told (place_of network root) (network.node root) egress) key)
+    nothing_pending (value_in (maps.get (taken_from (network.node egress) root) key))
+    (maps.get (told (place_of network root) (network.node root) egress) key)
     (values_at key_cmp key (network.direction root egress).transit) (ap (values_at key_cmp key) calm.quiet)
     ((rule.view root egress key calm.two).leads calm.joined (near_up network root egress rule calm))
     ∙ ap (λ (table : Table). maps.get table key) (told_up (place_of network root) (network.node root) egress (near_up network root egress rule calm))
@@ -64,17 +67,21 @@ calm_tables network root egress rule calm =
 
 -- ---- what was taken, and what is held
 
-some_value : (taken : Option TakenRoute) (value : Value) → value_in taken ≡ Some value → (route : TakenRoute) × (taken ≡ Some route) × (route.value ≡ value)
+some_value : (taken : Option TakenRoute) (value : Value) → value_in taken ≡ Some value
+    → (route : TakenRoute) × (taken ≡ Some route) × (route.value ≡ value)
 some_value None value e = absurd cc
 some_value (Some route) value e = (route, refl, cc)
 
 -- what is held was taken
-pub held_taken : (network : EdgeNetwork) (root egress : NodeId) (key : Key) (value : Value) → Rule network → CalmSession network root egress → maps.get (held_for (place_of network root) (network.node root) egress) key ≡ Some value →
+pub held_taken : (network : EdgeNetwork) (root egress : NodeId) (key : Key) (value : Value) → Rule network → CalmSession network root egress
+    → maps.get (held_for (place_of network root) (network.node root) egress) key ≡ Some value →
     (route : TakenRoute) × (maps.get (taken_from (network.node egress) root) key ≡ Some route) × (route.value ≡ value)
-held_taken network root egress key value rule calm h = some_value (maps.get (taken_from (network.node egress) root) key) value (calm_key network root egress rule calm key ∙ h)
+held_taken network root egress key value rule calm h =
+    some_value (maps.get (taken_from (network.node egress) root) key) value (calm_key network root egress rule calm key ∙ h)
 
 -- what was taken is held
-pub taken_held : (network : EdgeNetwork) (root egress : NodeId) (key : Key) (route : TakenRoute) → Rule network → CalmSession network root egress → maps.get (taken_from (network.node egress) root) key ≡ Some route →
+pub taken_held : (network : EdgeNetwork) (root egress : NodeId) (key : Key) (route : TakenRoute) → Rule network → CalmSession network root egress
+    → maps.get (taken_from (network.node egress) root) key ≡ Some route →
     maps.get (held_for (place_of network root) (network.node root) egress) key ≡ Some route.value
 taken_held network root egress key route rule calm h = sym (calm_key network root egress rule calm key) ∙ ap value_in h
 
@@ -88,10 +95,13 @@ pub taken_is : (control : Control) (peer : NodeId) (taken : Taken) → maps.get 
 taken_is control peer taken h = ap (λ (table : Option Taken). elim table [ None ↦ maps.empty | Some found ↦ found ]) h
 
 -- where the end is up, the table is one of those of the peers
-pub among_peers : (control : Control) (peer : NodeId) → is_some (maps.get control.peers peer) ≡ true → Among (peer, taken_from control peer) (maps.entries control.peers)
+pub among_peers : (control : Control) (peer : NodeId) → is_some (maps.get control.peers peer) ≡ true
+    → Among (peer, taken_from control peer) (maps.entries control.peers)
 among_peers control peer up =
     let by = taken_by (maps.get control.peers peer) up in
-    subst (λ (taken : Taken). Among (peer, taken) (maps.entries control.peers)) (sym (taken_is control peer by.0 by.1)) (get_entry node_cmp_exact control.peers peer by.0 by.1)
+    subst (λ (taken : Taken). Among (peer, taken) (maps.entries control.peers)) (sym (taken_is control peer by.0 by.1))
+    (get_entry node_cmp_exact control.peers peer by.0 by.1)
 
-pub peer_table : (control : Control) (peer : NodeId) (taken : Taken) → Among (peer, taken) (maps.entries control.peers) → taken_from control peer ≡ taken
+pub peer_table : (control : Control) (peer : NodeId) (taken : Taken) → Among (peer, taken) (maps.entries control.peers)
+    → taken_from control peer ≡ taken
 peer_table control peer taken a = taken_is control peer taken (entry_get node_cmp_total control.peers peer taken a)

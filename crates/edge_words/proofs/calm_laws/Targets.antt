@@ -43,7 +43,9 @@ within a b h =
     (λ t i. has_among b t (all_among (has b) t a both.0 i), λ t i. has_among a t (all_among (has a) t b both.1 i))
 
 same_by : (a b : List Target) → Within a b → Within b a → same a b ≡ true
-same_by a b h k = and_from (list_all (has b) a) (list_all (has a) b) (all_from (has b) a (λ t i. among_has b t (h t i))) (all_from (has a) b (λ t i. among_has a t (k t i)))
+same_by a b h k =
+    and_from (list_all (has b) a) (list_all (has a) b) (all_from (has b) a (λ t i. among_has b t (h t i)))
+    (all_from (has a) b (λ t i. among_has a t (k t i)))
 
 pub same_itself : (a : List Target) → same a a ≡ true
 same_itself a = same_by a a (λ t i. i) (λ t i. i)
@@ -68,7 +70,8 @@ of_comm comm = record { 0 = comm }
 pub admits : (vrf : Vrf) (comms : List ExtComm) (target : Target) → Among target.0 comms → Among target vrf.targets → is_admitted vrf comms ≡ true
 admits vrf comms target i j = any_from (λ comm. has vrf.targets (of_comm comm)) target.0 comms i (among_has vrf.targets target j)
 
-pub admitted_target : (vrf : Vrf) (comms : List ExtComm) → is_admitted vrf comms ≡ true → (target : Target) × Among target.0 comms × Among target vrf.targets
+pub admitted_target : (vrf : Vrf) (comms : List ExtComm) → is_admitted vrf comms ≡ true
+    → (target : Target) × Among target.0 comms × Among target vrf.targets
 admitted_target vrf comms h =
     let by = any_among (λ comm. has vrf.targets (of_comm comm)) comms h in
     (of_comm by.0, by.1, has_among vrf.targets (of_comm by.0) by.2)
@@ -86,7 +89,9 @@ some_target [] h = absurd (omega (arith, h))
 some_target (target ∷ more) h = (target, inl refl)
 
 -- a VRF admits what another one of its VPN originates
-pub vpn_admits : (vrf other : Vrf) (more : List ExtComm) → 0 < length vrf.targets → same vrf.targets other.targets ≡ true → is_admitted other (target_comms vrf ++ more) ≡ true
+pub vpn_admits : (vrf other : Vrf) (more : List ExtComm) → 0 < length vrf.targets → same vrf.targets other.targets ≡ true
+    → is_admitted other (target_comms vrf ++ more) ≡ true
 vpn_admits vrf other more some h =
     let t = some_target vrf.targets some in
-    admits other (target_comms vrf ++ more) t.0 (among_front t.0.0 (target_comms vrf) more (comms_among vrf t.0 t.1)) ((within vrf.targets other.targets h).0 t.0 t.1)
+    admits other (target_comms vrf ++ more) t.0 (among_front t.0.0 (target_comms vrf) more (comms_among vrf t.0 t.1))
+    ((within vrf.targets other.targets h).0 t.0 t.1)

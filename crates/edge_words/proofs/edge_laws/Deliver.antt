@@ -35,7 +35,9 @@ module _ (network : EdgeNetwork) (a b : NodeId) (change : Change Key Value) (res
   after = refreshed (place_of network b) network.clock (record (network.node b) { peers = maps.insert (network.node b).peers a table })
 
   left_here : (left.direction a b).transit ≡ rest
-  left_here = cond-true ((a.0 == a.0) && (b.0 == b.0)) rest (network.direction a b).transit (and_from (a.0 == a.0) (b.0 == b.0) (node_itself a a refl) (node_itself b b refl))
+  left_here =
+      cond-true ((a.0 == a.0) && (b.0 == b.0)) rest (network.direction a b).transit
+      (and_from (a.0 == a.0) (b.0 == b.0) (node_itself a a refl) (node_itself b b refl))
 
   left_there : (u v : NodeId) → ((u.0 == a.0) && (v.0 == b.0)) ≡ false → (left.direction u v).transit ≡ (network.direction u v).transit
   left_there u v e = cond-false ((u.0 == a.0) && (v.0 == b.0)) rest (network.direction u v).transit e
@@ -43,40 +45,69 @@ module _ (network : EdgeNetwork) (a b : NodeId) (change : Change Key Value) (res
   other_view : (u v : NodeId) (key : Key) → ((u.0 == a.0) && (v.0 == b.0)) ≡ false → ViewAt network u v key → ViewAt left u v key
   other_view u v key e view = along refl refl refl refl refl refl (ap (values_at key_cmp key) (left_there u v e)) view
 
-  far_here : maps.get (network.node b).peers a ≡ Some taken → (network.direction a b).transit ≡ change ∷ rest → (key : Key) → ViewAt network a b key → FarView left b after a key
+  far_here : maps.get (network.node b).peers a ≡ Some taken → (network.direction a b).transit ≡ change ∷ rest → (key : Key) → ViewAt network a b key
+      → FarView left b after a key
   far_here is all key view =
       let e = put_own (network.node b).peers a table in
-      along refl refl (ap is_some e) refl refl (ap (λ (o : Option Taken). maps.get (table_in o) key) e ∙ change_taken network.clock taken change key) (ap (values_at key_cmp key) left_here)
-      (taken_view network.clock network.scenario.delay (network.direction a b).joined (is_up (network.node a) b) _ (maps.get (told (place_of network a) (network.node a) b) key)
+      along refl refl (ap is_some e) refl refl (ap (λ (o : Option Taken). maps.get (table_in o) key) e ∙ change_taken network.clock taken change key)
+      (ap (values_at key_cmp key) left_here)
+      (taken_view network.clock network.scenario.delay (network.direction a b).joined (is_up (network.node a) b) _
+      (maps.get (told (place_of network a) (network.node a) b) key)
       (selected_at (place_of network a) (network.node a) key) (maps.get taken key) (value_of change) (values_at key_cmp key rest)
-      (along refl refl (ap is_some (sym is)) refl refl (ap (λ (o : Option Taken). maps.get (table_in o) key) (sym is)) (ap (values_at key_cmp key) (sym all)) view))
+      (along refl refl (ap is_some (sym is)) refl refl (ap (λ (o : Option Taken). maps.get (table_in o) key) (sym is))
+      (ap (values_at key_cmp key) (sym all)) view))
 
   follows : Follow left b after
-  follows = record { selections = λ pattern. stays network.clock (maps.get (network.node b).selections pattern); ends = λ v i e. inl (put_down (network.node b).peers a table v e) }
+  follows =
+      record {
+        selections = λ pattern. stays network.clock (maps.get (network.node b).selections pattern);
+        ends =
+            λ v i e. inl (put_down (network.node b).peers a table v e);
+      }
 
-  taken_views : a ≢ b → maps.get (network.node b).peers a ≡ Some taken → (network.direction a b).transit ≡ change ∷ rest → Rule network → (u v : NodeId) (key : Key) → u ≢ v → ViewAt (behind left b after) u v key
+  taken_views : a ≢ b → maps.get (network.node b).peers a ≡ Some taken → (network.direction a b).transit ≡ change ∷ rest → Rule network
+      → (u v : NodeId) (key : Key) → u ≢ v → ViewAt (behind left b after) u v key
   taken_views ne is all rule =
       behind_views left b after rule.scenario follows
       (λ v key i. other_view b v key (and_left (b.0 == a.0) (v.0 == b.0) (node_apart b a (λ e. ne (sym e)))) (rule.view b v key i))
       (λ u key i. elim (node_cases u a) [
         | inl f ↦ subst (λ x. FarView left b after x key) (sym f) (far_here is all key (rule.view a b key ne))
-        | inr f ↦ far_same left b after u key (put_other (network.node b).peers a table u f) (other_view u b key (and_left (u.0 == a.0) (b.0 == b.0) (node_apart u a f)) (rule.view u b key i))
+        | inr f ↦ far_same left b after u key (put_other (network.node b).peers a table u f)
+            (other_view u b key (and_left (u.0 == a.0) (b.0 == b.0) (node_apart u a f)) (rule.view u b key i))
       ])
       (λ u v key i f g. other_view u v key (and_right (u.0 == a.0) (v.0 == b.0) (node_apart v b g)) (rule.view u v key i))
 
-  step_is : maps.get (network.node b).peers a ≡ Some taken → control_step (place_of left b) left.clock (left.node b) (steps.Update a (message_of change)) ≡ after
+  step_is : maps.get (network.node b).peers a ≡ Some taken
+      → control_step (place_of left b) left.clock (left.node b) (steps.Update a (message_of change)) ≡ after
   step_is is =
-      ap (λ (o : Option Taken). refreshed (place_of network b) network.clock (elim o [ None ↦ network.node b | Some own ↦ record (network.node b) { peers = maps.insert (network.node b).peers a (fold (taken_change network.clock) own (changes_of (message_of change))) } ])) is
+      ap (λ (o : Option Taken). refreshed (place_of network b) network.clock
+      (elim o [
+        | None ↦ network.node b
+        | Some own ↦
+            record (network.node b) {
+              peers = maps.insert (network.node b).peers a
+                  (fold (taken_change network.clock) own (changes_of (message_of change)));
+            }
+      ])) is
 
-  pub taken_rule : a ≢ b → maps.get (network.node b).peers a ≡ Some taken → (network.direction a b).transit ≡ change ∷ rest → Rule network → Rule (behind left b (control_step (place_of left b) left.clock (left.node b) (steps.Update a (message_of change))))
+  pub taken_rule : a ≢ b → maps.get (network.node b).peers a ≡ Some taken → (network.direction a b).transit ≡ change ∷ rest → Rule network
+      → Rule (behind left b (control_step (place_of left b) left.clock (left.node b) (steps.Update a (message_of change))))
   taken_rule ne is all rule =
-      subst (λ control. Rule (behind left b control)) (sym (step_is is)) (record { view = taken_views ne is all rule; alike = rule.alike; ends = behind_ends left b after follows rule.ends; scenario = rule.scenario })
+      subst (λ control. Rule (behind left b control)) (sym (step_is is))
+      (record {
+        view = taken_views ne is all rule;
+        alike = rule.alike;
+        ends = behind_ends left b after follows rule.ends;
+        scenario =
+            rule.scenario;
+      })
 
 held_by : {X : Type 0} (o : Option X) → is_some o ≡ true → (x : X) × (o ≡ Some x)
 held_by None e = absurd cc
 held_by (Some x) e = (x, refl)
 
-pub deliver_rule : (network : EdgeNetwork) (a b : NodeId) (same up : Bool) (list : List (Change Key Value)) → (a.0 == b.0) ≡ same → is_up (network.node b) a ≡ up → (network.direction a b).transit ≡ list → Rule network → Rule (delivered network a b same up list)
+pub deliver_rule : (network : EdgeNetwork) (a b : NodeId) (same up : Bool) (list : List (Change Key Value)) → (a.0 == b.0) ≡ same
+    → is_up (network.node b) a ≡ up → (network.direction a b).transit ≡ list → Rule network → Rule (delivered network a b same up list)
 deliver_rule network a b true up list s u e rule = rule
 deliver_rule network a b false false list s u e rule = rule
 deliver_rule network a b false true [] s u e rule = rule

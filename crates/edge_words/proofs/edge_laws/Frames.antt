@@ -33,12 +33,14 @@ node_there n new node other ne = cond-false (other.0 == n.0) new (node other) (n
 -- what is seen where the edge is the sender, and where it is the receiver, once it is this
 abbrev pub NearView : EdgeNetwork → NodeId → Control → NodeId → Key → Type 0
 NearView network n new b key =
-    View network.clock network.scenario.delay (network.direction n b).joined (is_up new b) (is_up (network.node b) n) (maps.get (told (place_of network n) new b) key)
+    View network.clock network.scenario.delay (network.direction n b).joined (is_up new b) (is_up (network.node b) n)
+    (maps.get (told (place_of network n) new b) key)
     (selected_at (place_of network n) new key) (maps.get (taken_from (network.node b) n) key) (values_at key_cmp key (network.direction n b).transit)
 
 abbrev pub FarView : EdgeNetwork → NodeId → Control → NodeId → Key → Type 0
 FarView network n new a key =
-    View network.clock network.scenario.delay (network.direction a n).joined (is_up (network.node a) n) (is_up new a) (maps.get (told (place_of network a) (network.node a) n) key)
+    View network.clock network.scenario.delay (network.direction a n).joined (is_up (network.node a) n) (is_up new a)
+    (maps.get (told (place_of network a) (network.node a) n) key)
     (selected_at (place_of network a) (network.node a) key) (maps.get (taken_from new a) key) (values_at key_cmp key (network.direction a n).transit)
 
 pub node_views : (network : EdgeNetwork) (n : NodeId) (new : Control)
@@ -52,19 +54,25 @@ node_views network n new near far other a b key ne =
           (let apart : n ≢ b = λ i. ne (e ∙ i) in
           let here = node_here n new network.node in
           let there = node_there n new network.node b (λ i. apart (sym i)) in
-          along refl (ap (λ (control : Control). is_up control b) here) (ap (λ (control : Control). is_up control n) there) (ap (λ (control : Control). maps.get (told (place_of network n) control b) key) here)
-          (ap (λ (control : Control). selected_at (place_of network n) control key) here) (ap (λ (control : Control). maps.get (taken_from control n) key) there) refl (near b key apart))
+          along refl (ap (λ (control : Control). is_up control b) here) (ap (λ (control : Control). is_up control n) there)
+          (ap (λ (control : Control). maps.get (told (place_of network n) control b) key) here)
+          (ap (λ (control : Control). selected_at (place_of network n) control key) here)
+          (ap (λ (control : Control). maps.get (taken_from control n) key) there) refl (near b key apart))
       | inr e ↦
           (let stays = node_there n new network.node a e in
           elim (node_cases b n) [
             | inl f ↦ subst (λ x. ViewAt after a x key) (sym f)
                 (let here = node_here n new network.node in
-                along refl (ap (λ (control : Control). is_up control n) stays) (ap (λ (control : Control). is_up control a) here) (ap (λ (control : Control). maps.get (told (place_of network a) control n) key) stays)
-                (ap (λ (control : Control). selected_at (place_of network a) control key) stays) (ap (λ (control : Control). maps.get (taken_from control a) key) here) refl (far a key e))
+                along refl (ap (λ (control : Control). is_up control n) stays) (ap (λ (control : Control). is_up control a) here)
+                (ap (λ (control : Control). maps.get (told (place_of network a) control n) key) stays)
+                (ap (λ (control : Control). selected_at (place_of network a) control key) stays)
+                (ap (λ (control : Control). maps.get (taken_from control a) key) here) refl (far a key e))
             | inr f ↦
                 (let there = node_there n new network.node b f in
-                along refl (ap (λ (control : Control). is_up control b) stays) (ap (λ (control : Control). is_up control a) there) (ap (λ (control : Control). maps.get (told (place_of network a) control b) key) stays)
-                (ap (λ (control : Control). selected_at (place_of network a) control key) stays) (ap (λ (control : Control). maps.get (taken_from control a) key) there) refl (other a b key ne e f))
+                along refl (ap (λ (control : Control). is_up control b) stays) (ap (λ (control : Control). is_up control a) there)
+                (ap (λ (control : Control). maps.get (told (place_of network a) control b) key) stays)
+                (ap (λ (control : Control). selected_at (place_of network a) control key) stays)
+                (ap (λ (control : Control). maps.get (taken_from control a) key) there) refl (other a b key ne e f))
           ])
     ]
 
@@ -75,37 +83,51 @@ abbrev pub put_in : EdgeNetwork → NodeId → Control → EdgeNetwork
 put_in network n new =
     record network {
       direction = λ from to. record (network.direction from to) {
-        transit = if (from.0 == n.0) && (network.direction from to).joined then (network.direction from to).transit ++ put_to (place_of network n) (network.node n) new to else (network.direction from to).transit;
+        transit =
+            if (from.0 == n.0) && (network.direction from to).joined then (network.direction from to).transit
+            ++ put_to (place_of network n) (network.node n) new to else (network.direction from to).transit;
       };
     }
 
-values_cond : (key : Key) (b : Bool) (xs ys : List (Change Key Value)) → values_at key_cmp key (cond b (xs ++ ys) xs) ≡ cond b (values_at key_cmp key xs ++ values_at key_cmp key ys) (values_at key_cmp key xs)
+values_cond : (key : Key) (b : Bool) (xs ys : List (Change Key Value))
+    → values_at key_cmp key (cond b (xs ++ ys) xs) ≡ cond b (values_at key_cmp key xs ++ values_at key_cmp key ys) (values_at key_cmp key xs)
 values_cond key true xs ys = values_at-append key_cmp key xs ys
 values_cond key false xs ys = refl
 
-put_here : (network : EdgeNetwork) (n : NodeId) (new : Control) (b : NodeId) (key : Key) → values_at key_cmp key ((put_in network n new).direction n b).transit
-    ≡ cond (network.direction n b).joined (values_at key_cmp key (network.direction n b).transit ++ values_at key_cmp key (put_to (place_of network n) (network.node n) new b)) (values_at key_cmp key (network.direction n b).transit)
+put_here : (network : EdgeNetwork) (n : NodeId) (new : Control) (b : NodeId) (key : Key)
+    → values_at key_cmp key ((put_in network n new).direction n b).transit
+    ≡ cond (network.direction n b).joined (values_at key_cmp key (network.direction n b).transit
+    ++ values_at key_cmp key (put_to (place_of network n) (network.node n) new b)) (values_at key_cmp key (network.direction n b).transit)
 put_here network n new b key =
     let old = (network.direction n b).transit in
     let put = put_to (place_of network n) (network.node n) new b in
-    ap (λ c. values_at key_cmp key (cond (c && (network.direction n b).joined) (old ++ put) old)) (node_itself n n refl) ∙ values_cond key (network.direction n b).joined old put
+    ap (λ c. values_at key_cmp key (cond (c && (network.direction n b).joined) (old ++ put) old)) (node_itself n n refl)
+    ∙ values_cond key (network.direction n b).joined old put
 
-put_there : (network : EdgeNetwork) (n : NodeId) (new : Control) (a b : NodeId) (key : Key) → a ≢ n → values_at key_cmp key ((put_in network n new).direction a b).transit ≡ values_at key_cmp key (network.direction a b).transit
+put_there : (network : EdgeNetwork) (n : NodeId) (new : Control) (a b : NodeId) (key : Key) → a ≢ n
+    → values_at key_cmp key ((put_in network n new).direction a b).transit ≡ values_at key_cmp key (network.direction a b).transit
 put_there network n new a b key ne =
-    ap (λ c. values_at key_cmp key (cond (c && (network.direction a b).joined) ((network.direction a b).transit ++ put_to (place_of network n) (network.node n) new b) (network.direction a b).transit)) (node_apart a n ne)
+    ap (λ c. values_at key_cmp key (cond (c && (network.direction a b).joined)
+    ((network.direction a b).transit ++ put_to (place_of network n) (network.node n) new b) (network.direction a b).transit)) (node_apart a n ne)
 
 module _ (network : EdgeNetwork) (n : NodeId) (new : Control) (b : NodeId) (key : Key) where
-  put_up : is_up new b ≡ true → values_at key_cmp key (put_to (place_of network n) (network.node n) new b) ≡ difference same_value (maps.get (told (place_of network n) (network.node n) b) key) (maps.get (told (place_of network n) new b) key)
+  put_up : is_up new b ≡ true → values_at key_cmp key (put_to (place_of network n) (network.node n) new b)
+      ≡ difference same_value (maps.get (told (place_of network n) (network.node n) b) key) (maps.get (told (place_of network n) new b) key)
   put_up e =
       let old : Table = told (place_of network n) (network.node n) b in
       let next : Table = told (place_of network n) new b in
       ap (values_at key_cmp key) (cond-true (is_up new b) (changes same_value old next) [] e) ∙ values_at-changes key_total same_value old next key
 
   put_down : is_up new b ≡ false → values_at key_cmp key (put_to (place_of network n) (network.node n) new b) ≡ []
-  put_down e = ap (values_at key_cmp key) (cond-false (is_up new b) (changes same_value (told (place_of network n) (network.node n) b) (told (place_of network n) new b)) [] e)
+  put_down e =
+      ap (values_at key_cmp key) (cond-false (is_up new b)
+      (changes same_value (told (place_of network n) (network.node n) b) (told (place_of network n) new b)) [] e)
 
-pub told_down : (network : EdgeNetwork) (n : NodeId) (control : Control) (b : NodeId) (key : Key) → is_up control b ≡ false → maps.get (told (place_of network n) control b) key ≡ None
-told_down network n control b key e = ap (λ (table : Table). maps.get table key) (cond-false (is_up control b) (held_for (place_of network n) control b) maps.empty e) ∙ get-empty key_cmp key
+pub told_down : (network : EdgeNetwork) (n : NodeId) (control : Control) (b : NodeId) (key : Key) → is_up control b ≡ false
+    → maps.get (told (place_of network n) control b) key ≡ None
+told_down network n control b key e =
+    ap (λ (table : Table). maps.get table key) (cond-false (is_up control b) (held_for (place_of network n) control b) maps.empty e)
+    ∙ get-empty key_cmp key
 
 -- ---- a step
 
@@ -114,13 +136,17 @@ pub record Follow (network : EdgeNetwork) (n : NodeId) (new : Control) : Type 0 
   pub selections : AllFollow network.clock (network.node n).selections new.selections
   pub ends : (b : NodeId) → n ≢ b → is_up new b ≡ false → (is_up (network.node n) b ≡ false) ⊎ ((network.direction n b).joined ≡ false)
 
-pub near_put : (network : EdgeNetwork) (n : NodeId) (new : Control) → Rules network.scenario → Follow network n new → (b : NodeId) (key : Key) → n ≢ b → ViewAt network n b key → NearView (put_in network n new) n new b key
+pub near_put : (network : EdgeNetwork) (n : NodeId) (new : Control) → Rules network.scenario → Follow network n new → (b : NodeId) (key : Key) → n ≢ b
+    → ViewAt network n b key → NearView (put_in network n new) n new b key
 near_put network n new rules follow b key ne view =
     along refl refl refl refl refl refl (put_here network n new b key)
     (near_view network.clock network.scenario.delay (network.direction n b).joined (is_up (network.node n) b) (is_up new b) (is_up (network.node b) n)
-    (maps.get (told (place_of network n) (network.node n) b) key) (maps.get (told (place_of network n) new b) key) (selected_at (place_of network n) (network.node n) key) (selected_at (place_of network n) new key)
-    (maps.get (taken_from (network.node b) n) key) (values_at key_cmp key (network.direction n b).transit) (values_at key_cmp key (put_to (place_of network n) (network.node n) new b))
-    (picks (place_of network n) (network.node n) new network.clock b rules follow.selections key) (told_down network n (network.node n) b key) (put_up network n new b key) (put_down network n new b key) (follow.ends b ne) view)
+    (maps.get (told (place_of network n) (network.node n) b) key) (maps.get (told (place_of network n) new b) key)
+    (selected_at (place_of network n) (network.node n) key) (selected_at (place_of network n) new key)
+    (maps.get (taken_from (network.node b) n) key) (values_at key_cmp key (network.direction n b).transit)
+    (values_at key_cmp key (put_to (place_of network n) (network.node n) new b))
+    (picks (place_of network n) (network.node n) new network.clock b rules follow.selections key) (told_down network n (network.node n) b key)
+    (put_up network n new b key) (put_down network n new b key) (follow.ends b ne) view)
 
 -- the views behind a step, from those of what the edge takes
 pub behind_views : (network : EdgeNetwork) (n : NodeId) (new : Control) → Rules network.scenario → Follow network n new
@@ -148,7 +174,8 @@ views_of network rule = record { view = rule.view; alike = rule.alike; scenario 
 pub rule_from : (network : EdgeNetwork) → Views network → Ends network → Rule network
 rule_from network views ends = record { view = views.view; alike = views.alike; ends = ends; scenario = views.scenario }
 
-pub behind_kept : (network : EdgeNetwork) (n : NodeId) (new : Control) → Views network → Follow network n new → ((a : NodeId) (key : Key) → a ≢ n → FarView network n new a key) → Views (behind network n new)
+pub behind_kept : (network : EdgeNetwork) (n : NodeId) (new : Control) → Views network → Follow network n new
+    → ((a : NodeId) (key : Key) → a ≢ n → FarView network n new a key) → Views (behind network n new)
 behind_kept network n new views follow far = record {
   view = behind_views network n new views.scenario follow (λ b key ne. views.view n b key ne) far (λ a b key ne e f. views.view a b key ne);
   alike = views.alike;
@@ -171,6 +198,7 @@ behind_ends network n new follow ends a b ne joined = elim (node_cases a n) [
 ]
 
 -- a step of an edge of a network that meets the rule
-pub behind_rule : (network : EdgeNetwork) (n : NodeId) (new : Control) → Rule network → Follow network n new → ((a : NodeId) (key : Key) → a ≢ n → FarView network n new a key) → Rule (behind network n new)
+pub behind_rule : (network : EdgeNetwork) (n : NodeId) (new : Control) → Rule network → Follow network n new
+    → ((a : NodeId) (key : Key) → a ≢ n → FarView network n new a key) → Rule (behind network n new)
 behind_rule network n new rule follow far =
     rule_from (behind network n new) (behind_kept network n new (views_of network rule) follow far) (behind_ends network n new follow rule.ends)

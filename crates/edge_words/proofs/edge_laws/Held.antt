@@ -52,13 +52,15 @@ has_both key (e ∷ xs) ys =
 
 none_mapped : {A : Type 0} (key : Key) (f : A → Key × Value) → ((x : A) → key ≢ (f x).0) → (xs : List A) → has key (map f xs) ≡ false
 none_mapped key f ne [] = refl
-none_mapped key f ne (x ∷ xs) = ap (λ b. is_some (cond b (Some (f x).1) (find key_cmp key (map f xs)))) (other_key key_exact key (f x).0 (ne x)) ∙ none_mapped key f ne xs
+none_mapped key f ne (x ∷ xs) =
+    ap (λ b. is_some (cond b (Some (f x).1) (find key_cmp key (map f xs)))) (other_key key_exact key (f x).0 (ne x)) ∙ none_mapped key f ne xs
 
 abbrev IsOther : Key → Option (Key × Value) → Type 0
 IsOther key None = Unit {0}
 IsOther key (Some found) = key ≢ found.0
 
-none_one : (key : Key) (o : Option (Key × Value)) (rest : List (Key × Value)) → IsOther key o → has key rest ≡ false → has key (elim o [ None ↦ rest | Some found ↦ found ∷ rest ]) ≡ false
+none_one : (key : Key) (o : Option (Key × Value)) (rest : List (Key × Value)) → IsOther key o → has key rest ≡ false
+    → has key (elim o [ None ↦ rest | Some found ↦ found ∷ rest ]) ≡ false
 none_one key None rest h e = e
 none_one key (Some found) rest h e = ap (λ b. is_some (cond b (Some found.1) (find key_cmp key rest))) (other_key key_exact key found.0 h) ∙ e
 
@@ -76,7 +78,8 @@ split_and : (a b c : Bool) → ((a && b) || (a && c)) ≡ (a && (b || c))
 split_and true b c = refl
 split_and false b c = refl
 
-filtered_head : (key : Key) (b : Bool) (found : Key × Value) (rest : List (Key × Value)) → has key (cond b (found ∷ rest) rest) ≡ (cond b (eq_by_cmp key_cmp key found.0) false || has key rest)
+filtered_head : (key : Key) (b : Bool) (found : Key × Value) (rest : List (Key × Value))
+    → has key (cond b (found ∷ rest) rest) ≡ (cond b (eq_by_cmp key_cmp key found.0) false || has key rest)
 filtered_head key true found rest = has_head (eq_by_cmp key_cmp key found.0) found.1 (find key_cmp key rest)
 filtered_head key false found rest = refl
 
@@ -124,7 +127,8 @@ module _ (place : EdgePlace) (afi : Afi) (rd : Rd) (source group : Option Addr) 
       λ j. record { vrf = record { 0 = sym v j }; pattern = sym p j }
 
   -- an entry gives a route of the key where it is the selection of the VRF whose route has the key
-  entry_is : (own : OwnVrf) (entry : VrfPattern) → cond (entry.vrf.0 == own.id.0) (is_of own entry.pattern) false ≡ (is_of own pattern && eq_by_cmp pattern_cmp (at own) entry)
+  entry_is : (own : OwnVrf) (entry : VrfPattern)
+      → cond (entry.vrf.0 == own.id.0) (is_of own entry.pattern) false ≡ (is_of own pattern && eq_by_cmp pattern_cmp (at own) entry)
   entry_is own entry =
       elim (cases_Bool (eq_by_cmp pattern_cmp (at own) entry)) [
         | inl e ↦
@@ -133,7 +137,8 @@ module _ (place : EdgePlace) (afi : Afi) (rd : Rd) (source group : Option Addr) 
             ∙ ap (λ b. cond b (is_of own pattern) false) (eq-eqb own.id.0 own.id.0 refl)
             ∙ sym (and_all (is_of own pattern)) ∙ ap (λ b. is_of own pattern && b) (sym e))
         | inr e ↦
-            never (entry.vrf.0 == own.id.0) (is_of own entry.pattern) (λ v p. (let i = ap (eq_by_cmp pattern_cmp (at own)) (sym (one_at own entry v p)) ∙ own_key pattern_total (at own) in absurd (cc)))
+            never (entry.vrf.0 == own.id.0) (is_of own entry.pattern)
+            (λ v p. (let i = ap (eq_by_cmp pattern_cmp (at own)) (sym (one_at own entry v p)) ∙ own_key pattern_total (at own) in absurd (cc)))
             ∙ sym (and_nothing (is_of own pattern)) ∙ ap (λ b. is_of own pattern && b) (sym e)
       ]
 
@@ -141,7 +146,8 @@ module _ (place : EdgePlace) (afi : Afi) (rd : Rd) (source group : Option Addr) 
   route_by own entry = (selective_key place own.vrf entry.0.pattern, tunnel_value place own.vrf (tunnel_number own.vrf entry.1.number))
 
   selective_has : (own : OwnVrf) (es : List (VrfPattern × Selected))
-      → has route_key (map (route_by own) (filter (λ (entry : VrfPattern × Selected). entry.0.vrf.0 == own.id.0) es)) ≡ (is_of own pattern && is_some (find pattern_cmp (at own) es))
+      → has route_key (map (route_by own) (filter (λ (entry : VrfPattern × Selected). entry.0.vrf.0 == own.id.0) es))
+      ≡ (is_of own pattern && is_some (find pattern_cmp (at own) es))
   selective_has own [] = sym (and_nothing (is_of own pattern))
   selective_has own (e ∷ es) =
       let rest : List (VrfPattern × Selected) = filter (λ (entry : VrfPattern × Selected). entry.0.vrf.0 == own.id.0) es in
@@ -158,14 +164,17 @@ module _ (place : EdgePlace) (afi : Afi) (rd : Rd) (source group : Option Addr) 
 
   own_has : (control : Control) (own : OwnVrf) → has route_key (routes_of place control own) ≡ is_some (selected_in place control route_key own)
   own_has control own =
-      ap (λ b. is_some (cond b (Some (inclusive_route place own).1) (find key_cmp route_key (unicast_routes place own ++ (selective_routes place control own ++ active_routes place control own)))))
+      ap (λ b. is_some (cond b (Some (inclusive_route place own).1)
+      (find key_cmp route_key (unicast_routes place own ++ (selective_routes place control own ++ active_routes place control own)))))
       (other_key key_exact route_key (inclusive_route place own).0 (λ e. absurd cc))
       ∙ has_both route_key (unicast_routes place own) (selective_routes place control own ++ active_routes place control own)
       ∙ ap (λ b. b || has route_key (selective_routes place control own ++ active_routes place control own))
-      (none_mapped route_key (λ route. (Unicast own.vrf.rd route.prefix, unicast_value place own.vrf)) (λ route e. absurd cc) (local_routes place.scenario own.id))
+      (none_mapped route_key (λ route. (Unicast own.vrf.rd route.prefix, unicast_value place own.vrf)) (λ route e. absurd cc)
+      (local_routes place.scenario own.id))
       ∙ has_both route_key (selective_routes place control own) (active_routes place control own)
       ∙ ap (λ b. has route_key (selective_routes place control own) || b)
-      (none_mapped route_key (λ note. (active_key own.vrf note.source note.group, plain_value place own.vrf)) (λ note e. absurd cc) (notes_of place control own.id))
+      (none_mapped route_key (λ note. (active_key own.vrf note.source note.group, plain_value place own.vrf)) (λ note e. absurd cc)
+      (notes_of place control own.id))
       ∙ or_nothing (has route_key (selective_routes place control own))
       ∙ selective_has own (maps.entries control.selections)
       ∙ ap (λ o. is_of own pattern && is_some o) (sym (get-entries control.selections (at own)))
@@ -175,7 +184,8 @@ module _ (place : EdgePlace) (afi : Afi) (rd : Rd) (source group : Option Addr) 
   first_some None rest = refl
   first_some (Some found) rest = refl
 
-  all_has : (control : Control) (owns : List OwnVrf) → has route_key (flat_map (routes_of place control) owns) ≡ is_some (first_selected place control route_key owns)
+  all_has : (control : Control) (owns : List OwnVrf)
+      → has route_key (flat_map (routes_of place control) owns) ≡ is_some (first_selected place control route_key owns)
   all_has control [] = refl
   all_has control (own ∷ more) =
       has_both route_key (routes_of place control own) (flat_map (routes_of place control) more)
@@ -189,10 +199,12 @@ module _ (place : EdgePlace) (afi : Afi) (rd : Rd) (source group : Option Addr) 
   other_join peer (flow, Some (Remote edge own import source_as)) = other_cond route_key (edge.0 == peer.0) _ (λ e. absurd cc)
 
   -- the table has the key exactly where a selection has it
-  pub held_has : (control : Control) (peer : NodeId) → is_some (maps.get (held_for place control peer) route_key) ≡ is_some (selected_at place control route_key)
+  pub held_has : (control : Control) (peer : NodeId)
+      → is_some (maps.get (held_for place control peer) route_key) ≡ is_some (selected_at place control route_key)
   held_has control peer =
       ap is_some (get-from_entries key_total (originated place control ++ join_routes place control peer) route_key)
       ∙ has_both route_key (originated place control) (join_routes place control peer)
-      ∙ ap (λ b. has route_key (originated place control) || b) (none_found route_key (join_route place peer) (other_join peer) (maps.entries control.flows))
+      ∙ ap (λ b. has route_key (originated place control) || b)
+      (none_found route_key (join_route place peer) (other_join peer) (maps.entries control.flows))
       ∙ or_nothing (has route_key (originated place control))
       ∙ all_has control (own_vrfs place)

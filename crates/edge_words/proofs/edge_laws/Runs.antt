@@ -15,25 +15,31 @@ use Rattle.edge_words.proofs.edge_laws.Deliver.{deliver_rule}
 use Rattle.edge_words.proofs.edge_laws.Sessions.{lose_rule, notice_rule, raise_rule, restart_rule, tick_rule}
 
 -- a step that leaves the selections and the tables that were taken
-plain_rule : (network : EdgeNetwork) (n : NodeId) (new : Control) → new.peers ≡ (network.node n).peers → new.selections ≡ (network.node n).selections → Rule network → Rule (behind network n new)
-plain_rule network n new peers selections rule = still_rule network n new peers (λ pattern selected e. stays network.clock (maps.get (network.node n).selections pattern) selected (ap (λ (all : FinMap pattern_cmp Selected). maps.get all pattern) (sym selections) ∙ e)) rule
+plain_rule : (network : EdgeNetwork) (n : NodeId) (new : Control) → new.peers ≡ (network.node n).peers → new.selections ≡ (network.node n).selections
+    → Rule network → Rule (behind network n new)
+plain_rule network n new peers selections rule =
+    still_rule network n new peers (λ pattern selected e. stays network.clock (maps.get (network.node n).selections pattern) selected
+    (ap (λ (all : FinMap pattern_cmp Selected). maps.get all pattern) (sym selections) ∙ e)) rule
 
 -- what an edge holds for its peers does not depend on the core that it knows, but on the flows that it keeps
 pub core_rule : (network : EdgeNetwork) (n : NodeId) (core : Core) → Rule network → Rule (with_core n core network)
 core_rule network n core rule = record { view = rule.view; alike = rule.alike; ends = rule.ends; scenario = rule.scenario }
 
 pub act_rule : (network : EdgeNetwork) (next : Act) → Rule network → Rule (act network next)
-act_rule network (Deliver a b) rule = deliver_rule network a b (a.0 == b.0) (is_up (network.node b) a) (network.direction a b).transit refl refl refl rule
+act_rule network (Deliver a b) rule =
+    deliver_rule network a b (a.0 == b.0) (is_up (network.node b) a) (network.direction a b).transit refl refl refl rule
 act_rule network (Label n neighbour message) rule = plain_rule network n _ refl refl rule
 act_rule network (LabelRaise n neighbour) rule = plain_rule network n _ refl refl rule
 act_rule network (LabelNotice n neighbour) rule = plain_rule network n _ refl refl rule
 act_rule network (Pim n iface message) rule = plain_rule network n _ refl refl rule
 act_rule network (Active n iface source group) rule = plain_rule network n _ refl refl rule
 act_rule network (Idle n iface source group) rule = plain_rule network n _ refl refl rule
-act_rule network (Select n vrf pattern) rule = select_rule network n vrf pattern (is_some (maps.get (network.node n).selections (record { vrf = vrf; pattern = pattern }))) refl rule
+act_rule network (Select n vrf pattern) rule =
+    select_rule network n vrf pattern (is_some (maps.get (network.node n).selections (record { vrf = vrf; pattern = pattern }))) refl rule
 act_rule network (Unselect n vrf pattern) rule = unselect_rule network n vrf pattern rule
 act_rule network (Lose a b) rule = lose_rule network a b rule
-act_rule network (Notice a b) rule = notice_rule network a b ((network.direction a b).joined || (network.direction b a).joined) (is_up (network.node a) b) refl rule
+act_rule network (Notice a b) rule =
+    notice_rule network a b ((network.direction a b).joined || (network.direction b a).joined) (is_up (network.node a) b) refl rule
 act_rule network (Raise a b) rule = raise_rule network a b (a.0 == b.0) (is_up (network.node a) b) (is_up (network.node b) a) refl refl refl rule
 act_rule network (Restart n) rule = restart_rule network n rule
 act_rule network (Tick ticks) rule = tick_rule network ticks rule

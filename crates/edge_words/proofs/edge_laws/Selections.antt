@@ -32,7 +32,9 @@ use Rattle.edge_words.specs.edge_laws.Rule.{selected_in, first_selected}
 
 -- the selection was made when the one before it was, or it is new
 abbrev pub Follows : ℕ → Option Selected → Option Selected → Type 0
-Follows clock old new = (selected : Selected) → new ≡ Some selected → ((before : Selected) × (old ≡ Some before) × (before.since ≡ selected.since)) ⊎ ((old ≡ None) × (selected.since ≤ clock))
+Follows clock old new =
+    (selected : Selected) → new ≡ Some selected → ((before : Selected) × (old ≡ Some before) × (before.since ≡ selected.since))
+    ⊎ ((old ≡ None) × (selected.since ≤ clock))
 
 -- so of each pattern
 abbrev pub AllFollow : ℕ → FinMap pattern_cmp Selected → FinMap pattern_cmp Selected → Type 0
@@ -44,32 +46,40 @@ stays clock old selected e = inl (selected, e, refl)
 pub gone : (clock : ℕ) (old new : Option Selected) → new ≡ None → Follows clock old new
 gone clock old new none selected e = absurd cc
 
-made : (clock : ℕ) (old : Option Selected) (new : Selected) (b : Bool) → new.since ≡ clock → (b ≡ true → old ≡ None) → Follows clock old (cond b (Some new) old)
+made : (clock : ℕ) (old : Option Selected) (new : Selected) (b : Bool) → new.since ≡ clock → (b ≡ true → old ≡ None)
+    → Follows clock old (cond b (Some new) old)
 made clock old new false since none selected e = stays clock old selected e
 made clock old new true since none selected e = inr (none refl, (let i : selected.since ≡ clock = cc in omega arith))
 
 -- a pattern that is not selected is selected
-pub selects : (clock : ℕ) (vrf : VrfId) (pattern : Pattern) (old : FinMap pattern_cmp Selected) → maps.get old (record { vrf = vrf; pattern = pattern }) ≡ None → AllFollow clock old (with_selection clock vrf pattern old)
+pub selects : (clock : ℕ) (vrf : VrfId) (pattern : Pattern) (old : FinMap pattern_cmp Selected)
+    → maps.get old (record { vrf = vrf; pattern = pattern }) ≡ None → AllFollow clock old (with_selection clock vrf pattern old)
 selects clock vrf pattern old none own =
     let at : VrfPattern = record { vrf = vrf; pattern = pattern } in
-    let new : Selected = record { number = free_number (λ number. list_any (is_used vrf number) (maps.entries old)) (maps.len old) 1; since = clock; run = false } in
+    let new : Selected =
+    record { number = free_number (λ number. list_any (is_used vrf number) (maps.entries old)) (maps.len old) 1; since = clock; run = false } in
     subst (Follows clock (maps.get old own)) (sym (get-insert pattern_total old at new own))
-    (made clock (maps.get old own) new (eq_by_cmp pattern_cmp own at) refl (λ e. sym (get_tied pattern_total old own at (equal (pattern_cmp own at) e)) ∙ none))
+    (made clock (maps.get old own) new (eq_by_cmp pattern_cmp own at) refl
+    (λ e. sym (get_tied pattern_total old own at (equal (pattern_cmp own at) e)) ∙ none))
 
 removed : (clock : ℕ) (old : Option Selected) (b : Bool) → Follows clock old (cond b None old)
 removed clock old true = gone clock old None refl
 removed clock old false = stays clock old
 
 pub unselects : (clock : ℕ) (at : VrfPattern) (old : FinMap pattern_cmp Selected) → AllFollow clock old (maps.remove old at)
-unselects clock at old own = subst (Follows clock (maps.get old own)) (sym (get-remove pattern_total old at own)) (removed clock (maps.get old own) (eq_by_cmp pattern_cmp own at))
+unselects clock at old own =
+    subst (Follows clock (maps.get old own)) (sym (get-remove pattern_total old at own))
+    (removed clock (maps.get old own) (eq_by_cmp pattern_cmp own at))
 
 -- an entry of a map whose values are changed
-mapped_head : {V W : Type 0} (b : Bool) (value : V) (f : V → W) (rest : Option V) → cond b (Some (f value)) (option_map f rest) ≡ option_map f (cond b (Some value) rest)
+mapped_head : {V W : Type 0} (b : Bool) (value : V) (f : V → W) (rest : Option V)
+    → cond b (Some (f value)) (option_map f rest) ≡ option_map f (cond b (Some value) rest)
 mapped_head true value f rest = refl
 mapped_head false value f rest = refl
 
 find_run : (delay clock : ℕ) (own : VrfPattern) (es : List (VrfPattern × Selected))
-    → find pattern_cmp own (map (λ (entry : VrfPattern × Selected). (entry.0, selection_run delay clock entry.1)) es) ≡ option_map (selection_run delay clock) (find pattern_cmp own es)
+    → find pattern_cmp own (map (λ (entry : VrfPattern × Selected). (entry.0, selection_run delay clock entry.1)) es)
+    ≡ option_map (selection_run delay clock) (find pattern_cmp own es)
 find_run delay clock own [] = refl
 find_run delay clock own (e ∷ es) =
     ap (cond (eq_by_cmp pattern_cmp own e.0) (Some (selection_run delay clock e.1))) (find_run delay clock own es)
@@ -83,7 +93,8 @@ runs_one clock delay now (Some before) selected e = inl (before, refl, (let i : 
 pub runs : (clock delay now : ℕ) (old : FinMap pattern_cmp Selected) → AllFollow clock old (selections_run delay now old)
 runs clock delay now old own =
     subst (Follows clock (maps.get old own))
-    (sym (get-from_entries pattern_total (map (λ (entry : VrfPattern × Selected). (entry.0, selection_run delay now entry.1)) (maps.entries old)) own ∙ find_run delay now own (maps.entries old)
+    (sym (get-from_entries pattern_total (map (λ (entry : VrfPattern × Selected). (entry.0, selection_run delay now entry.1)) (maps.entries old)) own
+    ∙ find_run delay now own (maps.entries old)
     ∙ ap (option_map (selection_run delay now)) (sym (get-entries old own))))
     (runs_one clock delay now (maps.get old own))
 
@@ -97,10 +108,13 @@ abbrev pub Distinct : List OwnVrf → Type 0
 Distinct [] = Unit {0}
 Distinct (own ∷ more) = AllByRecursion (λ (other : OwnVrf). own.vrf.rd ≢ other.vrf.rd) more × Distinct more
 
-apart_from : (me : NodeId) (vrf : Vrf) → vrf.edge.0 ≡ me.0 → (vrfs : List Vrf) → AllByRecursion (AreApart vrf) vrfs → (number : ℕ) → AllByRecursion (λ (other : OwnVrf). vrf.rd ≢ other.vrf.rd) (vrfs_from me number vrfs)
+apart_from : (me : NodeId) (vrf : Vrf) → vrf.edge.0 ≡ me.0 → (vrfs : List Vrf) → AllByRecursion (AreApart vrf) vrfs → (number : ℕ)
+    → AllByRecursion (λ (other : OwnVrf). vrf.rd ≢ other.vrf.rd) (vrfs_from me number vrfs)
 apart_from me vrf is [] h number = tt
 apart_from me vrf is (next ∷ more) h number =
-    elim (next.edge.0 == me.0) as (λ b. (next.edge.0 == me.0) ≡ b → AllByRecursion (λ (other : OwnVrf). vrf.rd ≢ other.vrf.rd) (cond b (record { id = record { 0 = number }; vrf = next } ∷ vrfs_from me (number + 1) more) (vrfs_from me (number + 1) more))) [
+    elim (next.edge.0 == me.0) as (λ b. (next.edge.0 == me.0) ≡ b
+    → AllByRecursion (λ (other : OwnVrf). vrf.rd ≢ other.vrf.rd)
+    (cond b (record { id = record { 0 = number }; vrf = next } ∷ vrfs_from me (number + 1) more) (vrfs_from me (number + 1) more))) [
       | true ↦ λ e. (h.0.rds (is ∙ sym (eqb-true next.edge.0 me.0 e)), apart_from me vrf is more h.1 (number + 1))
       | false ↦ λ e. apart_from me vrf is more h.1 (number + 1)
     ] refl
@@ -110,7 +124,8 @@ own_distinct me [] h number = tt
 own_distinct me (vrf ∷ more) h number =
     let rest = own_distinct me more (λ i j d below within. h (suc i) (suc j) d (omega arith) (omega arith)) (number + 1) in
     let all : All (AreApart vrf) more = λ j d within. h zero (suc j) d (omega arith) (omega arith) in
-    elim (vrf.edge.0 == me.0) as (λ b. (vrf.edge.0 == me.0) ≡ b → Distinct (cond b (record { id = record { 0 = number }; vrf = vrf } ∷ vrfs_from me (number + 1) more) (vrfs_from me (number + 1) more))) [
+    elim (vrf.edge.0 == me.0) as (λ b. (vrf.edge.0 == me.0) ≡ b
+    → Distinct (cond b (record { id = record { 0 = number }; vrf = vrf } ∷ vrfs_from me (number + 1) more) (vrfs_from me (number + 1) more))) [
       | true ↦ λ e. (apart_from me vrf (eqb-true vrf.edge.0 me.0 e) more (recursion_from_All (AreApart vrf) more all) (number + 1), rest)
       | false ↦ λ e. rest
     ] refl
@@ -131,19 +146,24 @@ module _ (place : EdgePlace) (afi : Afi) (rd : Rd) (source group : Option Addr) 
   one_rd own e = (let i : route_key ≡ selective_key place own.vrf pattern = one_key key_exact route_key (selective_key place own.vrf pattern) e in cc)
 
   not_of : (own other : OwnVrf) → is_of own ≡ true → own.vrf.rd ≢ other.vrf.rd → is_of other ≡ false
-  not_of own other e ne = elim (is_of other) as (λ b. is_of other ≡ b → b ≡ false) [ true ↦ λ i. absurd (ne (sym (one_rd own e) ∙ one_rd other i)) | false ↦ λ i. refl ] refl
+  not_of own other e ne =
+      elim (is_of other) as (λ b. is_of other ≡ b → b ≡ false) [ true ↦ λ i. absurd (ne (sym (one_rd own e) ∙ one_rd other i)) | false ↦ λ i. refl ]
+      refl
 
-  none_among : (control : Control) (own : OwnVrf) → is_of own ≡ true → (owns : List OwnVrf) → AllByRecursion (λ (other : OwnVrf). own.vrf.rd ≢ other.vrf.rd) owns → first_selected place control route_key owns ≡ None
+  none_among : (control : Control) (own : OwnVrf) → is_of own ≡ true → (owns : List OwnVrf)
+      → AllByRecursion (λ (other : OwnVrf). own.vrf.rd ≢ other.vrf.rd) owns → first_selected place control route_key owns ≡ None
   none_among control own e [] h = refl
   none_among control own e (other ∷ more) h =
-      ap (λ b. elim (cond b (maps.get control.selections (record { vrf = other.id; pattern = pattern })) None) [ None ↦ first_selected place control route_key more | Some found ↦ Some found ]) (not_of own other e h.0)
+      ap (λ b. elim (cond b (maps.get control.selections (record { vrf = other.id; pattern = pattern })) None)
+      [ None ↦ first_selected place control route_key more | Some found ↦ Some found ]) (not_of own other e h.0)
       ∙ none_among control own e more h.1
 
   or_none : (o : Option Selected) → elim o [ None ↦ None | Some found ↦ Some found ] ≡ o
   or_none None = refl
   or_none (Some found) = refl
 
-  pub first_follows : (clock : ℕ) (old new : Control) (owns : List OwnVrf) → Distinct owns → AllFollow clock old.selections new.selections → Follows clock (first_selected place old route_key owns) (first_selected place new route_key owns)
+  pub first_follows : (clock : ℕ) (old new : Control) (owns : List OwnVrf) → Distinct owns → AllFollow clock old.selections new.selections
+      → Follows clock (first_selected place old route_key owns) (first_selected place new route_key owns)
   first_follows clock old new [] distinct follow = stays clock None
   first_follows clock old new (own ∷ more) distinct follow =
       let at : VrfPattern = record { vrf = own.id; pattern = pattern } in
@@ -152,14 +172,21 @@ module _ (place : EdgePlace) (afi : Afi) (rd : Rd) (source group : Option Addr) 
       (elim (cond b (maps.get new.selections at) None) [ None ↦ first_selected place new route_key more | Some found ↦ Some found ])) [
         | false ↦ λ e. first_follows clock old new more distinct.1 follow
         | true ↦ λ e.
-            (let h : Follows clock (elim (maps.get old.selections at) [ None ↦ None | Some found ↦ Some found ]) (elim (maps.get new.selections at) [ None ↦ None | Some found ↦ Some found ]) =
-            subst (λ o. Follows clock o (elim (maps.get new.selections at) [ None ↦ None | Some found ↦ Some found ])) (sym (or_none (maps.get old.selections at)))
+            (let h : Follows clock (elim (maps.get old.selections at) [ None ↦ None | Some found ↦ Some found ])
+            (elim (maps.get new.selections at) [ None ↦ None | Some found ↦ Some found ]) =
+            subst (λ o. Follows clock o (elim (maps.get new.selections at) [ None ↦ None | Some found ↦ Some found ]))
+            (sym (or_none (maps.get old.selections at)))
             (subst (Follows clock (maps.get old.selections at)) (sym (or_none (maps.get new.selections at))) (follow at)) in
-            subst (λ o. Follows clock (elim (maps.get old.selections at) [ None ↦ o | Some found ↦ Some found ]) (elim (maps.get new.selections at) [ None ↦ first_selected place new route_key more | Some found ↦ Some found ])) (sym (none_among old own e more distinct.0))
-            (subst (λ o. Follows clock (elim (maps.get old.selections at) [ None ↦ None | Some found ↦ Some found ]) (elim (maps.get new.selections at) [ None ↦ o | Some found ↦ Some found ])) (sym (none_among new own e more distinct.0)) h))
+            subst (λ o. Follows clock (elim (maps.get old.selections at) [ None ↦ o | Some found ↦ Some found ])
+            (elim (maps.get new.selections at) [ None ↦ first_selected place new route_key more | Some found ↦ Some found ]))
+            (sym (none_among old own e more distinct.0))
+            (subst (λ o. Follows clock (elim (maps.get old.selections at) [ None ↦ None | Some found ↦ Some found ])
+            (elim (maps.get new.selections at) [ None ↦ o | Some found ↦ Some found ])) (sym (none_among new own e more distinct.0)) h))
       ] refl
 
 -- keys of other kinds have none
-pub none_selected : (place : EdgePlace) (control : Control) (key : Key) → ((own : OwnVrf) → selected_in place control key own ≡ None) → (owns : List OwnVrf) → first_selected place control key owns ≡ None
+pub none_selected : (place : EdgePlace) (control : Control) (key : Key) → ((own : OwnVrf) → selected_in place control key own ≡ None)
+    → (owns : List OwnVrf) → first_selected place control key owns ≡ None
 none_selected place control key none [] = refl
-none_selected place control key none (own ∷ more) = ap (λ o. elim o [ None ↦ first_selected place control key more | Some found ↦ Some found ]) (none own) ∙ none_selected place control key none more
+none_selected place control key none (own ∷ more) =
+    ap (λ o. elim o [ None ↦ first_selected place control key more | Some found ↦ Some found ]) (none own) ∙ none_selected place control key none more

@@ -30,17 +30,22 @@ use Rattle.edge_words.proofs.edge_laws.Steps.{raised_kept, raised_own, raised_ot
 
 -- ---- losses
 
-cut_at : (network : EdgeNetwork) (u v : NodeId) (key : Key) (joined hit : Bool) (transit : List (Change Key Value)) → (network.direction u v).joined ≡ joined → (network.direction u v).transit ≡ transit → ViewAt network u v key
-    → View network.clock network.scenario.delay (joined && not hit) (is_up (network.node u) v) (is_up (network.node v) u) (maps.get (told (place_of network u) (network.node u) v) key)
-    (selected_at (place_of network u) (network.node u) key) (maps.get (taken_from (network.node v) u) key) (values_at key_cmp key (cond hit [] transit))
+cut_at : (network : EdgeNetwork) (u v : NodeId) (key : Key) (joined hit : Bool) (transit : List (Change Key Value))
+    → (network.direction u v).joined ≡ joined → (network.direction u v).transit ≡ transit → ViewAt network u v key
+    → View network.clock network.scenario.delay (joined && not hit) (is_up (network.node u) v) (is_up (network.node v) u)
+    (maps.get (told (place_of network u) (network.node u) v) key)
+    (selected_at (place_of network u) (network.node u) key) (maps.get (taken_from (network.node v) u) key)
+    (values_at key_cmp key (cond hit [] transit))
 cut_at network u v key true false transit e f view = along (sym e) refl refl refl refl refl (ap (values_at key_cmp key) (sym f)) view
 cut_at network u v key false false transit e f view = along (sym e) refl refl refl refl refl (ap (values_at key_cmp key) (sym f)) view
 cut_at network u v key true true transit e f view = cut_view _ _ _ _ _ _ _ _ _ view
 cut_at network u v key false true transit e f view = cut_view _ _ _ _ _ _ _ _ _ view
 
-pub cut_rule : (network : EdgeNetwork) (hit : NodeId → NodeId → Bool) → ((u v : NodeId) → hit u v ≡ hit v u) → Rule network → Rule (unjoined hit network)
+pub cut_rule : (network : EdgeNetwork) (hit : NodeId → NodeId → Bool) → ((u v : NodeId) → hit u v ≡ hit v u) → Rule network
+    → Rule (unjoined hit network)
 cut_rule network hit turned rule = record {
-  view = λ u v key ne. cut_at network u v key (network.direction u v).joined (hit u v) (network.direction u v).transit refl refl (rule.view u v key ne);
+  view = λ u v key ne. cut_at network u v key (network.direction u v).joined (hit u v) (network.direction u v).transit refl refl
+      (rule.view u v key ne);
   alike = λ u v. ap (λ b. b && not (hit u v)) (rule.alike u v) ∙ ap (λ b. (network.direction v u).joined && not b) (turned u v);
   ends = λ u v ne e. rule.ends u v ne (and_parts (network.direction u v).joined (not (hit u v)) e).0;
   scenario = rule.scenario;
@@ -53,46 +58,61 @@ none_left : (x y : Bool) → (x || y) ≡ false → (x ≡ false) × (y ≡ fals
 none_left true y e = absurd cc
 none_left false y e = (refl, e)
 
-pub notice_rule : (network : EdgeNetwork) (a b : NodeId) (joined up : Bool) → ((network.direction a b).joined || (network.direction b a).joined) ≡ joined → Rule network → Rule (noticed network a b joined up)
+pub notice_rule : (network : EdgeNetwork) (a b : NodeId) (joined up : Bool)
+    → ((network.direction a b).joined || (network.direction b a).joined) ≡ joined → Rule network → Rule (noticed network a b joined up)
 notice_rule network a b true up e rule = rule
 notice_rule network a b false false e rule = rule
-notice_rule network a b false true e rule = (let off = none_left (network.direction a b).joined (network.direction b a).joined e in noticed_rule network a b off.0 off.1 rule)
+notice_rule network a b false true e rule =
+    (let off = none_left (network.direction a b).joined (network.direction b a).joined e in noticed_rule network a b off.0 off.1 rule)
 
 -- ---- raises
 
-join_at : (network : EdgeNetwork) (u v : NodeId) (key : Key) (joined hit : Bool) → (network.direction u v).joined ≡ joined → (hit ≡ true → (is_up (network.node u) v ≡ false) × (is_up (network.node v) u ≡ false)) → ViewAt network u v key
-    → View network.clock network.scenario.delay (joined || hit) (is_up (network.node u) v) (is_up (network.node v) u) (maps.get (told (place_of network u) (network.node u) v) key)
-    (selected_at (place_of network u) (network.node u) key) (maps.get (taken_from (network.node v) u) key) (values_at key_cmp key (network.direction u v).transit)
+join_at : (network : EdgeNetwork) (u v : NodeId) (key : Key) (joined hit : Bool) → (network.direction u v).joined ≡ joined
+    → (hit ≡ true → (is_up (network.node u) v ≡ false) × (is_up (network.node v) u ≡ false)) → ViewAt network u v key
+    → View network.clock network.scenario.delay (joined || hit) (is_up (network.node u) v) (is_up (network.node v) u)
+    (maps.get (told (place_of network u) (network.node u) v) key)
+    (selected_at (place_of network u) (network.node u) key) (maps.get (taken_from (network.node v) u) key)
+    (values_at key_cmp key (network.direction u v).transit)
 join_at network u v key true hit e off view = along (sym e) refl refl refl refl refl refl view
 join_at network u v key false false e off view = along (sym e) refl refl refl refl refl refl view
 join_at network u v key false true e off view =
     let down = off refl in
     along refl down.0 down.1 refl refl refl refl (join_view _ _ _ _ _ _ _ (along refl (sym down.0) (sym down.1) refl refl refl refl view))
 
-pair_off : (network : EdgeNetwork) (a b u v : NodeId) → is_up (network.node a) b ≡ false → is_up (network.node b) a ≡ false → is_between a b u v ≡ true → (is_up (network.node u) v ≡ false) × (is_up (network.node v) u ≡ false)
+pair_off : (network : EdgeNetwork) (a b u v : NodeId) → is_up (network.node a) b ≡ false → is_up (network.node b) a ≡ false
+    → is_between a b u v ≡ true → (is_up (network.node u) v ≡ false) × (is_up (network.node v) u ≡ false)
 pair_off network a b u v p r e =
     elim (or_cases ((u.0 == a.0) && (v.0 == b.0)) ((u.0 == b.0) && (v.0 == a.0)) e) [
       | inl x ↦
           (let y = and_parts (u.0 == a.0) (v.0 == b.0) x in
           let i = node_equal u a y.0 in
-          let j = node_equal v b y.1 in
-          (ap (λ z. is_up (network.node z) v) i ∙ ap (λ z. is_up (network.node a) z) j ∙ p, ap (λ z. is_up (network.node z) u) j ∙ ap (λ z. is_up (network.node b) z) i ∙ r))
+          let j = node_equal v b y.1 in (
+            ap (λ z. is_up (network.node z) v) i ∙ ap (λ z. is_up (network.node a) z) j ∙ p,
+            ap (λ z. is_up (network.node z) u) j
+                ∙ ap (λ z. is_up (network.node b) z) i ∙ r,
+          ))
       | inr x ↦
           (let y = and_parts (u.0 == b.0) (v.0 == a.0) x in
           let i = node_equal u b y.0 in
-          let j = node_equal v a y.1 in
-          (ap (λ z. is_up (network.node z) v) i ∙ ap (λ z. is_up (network.node b) z) j ∙ r, ap (λ z. is_up (network.node z) u) j ∙ ap (λ z. is_up (network.node a) z) i ∙ p))
+          let j = node_equal v a y.1 in (
+            ap (λ z. is_up (network.node z) v) i ∙ ap (λ z. is_up (network.node b) z) j ∙ r,
+            ap (λ z. is_up (network.node z) u) j
+                ∙ ap (λ z. is_up (network.node a) z) i ∙ p,
+          ))
     ]
 
-join_kept : (network : EdgeNetwork) (a b : NodeId) → is_up (network.node a) b ≡ false → is_up (network.node b) a ≡ false → Views network → Views (with_joined a b network)
+join_kept : (network : EdgeNetwork) (a b : NodeId) → is_up (network.node a) b ≡ false → is_up (network.node b) a ≡ false → Views network
+    → Views (with_joined a b network)
 join_kept network a b p r views = record {
-  view = λ u v key ne. join_at network u v key (network.direction u v).joined (is_between a b u v) refl (pair_off network a b u v p r) (views.view u v key ne);
+  view = λ u v key ne. join_at network u v key (network.direction u v).joined (is_between a b u v) refl (pair_off network a b u v p r)
+      (views.view u v key ne);
   alike = λ u v. ap (λ x. x || is_between a b u v) (views.alike u v) ∙ ap (λ x. (network.direction v u).joined || x) (between_swap a b u v);
   scenario = views.scenario;
 }
 
 -- both ends of the session come up, and no other one goes down
-raise_ends : (network : EdgeNetwork) (a b : NodeId) → Ends network → Ends (stepped (stepped (with_joined a b network) a (steps.Raised kinds.Bgp b)) b (steps.Raised kinds.Bgp a))
+raise_ends : (network : EdgeNetwork) (a b : NodeId) → Ends network
+    → Ends (stepped (stepped (with_joined a b network) a (steps.Raised kinds.Bgp b)) b (steps.Raised kinds.Bgp a))
 raise_ends network a b ends u v ne e =
     let joined : EdgeNetwork = with_joined a b network in
     let first : EdgeNetwork = stepped joined a (steps.Raised kinds.Bgp b) in
@@ -102,14 +122,16 @@ raise_ends network a b ends u v ne e =
       | inr new ↦ elim (or_cases ((u.0 == a.0) && (v.0 == b.0)) ((u.0 == b.0) && (v.0 == a.0)) new) [
         | inl x ↦
             (let y = and_parts (u.0 == a.0) (v.0 == b.0) x in
-            ap (λ z. is_up (second.node z) v) (node_equal u a y.0) ∙ ap (λ z. is_up (second.node a) z) (node_equal v b y.1) ∙ raised_other first b a a b (raised_own joined a b))
+            ap (λ z. is_up (second.node z) v) (node_equal u a y.0) ∙ ap (λ z. is_up (second.node a) z) (node_equal v b y.1)
+            ∙ raised_other first b a a b (raised_own joined a b))
         | inr x ↦
             (let y = and_parts (u.0 == b.0) (v.0 == a.0) x in
             ap (λ z. is_up (second.node z) v) (node_equal u b y.0) ∙ ap (λ z. is_up (second.node b) z) (node_equal v a y.1) ∙ raised_own first b a)
       ]
     ]
 
-pub raise_rule : (network : EdgeNetwork) (a b : NodeId) (same up other : Bool) → (a.0 == b.0) ≡ same → is_up (network.node a) b ≡ up → is_up (network.node b) a ≡ other → Rule network → Rule (raised network a b same up other)
+pub raise_rule : (network : EdgeNetwork) (a b : NodeId) (same up other : Bool) → (a.0 == b.0) ≡ same → is_up (network.node a) b ≡ up
+    → is_up (network.node b) a ≡ other → Rule network → Rule (raised network a b same up other)
 raise_rule network a b true up other s p r rule = rule
 raise_rule network a b false true other s p r rule = rule
 raise_rule network a b false false true s p r rule = rule
@@ -118,7 +140,8 @@ raise_rule network a b false false false s p r rule =
     let first : EdgeNetwork = stepped joined a (steps.Raised kinds.Bgp b) in
     let ne : b ≢ a = λ e. (let t = node_itself a b (sym e) in absurd cc) in
     let off : is_up (first.node b) a ≡ false = ap (λ (control : Control). is_up control a) (node_there a _ joined.node b ne) ∙ r in
-    rule_from _ (raised_kept first b a off (raised_kept joined a b p (join_kept network a b p r (views_of network rule)))) (raise_ends network a b rule.ends)
+    rule_from _ (raised_kept first b a off (raised_kept joined a b p (join_kept network a b p r (views_of network rule))))
+    (raise_ends network a b rule.ends)
 
 -- ---- restarts
 
@@ -151,10 +174,13 @@ module _ (network : EdgeNetwork) (n : NodeId) (rule : Rule network) where
   near : (b : NodeId) (key : Key) → n ≢ b → NearView cut n no_control b key
   near b key ne =
       along (off_from b) refl refl refl refl refl refl
-      (near_view network.clock network.scenario.delay false (is_up (network.node n) b) (is_up no_control b) (is_up (network.node b) n) (maps.get (told (place_of network n) (network.node n) b) key)
-      (maps.get (told (place_of network n) no_control b) key) (selected_at (place_of network n) (network.node n) key) (selected_at (place_of network n) no_control key)
+      (near_view network.clock network.scenario.delay false (is_up (network.node n) b) (is_up no_control b) (is_up (network.node b) n)
+      (maps.get (told (place_of network n) (network.node n) b) key)
+      (maps.get (told (place_of network n) no_control b) key) (selected_at (place_of network n) (network.node n) key)
+      (selected_at (place_of network n) no_control key)
       (maps.get (taken_from (network.node b) n) key) (values_at key_cmp key (cut.direction n b).transit) []
-      (picks (place_of network n) (network.node n) no_control network.clock b rule.scenario (empties network.clock (network.node n).selections) key) (told_down network n (network.node n) b key)
+      (picks (place_of network n) (network.node n) no_control network.clock b rule.scenario (empties network.clock (network.node n).selections) key)
+      (told_down network n (network.node n) b key)
       (λ e. (let f = down b in absurd cc)) (λ e. refl) (λ e. inr refl)
       (along (sym (off_from b)) refl refl refl refl refl refl (cut_kept.view n b key ne)))
 

@@ -29,8 +29,10 @@ none_by false o e = refl
 
 nothing_in : (place : EdgePlace) (key : Key) (own : OwnVrf) → selected_in place no_control key own ≡ None
 nothing_in place (Mcast afi (routes.Selective rd source group originator)) own =
-    none_by (eq_by_cmp key_cmp (Mcast afi (routes.Selective rd source group originator)) (selective_key place own.vrf (record { source = source; group = group })))
-    (maps.get no_control.selections (record { vrf = own.id; pattern = record { source = source; group = group } })) (get-empty pattern_cmp (record { vrf = own.id; pattern = record { source = source; group = group } }))
+    none_by (eq_by_cmp key_cmp (Mcast afi (routes.Selective rd source group originator))
+    (selective_key place own.vrf (record { source = source; group = group })))
+    (maps.get no_control.selections (record { vrf = own.id; pattern = record { source = source; group = group } }))
+    (get-empty pattern_cmp (record { vrf = own.id; pattern = record { source = source; group = group } }))
 nothing_in place (Mcast afi (routes.Intra rd originator)) own = refl
 nothing_in place (Mcast afi (routes.Inter rd source_as)) own = refl
 nothing_in place (Mcast afi (routes.Leaf key originator)) own = refl
@@ -43,7 +45,8 @@ nothing_in place (Unicast rd prefix) own = refl
 nothing_taken : (a : NodeId) (key : Key) → maps.get (taken_from no_control a) key ≡ None
 nothing_taken a key = ap (λ (o : Option Taken). maps.get (table_in o) key) (get-empty node_cmp a) ∙ get-empty key_cmp key
 
-quiet_view : (clock delay : ℕ) (near far : Bool) (out : Option Value) (picked : Option Selected) (taken : Option TakenRoute) → picked ≡ None → taken ≡ None → View clock delay false near far out picked taken []
+quiet_view : (clock delay : ℕ) (near far : Bool) (out : Option Value) (picked : Option Selected) (taken : Option TakenRoute) → picked ≡ None
+    → taken ≡ None → View clock delay false near far out picked taken []
 quiet_view clock delay near far out picked taken p t = record {
   leads = λ e. absurd cc;
   blank = λ e. absurd cc;
@@ -55,13 +58,15 @@ quiet_view clock delay near far out picked taken p t = record {
 }
 
 abbrev start : Scenario → (NodeId → Core) → EdgeNetwork
-start scenario core = record { clock = 0; scenario = scenario; core = core; node = λ n. no_control; direction = λ a b. record { joined = false; transit = [] } }
+start scenario core =
+    record { clock = 0; scenario = scenario; core = core; node = λ n. no_control; direction = λ a b. record { joined = false; transit = [] } }
 
 pub start_rule : (scenario : Scenario) (core : NodeId → Core) → Rules scenario → Rule (start scenario core)
 start_rule scenario core rules = record {
   view = λ a b key ne.
       (let place : EdgePlace = place_of (start scenario core) a in
-      quiet_view 0 scenario.delay (is_up no_control b) (is_up no_control a) (maps.get (told place no_control b) key) (selected_at place no_control key) (maps.get (taken_from no_control a) key)
+      quiet_view 0 scenario.delay (is_up no_control b) (is_up no_control a) (maps.get (told place no_control b) key)
+      (selected_at place no_control key) (maps.get (taken_from no_control a) key)
       (none_selected place no_control key (nothing_in place key) (own_vrfs place)) (nothing_taken a key));
   alike = λ a b. refl;
   ends = λ a b ne e. absurd cc;

@@ -28,25 +28,33 @@ use Rattle.edge_words.proofs.edge_laws.Frames.{FarView, Views, node_here, node_t
 -- ---- steps that take nothing
 
 -- the same is seen where the same was taken
-pub far_same : (network : EdgeNetwork) (n : NodeId) (new : Control) (a : NodeId) (key : Key) → maps.get new.peers a ≡ maps.get (network.node n).peers a → ViewAt network a n key → FarView network n new a key
-far_same network n new a key e view = along refl refl (ap is_some e) refl refl (ap (λ (taken : Option Taken). maps.get (table_in taken) key) e) refl view
+pub far_same : (network : EdgeNetwork) (n : NodeId) (new : Control) (a : NodeId) (key : Key)
+    → maps.get new.peers a ≡ maps.get (network.node n).peers a → ViewAt network a n key → FarView network n new a key
+far_same network n new a key e view =
+    along refl refl (ap is_some e) refl refl (ap (λ (taken : Option Taken). maps.get (table_in taken) key) e) refl view
 
 -- where the peers stay
-pub still_rule : (network : EdgeNetwork) (n : NodeId) (new : Control) → new.peers ≡ (network.node n).peers → AllFollow network.clock (network.node n).selections new.selections → Rule network → Rule (behind network n new)
+pub still_rule : (network : EdgeNetwork) (n : NodeId) (new : Control) → new.peers ≡ (network.node n).peers
+    → AllFollow network.clock (network.node n).selections new.selections → Rule network → Rule (behind network n new)
 still_rule network n new same follow rule =
     behind_rule network n new rule
     (record { selections = follow; ends = λ b ne e. inl (ap (λ (peers : FinMap node_cmp Taken). is_some (maps.get peers b)) (sym same) ∙ e) })
     (λ a key ne. far_same network n new a key (ap (λ (peers : FinMap node_cmp Taken). maps.get peers a) same) (rule.view a n key ne))
 
-pub select_rule : (network : EdgeNetwork) (n : NodeId) (vrf : VrfId) (pattern : Pattern) (b : Bool) → is_some (maps.get (network.node n).selections (record { vrf = vrf; pattern = pattern })) ≡ b → Rule network → Rule (selected network n vrf pattern b)
+pub select_rule : (network : EdgeNetwork) (n : NodeId) (vrf : VrfId) (pattern : Pattern) (b : Bool)
+    → is_some (maps.get (network.node n).selections (record { vrf = vrf; pattern = pattern })) ≡ b → Rule network
+    → Rule (selected network n vrf pattern b)
 select_rule network n vrf pattern true e rule = rule
-select_rule network n vrf pattern false e rule = still_rule network n _ refl (selects network.clock vrf pattern (network.node n).selections (none_at _ e)) rule where
-  none_at : {X : Type 0} (o : Option X) → is_some o ≡ false → o ≡ None
-  none_at None e = refl
-  none_at (Some x) e = absurd cc
+select_rule network n vrf pattern false e rule =
+    still_rule network n _ refl (selects network.clock vrf pattern (network.node n).selections (none_at _ e)) rule where
+      none_at : {X : Type 0} (o : Option X) → is_some o ≡ false → o ≡ None
+      none_at None e = refl
+      none_at (Some x) e = absurd cc
 
-pub unselect_rule : (network : EdgeNetwork) (n : NodeId) (vrf : VrfId) (pattern : Pattern) → Rule network → Rule (stepped network n (steps.Unselect vrf pattern))
-unselect_rule network n vrf pattern rule = still_rule network n _ refl (unselects network.clock (record { vrf = vrf; pattern = pattern }) (network.node n).selections) rule
+pub unselect_rule : (network : EdgeNetwork) (n : NodeId) (vrf : VrfId) (pattern : Pattern) → Rule network
+    → Rule (stepped network n (steps.Unselect vrf pattern))
+unselect_rule network n vrf pattern rule =
+    still_rule network n _ refl (unselects network.clock (record { vrf = vrf; pattern = pattern }) (network.node n).selections) rule
 
 -- ---- timers
 
@@ -55,23 +63,32 @@ timers_rule network n rule =
     let place = place_of network n in
     let clock = network.clock in
     let old = network.node n in
-    let up : (peer : NodeId) → _ = λ peer. ap is_some (get-peers_run place clock old.peers peer) ∙ run_up place clock peer (maps.get old.peers peer) in
+    let up : (peer : NodeId) → _ =
+    λ peer. ap is_some (get-peers_run place clock old.peers peer) ∙ run_up place clock peer (maps.get old.peers peer) in
     behind_rule network n (control_step place clock old steps.Timers) rule
     (record { selections = runs clock network.scenario.delay clock old.selections; ends = λ b ne e. inl (sym (up b) ∙ e) })
     (λ a key ne.
-    along refl refl (up a) refl refl (ap (λ (taken : Option Taken). maps.get (table_in taken) key) (get-peers_run place clock old.peers a) ∙ run_taken place clock a key (maps.get old.peers a)) refl
-    (far_run clock network.scenario.delay (network.direction a n).joined (is_up (network.node a) n) (is_up old a) (maps.get (told (place_of network a) (network.node a) n) key)
-    (selected_at (place_of network a) (network.node a) key) (maps.get (taken_from old a) key) (values_at key_cmp key (network.direction a n).transit) (λ route. is_imported place a (key, route)) (rule.view a n key ne)))
+    along refl refl (up a) refl refl (ap (λ (taken : Option Taken). maps.get (table_in taken) key) (get-peers_run place clock old.peers a)
+    ∙ run_taken place clock a key (maps.get old.peers a)) refl
+    (far_run clock network.scenario.delay (network.direction a n).joined (is_up (network.node a) n) (is_up old a)
+    (maps.get (told (place_of network a) (network.node a) n) key)
+    (selected_at (place_of network a) (network.node a) key) (maps.get (taken_from old a) key) (values_at key_cmp key (network.direction a n).transit)
+    (λ route. is_imported place a (key, route)) (rule.view a n key ne)))
 
 -- ---- ends
 
 -- the end comes up
-pub raised_kept : (network : EdgeNetwork) (n peer : NodeId) → is_up (network.node n) peer ≡ false → Views network → Views (stepped network n (steps.Raised kinds.Bgp peer))
+pub raised_kept : (network : EdgeNetwork) (n peer : NodeId) → is_up (network.node n) peer ≡ false → Views network
+    → Views (stepped network n (steps.Raised kinds.Bgp peer))
 raised_kept network n peer off views =
     let old = network.node n in
     let new : Control = control_step (place_of network n) network.clock old (steps.Raised kinds.Bgp peer) in
     behind_kept network n new views
-    (record { selections = λ pattern. stays network.clock (maps.get old.selections pattern); ends = λ b ne e. inl (put_down old.peers peer maps.empty b e) })
+    (record {
+      selections = λ pattern. stays network.clock (maps.get old.selections pattern);
+      ends =
+          λ b ne e. inl (put_down old.peers peer maps.empty b e);
+    })
     (λ a key ne. elim (node_cases a peer) [
       | inr f ↦ far_same network n new a key (put_other old.peers peer maps.empty a f) (views.view a n key ne)
       | inl f ↦ subst (λ x. FarView network n new x key) (sym f)
@@ -88,18 +105,21 @@ raised_own network n peer =
     ap (λ (control : Control). is_up control peer) (node_here n new network.node) ∙ ap is_some (put_own old.peers peer maps.empty)
 
 -- ends that are up stay up
-pub raised_other : (network : EdgeNetwork) (n peer u v : NodeId) → is_up (network.node u) v ≡ true → is_up ((stepped network n (steps.Raised kinds.Bgp peer)).node u) v ≡ true
+pub raised_other : (network : EdgeNetwork) (n peer u v : NodeId) → is_up (network.node u) v ≡ true
+    → is_up ((stepped network n (steps.Raised kinds.Bgp peer)).node u) v ≡ true
 raised_other network n peer u v up =
     let old = network.node n in
     let new : Control = control_step (place_of network n) network.clock old (steps.Raised kinds.Bgp peer) in
     elim (node_cases u n) [
       | inl e ↦ ap (λ x. is_up (at_node n new network.node x) v) e ∙ ap (λ (control : Control). is_up control v) (node_here n new network.node)
-          ∙ still_up (is_up new v) (is_up old v) true (λ i. inl (put_down old.peers peer maps.empty v i)) (ap (λ x. is_up (network.node x) v) (sym e) ∙ up) refl
+          ∙ still_up (is_up new v) (is_up old v) true (λ i. inl (put_down old.peers peer maps.empty v i))
+          (ap (λ x. is_up (network.node x) v) (sym e) ∙ up) refl
       | inr e ↦ ap (λ (control : Control). is_up control v) (node_there n new network.node u e) ∙ up
     ]
 
 -- where the session is not joined, the loss is noticed
-pub noticed_rule : (network : EdgeNetwork) (n peer : NodeId) → (network.direction n peer).joined ≡ false → (network.direction peer n).joined ≡ false → Rule network → Rule (stepped network n (steps.Noticed kinds.Bgp peer))
+pub noticed_rule : (network : EdgeNetwork) (n peer : NodeId) → (network.direction n peer).joined ≡ false → (network.direction peer n).joined ≡ false
+    → Rule network → Rule (stepped network n (steps.Noticed kinds.Bgp peer))
 noticed_rule network n peer off back rule =
     let old = network.node n in
     let new : Control = control_step (place_of network n) network.clock old (steps.Noticed kinds.Bgp peer) in

@@ -39,14 +39,17 @@ one_vrf place own other iface a b of off =
 -- what is originated, of another control in which all that it rests on stands too
 moved : (place : EdgePlace) (old new : Control) (key : Key) (value : Value) (own : OwnVrf)
     → ((pattern : Pattern) (selected : Selected) → key ≡ selective_key place own.vrf pattern
-    → maps.get old.selections (record { vrf = own.id; pattern = pattern }) ≡ Some selected → maps.get new.selections (record { vrf = own.id; pattern = pattern }) ≡ Some selected)
+    → maps.get old.selections (record { vrf = own.id; pattern = pattern }) ≡ Some selected
+    → maps.get new.selections (record { vrf = own.id; pattern = pattern }) ≡ Some selected)
     → ((iface : IfaceId) (source group : Addr) → is_iface_of place.scenario own.id iface ≡ true → key ≡ active_key own.vrf source group
-    → sets.contains old.notes (record { iface = iface; source = source; group = group }) ≡ true → sets.contains new.notes (record { iface = iface; source = source; group = group }) ≡ true)
+    → sets.contains old.notes (record { iface = iface; source = source; group = group }) ≡ true
+    → sets.contains new.notes (record { iface = iface; source = source; group = group }) ≡ true)
     → IsOriginated place old own key value → IsOriginated place new own key value
 moved place old new key value own selected noted (Inclusive k v) = Inclusive k v
 moved place old new key value own selected noted (Unicast prefix site a k v) = Unicast prefix site a k v
 moved place old new key value own selected noted (Selective pattern chosen at k v) = Selective pattern chosen (selected pattern chosen k at) k v
-moved place old new key value own selected noted (Active iface source group of there k v) = Active iface source group of (noted iface source group of k there) k v
+moved place old new key value own selected noted (Active iface source group of there k v) =
+    Active iface source group of (noted iface source group of k there) k v
 
 module _ (place : EdgePlace) (rules : Rules place.scenario) (peer : NodeId) (control : Control) (own : OwnVrf) (a : Among own (own_vrfs place)) where
   -- ---- notes
@@ -65,7 +68,8 @@ module _ (place : EdgePlace) (rules : Rules place.scenario) (peer : NodeId) (con
         → q ≡ active_key other.vrf n.source n.group → eq_by_cmp note_cmp n note ≡ true → q ≡ active_key own.vrf source group
     note_key other q n b off k tied =
         let one : n ≡ note = one_key note_exact n note tied in
-        let vrf : other ≡ own = one_vrf place other own iface b a (subst (λ (m : Note). is_iface_of place.scenario other.id m.iface ≡ true) one off) of in
+        let vrf : other ≡ own =
+        one_vrf place other own iface b a (subst (λ (m : Note). is_iface_of place.scenario other.id m.iface ≡ true) one off) of in
         k ∙ (λ i. active_key (vrf i).vrf (one i).source (one i).group)
 
     noted_alike : AlikeBut place (active_key own.vrf source group) control with_note
@@ -76,7 +80,8 @@ module _ (place : EdgePlace) (rules : Rules place.scenario) (peer : NodeId) (con
         is =
             moved place control with_note q w by.own (λ pattern selected k at. at)
             (λ i s g off k there. sets.contains-insert note_total control.notes note (record { iface = i; source = s; group = g })
-            ∙ or_right (eq_by_cmp note_cmp (record { iface = i; source = s; group = g }) note) (sets.contains control.notes (record { iface = i; source = s; group = g })) there) by.is;
+            ∙ or_right (eq_by_cmp note_cmp (record { iface = i; source = s; group = g }) note)
+            (sets.contains control.notes (record { iface = i; source = s; group = g })) there) by.is;
       };
       back = λ q w ne by. record {
         own = by.own;
@@ -85,7 +90,8 @@ module _ (place : EdgePlace) (rules : Rules place.scenario) (peer : NodeId) (con
             moved place with_note control q w by.own (λ pattern selected k at. at)
             (λ i s g off k there.
             let n : Note = record { iface = i; source = s; group = g } in
-            elim (or_cases (eq_by_cmp note_cmp n note) (sets.contains control.notes n) (sym (sets.contains-insert note_total control.notes note n) ∙ there)) [
+            elim (or_cases (eq_by_cmp note_cmp n note) (sets.contains control.notes n)
+            (sym (sets.contains-insert note_total control.notes note n) ∙ there)) [
               | inl tied ↦ absurd (ne (note_key by.own q n by.among off k tied))
               | inr old ↦ old
             ]) by.is;
@@ -93,7 +99,8 @@ module _ (place : EdgePlace) (rules : Rules place.scenario) (peer : NodeId) (con
     }
 
     -- a note more: the edge holds the Source Active route of its VRF, source and group
-    pub noted : held_for place with_note peer ≡ maps.insert (held_for place control peer) (active_key own.vrf source group) (plain_value place own.vrf)
+    pub noted : held_for place with_note peer ≡ maps.insert (held_for place control peer) (active_key own.vrf source group)
+        (plain_value place own.vrf)
     noted = held_more place rules peer control with_note refl (active_key own.vrf source group) (plain_value place own.vrf) noted_alike (record {
       own = own;
       among = a;
@@ -102,7 +109,9 @@ module _ (place : EdgePlace) (rules : Rules place.scenario) (peer : NodeId) (con
     })
 
     kept_note : (n : Note) → sets.contains without_note.notes n ≡ true → sets.contains control.notes n ≡ true
-    kept_note n h = (and_parts (not (eq_by_cmp note_cmp n note)) (sets.contains control.notes n) (sym (sets.contains-remove note_total control.notes note n) ∙ h)).1
+    kept_note n h =
+        (and_parts (not (eq_by_cmp note_cmp n note)) (sets.contains control.notes n)
+        (sym (sets.contains-remove note_total control.notes note n) ∙ h)).1
 
     other_note : (n : Note) → eq_by_cmp note_cmp n note ≡ false → sets.contains control.notes n ≡ true → sets.contains without_note.notes n ≡ true
     other_note n apart h = sets.contains-remove note_total control.notes note n ∙ ap (λ (b : Bool). not b && sets.contains control.notes n) apart ∙ h
@@ -131,10 +140,14 @@ module _ (place : EdgePlace) (rules : Rules place.scenario) (peer : NodeId) (con
     }
 
     -- the last note of a VRF for a source and a group goes: the edge holds its Source Active route no longer
-    pub unnoted : (IsNotedBeside place control own note → ⊥) → held_for place without_note peer ≡ maps.remove (held_for place control peer) (active_key own.vrf source group)
-    unnoted none = held_less place rules peer control without_note refl (active_key own.vrf source group) refl unnoted_alike (λ value by. gone value by.own by.among by.is)
+    pub unnoted : (IsNotedBeside place control own note → ⊥)
+        → held_for place without_note peer ≡ maps.remove (held_for place control peer) (active_key own.vrf source group)
+    unnoted none =
+        held_less place rules peer control without_note refl (active_key own.vrf source group) refl unnoted_alike
+        (λ value by. gone value by.own by.among by.is)
       where
-        gone : (value : Value) (other : OwnVrf) → Among other (own_vrfs place) → IsOriginated place without_note other (active_key own.vrf source group) value → ⊥
+        gone : (value : Value) (other : OwnVrf) → Among other (own_vrfs place)
+            → IsOriginated place without_note other (active_key own.vrf source group) value → ⊥
         gone value other b (Inclusive k v) = absurd (let bad : 5 ≡ 1 = ap kind_of k in omega (arith, bad))
         gone value other b (Unicast prefix site c k v) = absurd (let bad : 5 ≡ 0 = ap kind_of k in omega (arith, bad))
         gone value other b (Selective pattern selected at k v) = absurd (let bad : 5 ≡ 3 = ap kind_of k in omega (arith, bad))
@@ -144,7 +157,9 @@ module _ (place : EdgePlace) (rules : Rules place.scenario) (peer : NodeId) (con
             let distinguishers : own.vrf.rd ≡ other.vrf.rd = ap rd_of k in
             let vrf : own ≡ other = one_rd place own other rules a b distinguishers in
             let n : Note = record { iface = i; source = s; group = g } in
-            let parts = and_parts (not (eq_by_cmp note_cmp n note)) (sets.contains control.notes n) (sym (sets.contains-remove note_total control.notes note n) ∙ there) in
+            let parts =
+            and_parts (not (eq_by_cmp note_cmp n note)) (sets.contains control.notes n)
+            (sym (sets.contains-remove note_total control.notes note n) ∙ there) in
             none (record {
               iface = i;
               of_vrf = subst (λ (o : OwnVrf). is_iface_of place.scenario o.id i ≡ true) (sym vrf) off;
@@ -173,7 +188,8 @@ module _ (place : EdgePlace) (rules : Rules place.scenario) (peer : NodeId) (con
         apart : eq_by_cmp note_cmp besides note ≡ false
         apart = other_key note_exact besides note (λ same. beside.other (ap (λ (n : Note). n.iface) same))
 
-        kept : (q : Key) (w : Value) (other : OwnVrf) → Among other (own_vrfs place) → IsOriginated place control other q w → IsOriginated place without_note other q w
+        kept : (q : Key) (w : Value) (other : OwnVrf) → Among other (own_vrfs place) → IsOriginated place control other q w
+            → IsOriginated place without_note other q w
         kept q w other b (Inclusive k v) = Inclusive k v
         kept q w other b (Unicast prefix site c k v) = Unicast prefix site c k v
         kept q w other b (Selective pattern selected at k v) = Selective pattern selected at k v
@@ -183,8 +199,10 @@ module _ (place : EdgePlace) (rules : Rules place.scenario) (peer : NodeId) (con
               | inr far ↦ Active i s g off (other_note n far there) k v
               | inl tied ↦
                   let one : n ≡ note = one_key note_exact n note tied in
-                  let vrf : other ≡ own = one_vrf place other own i b a off (subst (λ (m : Note). is_iface_of place.scenario own.id m.iface ≡ true) (sym one) of) in
-                  Active beside.iface source group (subst (λ (o : OwnVrf). is_iface_of place.scenario o.id beside.iface ≡ true) (sym vrf) beside.of_vrf)
+                  let vrf : other ≡ own =
+                  one_vrf place other own i b a off (subst (λ (m : Note). is_iface_of place.scenario own.id m.iface ≡ true) (sym one) of) in
+                  Active beside.iface source group (subst (λ (o : OwnVrf). is_iface_of place.scenario o.id beside.iface ≡ true) (sym vrf)
+                  beside.of_vrf)
                   (other_note besides apart beside.noted) (k ∙ (λ j. active_key other.vrf (one j).source (one j).group)) v
             ]
 
@@ -208,8 +226,12 @@ module _ (place : EdgePlace) (rules : Rules place.scenario) (peer : NodeId) (con
 
     -- a selection more: the edge holds its S-PMSI A-D route
     pub selected_more : (selected : Selected)
-        → held_for place (with_selected selected) peer ≡ maps.insert (held_for place control peer) (selective_key place own.vrf pattern) (tunnel_value place own.vrf (tunnel_number own.vrf selected.number))
-    selected_more selected = held_more place rules peer control (with_selected selected) refl (selective_key place own.vrf pattern) (tunnel_value place own.vrf (tunnel_number own.vrf selected.number))
+        → held_for place (with_selected selected) peer
+        ≡ maps.insert (held_for place control peer) (selective_key place own.vrf pattern)
+        (tunnel_value place own.vrf (tunnel_number own.vrf selected.number))
+    selected_more selected =
+        held_more place rules peer control (with_selected selected) refl (selective_key place own.vrf pattern)
+        (tunnel_value place own.vrf (tunnel_number own.vrf selected.number))
         (record {
           there = λ q w ne by. record {
             own = by.own;
@@ -217,7 +239,8 @@ module _ (place : EdgePlace) (rules : Rules place.scenario) (peer : NodeId) (con
             is =
                 moved place control (with_selected selected) q w by.own (λ p chosen k stands.
                 maps.get-insert pattern_total control.selections at selected (record { vrf = by.own.id; pattern = p })
-                ∙ ap (λ (b : Bool). cond b (Some selected) (maps.get control.selections (record { vrf = by.own.id; pattern = p }))) (pattern_apart by.own q p by.among ne k) ∙ stands)
+                ∙ ap (λ (b : Bool). cond b (Some selected) (maps.get control.selections (record { vrf = by.own.id; pattern = p })))
+                (pattern_apart by.own q p by.among ne k) ∙ stands)
                 (λ i s g off k there. there) by.is;
           };
           back = λ q w ne by. record {
@@ -226,7 +249,8 @@ module _ (place : EdgePlace) (rules : Rules place.scenario) (peer : NodeId) (con
             is =
                 moved place (with_selected selected) control q w by.own (λ p chosen k stands.
                 sym (maps.get-insert pattern_total control.selections at selected (record { vrf = by.own.id; pattern = p })
-                ∙ ap (λ (b : Bool). cond b (Some selected) (maps.get control.selections (record { vrf = by.own.id; pattern = p }))) (pattern_apart by.own q p by.among ne k)) ∙ stands)
+                ∙ ap (λ (b : Bool). cond b (Some selected) (maps.get control.selections (record { vrf = by.own.id; pattern = p })))
+                (pattern_apart by.own q p by.among ne k)) ∙ stands)
                 (λ i s g off k there. there) by.is;
           };
         })
@@ -234,7 +258,8 @@ module _ (place : EdgePlace) (rules : Rules place.scenario) (peer : NodeId) (con
           own = own;
           among = a;
           is = Selective pattern selected
-              (maps.get-insert pattern_total control.selections at selected at ∙ ap (λ (b : Bool). cond b (Some selected) (maps.get control.selections at)) (own_key pattern_total at)) refl refl;
+              (maps.get-insert pattern_total control.selections at selected at
+              ∙ ap (λ (b : Bool). cond b (Some selected) (maps.get control.selections at)) (own_key pattern_total at)) refl refl;
         })
 
     -- a selection less
@@ -247,7 +272,8 @@ module _ (place : EdgePlace) (rules : Rules place.scenario) (peer : NodeId) (con
             is =
                 moved place control without_selection q w by.own (λ p chosen k stands.
                 maps.get-remove pattern_total control.selections at (record { vrf = by.own.id; pattern = p })
-                ∙ ap (λ (b : Bool). cond b None (maps.get control.selections (record { vrf = by.own.id; pattern = p }))) (pattern_apart by.own q p by.among ne k) ∙ stands)
+                ∙ ap (λ (b : Bool). cond b None (maps.get control.selections (record { vrf = by.own.id; pattern = p })))
+                (pattern_apart by.own q p by.among ne k) ∙ stands)
                 (λ i s g off k there. there) by.is;
           };
           back = λ q w ne by. record {
@@ -256,13 +282,15 @@ module _ (place : EdgePlace) (rules : Rules place.scenario) (peer : NodeId) (con
             is =
                 moved place without_selection control q w by.own (λ p chosen k stands.
                 sym (maps.get-remove pattern_total control.selections at (record { vrf = by.own.id; pattern = p })
-                ∙ ap (λ (b : Bool). cond b None (maps.get control.selections (record { vrf = by.own.id; pattern = p }))) (pattern_apart by.own q p by.among ne k)) ∙ stands)
+                ∙ ap (λ (b : Bool). cond b None (maps.get control.selections (record { vrf = by.own.id; pattern = p })))
+                (pattern_apart by.own q p by.among ne k)) ∙ stands)
                 (λ i s g off k there. there) by.is;
           };
         })
         (λ value by. gone value by.own by.among by.is)
       where
-        gone : (value : Value) (other : OwnVrf) → Among other (own_vrfs place) → IsOriginated place without_selection other (selective_key place own.vrf pattern) value → ⊥
+        gone : (value : Value) (other : OwnVrf) → Among other (own_vrfs place)
+            → IsOriginated place without_selection other (selective_key place own.vrf pattern) value → ⊥
         gone value other b (Inclusive k v) = absurd (let bad : 3 ≡ 1 = ap kind_of k in omega (arith, bad))
         gone value other b (Unicast prefix site c k v) = absurd (let bad : 3 ≡ 0 = ap kind_of k in omega (arith, bad))
         gone value other b (Active i s g off there k v) = absurd (let bad : 3 ≡ 5 = ap kind_of k in omega (arith, bad))

@@ -22,7 +22,8 @@ use Rattle.edge_words.proofs.held_laws.Originated.{unicast_from, selective_from,
 
 -- ---- joins stand behind all else
 
-in_routes : (place : EdgePlace) (control : Control) (own : OwnVrf) (entry : Entry) → Among entry (routes_of place control own) → IsOriginated place control own entry.0 entry.1
+in_routes : (place : EdgePlace) (control : Control) (own : OwnVrf) (entry : Entry) → Among entry (routes_of place control own)
+    → IsOriginated place control own entry.0 entry.1
 in_routes place control own entry (inl e) = Inclusive (ap (λ (x : Entry). x.0) e) (ap (λ (x : Entry). x.1) e)
 in_routes place control own entry (inr b) =
     elim (among_either entry (unicast_routes place own) (selective_routes place control own ++ active_routes place control own) b) [
@@ -33,7 +34,8 @@ in_routes place control own entry (inr b) =
       ]
     ]
 
-find_behind : (key : Key) (xs ys : List Entry) → ((entry : Entry) → Among entry xs → key ≢ entry.0) → find key_cmp key (xs ++ ys) ≡ find key_cmp key ys
+find_behind : (key : Key) (xs ys : List Entry) → ((entry : Entry) → Among entry xs → key ≢ entry.0)
+    → find key_cmp key (xs ++ ys) ≡ find key_cmp key ys
 find_behind key [] ys none = refl
 find_behind key (x ∷ xs) ys none =
     ap (λ (b : Bool). cond b (Some x.1) (find key_cmp key (xs ++ ys))) (other_key key_exact key x.0 (none x (inl refl)))
@@ -66,7 +68,8 @@ module _ (place : EdgePlace) (rules : Rules place.scenario) (peer : NodeId) (old
       held_join place new peer q is
       ∙ ap (λ f. find key_cmp q (join_routes place (record old { flows = f }) peer)) flows ∙ sym (held_join place old peer q is)
 
-  others_stay : (key : Key) → AlikeBut place key old new → (q : Key) → q ≢ key → maps.get (held_for place new peer) q ≡ maps.get (held_for place old peer) q
+  others_stay : (key : Key) → AlikeBut place key old new → (q : Key) → q ≢ key
+      → maps.get (held_for place new peer) q ≡ maps.get (held_for place old peer) q
   others_stay key alike q ne = elim (cases_Bool (kind_of q == 7)) [
     | inl is ↦ joins_stay q is
     | inr not ↦ same_options (maps.get (held_for place new peer) q) (maps.get (held_for place old peer) q)
@@ -83,10 +86,13 @@ module _ (place : EdgePlace) (rules : Rules place.scenario) (peer : NodeId) (old
         | inl tied ↦
             (let one : q ≡ key = one_key key_exact q key tied in
             ap (maps.get (held_for place new peer)) one ∙ is_what_is_held place new peer key value rules by
-            ∙ sym (maps.get-insert key_total (held_for place old peer) key value q ∙ ap (λ (b : Bool). cond b (Some value) (maps.get (held_for place old peer) q)) tied))
+            ∙ sym (maps.get-insert key_total (held_for place old peer) key value q
+            ∙ ap (λ (b : Bool). cond b (Some value) (maps.get (held_for place old peer) q)) tied))
         | inr apart ↦
-            others_stay key alike q (λ one. let bad : true ≡ false = sym (ap (λ (x : Key). eq_by_cmp key_cmp x key) one ∙ own_key key_total key) ∙ apart in cc)
-            ∙ sym (maps.get-insert key_total (held_for place old peer) key value q ∙ ap (λ (b : Bool). cond b (Some value) (maps.get (held_for place old peer) q)) apart)
+            others_stay key alike q (λ one. let bad : true ≡ false =
+            sym (ap (λ (x : Key). eq_by_cmp key_cmp x key) one ∙ own_key key_total key) ∙ apart in cc)
+            ∙ sym (maps.get-insert key_total (held_for place old peer) key value q
+            ∙ ap (λ (b : Bool). cond b (Some value) (maps.get (held_for place old peer) q)) apart)
       ])
 
   -- one route less
@@ -98,15 +104,20 @@ module _ (place : EdgePlace) (rules : Rules place.scenario) (peer : NodeId) (old
         | inl tied ↦
             (let one : q ≡ key = one_key key_exact q key tied in
             ap (maps.get (held_for place new peer)) one
-            ∙ same_options (maps.get (held_for place new peer) key) None (λ w h. absurd (none w (held_is place new peer key w not h))) (λ w h. absurd cc)
-            ∙ sym (maps.get-remove key_total (held_for place old peer) key q ∙ ap (λ (b : Bool). cond b None (maps.get (held_for place old peer) q)) tied))
+            ∙ same_options (maps.get (held_for place new peer) key) None (λ w h. absurd (none w (held_is place new peer key w not h)))
+            (λ w h. absurd cc)
+            ∙ sym (maps.get-remove key_total (held_for place old peer) key q
+            ∙ ap (λ (b : Bool). cond b None (maps.get (held_for place old peer) q)) tied))
         | inr apart ↦
-            others_stay key alike q (λ one. let bad : true ≡ false = sym (ap (λ (x : Key). eq_by_cmp key_cmp x key) one ∙ own_key key_total key) ∙ apart in cc)
-            ∙ sym (maps.get-remove key_total (held_for place old peer) key q ∙ ap (λ (b : Bool). cond b None (maps.get (held_for place old peer) q)) apart)
+            others_stay key alike q (λ one. let bad : true ≡ false =
+            sym (ap (λ (x : Key). eq_by_cmp key_cmp x key) one ∙ own_key key_total key) ∙ apart in cc)
+            ∙ sym (maps.get-remove key_total (held_for place old peer) key q
+            ∙ ap (λ (b : Bool). cond b None (maps.get (held_for place old peer) q)) apart)
       ])
 
   -- the same routes
-  pub held_same : ((q : Key) (w : Value) → Originates place old q w → Originates place new q w) → ((q : Key) (w : Value) → Originates place new q w → Originates place old q w)
+  pub held_same : ((q : Key) (w : Value) → Originates place old q w → Originates place new q w)
+      → ((q : Key) (w : Value) → Originates place new q w → Originates place old q w)
       → held_for place new peer ≡ held_for place old peer
   held_same there back =
       maps.same_map key_total key_exact (held_for place new peer) (held_for place old peer) (λ q. elim (cases_Bool (kind_of q == 7)) [

@@ -41,7 +41,8 @@ selective_from place control own entry a =
 pub active_from : (place : EdgePlace) (control : Control) (own : OwnVrf) (entry : Entry) → Among entry (active_routes place control own)
     → IsOriginated place control own entry.0 entry.1
 active_from place control own entry a =
-    let by = map_among (λ (note : Note). (active_key own.vrf note.source note.group, plain_value place own.vrf)) entry (notes_of place control own.id) a in
+    let by = map_among (λ (note : Note). (active_key own.vrf note.source note.group, plain_value place own.vrf)) entry (notes_of place control own.id)
+    a in
     let passing = filter_among (λ (note : Note). is_iface_of place.scenario own.id note.iface) by.0 (in_order control.notes) by.1 in
     Active by.0.iface by.0.source by.0.group passing.1 (contained note_total note_exact control.notes by.0 passing.0)
     (ap (λ (e : Entry). e.0) by.2) (ap (λ (e : Entry). e.1) by.2)
@@ -51,7 +52,8 @@ originates : (place : EdgePlace) (control : Control) (peer : NodeId) (key : Key)
 originates place control peer key value not (OfInclusive own a e) =
     record { own = own; among = a; is = Inclusive (ap (λ (x : Entry). x.0) e) (ap (λ (x : Entry). x.1) e) }
 originates place control peer key value not (OfUnicast own a b) = record { own = own; among = a; is = unicast_from place control own (key, value) b }
-originates place control peer key value not (OfSelective own a b) = record { own = own; among = a; is = selective_from place control own (key, value) b }
+originates place control peer key value not (OfSelective own a b) =
+    record { own = own; among = a; is = selective_from place control own (key, value) b }
 originates place control peer key value not (OfActive own a b) = record { own = own; among = a; is = active_from place control own (key, value) b }
 originates place control peer key value not (OfJoin b) =
     absurd (let bad : true ≡ false = sym (eq-eqb (kind_of key) 7 (join_kind place control peer (key, value) b)) ∙ not in cc)
@@ -64,12 +66,18 @@ among_routes place control own key value (Inclusive k v) = inl (λ i. (k i, v i)
 among_routes place control own key value (Unicast prefix site a k v) =
     inr (among_front (key, value) (unicast_routes place own) (selective_routes place control own ++ active_routes place control own)
     (subst (λ (e : Entry). Among e (unicast_routes place own)) (λ i. (sym k i, sym v i))
-    (among_map (λ route. (keys.Unicast own.vrf.rd route.prefix, unicast_value place own.vrf)) (record { prefix = prefix; site = site }) (local_routes place.scenario own.id) a)))
+    (among_map (λ route. (keys.Unicast own.vrf.rd route.prefix, unicast_value place own.vrf)) (record { prefix = prefix; site = site })
+    (local_routes place.scenario own.id) a)))
 among_routes place control own key value (Selective pattern selected at k v) =
     let test : VrfPattern × Selected → Bool = λ e. e.0.vrf.0 == own.id.0 in
-    let passing = among_filter test (record { vrf = own.id; pattern = pattern }, selected) (maps.entries control.selections) (eq-eqb own.id.0 own.id.0 refl)
+    let passing =
+    among_filter test (record { vrf = own.id; pattern = pattern }, selected) (maps.entries control.selections) (eq-eqb own.id.0 own.id.0 refl)
     (get_entry pattern_exact control.selections (record { vrf = own.id; pattern = pattern }) selected at) in
-    let made = among_map (λ (e : VrfPattern × Selected). (selective_key place own.vrf e.0.pattern, tunnel_value place own.vrf (tunnel_number own.vrf e.1.number)))
+    let made =
+    among_map (λ (e : VrfPattern × Selected). (
+      selective_key place own.vrf e.0.pattern,
+      tunnel_value place own.vrf (tunnel_number own.vrf e.1.number),
+    ))
     (record { vrf = own.id; pattern = pattern }, selected) _ passing in
     inr (among_behind (key, value) (unicast_routes place own) (selective_routes place control own ++ active_routes place control own)
     (among_front (key, value) (selective_routes place control own) (active_routes place control own)
@@ -78,7 +86,8 @@ among_routes place control own key value (Active iface source group of noted k v
     let note : Note = record { iface = iface; source = source; group = group } in
     let test : Note → Bool = λ n. is_iface_of place.scenario own.id n.iface in
     let passing = among_filter test note (in_order control.notes) of (listed note_total note_exact control.notes note noted) in
-    let made = among_map (λ (n : Note). (active_key own.vrf n.source n.group, plain_value place own.vrf)) note (notes_of place control own.id) passing in
+    let made =
+    among_map (λ (n : Note). (active_key own.vrf n.source n.group, plain_value place own.vrf)) note (notes_of place control own.id) passing in
     inr (among_behind (key, value) (unicast_routes place own) (selective_routes place control own ++ active_routes place control own)
     (among_behind (key, value) (selective_routes place control own) (active_routes place control own)
     (subst (λ (e : Entry). Among e (active_routes place control own)) (λ i. (sym k i, sym v i)) made)))
@@ -93,13 +102,15 @@ rd_of (keys.Mcast afi (routes.Selective rd source group originator)) = rd
 rd_of (keys.Mcast afi (routes.Active rd source group)) = rd
 rd_of other = record { 0 = [] }
 
-pub of_rd : (place : EdgePlace) (control : Control) (own : OwnVrf) (key : Key) (value : Value) → IsOriginated place control own key value → rd_of key ≡ own.vrf.rd
+pub of_rd : (place : EdgePlace) (control : Control) (own : OwnVrf) (key : Key) (value : Value) → IsOriginated place control own key value
+    → rd_of key ≡ own.vrf.rd
 of_rd place control own key value (Inclusive k v) = ap rd_of k
 of_rd place control own key value (Unicast prefix site a k v) = ap rd_of k
 of_rd place control own key value (Selective pattern selected at k v) = ap rd_of k
 of_rd place control own key value (Active iface source group of noted k v) = ap rd_of k
 
-pub is_no_join : (place : EdgePlace) (control : Control) (own : OwnVrf) (key : Key) (value : Value) → IsOriginated place control own key value → (kind_of key == 7) ≡ false
+pub is_no_join : (place : EdgePlace) (control : Control) (own : OwnVrf) (key : Key) (value : Value) → IsOriginated place control own key value
+    → (kind_of key == 7) ≡ false
 is_no_join place control own key value (Inclusive k v) = ap (λ (x : Key). kind_of x == 7) k
 is_no_join place control own key value (Unicast prefix site a k v) = ap (λ (x : Key). kind_of x == 7) k
 is_no_join place control own key value (Selective pattern selected at k v) = ap (λ (x : Key). kind_of x == 7) k
@@ -111,7 +122,8 @@ clash key own other m n h k a b ne =
     let bad : true ≡ false = sym (eq-eqb m n same) ∙ ne in cc
 
 -- the pattern of a selective key
-pub one_pattern : (place : EdgePlace) (own : OwnVrf) (pattern other : Pattern) → selective_key place own.vrf pattern ≡ selective_key place own.vrf other → pattern ≡ other
+pub one_pattern : (place : EdgePlace) (own : OwnVrf) (pattern other : Pattern)
+    → selective_key place own.vrf pattern ≡ selective_key place own.vrf other → pattern ≡ other
 one_pattern place own pattern other h =
     let sources : pattern.source ≡ other.source = cc in
     let groups : pattern.group ≡ other.group = cc in
@@ -121,7 +133,8 @@ same_number : (control : Control) (own : OwnVrf) (pattern other : Pattern) (sele
     → maps.get control.selections (record { vrf = own.id; pattern = pattern }) ≡ Some selected
     → maps.get control.selections (record { vrf = own.id; pattern = other }) ≡ Some others → selected.number ≡ others.number
 same_number control own pattern other selected others same at bt =
-    let both : Some selected ≡ Some others = sym at ∙ ap (λ (p : Pattern). maps.get control.selections (record { vrf = own.id; pattern = p })) same ∙ bt in
+    let both : Some selected ≡ Some others =
+    sym at ∙ ap (λ (p : Pattern). maps.get control.selections (record { vrf = own.id; pattern = p })) same ∙ bt in
     let one : selected ≡ others = cc in ap (λ (s : Selected). s.number) one
 
 one_of_vrf : (place : EdgePlace) (control : Control) (own : OwnVrf) (key : Key) (value other : Value)
@@ -129,20 +142,27 @@ one_of_vrf : (place : EdgePlace) (control : Control) (own : OwnVrf) (key : Key) 
 one_of_vrf place control own key value other (Inclusive k v) (Inclusive l w) = v ∙ sym w
 one_of_vrf place control own key value other (Unicast prefix site a k v) (Unicast prefixes sites b l w) = v ∙ sym w
 one_of_vrf place control own key value other (Selective pattern selected at k v) (Selective others chosen bt l w) =
-    v ∙ ap (λ (n : ℕ). tunnel_value place own.vrf (tunnel_number own.vrf n)) (same_number control own pattern others selected chosen (one_pattern place own pattern others (sym k ∙ l)) at bt) ∙ sym w
+    v ∙ ap (λ (n : ℕ). tunnel_value place own.vrf (tunnel_number own.vrf n))
+    (same_number control own pattern others selected chosen (one_pattern place own pattern others (sym k ∙ l)) at bt) ∙ sym w
 one_of_vrf place control own key value other (Active iface source group of noted k v) (Active ifaces sources groups off noteds l w) = v ∙ sym w
 one_of_vrf place control own key value other (Inclusive k v) (Unicast prefix site a l w) = absurd (clash key _ _ 1 0 k l refl refl refl)
 one_of_vrf place control own key value other (Inclusive k v) (Selective pattern selected at l w) = absurd (clash key _ _ 1 3 k l refl refl refl)
 one_of_vrf place control own key value other (Inclusive k v) (Active iface source group of noted l w) = absurd (clash key _ _ 1 5 k l refl refl refl)
 one_of_vrf place control own key value other (Unicast prefix site a k v) (Inclusive l w) = absurd (clash key _ _ 0 1 k l refl refl refl)
-one_of_vrf place control own key value other (Unicast prefix site a k v) (Selective pattern selected at l w) = absurd (clash key _ _ 0 3 k l refl refl refl)
-one_of_vrf place control own key value other (Unicast prefix site a k v) (Active iface source group of noted l w) = absurd (clash key _ _ 0 5 k l refl refl refl)
+one_of_vrf place control own key value other (Unicast prefix site a k v) (Selective pattern selected at l w) =
+    absurd (clash key _ _ 0 3 k l refl refl refl)
+one_of_vrf place control own key value other (Unicast prefix site a k v) (Active iface source group of noted l w) =
+    absurd (clash key _ _ 0 5 k l refl refl refl)
 one_of_vrf place control own key value other (Selective pattern selected at k v) (Inclusive l w) = absurd (clash key _ _ 3 1 k l refl refl refl)
-one_of_vrf place control own key value other (Selective pattern selected at k v) (Unicast prefix site a l w) = absurd (clash key _ _ 3 0 k l refl refl refl)
-one_of_vrf place control own key value other (Selective pattern selected at k v) (Active iface source group of noted l w) = absurd (clash key _ _ 3 5 k l refl refl refl)
+one_of_vrf place control own key value other (Selective pattern selected at k v) (Unicast prefix site a l w) =
+    absurd (clash key _ _ 3 0 k l refl refl refl)
+one_of_vrf place control own key value other (Selective pattern selected at k v) (Active iface source group of noted l w) =
+    absurd (clash key _ _ 3 5 k l refl refl refl)
 one_of_vrf place control own key value other (Active iface source group of noted k v) (Inclusive l w) = absurd (clash key _ _ 5 1 k l refl refl refl)
-one_of_vrf place control own key value other (Active iface source group of noted k v) (Unicast prefix site a l w) = absurd (clash key _ _ 5 0 k l refl refl refl)
-one_of_vrf place control own key value other (Active iface source group of noted k v) (Selective pattern selected at l w) = absurd (clash key _ _ 5 3 k l refl refl refl)
+one_of_vrf place control own key value other (Active iface source group of noted k v) (Unicast prefix site a l w) =
+    absurd (clash key _ _ 5 0 k l refl refl refl)
+one_of_vrf place control own key value other (Active iface source group of noted k v) (Selective pattern selected at l w) =
+    absurd (clash key _ _ 5 3 k l refl refl refl)
 
 pub one_value : (place : EdgePlace) (control : Control) (key : Key) (value other : Value) → Rules place.scenario
     → Originates place control key value → Originates place control key other → value ≡ other

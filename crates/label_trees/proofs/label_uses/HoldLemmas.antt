@@ -37,9 +37,11 @@ pub record Leads (old new : Fec → Option ℕ) (label : ℕ) (own : Held) : Typ
   pub mine : own.leaving ≡ false → new own.fec ≡ Some label
 
 -- a label comes to be held
-pub holds_more : (st st' : ℕ → Option LabelState) (f f' : ℕ → Option Held) (k k' : BindingName → Option AnyBinding) (s : NodeId → Option Incarnation) (g g' : Fec → Option ℕ) (w : Fec → Option Waiting) (label : ℕ) (own : Held) (raise : Incarnation)
+pub holds_more : (st st' : ℕ → Option LabelState) (f f' : ℕ → Option Held) (k k' : BindingName → Option AnyBinding) (s : NodeId → Option Incarnation)
+    (g g' : Fec → Option ℕ) (w : Fec → Option Waiting) (label : ℕ) (own : Held) (raise : Incarnation)
     → HoldsOwned st f k s g w → f label ≡ None → k own.name ≡ None → s own.upstream ≡ Some raise
-    → Sets st st' label (Some states.Owned) → Sets f f' label (Some own) → Sets k k' own.name (Some (binding_of label own raise)) → Leads g g' label own → HoldsOwned st' f' k' s g' w
+    → Sets st st' label (Some states.Owned) → Sets f f' label (Some own) → Sets k k' own.name (Some (binding_of label own raise))
+    → Leads g g' label own → HoldsOwned st' f' k' s g' w
 holds_more st st' f f' k k' s g g' w label own raise old none fresh up sets held kept leads = record {
   owned = λ q o e. elim (cases_eq q label) [
     | inl is ↦ ap st' is ∙ sets.here
@@ -66,7 +68,8 @@ holds_more st st' f f' k k' s g g' w label own raise old none fresh up sets held
     | inl was ↦ listed_still fec q (old.listed fec q was)
     | inr is ↦ record { own = own; at = ap f' is.0 ∙ held.here; mapped = is.2; is = sym is.1 }
   ];
-  waits = λ fec o e. kept.others o.name (λ same. not_none (k o.name) (waiting_binding fec o) (old.waits fec o e) (ap k same ∙ fresh)) ∙ old.waits fec o e;
+  waits = λ fec o e. kept.others o.name (λ same. not_none (k o.name) (waiting_binding fec o) (old.waits fec o e) (ap k same ∙ fresh))
+      ∙ old.waits fec o e;
 }
   where
     mine : (q : ℕ) (o : Held) → q ≡ label → o ≡ own → IsBound k' s q o
@@ -109,34 +112,43 @@ pub record Leaves (old new : Fec → Option ℕ) (label : ℕ) : Type 0 where
   pub still : (fec : Fec) (other : ℕ) → old fec ≡ Some other → (other ≡ label → ⊥) → new fec ≡ Some other
 
 -- two labels do not have one name
-pub apart : (label : ℕ) (own : Held) (raise : Incarnation) (other : ℕ) (held : Held) (again : Incarnation) → binding_of label own raise ≡ binding_of other held again → label ≡ other
+pub apart : (label : ℕ) (own : Held) (raise : Incarnation) (other : ℕ) (held : Held) (again : Incarnation)
+    → binding_of label own raise ≡ binding_of other held again → label ≡ other
 apart label own raise other held again e = by own.leaving held.leaving e
   where
-    by : (b c : Bool) → cond b (bindings.Leaving (record { fec = own.fec; upstream = own.upstream; state = record { label = label; session = raise } })) (bindings.Mapped (record { fec = own.fec; upstream = own.upstream; state = record { label = label; session = raise } }))
-        ≡ cond c (bindings.Leaving (record { fec = held.fec; upstream = held.upstream; state = record { label = other; session = again } })) (bindings.Mapped (record { fec = held.fec; upstream = held.upstream; state = record { label = other; session = again } })) → label ≡ other
+    by : (b c : Bool) → cond b (bindings.Leaving
+        (record { fec = own.fec; upstream = own.upstream; state = record { label = label; session = raise } }))
+        (bindings.Mapped (record { fec = own.fec; upstream = own.upstream; state = record { label = label; session = raise } }))
+        ≡ cond c (bindings.Leaving (record { fec = held.fec; upstream = held.upstream; state = record { label = other; session = again } }))
+        (bindings.Mapped (record { fec = held.fec; upstream = held.upstream; state = record { label = other; session = again } })) → label ≡ other
     by true true e = same_Some label other (ap label_of e)
     by false false e = same_Some label other (ap label_of e)
     by true false e = absurd cc
     by false true e = absurd cc
 
 -- a binding with a label is not one that waits
-pub not_waiting : (label : ℕ) (own : Held) (raise : Incarnation) (fec : Fec) (other : Waiting) → binding_of label own raise ≡ waiting_binding fec other → ⊥
+pub not_waiting : (label : ℕ) (own : Held) (raise : Incarnation) (fec : Fec) (other : Waiting)
+    → binding_of label own raise ≡ waiting_binding fec other → ⊥
 not_waiting label own raise fec other e = by own.leaving e
   where
-    by : (b : Bool) → cond b (bindings.Leaving (record { fec = own.fec; upstream = own.upstream; state = record { label = label; session = raise } })) (bindings.Mapped (record { fec = own.fec; upstream = own.upstream; state = record { label = label; session = raise } }))
+    by : (b : Bool) → cond b (bindings.Leaving (record { fec = own.fec; upstream = own.upstream; state = record { label = label; session = raise } }))
+        (bindings.Mapped (record { fec = own.fec; upstream = own.upstream; state = record { label = label; session = raise } }))
         ≡ bindings.Wanted (record { fec = fec; upstream = other.upstream; state = record {} }) → ⊥
     by true e = absurd cc
     by false e = absurd cc
 
-pub names_apart : (st : ℕ → Option LabelState) (f : ℕ → Option Held) (k : BindingName → Option AnyBinding) (s : NodeId → Option Incarnation) (g : Fec → Option ℕ) (w : Fec → Option Waiting) → HoldsOwned st f k s g w
+pub names_apart : (st : ℕ → Option LabelState) (f : ℕ → Option Held) (k : BindingName → Option AnyBinding) (s : NodeId → Option Incarnation)
+    (g : Fec → Option ℕ) (w : Fec → Option Waiting) → HoldsOwned st f k s g w
     → (label other : ℕ) (own held : Held) → f label ≡ Some own → f other ≡ Some held → own.name ≡ held.name → label ≡ other
 names_apart st f k s g w holds label other own held e h same =
     let a = holds.bound label own e in
     let b = holds.bound other held h in
-    apart label own a.raise other held b.raise (same_own (k own.name) (binding_of label own a.raise) (binding_of other held b.raise) a.is (ap k same ∙ b.is))
+    apart label own a.raise other held b.raise (same_own (k own.name) (binding_of label own a.raise) (binding_of other held b.raise) a.is
+    (ap k same ∙ b.is))
 
 -- a label is held no longer
-pub holds_less : (st st' : ℕ → Option LabelState) (f f' : ℕ → Option Held) (k k' : BindingName → Option AnyBinding) (s : NodeId → Option Incarnation) (g g' : Fec → Option ℕ) (w : Fec → Option Waiting) (label : ℕ) (own : Held) (value : Option LabelState)
+pub holds_less : (st st' : ℕ → Option LabelState) (f f' : ℕ → Option Held) (k k' : BindingName → Option AnyBinding) (s : NodeId → Option Incarnation)
+    (g g' : Fec → Option ℕ) (w : Fec → Option Waiting) (label : ℕ) (own : Held) (value : Option LabelState)
     → HoldsOwned st f k s g w → f label ≡ Some own → (value ≡ Some states.Owned → ⊥)
     → Sets st st' label value → Sets f f' label None → Sets k k' own.name None → Leaves g g' label → HoldsOwned st' f' k' s g' w
 holds_less st st' f f' k k' s g g' w label own value old at free sets held kept leaves = record {
@@ -152,7 +164,10 @@ holds_less st st' f f' k k' s g g' w label own value old at free sets held kept 
   ];
   found = λ q o e m. leaves.still o.fec q (old.found q o (was q o e) m) (not_it q o e);
   listed = λ fec q e. (let x = leaves.fewer fec q e in listed_still fec q x.1 (old.listed fec q x.0));
-  waits = λ fec o e. kept.others o.name (λ same. (let b = old.bound label own at in not_waiting label own b.raise fec o (same_own (k own.name) (binding_of label own b.raise) (waiting_binding fec o) b.is (ap k (sym same) ∙ old.waits fec o e)))) ∙ old.waits fec o e;
+  waits = λ fec o e. kept.others o.name (λ same.
+      (let b = old.bound label own at in
+      not_waiting label own b.raise fec o (same_own (k own.name) (binding_of label own b.raise) (waiting_binding fec o) b.is
+      (ap k (sym same) ∙ old.waits fec o e)))) ∙ old.waits fec o e;
 }
   where
     not_it : (q : ℕ) (o : Held) → f' q ≡ Some o → q ≡ label → ⊥
@@ -184,8 +199,10 @@ holds_less st st' f f' k k' s g g' w label own value old at free sets held kept 
     listed_still fec q ne m = record { own = m.own; at = held.others q ne ∙ m.at; mapped = m.mapped; is = m.is }
 
 -- states that change and leave the owned ones
-pub holds_states : (st st' : ℕ → Option LabelState) (f : ℕ → Option Held) (k : BindingName → Option AnyBinding) (s : NodeId → Option Incarnation) (g : Fec → Option ℕ) (w : Fec → Option Waiting)
-    → HoldsOwned st f k s g w → ((q : ℕ) → st q ≡ Some states.Owned → st' q ≡ Some states.Owned) → ((q : ℕ) → st' q ≡ Some states.Owned → st q ≡ Some states.Owned) → HoldsOwned st' f k s g w
+pub holds_states : (st st' : ℕ → Option LabelState) (f : ℕ → Option Held) (k : BindingName → Option AnyBinding) (s : NodeId → Option Incarnation)
+    (g : Fec → Option ℕ) (w : Fec → Option Waiting)
+    → HoldsOwned st f k s g w → ((q : ℕ) → st q ≡ Some states.Owned → st' q ≡ Some states.Owned)
+    → ((q : ℕ) → st' q ≡ Some states.Owned → st q ≡ Some states.Owned) → HoldsOwned st' f k s g w
 holds_states st st' f k s g w old to from = record {
   owned = λ q o e. to q (old.owned q o e);
   all = λ q e. old.all q (from q e);
@@ -197,8 +214,10 @@ holds_states st st' f k s g w old to from = record {
 }
 
 -- sessions that change, but none of a held label
-pub holds_sessions : (st : ℕ → Option LabelState) (f : ℕ → Option Held) (k : BindingName → Option AnyBinding) (s s' : NodeId → Option Incarnation) (g : Fec → Option ℕ) (w : Fec → Option Waiting)
-    → HoldsOwned st f k s g w → ((q : ℕ) (o : Held) (raise : Incarnation) → f q ≡ Some o → s o.upstream ≡ Some raise → s' o.upstream ≡ Some raise) → HoldsOwned st f k s' g w
+pub holds_sessions : (st : ℕ → Option LabelState) (f : ℕ → Option Held) (k : BindingName → Option AnyBinding) (s s' : NodeId → Option Incarnation)
+    (g : Fec → Option ℕ) (w : Fec → Option Waiting)
+    → HoldsOwned st f k s g w → ((q : ℕ) (o : Held) (raise : Incarnation) → f q ≡ Some o → s o.upstream ≡ Some raise → s' o.upstream ≡ Some raise)
+    → HoldsOwned st f k s' g w
 holds_sessions st f k s s' g w old same = record {
   owned = old.owned;
   all = old.all;
@@ -216,7 +235,8 @@ tree_of (bindings.Wanted b) = Some b.fec
 tree_of other = None
 
 -- a tree waits no longer
-pub holds_unwait : (st : ℕ → Option LabelState) (f : ℕ → Option Held) (k k' : BindingName → Option AnyBinding) (s : NodeId → Option Incarnation) (g : Fec → Option ℕ) (w w' : Fec → Option Waiting) (fec : Fec) (own : Waiting)
+pub holds_unwait : (st : ℕ → Option LabelState) (f : ℕ → Option Held) (k k' : BindingName → Option AnyBinding) (s : NodeId → Option Incarnation)
+    (g : Fec → Option ℕ) (w w' : Fec → Option Waiting) (fec : Fec) (own : Waiting)
     → HoldsOwned st f k s g w → w fec ≡ Some own → Sets k k' own.name None → Sets w w' fec None → HoldsOwned st f k' s g w'
 holds_unwait st f k k' s g w w' fec own old at kept gone = record {
   owned = old.owned;
@@ -224,7 +244,8 @@ holds_unwait st f k k' s g w w' fec own old at kept gone = record {
   bound = λ q o e. (let b = old.bound q o e in record {
     raise = b.raise;
     present = b.present;
-    is = kept.others o.name (λ same. not_waiting q o b.raise fec own (same_own (k o.name) (binding_of q o b.raise) (waiting_binding fec own) b.is (ap k same ∙ old.waits fec own at))) ∙ b.is;
+    is = kept.others o.name (λ same. not_waiting q o b.raise fec own
+        (same_own (k o.name) (binding_of q o b.raise) (waiting_binding fec own) b.is (ap k same ∙ old.waits fec own at))) ∙ b.is;
   });
   named = λ name e. elim (one_name name own.name) [
     | inl is ↦ (let x = there (k' name) e in absurd (not_none (k' name) x.0 x.1 (ap k' is ∙ kept.here)))
@@ -232,14 +253,17 @@ holds_unwait st f k k' s g w w' fec own old at kept gone = record {
   ];
   found = old.found;
   listed = old.listed;
-  waits = λ other o e. kept.others o.name (λ same. not_none (w' other) o e (ap w' (one other o (was other o e) same) ∙ gone.here)) ∙ old.waits other o (was other o e);
+  waits = λ other o e. kept.others o.name (λ same. not_none (w' other) o e (ap w' (one other o (was other o e) same) ∙ gone.here))
+      ∙ old.waits other o (was other o e);
 }
   where
     was : (other : Fec) (o : Waiting) → w' other ≡ Some o → w other ≡ Some o
     was other o e = sym (gone.others other (λ is. not_none (w' other) o e (ap w' is ∙ gone.here))) ∙ e
 
     one : (other : Fec) (o : Waiting) → w other ≡ Some o → o.name ≡ own.name → other ≡ fec
-    one other o e same = same_Some other fec (ap tree_of (same_own (k o.name) (waiting_binding other o) (waiting_binding fec own) (old.waits other o e) (ap k same ∙ old.waits fec own at)))
+    one other o e same =
+        same_Some other fec (ap tree_of (same_own (k o.name) (waiting_binding other o) (waiting_binding fec own) (old.waits other o e)
+        (ap k same ∙ old.waits fec own at)))
 
     either : (name : BindingName) → (name ≡ own.name → ⊥) → IsNamed f name ⊎ IsAwaited w name → IsNamed f name ⊎ IsAwaited w' name
     either name ne (inl n) = inl n
@@ -251,8 +275,10 @@ holds_unwait st f k k' s g w w' fec own old at kept gone = record {
     })
 
 -- a tree comes to wait
-pub holds_wait : (st : ℕ → Option LabelState) (f : ℕ → Option Held) (k k' : BindingName → Option AnyBinding) (s : NodeId → Option Incarnation) (g : Fec → Option ℕ) (w w' : Fec → Option Waiting) (fec : Fec) (own : Waiting)
-    → HoldsOwned st f k s g w → w fec ≡ None → k own.name ≡ None → Sets k k' own.name (Some (waiting_binding fec own)) → Sets w w' fec (Some own) → HoldsOwned st f k' s g w'
+pub holds_wait : (st : ℕ → Option LabelState) (f : ℕ → Option Held) (k k' : BindingName → Option AnyBinding) (s : NodeId → Option Incarnation)
+    (g : Fec → Option ℕ) (w w' : Fec → Option Waiting) (fec : Fec) (own : Waiting)
+    → HoldsOwned st f k s g w → w fec ≡ None → k own.name ≡ None → Sets k k' own.name (Some (waiting_binding fec own)) → Sets w w' fec (Some own)
+    → HoldsOwned st f k' s g w'
 holds_wait st f k k' s g w w' fec own old none fresh kept comes = record {
   owned = old.owned;
   all = old.all;
@@ -269,7 +295,8 @@ holds_wait st f k k' s g w w' fec own old none fresh kept comes = record {
   listed = old.listed;
   waits = λ other o e. elim (one_fec other fec) [
     | inl is ↦ mine other o is (same_own (w' fec) o own (ap w' (sym is) ∙ e) comes.here)
-    | inr ne ↦ kept.others o.name (λ same. not_none (k o.name) (waiting_binding other o) (old.waits other o (sym (comes.others other ne) ∙ e)) (ap k same ∙ fresh)) ∙ old.waits other o (sym (comes.others other ne) ∙ e)
+    | inr ne ↦ kept.others o.name (λ same. not_none (k o.name) (waiting_binding other o) (old.waits other o (sym (comes.others other ne) ∙ e))
+        (ap k same ∙ fresh)) ∙ old.waits other o (sym (comes.others other ne) ∙ e)
   ];
 }
   where

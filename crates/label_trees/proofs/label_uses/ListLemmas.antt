@@ -39,7 +39,8 @@ uses_set n (suc k) (x ∷ ss) f g s h =
     let behind = rest ∙ ap (λ (m : ℕ). slice_set (uses_from (suc n) f ss) k (use_by s (g m))) next in
     λ i. head i ∷ behind i
 
-uses_get : (n k : ℕ) (ss : List LabelState) (f : ℕ → Option Held) → slice_get (uses_from n f ss) k ≡ option_map (λ s. use_by s (f (n + k))) (slice_get ss k)
+uses_get : (n k : ℕ) (ss : List LabelState) (f : ℕ → Option Held)
+    → slice_get (uses_from n f ss) k ≡ option_map (λ s. use_by s (f (n + k))) (slice_get ss k)
 uses_get n k [] f = refl
 uses_get n zero (x ∷ ss) f = let here : n ≡ n + 0 = omega arith in ap (λ (m : ℕ). Some (use_by x (f m))) here
 uses_get n (suc k) (x ∷ ss) f =
@@ -77,14 +78,16 @@ state_is_high space label s e = elim (cases_lt label 16) [
 ]
 
 -- a label that is in another state, and in its own again
-pub label_back : (space : Space) (label : ℕ) (old new : LabelState) → state_of space label ≡ Some old → set_label (set_label space label new) label old ≡ space
+pub label_back : (space : Space) (label : ℕ) (old new : LabelState) → state_of space label ≡ Some old
+    → set_label (set_label space label new) label old ≡ space
 label_back space label old new at =
     ap (λ (states : List LabelState). record space { states = states })
     (set_twice space.states (label - 16) new old
     ∙ set_itself space.states (label - 16) old (sym (state_high space label (state_is_high space label old at)) ∙ at))
 
 -- what a label is used for, by its state and its holder
-pub use_is : (space : Space) (f : ℕ → Option Held) (label : ℕ) → use_in (uses_from 16 f space.states) label ≡ option_map (λ s. use_by s (f label)) (state_of space label)
+pub use_is : (space : Space) (f : ℕ → Option Held) (label : ℕ)
+    → use_in (uses_from 16 f space.states) label ≡ option_map (λ s. use_by s (f label)) (state_of space label)
 use_is space f label = elim (cases_lt label 16) [
   | inl lt ↦ use_low (uses_from 16 f space.states) label lt ∙ sym (ap (option_map (λ s. use_by s (f label))) (state_low space label lt))
   | inr ge ↦
@@ -94,7 +97,8 @@ use_is space f label = elim (cases_lt label 16) [
       ∙ sym (ap (option_map (λ s. use_by s (f label))) (state_high space label ge))
 ]
 
-pub use_set : (space : Space) (f g : ℕ → Option Held) (label : ℕ) (old new : LabelState) → state_of space label ≡ Some old → ((l : ℕ) → (l ≡ label → ⊥) → g l ≡ f l)
+pub use_set : (space : Space) (f g : ℕ → Option Held) (label : ℕ) (old new : LabelState) → state_of space label ≡ Some old
+    → ((l : ℕ) → (l ≡ label → ⊥) → g l ≡ f l)
     → uses_from 16 g (set_label space label new).states ≡ set_use (uses_from 16 f space.states) label (use_by new (g label))
 use_set space f g label old new at same =
     let ge = state_is_high space label old at in
@@ -103,7 +107,8 @@ use_set space f g label old new at same =
     ∙ ap (λ (m : ℕ). set_use (uses_from 16 f space.states) label (use_by new (g m))) place
 
 -- the holder alone changes
-pub use_change : (space : Space) (f g : ℕ → Option Held) (label : ℕ) (old : LabelState) → state_of space label ≡ Some old → ((l : ℕ) → (l ≡ label → ⊥) → g l ≡ f l)
+pub use_change : (space : Space) (f g : ℕ → Option Held) (label : ℕ) (old : LabelState) → state_of space label ≡ Some old
+    → ((l : ℕ) → (l ≡ label → ⊥) → g l ≡ f l)
     → uses_from 16 g space.states ≡ set_use (uses_from 16 f space.states) label (use_by old (g label))
 use_change space f g label old at same =
     let ge = state_is_high space label old at in
@@ -122,32 +127,40 @@ set_used labels label usage at = elim (cases_lt label 16) [
 abbrev part_of : List LabelUse → LabelData
 part_of labels = record (fresh 0) { labels = labels }
 
-module _ (space : Space) (f : ℕ → Option Held) (k : BindingName → Option AnyBinding) (s : NodeId → Option Incarnation) (g : Fec → Option ℕ) (w : Fec → Option Waiting) (holds : HoldsOwned (state_of space) f k s g w) where
+module _ (space : Space) (f : ℕ → Option Held) (k : BindingName → Option AnyBinding) (s : NodeId → Option Incarnation) (g : Fec → Option ℕ)
+    (w : Fec → Option Waiting) (holds : HoldsOwned (state_of space) f k s g w) where
   -- a label that is held
   pub use_of_held : (label : ℕ) (own : Held) → f label ≡ Some own → use_in (uses_from 16 f space.states) label ≡ Some (use_held own)
-  use_of_held label own at = use_is space f label ∙ ap (option_map (λ st. use_by st (f label))) (holds.owned label own at) ∙ ap (λ (o : Option Held). Some (use_by states.Owned o)) at
+  use_of_held label own at =
+      use_is space f label ∙ ap (option_map (λ st. use_by st (f label))) (holds.owned label own at)
+      ∙ ap (λ (o : Option Held). Some (use_by states.Owned o)) at
 
   -- a label that is mapped or leaving is held
-  pub held_of_use : (label : ℕ) (usage : LabelUse) → use_in (uses_from 16 f space.states) label ≡ Some usage → (usage ≡ uses.Free → ⊥) → ((until : ℕ) → usage ≡ uses.Resting until → ⊥)
+  pub held_of_use : (label : ℕ) (usage : LabelUse) → use_in (uses_from 16 f space.states) label ≡ Some usage → (usage ≡ uses.Free → ⊥)
+      → ((until : ℕ) → usage ≡ uses.Resting until → ⊥)
       → (own : Held) × (f label ≡ Some own) × (usage ≡ use_held own)
   held_of_use label usage e busy awake = by (state_of space label) refl (sym (use_is space f label) ∙ e)
     where
-      held : (o : Option Held) → f label ≡ o → is_some (f label) ≡ true → use_by states.Owned (f label) ≡ usage → (own : Held) × (f label ≡ Some own) × (usage ≡ use_held own)
+      held : (o : Option Held) → f label ≡ o → is_some (f label) ≡ true → use_by states.Owned (f label) ≡ usage
+          → (own : Held) × (f label ≡ Some own) × (usage ≡ use_held own)
       held None at h u = absurd (let no : false ≡ true = sym (ap is_some at) ∙ h in cc)
       held (Some own) at h u = (own, at, sym u ∙ ap (use_by states.Owned) at)
 
-      by : (o : Option LabelState) → state_of space label ≡ o → option_map (λ st. use_by st (f label)) o ≡ Some usage → (own : Held) × (f label ≡ Some own) × (usage ≡ use_held own)
+      by : (o : Option LabelState) → state_of space label ≡ o → option_map (λ st. use_by st (f label)) o ≡ Some usage
+          → (own : Held) × (f label ≡ Some own) × (usage ≡ use_held own)
       by None at u = absurd (none-some usage u)
       by (Some states.Free) at u = absurd (busy (sym (same_Some uses.Free usage u)))
       by (Some (states.Resting until)) at u = absurd (awake until (sym (same_Some (uses.Resting until) usage u)))
       by (Some states.Owned) at u = held (f label) refl (holds.all label at) (same_Some (use_by states.Owned (f label)) usage u)
 
-  mapping_of : (label : ℕ) (fec : Fec) (upstream : NodeId) → use_in (uses_from 16 f space.states) label ≡ Some (uses.Mapped fec upstream) → IsMapping f label fec
+  mapping_of : (label : ℕ) (fec : Fec) (upstream : NodeId) → use_in (uses_from 16 f space.states) label ≡ Some (uses.Mapped fec upstream)
+      → IsMapping f label fec
   mapping_of label fec upstream e =
       let x = held_of_use label (uses.Mapped fec upstream) e (λ u. absurd cc) (λ until u. absurd cc) in
       by x.0 x.1 x.0.leaving refl x.2
     where
-      by : (own : Held) → f label ≡ Some own → (b : Bool) → own.leaving ≡ b → uses.Mapped fec upstream ≡ cond b (uses.Leaving own.fec own.upstream) (uses.Mapped own.fec own.upstream) → IsMapping f label fec
+      by : (own : Held) → f label ≡ Some own → (b : Bool) → own.leaving ≡ b
+          → uses.Mapped fec upstream ≡ cond b (uses.Leaving own.fec own.upstream) (uses.Mapped own.fec own.upstream) → IsMapping f label fec
       by own at true l u = absurd cc
       by own at false l u = (let is : own.fec ≡ fec = cc in record { own = own; at = at; mapped = l; is = is })
 
@@ -159,7 +172,9 @@ module _ (space : Space) (f : ℕ → Option Held) (k : BindingName → Option A
       labels = uses_from 16 f space.states
 
       use_mapped : (own : Held) → own.leaving ≡ false → own.fec ≡ fec → use_held own ≡ uses.Mapped fec own.upstream
-      use_mapped own l is = ap (λ (b : Bool). cond b (uses.Leaving own.fec own.upstream) (uses.Mapped own.fec own.upstream)) l ∙ ap (λ (x : Fec). uses.Mapped x own.upstream) is
+      use_mapped own l is =
+          ap (λ (b : Bool). cond b (uses.Leaving own.fec own.upstream) (uses.Mapped own.fec own.upstream)) l
+          ∙ ap (λ (x : Fec). uses.Mapped x own.upstream) is
 
       by : (a b : Option ℕ) → g fec ≡ a → mapped_in labels fec ≡ b → a ≡ b
       by None None e m = refl
@@ -169,7 +184,8 @@ module _ (space : Space) (f : ℕ → Option Held) (k : BindingName → Option A
           absurd (not_none (g fec) label (ap g (sym y.is) ∙ holds.found label y.own y.at y.mapped) e)
       by (Some label) None e m =
           let y = holds.listed fec label e in
-          absurd (mapped_none (part_of labels) fec m label y.own.upstream (use_of_held label y.own y.at ∙ ap (λ (u : LabelUse). Some u) (use_mapped y.own y.mapped y.is)))
+          absurd (mapped_none (part_of labels) fec m label y.own.upstream
+          (use_of_held label y.own y.at ∙ ap (λ (u : LabelUse). Some u) (use_mapped y.own y.mapped y.is)))
       by (Some label) (Some other) e m =
           let x = mapped_some (part_of labels) fec other m in
           let y = mapping_of other fec x.0 x.1 in
@@ -186,7 +202,8 @@ module _ (space : Space) (f : ℕ → Option Held) (k : BindingName → Option A
       held None at h u = absurd (let no : false ≡ true = sym (ap is_some at) ∙ h in cc)
       held (Some own) at h u = busy own own.leaving (sym (ap (use_by states.Owned) at) ∙ u)
 
-      by : (o : Option LabelState) → state_of space label ≡ o → option_map (λ st. use_by st (f label)) o ≡ Some uses.Free → state_of space label ≡ Some states.Free
+      by : (o : Option LabelState) → state_of space label ≡ o → option_map (λ st. use_by st (f label)) o ≡ Some uses.Free
+          → state_of space label ≡ Some states.Free
       by None at u = absurd (none-some uses.Free u)
       by (Some states.Free) at u = at
       by (Some (states.Resting until)) at u = absurd (let no = same_Some (uses.Resting until) uses.Free u in cc)

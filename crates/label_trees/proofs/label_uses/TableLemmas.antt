@@ -40,28 +40,34 @@ apart_fec a b ne = elim (cases_Bool (is_fec a b)) [
   | inr e ↦ e
 ]
 
-pub sets_at : {B : Type 0} (old new : ℕ → Option B) (at : ℕ) (value : Option B) → ((other : ℕ) → new other ≡ cond (nat_eq at other) value (old other)) → Sets old new at value
+pub sets_at : {B : Type 0} (old new : ℕ → Option B) (at : ℕ) (value : Option B) → ((other : ℕ) → new other ≡ cond (nat_eq at other) value (old other))
+    → Sets old new at value
 sets_at old new at value each = record {
   here = each at ∙ ap (λ (b : Bool). cond b value (old at)) (eq-eqb at at refl);
   others = λ other ne. each other ∙ ap (λ (b : Bool). cond b value (old other)) (ne_eqb at other (λ e. ne (sym e)));
 }
 
-pub sets_label : (old new : ℕ → Option Held) (at : ℕ) (value : Option Held) → ((other : ℕ) → new other ≡ cond (nat_eq at other) value (old other)) → Sets old new at value
+pub sets_label : (old new : ℕ → Option Held) (at : ℕ) (value : Option Held) → ((other : ℕ) → new other ≡ cond (nat_eq at other) value (old other))
+    → Sets old new at value
 sets_label old new at value each = sets_at old new at value each
 
-pub sets_tree : {B : Type 0} (old new : Fec → Option B) (at : Fec) (value : Option B) → ((other : Fec) → new other ≡ cond (is_fec at other) value (old other)) → Sets old new at value
+pub sets_tree : {B : Type 0} (old new : Fec → Option B) (at : Fec) (value : Option B)
+    → ((other : Fec) → new other ≡ cond (is_fec at other) value (old other)) → Sets old new at value
 sets_tree old new at value each = record {
   here = each at ∙ ap (λ (b : Bool). cond b value (old at)) (fec_itself at);
   others = λ other ne. each other ∙ ap (λ (b : Bool). cond b value (old other)) (apart_fec at other ne);
 }
 
-pub sets_fec : (old new : Fec → Option ℕ) (at : Fec) (value : Option ℕ) → ((other : Fec) → new other ≡ cond (is_fec at other) value (old other)) → Sets old new at value
+pub sets_fec : (old new : Fec → Option ℕ) (at : Fec) (value : Option ℕ) → ((other : Fec) → new other ≡ cond (is_fec at other) value (old other))
+    → Sets old new at value
 sets_fec old new at value each = sets_tree old new at value each
 
-pub name_kept : (old : FinMap name_cmp AnyBinding) (name : BindingName) (b : AnyBinding) → Sets (maps.get old) (maps.get (maps.insert old name b)) name (Some b)
+pub name_kept : (old : FinMap name_cmp AnyBinding) (name : BindingName) (b : AnyBinding)
+    → Sets (maps.get old) (maps.get (maps.insert old name b)) name (Some b)
 name_kept old name b = record {
   here = maps.get-insert name_cmp_total old name b name ∙ ap (λ (t : Bool). cond t (Some b) (maps.get old name)) (tied name name refl);
-  others = λ other ne. maps.get-insert name_cmp_total old name b other ∙ ap (λ (t : Bool). cond t (Some b) (maps.get old other)) (untied other name ne);
+  others = λ other ne. maps.get-insert name_cmp_total old name b other
+      ∙ ap (λ (t : Bool). cond t (Some b) (maps.get old other)) (untied other name ne);
 }
 
 pub name_gone : (old : FinMap name_cmp AnyBinding) (name : BindingName) → Sets (maps.get old) (maps.get (maps.remove old name)) name None
@@ -70,7 +76,8 @@ name_gone old name = record {
   others = λ other ne. maps.get-remove name_cmp_total old name other ∙ ap (λ (t : Bool). cond t None (maps.get old other)) (untied other name ne);
 }
 
-pub state_set : (space : Space) (label : ℕ) (old new : LabelState) → state_of space label ≡ Some old → Sets (state_of space) (state_of (set_label space label new)) label (Some new)
+pub state_set : (space : Space) (label : ℕ) (old new : LabelState) → state_of space label ≡ Some old
+    → Sets (state_of space) (state_of (set_label space label new)) label (Some new)
 state_set space label old new at = record {
   here = set-label space label old new at;
   others = λ other ne. set-others space label other old new at ne;

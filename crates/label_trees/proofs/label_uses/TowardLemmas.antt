@@ -34,9 +34,11 @@ abbrev held_toward : NodeId → Option Held → Bool
 held_toward peer None = false
 held_toward peer (Some own) = is_node own.upstream peer
 
-listed_once : (peer : NodeId) (es : List (ℕ × Held)) → IsDistinct nat_eq (keys_of es) → (label : ℕ) → list_any (λ own. nat_eq own label) (labels_toward peer es) ≡ held_toward peer (lookup (nat_eq label) es)
+listed_once : (peer : NodeId) (es : List (ℕ × Held)) → IsDistinct nat_eq (keys_of es) → (label : ℕ)
+    → list_any (λ own. nat_eq own label) (labels_toward peer es) ≡ held_toward peer (lookup (nat_eq label) es)
 listed_once peer [] one label = refl
-listed_once peer (e ∷ es) one label = by (listed_once peer es (IsDistinct-tail nat_eq e.0 (keys_of es) one) label) (nat_eq label e.0) (is_node e.1.upstream peer) refl refl
+listed_once peer (e ∷ es) one label =
+    by (listed_once peer es (IsDistinct-tail nat_eq e.0 (keys_of es) one) label) (nat_eq label e.0) (is_node e.1.upstream peer) refl refl
   where
     flips : nat_eq e.0 label ≡ nat_eq label e.0
     flips = nat_eq_equiv.symm e.0 label
@@ -66,12 +68,16 @@ abbrev at_peer : NodeId → Option NodeId → Bool
 at_peer peer None = false
 at_peer peer (Some upstream) = is_node upstream peer
 
-pub toward_seen : (space : Space) (h : HeldMap) (k : BindingName → Option AnyBinding) (s : NodeId → Option Incarnation) (g : Fec → Option ℕ) (w : Fec → Option Waiting) → HoldsOwned (state_of space) (get nat_eq h) k s g w
-    → IsUnique nat_eq h → (peer : NodeId) (label : ℕ) → list_any (λ own. nat_eq own label) (labels_toward peer h.entries) ≡ is_toward peer (use_in (uses_from 16 (get nat_eq h) space.states) label)
+pub toward_seen : (space : Space) (h : HeldMap) (k : BindingName → Option AnyBinding) (s : NodeId → Option Incarnation) (g : Fec → Option ℕ)
+    (w : Fec → Option Waiting) → HoldsOwned (state_of space) (get nat_eq h) k s g w
+    → IsUnique nat_eq h → (peer : NodeId) (label : ℕ)
+    → list_any (λ own. nat_eq own label) (labels_toward peer h.entries) ≡ is_toward peer (use_in (uses_from 16 (get nat_eq h) space.states) label)
 toward_seen space h k s g w holds one peer label = listed_once peer h.entries one label ∙ by (get nat_eq h label) refl
   where
-    by : (o : Option Held) → get nat_eq h label ≡ o → held_toward peer o ≡ at_peer peer (upstream_of (use_in (uses_from 16 (get nat_eq h) space.states) label))
-    by None at = sym (ap (at_peer peer) (idle_upstream (use_in (uses_from 16 (get nat_eq h) space.states) label) (idle space (get nat_eq h) label at)))
+    by : (o : Option Held) → get nat_eq h label ≡ o
+        → held_toward peer o ≡ at_peer peer (upstream_of (use_in (uses_from 16 (get nat_eq h) space.states) label))
+    by None at =
+        sym (ap (at_peer peer) (idle_upstream (use_in (uses_from 16 (get nat_eq h) space.states) label) (idle space (get nat_eq h) label at)))
     by (Some own) at = sym (ap (at_peer peer) (ap upstream_of (use_of_held space (get nat_eq h) k s g w holds label own at) ∙ held_upstream own))
 
 -- ---- trees that wait
@@ -83,7 +89,8 @@ own_keys es q = same es ∙ sym (is_some-find fec_cmp q (towards es))
     same [] = refl
     same (e ∷ es) = ap (λ (b : Bool). eq_by_cmp fec_cmp q e.0 || b) (same es)
 
-pub all_waiting : (es : List (Fec × Waiting)) (fecs : List Fec) → fecs ≡ keys_of es → sets.from_list {R = fec_cmp} fecs ≡ sets.from_list (maps.keys (maps.from_entries {R = fec_cmp} (towards es)))
+pub all_waiting : (es : List (Fec × Waiting)) (fecs : List Fec) → fecs ≡ keys_of es
+    → sets.from_list {R = fec_cmp} fecs ≡ sets.from_list (maps.keys (maps.from_entries {R = fec_cmp} (towards es)))
 all_waiting es fecs is = sets.same_set fec_cmp_total fec_cmp_exact _ _ (λ q.
     sets.contains-from_list fec_cmp_total fecs q
     ∙ (ap (list_any (eq_by_cmp fec_cmp q)) is

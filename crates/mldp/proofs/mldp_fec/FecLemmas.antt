@@ -24,10 +24,13 @@ fec_taken c x fits e =
     let q = root_taken a.0.1 b.0 a_fits b.1 in
     let b_fits = passes_octets a.0.1 (root b.0.0) b.0.1 q.0 a_fits in
     let r = opaque_taken b.0.1 o.0 b_fits o.1 in
-    let all = passes_then c (kind_octet a.0.0 ∷ []) a.0.1 (root b.0.0 ++ opaque o.0.0) o.0.1 p (passes_then a.0.1 (root b.0.0) b.0.1 (opaque o.0.0) o.0.1 q.0 r.0) in
+    let all =
+    passes_then c (kind_octet a.0.0 ∷ []) a.0.1 (root b.0.0 ++ opaque o.0.0) o.0.1 p
+    (passes_then a.0.1 (root b.0.0) b.0.1 (opaque o.0.0) o.0.1 q.0 r.0) in
     let made : Fec × Cursor = (record { kind = a.0.0; root = b.0.0; opaque = o.0.0 }, o.0.1) in
     let same : made ≡ x = ok_is made x o.2 in
-    subst (λ (y : Fec × Cursor). Passes c (written y.0) y.1 × Spells y.0 (written y.0)) same (all, record { root = q.1; fits = r.1; shape = r.2; octets = refl })
+    subst (λ (y : Fec × Cursor). Passes c (written y.0) y.1 × Spells y.0 (written y.0)) same
+    (all, record { root = q.1; fits = r.1; shape = r.2; octets = refl })
 
 -- What stands there is read.
 pub fec_again : (c : Cursor) (f : Fec) (text : List ℕ) (d : Cursor) → Spells f text → Passes c text d → fec_at c ≡ Ok (f, d)

@@ -48,7 +48,8 @@ len_taken : (w : ℕ) (c : Cursor) (x : Unit {0} × Cursor) → len_at w c ≡ O
 len_taken w c x e =
     let a = bind_ok (part (octet_at c)) _ x e in
     let k = checked_ok (eqb a.0.0 w) (fault c.place reasons.AddressLength) (tt, a.0.1) x a.2 in
-    passes_is c (a.0.0 ∷ []) (w ∷ []) a.0.1 x.1 (octet_taken c a.0 (field_ok _ (octet_at c) a.0 a.1)) (ap (λ n. n ∷ []) (eqb-true a.0.0 w k.0)) (ap (λ p. p.1) (sym k.1))
+    passes_is c (a.0.0 ∷ []) (w ∷ []) a.0.1 x.1 (octet_taken c a.0 (field_ok _ (octet_at c) a.0 a.1)) (ap (λ n. n ∷ []) (eqb-true a.0.0 w k.0))
+    (ap (λ p. p.1) (sym k.1))
 
 len_again : (w : ℕ) (c : Cursor) (d : Cursor) → Passes c (w ∷ []) d → len_at w c ≡ Ok (tt, d)
 len_again w c d p = rw (octet_again c w d p, eq-eqb w w refl) refl
@@ -72,21 +73,30 @@ root_taken c x fits e =
     let all = passes_then c (to_be_bytes w16 (family v)) b.0.1 (address_len v ∷ o.0.0) o.0.1 first both in
     let made : Addr × Cursor = (addr_of v o.0.0, o.0.1) in
     let same : made ≡ x = ok_is made x o.2 in
-    subst (λ (y : Addr × Cursor). Passes c (root y.0) y.1 × IsAddr y.0) same (passes_is c _ (root made.0) o.0.1 o.0.1 all (root_text v o.0.0) refl, is_addr v o.0.0 third.1)
+    subst (λ (y : Addr × Cursor). Passes c (root y.0) y.1 × IsAddr y.0) same
+    (passes_is c _ (root made.0) o.0.1 o.0.1 all (root_text v o.0.0) refl, is_addr v o.0.0 third.1)
 
-root_again_at : (v : Version) (octets : List ℕ) (c d : Cursor) → Passes c (to_be_bytes w16 (family v) ++ (address_len v ∷ octets)) d → length octets ≡ address_len v → root_at c ≡ Ok (addr_of v octets, d)
+root_again_at : (v : Version) (octets : List ℕ) (c d : Cursor) → Passes c (to_be_bytes w16 (family v) ++ (address_len v ∷ octets)) d
+    → length octets ≡ address_len v → root_at c ≡ Ok (addr_of v octets, d)
 unfolding root_at
 root_again_at v octets c d p len =
     let s = passes_split c (to_be_bytes w16 (family v)) (address_len v ∷ octets) d p in
     let t = passes_split s.0 (address_len v ∷ []) octets d s.2 in
-    rw (number_again w16 (2 ^ 16) wide16 c (family v) s.0 s.1 (family_below v), versions.again v, octet_again s.0 (address_len v) t.0 t.1, eq-eqb (address_len v) (address_len v) refl, octets_again (address_len v) t.0 octets d t.2 len) refl
+    rw (
+      number_again w16 (2 ^ 16) wide16 c (family v) s.0 s.1 (family_below v),
+      versions.again v,
+      octet_again s.0 (address_len v) t.0 t.1,
+      eq-eqb (address_len v) (address_len v) refl,
+      octets_again (address_len v) t.0 octets d t.2 len,
+    ) refl
 
 -- What stands there is read.
 pub root_again : (c : Cursor) (a : Addr) (d : Cursor) → Passes c (root a) d → IsAddr a → root_at c ≡ Ok (a, d)
 root_again c (V4 octets) d p h = root_again_at four octets c d p h
 root_again c (V6 octets) d p h = root_again_at six octets c d p h
 
-len_fails : (w : ℕ) (c : Cursor) (f : FecFault) → len_at w c ≡ Err f → Lacks c 1 f ⊎ ((octet : ℕ) × (d : Cursor) × Passes c (octet ∷ []) d × (octet ≢ w) × Is f c.place reasons.AddressLength)
+len_fails : (w : ℕ) (c : Cursor) (f : FecFault) → len_at w c ≡ Err f
+    → Lacks c 1 f ⊎ ((octet : ℕ) × (d : Cursor) × Passes c (octet ∷ []) d × (octet ≢ w) × Is f c.place reasons.AddressLength)
 len_fails w c f e =
     elim (bind_err (part (octet_at c)) _ f e) [
       | inl short ↦ inl (octet_short c (λ place. fault place reasons.Short) f short)
@@ -120,7 +130,8 @@ root_fails c f fits e =
                   | inr l ↦
                       let second = len_taken (address_len v) b.0.1 l.0 l.1 in
                       elim (bind_err (part (octets_at (address_len v) l.0.1)) _ f l.2) [
-                        | inl short ↦ faults.address_short v b.0.1 l.0.1 first second (octets_short (address_len v) l.0.1 (λ place. fault place reasons.Short) f short)
+                        | inl short ↦ faults.address_short v b.0.1 l.0.1 first second
+                            (octets_short (address_len v) l.0.1 (λ place. fault place reasons.Short) f short)
                         | inr o ↦ absurd cc
                       ]
                 ]
@@ -131,10 +142,22 @@ root_fails c f fits e =
 pub fails_root : (c : Cursor) (f : FecFault) → RootFault c f → root_at c ≡ Err f
 unfolding root_at
 fails_root c f (faults.family_short h) = rw (lacks_number w16 c h.0) (err_again (sym h.1))
-fails_root c f (faults.family_wrong n d p lt other is) = rw (number_again w16 (2 ^ 16) wide16 c n d p lt, code_past version_of family versions n other) (err_again (sym is))
+fails_root c f (faults.family_wrong n d p lt other is) =
+    rw (number_again w16 (2 ^ 16) wide16 c n d p lt, code_past version_of family versions n other) (err_again (sym is))
 fails_root c f (faults.len_short v d p h) =
     rw (number_again w16 (2 ^ 16) wide16 c (family v) d p (family_below v), versions.again v, lacks_octet d h.0) (err_again (sym h.1))
 fails_root c f (faults.len_wrong v d octet e p q other is) =
-    rw (number_again w16 (2 ^ 16) wide16 c (family v) d p (family_below v), versions.again v, octet_again d octet e q, ne_eqb octet (address_len v) other) (err_again (sym is))
+    rw (
+      number_again w16 (2 ^ 16) wide16 c (family v) d p (family_below v),
+      versions.again v,
+      octet_again d octet e q,
+      ne_eqb octet (address_len v) other,
+    ) (err_again (sym is))
 fails_root c f (faults.address_short v d e p q h) =
-    rw (number_again w16 (2 ^ 16) wide16 c (family v) d p (family_below v), versions.again v, octet_again d (address_len v) e q, eq-eqb (address_len v) (address_len v) refl, lacks_octets (address_len v) e h.0) (err_again (sym h.1))
+    rw (
+      number_again w16 (2 ^ 16) wide16 c (family v) d p (family_below v),
+      versions.again v,
+      octet_again d (address_len v) e q,
+      eq-eqb (address_len v) (address_len v) refl,
+      lacks_octets (address_len v) e h.0,
+    ) (err_again (sym h.1))

@@ -16,7 +16,10 @@ value_len header octets = from_be_bytes w16 (take 2 (drop (header - 2) octets))
 
 -- the number of octets, where the header has so many
 abbrev sized : ℕ → List ℕ → Option ℕ
-sized header octets = cond (ltb (length octets) header) None (cond (ltb (length octets) (header + value_len header octets) || (eqb (get_or octets 0 0) 1 && not (eqb (value_len header octets) 4))) None (Some (header + value_len header octets)))
+sized header octets =
+    cond (ltb (length octets) header) None (cond
+    (ltb (length octets) (header + value_len header octets) || (eqb (get_or octets 0 0) 1 && not (eqb (value_len header octets) 4))) None
+    (Some (header + value_len header octets)))
 
 some_from : (b : Bool) (o : Option ℕ) (n : ℕ) → cond b None o ≡ Some n → (b ≡ false) × (o ≡ Some n)
 some_from true o n e = absurd cc
@@ -80,11 +83,14 @@ number_is : (high low : ℕ) → high < 256 → low < 256 → to_be_bytes w16 (f
 number_is high low h l = wide16.back (high ∷ low ∷ []) refl (two high low h l)
 
 -- the length field and the value, of which the field is these cells
-regroup : (cells value after xs : List ℕ) (v : ℕ) → length value ≡ v → to_be_bytes w16 v ≡ cells → value ++ after ≡ xs → to_be_bytes w16 (length value) ++ (value ++ after) ≡ cells ++ xs
+regroup : (cells value after xs : List ℕ) (v : ℕ) → length value ≡ v → to_be_bytes w16 v ≡ cells → value ++ after ≡ xs
+    → to_be_bytes w16 (length value) ++ (value ++ after) ≡ cells ++ xs
 regroup cells value after xs v len number whole =
-    ap (λ (k : ℕ). to_be_bytes w16 k ++ (value ++ after)) len ∙ ap (λ (ks : List ℕ). ks ++ (value ++ after)) number ∙ ap (λ (ys : List ℕ). cells ++ ys) whole
+    ap (λ (k : ℕ). to_be_bytes w16 k ++ (value ++ after)) len ∙ ap (λ (ks : List ℕ). ks ++ (value ++ after)) number
+    ∙ ap (λ (ys : List ℕ). cells ++ ys) whole
 
-plain_front : (kind high low : ℕ) (xs : List ℕ) (n : ℕ) → IsOctets (kind ∷ high ∷ low ∷ xs) → kind ≢ 255 → sized 3 (kind ∷ high ∷ low ∷ xs) ≡ Some n → Front tlv IsTlv (kind ∷ high ∷ low ∷ xs) n
+plain_front : (kind high low : ℕ) (xs : List ℕ) (n : ℕ) → IsOctets (kind ∷ high ∷ low ∷ xs) → kind ≢ 255 → sized 3 (kind ∷ high ∷ low ∷ xs) ≡ Some n
+    → Front tlv IsTlv (kind ∷ high ∷ low ∷ xs) n
 plain_front kind high low xs n fits other e =
     let v = from_be_bytes w16 (high ∷ low ∷ []) in
     let s = sized_some 3 (kind ∷ high ∷ low ∷ xs) n e in
@@ -100,7 +106,8 @@ plain_front kind high low xs n fits other e =
       size = omega (arith, s.1, len);
     }
 
-extended_front : (a b high low : ℕ) (xs : List ℕ) (n : ℕ) → IsOctets (255 ∷ a ∷ b ∷ high ∷ low ∷ xs) → sized 5 (255 ∷ a ∷ b ∷ high ∷ low ∷ xs) ≡ Some n → Front tlv IsTlv (255 ∷ a ∷ b ∷ high ∷ low ∷ xs) n
+extended_front : (a b high low : ℕ) (xs : List ℕ) (n : ℕ) → IsOctets (255 ∷ a ∷ b ∷ high ∷ low ∷ xs)
+    → sized 5 (255 ∷ a ∷ b ∷ high ∷ low ∷ xs) ≡ Some n → Front tlv IsTlv (255 ∷ a ∷ b ∷ high ∷ low ∷ xs) n
 extended_front a b high low xs n fits e =
     let v = from_be_bytes w16 (high ∷ low ∷ []) in
     let kind = from_be_bytes w16 (a ∷ b ∷ []) in
@@ -115,7 +122,8 @@ extended_front a b high low xs n fits e =
       element = extended kind (take v xs);
       after = drop v xs;
       shape = (kind_below, rw len below);
-      parts = ap (λ (ys : List ℕ). 255 ∷ ((a ∷ b ∷ []) ++ ys)) (sym (regroup (high ∷ low ∷ []) (take v xs) (drop v xs) xs v len number (take-append-drop v xs)))
+      parts = ap (λ (ys : List ℕ). 255 ∷ ((a ∷ b ∷ []) ++ ys))
+          (sym (regroup (high ∷ low ∷ []) (take v xs) (drop v xs) xs v len number (take-append-drop v xs)))
           ∙ ap (λ (ks : List ℕ). 255 ∷ (ks ++ (to_be_bytes w16 (length (take v xs)) ++ (take v xs ++ drop v xs)))) (sym kind_number);
       size = omega (arith, s.1, len);
     }
@@ -133,7 +141,8 @@ extended_cases (k ∷ a ∷ []) n fits h e = absurd (omega (arith, (sized_some 5
 extended_cases (k ∷ a ∷ b ∷ []) n fits h e = absurd (omega (arith, (sized_some 5 (k ∷ a ∷ b ∷ []) n e).0.within))
 extended_cases (k ∷ a ∷ b ∷ c ∷ []) n fits h e = absurd (omega (arith, (sized_some 5 (k ∷ a ∷ b ∷ c ∷ []) n e).0.within))
 extended_cases (k ∷ a ∷ b ∷ c ∷ d ∷ xs) n fits h e =
-    let P : ℕ → Type 0 = λ k. IsOctets (k ∷ a ∷ b ∷ c ∷ d ∷ xs) → sized 5 (k ∷ a ∷ b ∷ c ∷ d ∷ xs) ≡ Some n → Front tlv IsTlv (k ∷ a ∷ b ∷ c ∷ d ∷ xs) n in
+    let P : ℕ → Type 0 =
+    λ k. IsOctets (k ∷ a ∷ b ∷ c ∷ d ∷ xs) → sized 5 (k ∷ a ∷ b ∷ c ∷ d ∷ xs) ≡ Some n → Front tlv IsTlv (k ∷ a ∷ b ∷ c ∷ d ∷ xs) n in
     subst P (sym h) (extended_front a b c d xs n) fits e
 
 tlv_taken : (octets : List ℕ) (n : ℕ) → IsOctets octets → tlv_len octets ≡ Some n → Front tlv IsTlv octets n

@@ -42,7 +42,8 @@ type_is kind =
     meets P (eqb kind 0x0400) _ _ z refl (λ t. eqb-true _ _ t) (λ f0 e0.
     meets P (eqb kind 0x0402) _ _ z e0 (λ t. eqb-true _ _ t) (λ f1 e1.
     meets P (eqb kind 0x0403) _ _ z e1 (λ t. eqb-true _ _ t) (λ f2 e2.
-    let none : ¬ IsLabelType kind = λ h. elim h [ inl a ↦ eqb-false _ _ f0 a | inr b ↦ elim b [ inl a ↦ eqb-false _ _ f1 a | inr a ↦ eqb-false _ _ f2 a ] ] in
+    let none : ¬ IsLabelType kind =
+    λ h. elim h [ inl a ↦ eqb-false _ _ f0 a | inr b ↦ elim b [ inl a ↦ eqb-false _ _ f1 a | inr a ↦ eqb-false _ _ f2 a ] ] in
     subst P e2 none)))
 
 is_label : (t : LabelType) (kind : ℕ) → kind ≡ number_of t → IsLabelType kind
@@ -95,7 +96,8 @@ has_label ts l e =
 -- a fault of the TLVs, or that one is missing
 abbrev pub BodyFault : ℕ → List ℕ → ℕ → LdpFault → Type 0
 BodyFault kind body offset e =
-    IsLabelType kind × (((place : ℕ) × PartFails SpellsTlv IsNew TlvFault body place e × (offset ≡ 8 + place)) ⊎ ((ts : List Tlv) × AreTlvs body ts × (NoneTells fec_of ts ⊎ NoneTells label_of ts) × (offset ≡ 0) × (e ≡ faults.MissingTlv)))
+    IsLabelType kind × (((place : ℕ) × PartFails SpellsTlv IsNew TlvFault body place e × (offset ≡ 8 + place))
+    ⊎ ((ts : List Tlv) × AreTlvs body ts × (NoneTells fec_of ts ⊎ NoneTells label_of ts) × (offset ≡ 0) × (e ≡ faults.MissingTlv)))
 
 -- what the answer says of the octets
 abbrev pub BodyMeans : ℕ → List ℕ → Result LabelMessage (ℕ × LdpFault) → Type 0
@@ -107,12 +109,15 @@ carried types.Mapping kind f l body is c = (is, c)
 carried types.Withdraw kind f l body is c = (is, c)
 carried types.Release kind f l body is c = (is, c)
 
-by_found : (t : LabelType) (kind : ℕ) (body : List ℕ) (ts : List Tlv) → kind ≡ number_of t → AreTlvs body ts → (o : Option Fec) (p : Option ℕ) → latest fec_of None ts ≡ o → latest label_of None ts ≡ p → BodyMeans kind body (labelled t o p)
-by_found t kind body ts is are (Some f) (Some l) d e = carried t kind f l body is (record { said = ts; are = are; has_fec = has_fec ts f d; has_label = has_label ts l e })
+by_found : (t : LabelType) (kind : ℕ) (body : List ℕ) (ts : List Tlv) → kind ≡ number_of t → AreTlvs body ts → (o : Option Fec) (p : Option ℕ)
+    → latest fec_of None ts ≡ o → latest label_of None ts ≡ p → BodyMeans kind body (labelled t o p)
+by_found t kind body ts is are (Some f) (Some l) d e =
+    carried t kind f l body is (record { said = ts; are = are; has_fec = has_fec ts f d; has_label = has_label ts l e })
 by_found t kind body ts is are (Some f) None d e = (is_label t kind is, inr (ts, are, inr (latest_none label_of None ts e).1, refl, refl))
 by_found t kind body ts is are None p d e = (is_label t kind is, inr (ts, are, inl (latest_none fec_of None ts d).1, refl, refl))
 
-by_stop : (t : LabelType) (kind : ℕ) (body : List ℕ) → kind ≡ number_of t → (place : ℕ) (s : Stop) → PartFails SpellsTlv IsNew TlvStops body place s → BodyMeans kind body (stopped kind place s)
+by_stop : (t : LabelType) (kind : ℕ) (body : List ℕ) → kind ≡ number_of t → (place : ℕ) (s : Stop) → PartFails SpellsTlv IsNew TlvStops body place s
+    → BodyMeans kind body (stopped kind place s)
 by_stop t kind body is place (stops.Fault e) h = (
   is_label t kind is,
   inl (
@@ -143,9 +148,11 @@ by_stop t kind body is place stops.Unlike h = (
   ),
 )
 
-by_parts : (t : LabelType) (kind : ℕ) (body : List ℕ) → kind ≡ number_of t → IsOctets body → (r : Result (List Tlv) (ℕ × Stop)) → parts_of next_tlv body ≡ r → BodyMeans kind body (content_by t kind (found_in r))
+by_parts : (t : LabelType) (kind : ℕ) (body : List ℕ) → kind ≡ number_of t → IsOctets body → (r : Result (List Tlv) (ℕ × Stop))
+    → parts_of next_tlv body ≡ r → BodyMeans kind body (content_by t kind (found_in r))
 by_parts t kind body is fits (Ok ts) e =
-    by_found t kind body ts is (parts_found next_tlv SpellsTlv IsNew TlvStops tlv_reader body ts fits e) (latest fec_of None ts) (latest label_of None ts) refl refl
+    by_found t kind body ts is (parts_found next_tlv SpellsTlv IsNew TlvStops tlv_reader body ts fits e) (latest fec_of None ts)
+    (latest label_of None ts) refl refl
 by_parts t kind body is fits (Err f) e = by_stop t kind body is f.0 f.1 (fault_found next_tlv SpellsTlv IsNew TlvStops tlv_reader body f.0 f.1 fits e)
 
 by_type : (o : Option LabelType) (kind : ℕ) (body : List ℕ) → TypeIs kind o → IsOctets body → BodyMeans kind body (body_by o kind body)
@@ -166,14 +173,18 @@ of_none : (kind : ℕ) (body : List ℕ) → (¬ IsLabelType kind) → body_of k
 unfolding body_of
 of_none kind body not = ap (λ (o : Option LabelType). body_by o kind body) (type_none kind not)
 
-of_tlvs : (t : LabelType) (kind : ℕ) (body : List ℕ) (ts : List Tlv) → kind ≡ number_of t → AreTlvs body ts → body_of kind body ≡ labelled t (latest fec_of None ts) (latest label_of None ts)
+of_tlvs : (t : LabelType) (kind : ℕ) (body : List ℕ) (ts : List Tlv) → kind ≡ number_of t → AreTlvs body ts
+    → body_of kind body ≡ labelled t (latest fec_of None ts) (latest label_of None ts)
 of_tlvs t kind body ts is are =
-    of_type t kind body is ∙ ap (λ (r : Result (List Tlv) (ℕ × Stop)). content_by t kind (found_in r)) (parts_again next_tlv SpellsTlv IsNew TlvStops tlv_reader body ts are)
+    of_type t kind body is ∙ ap (λ (r : Result (List Tlv) (ℕ × Stop)). content_by t kind (found_in r))
+    (parts_again next_tlv SpellsTlv IsNew TlvStops tlv_reader body ts are)
 
-carries_again : (t : LabelType) (kind : ℕ) (f : Fec) (l : ℕ) (body : List ℕ) → kind ≡ number_of t → Carries f l body → body_of kind body ≡ Ok (message_of t f l)
+carries_again : (t : LabelType) (kind : ℕ) (f : Fec) (l : ℕ) (body : List ℕ) → kind ≡ number_of t → Carries f l body
+    → body_of kind body ≡ Ok (message_of t f l)
 carries_again t kind f l body is c =
     of_tlvs t kind body c.said is c.are
-    ∙ ap (λ (o : Option Fec). labelled t o (latest label_of None c.said)) (known fec_of fecs_new None [] body c.said [] c.are (tlvs.Fec f) f c.has_fec refl)
+    ∙ ap (λ (o : Option Fec). labelled t o (latest label_of None c.said))
+    (known fec_of fecs_new None [] body c.said [] c.are (tlvs.Fec f) f c.has_fec refl)
     ∙ ap (λ (o : Option ℕ). labelled t (Some f) o) (known label_of labels_new None [] body c.said [] c.are (tlvs.Label l) l c.has_label refl)
 
 -- TLVs without a FEC, and then an element of no multipoint LSP
@@ -192,7 +203,8 @@ unlike_again kind body is u =
     let t = label_is kind is in
     of_type t.0 kind body t.1 ∙ ap (λ (r : Result (List Tlv) (ℕ × Stop)). content_by t.0 kind (found_in r)) (unlike_parts body u).1
 
-ignored_again : (kind own : ℕ) (body : List ℕ) → kind ≡ own → (¬ IsLabelType kind) ⊎ (IsLabelType kind × IsUnlike body) → body_of kind body ≡ Ok (messages.Ignored own)
+ignored_again : (kind own : ℕ) (body : List ℕ) → kind ≡ own → (¬ IsLabelType kind) ⊎ (IsLabelType kind × IsUnlike body)
+    → body_of kind body ≡ Ok (messages.Ignored own)
 ignored_again kind own body same (inl not) = of_none kind body not ∙ ap (λ (n : ℕ). Ok (messages.Ignored n)) same
 ignored_again kind own body same (inr (is, u)) = unlike_again kind body is u ∙ ap (λ (n : ℕ). Ok (messages.Ignored n)) same
 
@@ -207,23 +219,29 @@ body_again (messages.Ignored own) kind body (same, why) = ignored_again kind own
 abbrev wrong : ℕ → LdpFault → Result LabelMessage (ℕ × LdpFault)
 wrong offset e = Err (offset, e)
 
-missing : (t : LabelType) (ts : List Tlv) → NoneTells fec_of ts ⊎ NoneTells label_of ts → labelled t (latest fec_of None ts) (latest label_of None ts) ≡ wrong 0 faults.MissingTlv
+missing : (t : LabelType) (ts : List Tlv) → NoneTells fec_of ts ⊎ NoneTells label_of ts
+    → labelled t (latest fec_of None ts) (latest label_of None ts) ≡ wrong 0 faults.MissingTlv
 missing t ts (inl none) = ap (λ (o : Option Fec). labelled t o (latest label_of None ts)) (none_latest fec_of None ts none)
-missing t ts (inr none) = ap (λ (o : Option ℕ). labelled t (latest fec_of None ts) o) (none_latest label_of None ts none) ∙ without (latest fec_of None ts)
+missing t ts (inr none) =
+    ap (λ (o : Option ℕ). labelled t (latest fec_of None ts) o) (none_latest label_of None ts none) ∙ without (latest fec_of None ts)
   where
     without : (o : Option Fec) → labelled t o None ≡ wrong 0 faults.MissingTlv
     without None = refl
     without (Some f) = refl
 
-in_parts : (body : List ℕ) (place : ℕ) (e : LdpFault) → IsOctets body → PartFails SpellsTlv IsNew TlvFault body place e → parts_of next_tlv body ≡ Err (place, stops.Fault e)
+in_parts : (body : List ℕ) (place : ℕ) (e : LdpFault) → IsOctets body → PartFails SpellsTlv IsNew TlvFault body place e
+    → parts_of next_tlv body ≡ Err (place, stops.Fault e)
 in_parts body place e fits h =
-    let f : PartFails SpellsTlv IsNew TlvStops body place (stops.Fault e) = record { parts = h.parts; rest = h.rest; offset = h.offset; stand = h.stand; follow = h.follow; at = h.at; faulty = h.faulty } in
+    let f : PartFails SpellsTlv IsNew TlvStops body place (stops.Fault e) =
+    record { parts = h.parts; rest = h.rest; offset = h.offset; stand = h.stand; follow = h.follow; at = h.at; faulty = h.faulty } in
     fault_again next_tlv SpellsTlv IsNew TlvStops tlv_reader body place (stops.Fault e) fits f
 
-pub fails_body : (kind : ℕ) (body : List ℕ) (offset : ℕ) (e : LdpFault) → IsOctets body → BodyFault kind body offset e → body_of kind body ≡ Err (offset, e)
+pub fails_body : (kind : ℕ) (body : List ℕ) (offset : ℕ) (e : LdpFault) → IsOctets body → BodyFault kind body offset e
+    → body_of kind body ≡ Err (offset, e)
 fails_body kind body offset e fits (is, inl (place, h, at)) =
     let t = label_is kind is in
-    of_type t.0 kind body t.1 ∙ ap (λ (r : Result (List Tlv) (ℕ × Stop)). content_by t.0 kind (found_in r)) (in_parts body place e fits h) ∙ fault_is wrong offset (8 + place) e e at refl
+    of_type t.0 kind body t.1 ∙ ap (λ (r : Result (List Tlv) (ℕ × Stop)). content_by t.0 kind (found_in r)) (in_parts body place e fits h)
+    ∙ fault_is wrong offset (8 + place) e e at refl
 fails_body kind body offset e fits (is, inr (ts, are, none, at, same)) =
     let t = label_is kind is in
     of_tlvs t.0 kind body ts t.1 are ∙ missing t.0 ts none ∙ fault_is wrong offset 0 e faults.MissingTlv at same

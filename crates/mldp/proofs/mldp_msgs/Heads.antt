@@ -30,8 +30,10 @@ first_stands xs fits le =
 pub second_stands : (xs : List ℕ) → IsOctets xs → 4 ≤ length xs → drop 2 xs ≡ to_be_bytes w16 (second xs) ++ drop 4 xs
 second_stands xs fits le =
     let len : length (take 2 (drop 2 xs)) ≡ 2 = length-take-le 2 (drop 2 xs) (omega (arith, length-drop 2 xs, le)) in
-    let back : to_be_bytes w16 (second xs) ≡ take 2 (drop 2 xs) = wide16.back (take 2 (drop 2 xs)) len (octets_before 2 (drop 2 xs) (octets_behind 2 xs fits)) in
-    sym (take-append-drop 2 (drop 2 xs)) ∙ ap (λ (ys : List ℕ). take 2 (drop 2 xs) ++ ys) (drop-drop 2 2 xs) ∙ ap (λ (ys : List ℕ). ys ++ drop 4 xs) (sym back)
+    let back : to_be_bytes w16 (second xs) ≡ take 2 (drop 2 xs) =
+    wide16.back (take 2 (drop 2 xs)) len (octets_before 2 (drop 2 xs) (octets_behind 2 xs fits)) in
+    sym (take-append-drop 2 (drop 2 xs)) ∙ ap (λ (ys : List ℕ). take 2 (drop 2 xs) ++ ys) (drop-drop 2 2 xs)
+    ∙ ap (λ (ys : List ℕ). ys ++ drop 4 xs) (sym back)
 
 -- All that it counts is there.
 pub record Whole (xs : List ℕ) : Type 0 where
@@ -46,7 +48,8 @@ whole_is xs fits room =
     let len : length value ≡ second xs = length-take-le (second xs) (drop 4 xs) (omega (arith, length-drop 4 xs, room)) in
     let split : drop 4 xs ≡ value ++ after = sym (take-append-drop (second xs) (drop 4 xs)) in
     let parts : xs ≡ headed (first xs) (length value) (value ++ after) =
-    is_headed xs fits (omega (arith, room)) ∙ ap (λ (n : ℕ). headed (first xs) n (drop 4 xs)) (sym len) ∙ ap (headed (first xs) (length value)) split in
+    is_headed xs fits (omega (arith, room)) ∙ ap (λ (n : ℕ). headed (first xs) n (drop 4 xs)) (sym len)
+    ∙ ap (headed (first xs) (length value)) split in
     let size : length (headed (first xs) (length value) value) ≡ 4 + second xs = omega (arith, length_headed (first xs) (length value) value, len) in
     let front : take (4 + second xs) xs ≡ headed (first xs) (length value) value =
     ap (take (4 + second xs)) parts ∙ take_at (headed (first xs) (length value) value) after (4 + second xs) size in
@@ -83,24 +86,33 @@ led_is n xs fits low room =
     let body : List ℕ = body_in n xs in
     let after : List ℕ = behind_body n xs in
     let lead_len : length lead ≡ n = length-take-le n (drop 4 xs) (omega (arith, length-drop 4 xs, room, low)) in
-    let body_len : length body ≡ second xs - n = length-take-le (second xs - n) (drop (4 + n) xs) (omega (arith, length-drop (4 + n) xs, room, low)) in
+    let body_len : length body ≡ second xs - n =
+    length-take-le (second xs - n) (drop (4 + n) xs) (omega (arith, length-drop (4 + n) xs, room, low)) in
     let counted : n + length body ≡ second xs = omega (arith, body_len, low) in
-    let split : drop 4 xs ≡ lead ++ (body ++ after) = sym (take-append-drop n (drop 4 xs)) ∙ ap (λ (ys : List ℕ). lead ++ ys) (drop-drop n 4 xs ∙ sym (take-append-drop (second xs - n) (drop (4 + n) xs))) in
+    let split : drop 4 xs ≡ lead ++ (body ++ after) =
+    sym (take-append-drop n (drop 4 xs)) ∙ ap (λ (ys : List ℕ). lead ++ ys)
+    (drop-drop n 4 xs ∙ sym (take-append-drop (second xs - n) (drop (4 + n) xs))) in
     let parts : xs ≡ headed (first xs) (n + length body) (lead ++ (body ++ after)) =
-    is_headed xs fits (omega (arith, room)) ∙ ap (λ (m : ℕ). headed (first xs) m (drop 4 xs)) (sym counted) ∙ ap (headed (first xs) (n + length body)) split in
+    is_headed xs fits (omega (arith, room)) ∙ ap (λ (m : ℕ). headed (first xs) m (drop 4 xs)) (sym counted)
+    ∙ ap (headed (first xs) (n + length body)) split in
     let text : List ℕ = headed (first xs) (n + length body) (lead ++ body) in
-    let size : length text ≡ 4 + second xs = omega (arith, length_headed (first xs) (n + length body) (lead ++ body), length-append lead body, lead_len, counted) in
+    let size : length text ≡ 4 + second xs =
+    omega (arith, length_headed (first xs) (n + length body) (lead ++ body), length-append lead body, lead_len, counted) in
     let whole_text : xs ≡ text ++ after = parts ∙ ap (headed (first xs) (n + length body)) (sym (append_assoc lead body after)) in
     let front : take (4 + second xs) xs ≡ text = ap (take (4 + second xs)) whole_text ∙ take_at text after (4 + second xs) size in
     record { lead_len = lead_len; counted = counted; parts = parts; front = front }
 
 -- The body of such octets.
-pub body_of_led : (n a : ℕ) (lead body after : List ℕ) → length lead ≡ n → take (n + length body - n) (drop (4 + n) (headed a (n + length body) (lead ++ (body ++ after)))) ≡ body
+pub body_of_led : (n a : ℕ) (lead body after : List ℕ) → length lead ≡ n
+    → take (n + length body - n) (drop (4 + n) (headed a (n + length body) (lead ++ (body ++ after)))) ≡ body
 body_of_led n a lead body after lead_len =
     let count : n + length body - n ≡ length body = omega arith in
-    let behind : drop (4 + n) (headed a (n + length body) (lead ++ (body ++ after))) ≡ body ++ after = drop_headed n a (n + length body) (lead ++ (body ++ after)) ∙ drop_at lead (body ++ after) n lead_len in
+    let behind : drop (4 + n) (headed a (n + length body) (lead ++ (body ++ after))) ≡ body ++ after =
+    drop_headed n a (n + length body) (lead ++ (body ++ after)) ∙ drop_at lead (body ++ after) n lead_len in
     ap (take (n + length body - n)) behind ∙ take_at body after (n + length body - n) (sym count)
 
 -- How many octets they are.
-pub length_led : (n a : ℕ) (lead body after : List ℕ) → length lead ≡ n → length (headed a (n + length body) (lead ++ (body ++ after))) ≡ 4 + n + length body + length after
-length_led n a lead body after lead_len = omega (arith, length_headed a (n + length body) (lead ++ (body ++ after)), length-append lead (body ++ after), length-append body after, lead_len)
+pub length_led : (n a : ℕ) (lead body after : List ℕ) → length lead ≡ n
+    → length (headed a (n + length body) (lead ++ (body ++ after))) ≡ 4 + n + length body + length after
+length_led n a lead body after lead_len =
+    omega (arith, length_headed a (n + length body) (lead ++ (body ++ after)), length-append lead (body ++ after), length-append body after, lead_len)

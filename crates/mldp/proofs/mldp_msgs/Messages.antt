@@ -27,7 +27,8 @@ MessageMeans octets (Err f) = MessageFault octets f.0 f.1
 
 -- ---- what was read
 
-by_fault : (xs : List ℕ) (offset : ℕ) (e : LdpFault) → IsOctets xs → Led 4 xs → BodyFault (first xs) (body_in 4 xs) offset e → MessageFault xs offset e
+by_fault : (xs : List ℕ) (offset : ℕ) (e : LdpFault) → IsOctets xs → Led 4 xs → BodyFault (first xs) (body_in 4 xs) offset e
+    → MessageFault xs offset e
 by_fault xs offset e fits s (is, why) =
     let label : LabelStands xs (body_in 4 xs) = record {
       kind = first xs;
@@ -43,7 +44,8 @@ by_fault xs offset e fits s (is, why) =
       | inr h ↦ faulty.missing (body_in 4 xs) h.0 label h.1 h.2 h.3 h.4
     ]
 
-by_body : (xs : List ℕ) → IsOctets xs → 4 + second xs ≤ length xs → Led 4 xs → (r : Result LabelMessage (ℕ × LdpFault)) → BodyMeans (first xs) (body_in 4 xs) r → MessageMeans xs (sized (4 + second xs) r)
+by_body : (xs : List ℕ) → IsOctets xs → 4 + second xs ≤ length xs → Led 4 xs → (r : Result LabelMessage (ℕ × LdpFault))
+    → BodyMeans (first xs) (body_in 4 xs) r → MessageMeans xs (sized (4 + second xs) r)
 by_body xs fits room s (Err f) h = by_fault xs f.0 f.1 fits s h
 by_body xs fits room s (Ok m) h = (
   room,
@@ -72,7 +74,8 @@ message_is xs fits pos =
     let four : 4 ≤ length xs = ltb-false _ _ f0 in
     meets P (ltb (second xs) 4) _ _ z e0 (λ t. wrong four (inl (ltb-true _ _ t))) (λ f1 e1.
     let low : 4 ≤ second xs = ltb-false _ _ f1 in
-    meets P (ltb (length xs) (4 + second xs)) _ _ z e1 (λ t. let lt : length xs < 4 + second xs = ltb-true _ _ t in wrong four (inr (omega (arith, length-drop 4 xs, lt, four)))) (λ f2 e2.
+    meets P (ltb (length xs) (4 + second xs)) _ _ z e1
+    (λ t. let lt : length xs < 4 + second xs = ltb-true _ _ t in wrong four (inr (omega (arith, length-drop 4 xs, lt, four)))) (λ f2 e2.
     let room : 4 + second xs ≤ length xs = ltb-false _ _ f2 in
     let body_fits : IsOctets (body_in 4 xs) = octets_before (second xs - 4) (drop 8 xs) (octets_behind 8 xs fits) in
     subst P e2 (by_body xs fits room (led_is 4 xs fits low room) (body_of (first xs) (body_in 4 xs)) (body_is (first xs) (body_in 4 xs) body_fits)))))
@@ -83,7 +86,8 @@ abbrev wrong : ℕ → LdpFault → Result (LabelMessage × ℕ) (ℕ × LdpFaul
 wrong offset e = Err (offset, e)
 
 -- the header at the front
-at_header : (kind len : ℕ) (rest : List ℕ) → kind < 2 ^ 16 → len < 2 ^ 16 → message_at (headed kind len rest) ≡ message_by kind len (headed kind len rest)
+at_header : (kind len : ℕ) (rest : List ℕ) → kind < 2 ^ 16 → len < 2 ^ 16
+    → message_at (headed kind len rest) ≡ message_by kind len (headed kind len rest)
 unfolding message_at
 at_header kind len rest k l =
     let xs : List ℕ = headed kind len rest in
@@ -93,7 +97,8 @@ at_header kind len rest k l =
     ∙ ap (λ (n : ℕ). message_by kind n xs) (second_headed kind len rest l)
 
 -- a whole message at the front
-at_whole : (kind : ℕ) (id body after : List ℕ) → kind < 2 ^ 16 → 4 + length body < 2 ^ 16 → length id ≡ 4 → message_at (headed kind (4 + length body) (id ++ (body ++ after))) ≡ sized (8 + length body) (body_of kind body)
+at_whole : (kind : ℕ) (id body after : List ℕ) → kind < 2 ^ 16 → 4 + length body < 2 ^ 16 → length id ≡ 4
+    → message_at (headed kind (4 + length body) (id ++ (body ++ after))) ≡ sized (8 + length body) (body_of kind body)
 at_whole kind id body after k l id_len =
     let len : ℕ = 4 + length body in
     let xs : List ℕ = headed kind len (id ++ (body ++ after)) in
@@ -107,9 +112,17 @@ at_whole kind id body after k l id_len =
     ∙ ap (λ (ys : List ℕ). sized (4 + len) (body_of kind ys)) (body_of_led 4 kind id body after id_len)
     ∙ ap (λ (n : ℕ). sized n (body_of kind body)) all
 
-message_again : (ms : List LabelMessage) (text after : List ℕ) → (s : SpellsMessage ms text) → message_at (text ++ after) ≡ Ok (s.message, length text)
+message_again : (ms : List LabelMessage) (text after : List ℕ) → (s : SpellsMessage ms text)
+    → message_at (text ++ after) ≡ Ok (s.message, length text)
 message_again ms text after s =
-    let size : 8 + length s.body ≡ length text = omega (arith, ap (λ (xs : List ℕ). length xs) s.parts, length_headed s.kind (4 + length s.body) (s.id ++ s.body), length-append s.id s.body, s.id_len) in
+    let size : 8 + length s.body ≡ length text =
+    omega (
+      arith,
+      ap (λ (xs : List ℕ). length xs) s.parts,
+      length_headed s.kind (4 + length s.body) (s.id ++ s.body),
+      length-append s.id s.body,
+      s.id_len,
+    ) in
     ap (λ (xs : List ℕ). message_at (xs ++ after)) s.parts
     ∙ ap (λ (ys : List ℕ). message_at (headed s.kind (4 + length s.body) ys)) (append_assoc s.id s.body after)
     ∙ at_whole s.kind s.id s.body after s.kind_fits s.len_fits s.id_len
@@ -122,14 +135,16 @@ few : (octets : List ℕ) → length octets < 4 → message_at octets ≡ wrong 
 unfolding message_at
 few octets lt = take_branch (ltb (length octets) 4) (wrong 0 faults.MessageLength) _ (lt-ltb _ _ lt)
 
-wrong_length : (kind len : ℕ) (rest : List ℕ) → (len < 4) ⊎ (length rest < len) → message_by kind len (headed kind len rest) ≡ wrong 2 faults.MessageLength
+wrong_length : (kind len : ℕ) (rest : List ℕ) → (len < 4) ⊎ (length rest < len)
+    → message_by kind len (headed kind len rest) ≡ wrong 2 faults.MessageLength
 wrong_length kind len rest (inl lt) = take_branch (ltb len 4) (wrong 2 faults.MessageLength) _ (lt-ltb _ _ lt)
 wrong_length kind len rest (inr lt) =
     let xs : List ℕ = headed kind len rest in
     let short : ltb (length xs) (4 + len) ≡ true = lt-ltb _ _ (omega (arith, length_headed kind len rest, lt)) in
     either (ltb len 4) (take_branch (ltb (length xs) (4 + len)) (wrong 2 faults.MessageLength) _ short)
   where
-    either : (b : Bool) {y : Result (LabelMessage × ℕ) (ℕ × LdpFault)} → y ≡ wrong 2 faults.MessageLength → cond b (wrong 2 faults.MessageLength) y ≡ wrong 2 faults.MessageLength
+    either : (b : Bool) {y : Result (LabelMessage × ℕ) (ℕ × LdpFault)} → y ≡ wrong 2 faults.MessageLength
+        → cond b (wrong 2 faults.MessageLength) y ≡ wrong 2 faults.MessageLength
     either true e = refl
     either false e = e
 
@@ -139,7 +154,8 @@ label_below kind (inr (inl h)) = omega (arith, h)
 label_below kind (inr (inr h)) = omega (arith, h)
 
 -- a message of a label type whose body fails
-fails_body_at : (octets body : List ℕ) (offset : ℕ) (e : LdpFault) → IsOctets octets → (s : LabelStands octets body) → BodyFault s.kind body offset e → message_at octets ≡ wrong offset e
+fails_body_at : (octets body : List ℕ) (offset : ℕ) (e : LdpFault) → IsOctets octets → (s : LabelStands octets body) → BodyFault s.kind body offset e
+    → message_at octets ≡ wrong offset e
 fails_body_at octets body offset e fits s h =
     let body_fits : IsOctets body = inner_octets (headed s.kind (4 + length body) s.id) body s.after octets fits s.parts in
     ap message_at s.parts
@@ -151,7 +167,8 @@ fails_message octets offset e fits (faulty.header_cut pos lt at is) = few octets
 fails_message octets offset e fits (faulty.length_wrong kind len rest k l parts why at is) =
     ap message_at parts ∙ at_header kind len rest k l ∙ wrong_length kind len rest why ∙ fault_is wrong offset 2 e faults.MessageLength at is
 fails_message octets offset e fits (faulty.in_tlvs body place s h at) = fails_body_at octets body offset e fits s (s.is_label, inl (place, h, at))
-fails_message octets offset e fits (faulty.missing body ts s are none at is) = fails_body_at octets body offset e fits s (s.is_label, inr (ts, are, none, at, is))
+fails_message octets offset e fits (faulty.missing body ts s are none at is) =
+    fails_body_at octets body offset e fits s (s.is_label, inr (ts, are, none, at, is))
 
 -- ---- fronts of a PDU's octets
 
@@ -180,11 +197,15 @@ front_again ms text after s =
 
 fault_more : (octets : List ℕ) (offset : ℕ) (e : LdpFault) → MessageFault octets offset e → 0 < length octets
 fault_more octets offset e (faulty.header_cut pos lt at is) = pos
-fault_more octets offset e (faulty.length_wrong kind len rest k l parts why at is) = omega (arith, ap (λ (xs : List ℕ). length xs) parts, length_headed kind len rest)
-fault_more octets offset e (faulty.in_tlvs body place s h at) = omega (arith, ap (λ (xs : List ℕ). length xs) s.parts, length_headed s.kind (4 + length body) (s.id ++ (body ++ s.after)))
-fault_more octets offset e (faulty.missing body ts s are none at is) = omega (arith, ap (λ (xs : List ℕ). length xs) s.parts, length_headed s.kind (4 + length body) (s.id ++ (body ++ s.after)))
+fault_more octets offset e (faulty.length_wrong kind len rest k l parts why at is) =
+    omega (arith, ap (λ (xs : List ℕ). length xs) parts, length_headed kind len rest)
+fault_more octets offset e (faulty.in_tlvs body place s h at) =
+    omega (arith, ap (λ (xs : List ℕ). length xs) s.parts, length_headed s.kind (4 + length body) (s.id ++ (body ++ s.after)))
+fault_more octets offset e (faulty.missing body ts s are none at is) =
+    omega (arith, ap (λ (xs : List ℕ). length xs) s.parts, length_headed s.kind (4 + length body) (s.id ++ (body ++ s.after)))
 
-pub fails_front : (octets : List ℕ) (offset : ℕ) (e : LdpFault) → IsOctets octets → MessageFault octets offset e → message_front octets ≡ bad [] offset e
+pub fails_front : (octets : List ℕ) (offset : ℕ) (e : LdpFault) → IsOctets octets → MessageFault octets offset e
+    → message_front octets ≡ bad [] offset e
 fails_front octets offset e fits h = front_seen octets (fault_more octets offset e h) ∙ ap seen (fails_message octets offset e fits h)
 
 pub messages_framed : IsFraming message_front SpellsMessage

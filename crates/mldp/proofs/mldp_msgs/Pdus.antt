@@ -26,7 +26,8 @@ use Rattle.mldp.proofs.mldp_msgs.Messages.{FrontMeans, front_is, fails_front, me
 -- ---- the messages of a body
 
 -- a body of whole messages is cut into these
-body_again : (body : List ℕ) (ms : List LabelMessage) → Begins SpellsMessage body ms [] → cut message_front body ≡ record { messages = ms; rest = []; fault = None }
+body_again : (body : List ℕ) (ms : List LabelMessage) → Begins SpellsMessage body ms []
+    → cut message_front body ≡ record { messages = ms; rest = []; fault = None }
 body_again body ms b =
     begun message_front SpellsMessage messages_framed 0 (length body) body ms [] b (omega arith)
     ∙ ap (with_front ms) (waits message_front (length body) [] messages_framed.empty)
@@ -34,21 +35,31 @@ body_again body ms b =
 
 -- these messages, and then one that fails, in octets whose first stands at 0
 abbrev BodyFails : List ℕ → List LabelMessage → ℕ → LdpFault → Type 0
-BodyFails body ms place e = (left : List ℕ) × (offset : ℕ) × Begins SpellsMessage body ms left × (0 < length left) × MessageFault left offset e × (place ≡ (length body - length left) + offset)
+BodyFails body ms place e =
+    (left : List ℕ) × (offset : ℕ) × Begins SpellsMessage body ms left × (0 < length left) × MessageFault left offset e
+    × (place ≡ (length body - length left) + offset)
 
 -- what the cut of a body says of it
 abbrev BodyMeans : List ℕ → List LabelMessage → Option (ℕ × LdpFault) → Type 0
 BodyMeans body ms None = Begins SpellsMessage body ms []
 BodyMeans body ms (Some f) = BodyFails body ms f.0 f.1
 
-body_ends : (body rest : List ℕ) (before ms : List LabelMessage) (o : Option (ℕ × LdpFault)) → IsOctets rest → Begins SpellsMessage body before rest → Ends message_front (0 + length body) rest before ms o → BodyMeans body ms o
+body_ends : (body rest : List ℕ) (before ms : List LabelMessage) (o : Option (ℕ × LdpFault)) → IsOctets rest → Begins SpellsMessage body before rest
+    → Ends message_front (0 + length body) rest before ms o → BodyMeans body ms o
 body_ends body rest before ms None fits b (ends, same) =
-    subst (λ (ns : List LabelMessage). Begins SpellsMessage body ns []) (sym same) (subst (Begins SpellsMessage body before) (subst (FrontMeans rest) ends (front_is rest fits)) b)
+    subst (λ (ns : List LabelMessage). Begins SpellsMessage body ns []) (sym same)
+    (subst (Begins SpellsMessage body before) (subst (FrontMeans rest) ends (front_is rest fits)) b)
 body_ends body rest before ms (Some f) fits b (last, offset, stands, at, same) =
     let fault : (last ≡ []) × MessageFault rest offset f.1 = subst (FrontMeans rest) stands (front_is rest fits) in
     let all : ms ≡ before = same ∙ ap (λ (ns : List LabelMessage). before ++ ns) fault.0 ∙ append-nil before in
-    let within : length rest ≤ length body = omega (arith, ap (λ (xs : List ℕ). length xs) b.parts, length-append (octets_of b.units) rest) in
-    (rest, offset, subst (λ (ns : List LabelMessage). Begins SpellsMessage body ns rest) (sym all) b, some rest last stands, fault.1, omega (arith, at, within))
+    let within : length rest ≤ length body = omega (arith, ap (λ (xs : List ℕ). length xs) b.parts, length-append (octets_of b.units) rest) in (
+      rest,
+      offset,
+      subst (λ (ns : List LabelMessage). Begins SpellsMessage body ns rest) (sym all) b,
+      some rest last stands,
+      fault.1,
+      omega (arith, at, within),
+    )
   where
     some : (rest : List ℕ) (last : List LabelMessage) {offset : ℕ} {e : LdpFault} → message_front rest ≡ bad last offset e → 0 < length rest
     some [] last e = absurd cc
@@ -58,10 +69,13 @@ body_is : (body : List ℕ) → IsOctets body → BodyMeans body (cut message_fr
 body_is body fits =
     let c : Cut LabelMessage LdpFault = cut message_front body in
     let f : Found message_front SpellsMessage 0 body c = found message_front SpellsMessage messages_framed 0 body fits in
-    body_ends body c.rest f.first c.messages c.fault (IsOctets-behind (octets_of f.begins.units) c.rest (subst IsOctets f.begins.parts fits)) f.begins f.ends
+    body_ends body c.rest f.first c.messages c.fault (IsOctets-behind (octets_of f.begins.units) c.rest (subst IsOctets f.begins.parts fits)) f.begins
+    f.ends
 
 -- a body whose message fails
-body_fails : (body : List ℕ) (ms : List LabelMessage) (left : List ℕ) (offset : ℕ) (e : LdpFault) → IsOctets body → Begins SpellsMessage body ms left → MessageFault left offset e → cut message_front body ≡ record { messages = ms; rest = left; fault = Some ((length body - length left) + offset, e) }
+body_fails : (body : List ℕ) (ms : List LabelMessage) (left : List ℕ) (offset : ℕ) (e : LdpFault) → IsOctets body → Begins SpellsMessage body ms left
+    → MessageFault left offset e → cut message_front body
+    ≡ record { messages = ms; rest = left; fault = Some ((length body - length left) + offset, e) }
 body_fails body ms left offset e fits b h =
     let within : length left ≤ length body = omega (arith, ap (λ (xs : List ℕ). length xs) b.parts, length-append (octets_of b.units) left) in
     let there : ℕ = length body - length left in
@@ -79,7 +93,8 @@ PduMeans octets more = ⊤
 PduMeans octets (whole n ms) = (n ≤ length octets) × SpellsPdu ms (take n octets)
 PduMeans octets (bad before offset e) = PduFault octets before offset e
 
-by_body : (xs : List ℕ) → first xs ≡ 1 → second xs ≤ 4096 → 4 + second xs ≤ length xs → Led 6 xs → (ms : List LabelMessage) (o : Option (ℕ × LdpFault)) → BodyMeans (body_in 6 xs) ms o → PduMeans xs (pdu_of (4 + second xs) ms o)
+by_body : (xs : List ℕ) → first xs ≡ 1 → second xs ≤ 4096 → 4 + second xs ≤ length xs → Led 6 xs
+    → (ms : List LabelMessage) (o : Option (ℕ × LdpFault)) → BodyMeans (body_in 6 xs) ms o → PduMeans xs (pdu_of (4 + second xs) ms o)
 by_body xs one high room s ms None h = (
   room,
   record {
@@ -93,7 +108,8 @@ by_body xs one high room s ms None h = (
 )
 by_body xs one high room s ms (Some f) (left, offset, begins, pos, fault, at) =
     let parts = s.parts ∙ ap (λ (n : ℕ). headed n (6 + length (body_in 6 xs)) (lead_in 6 xs ++ (body_in 6 xs ++ behind_body 6 xs))) one in
-    faulty.in_message (lead_in 6 xs) (body_in 6 xs) (behind_body 6 xs) s.lead_len (omega (arith, s.counted, high)) parts left offset begins pos fault (omega (arith, at))
+    faulty.in_message (lead_in 6 xs) (body_in 6 xs) (behind_body 6 xs) s.lead_len (omega (arith, s.counted, high)) parts left offset begins pos fault
+    (omega (arith, at))
 
 pdu_is : (xs : List ℕ) → IsOctets xs → PduMeans xs (pdu_front xs)
 unfolding pdu_front
@@ -101,10 +117,12 @@ pdu_is xs fits =
     let P : Front LabelMessage LdpFault → Type 0 = PduMeans xs in
     let z : Front LabelMessage LdpFault = pdu_front xs in
     let wrong : 4 ≤ length xs → first xs ≡ 1 → (second xs < 6) ⊎ (4096 < second xs) → PduFault xs [] 2 faults.PduLength = λ four one why.
-    faulty.pdu_length (second xs) (drop 4 xs) (second_below xs fits) (is_headed xs fits four ∙ ap (λ (n : ℕ). headed n (second xs) (drop 4 xs)) one) why refl refl refl in
+    faulty.pdu_length (second xs) (drop 4 xs) (second_below xs fits) (is_headed xs fits four ∙ ap (λ (n : ℕ). headed n (second xs) (drop 4 xs)) one)
+    why refl refl refl in
     meets P (ltb (length xs) 4) _ _ z refl (λ t. tt) (λ f0 e0.
     let four : 4 ≤ length xs = ltb-false _ _ f0 in
-    meets P (not (eqb (first xs) 1)) _ _ z e0 (λ t. faulty.version (first xs) (second xs) (drop 4 xs) (first_below xs fits) (second_below xs fits) (is_headed xs fits four) (eqb-false _ _ (not_true (eqb (first xs) 1) t)) refl refl refl) (λ f1 e1.
+    meets P (not (eqb (first xs) 1)) _ _ z e0 (λ t. faulty.version (first xs) (second xs) (drop 4 xs) (first_below xs fits) (second_below xs fits)
+    (is_headed xs fits four) (eqb-false _ _ (not_true (eqb (first xs) 1) t)) refl refl refl) (λ f1 e1.
     let one : first xs ≡ 1 = eqb-true _ _ (not_false (eqb (first xs) 1) f1) in
     meets P (ltb (second xs) 6) _ _ z e1 (λ t. wrong four one (inl (ltb-true _ _ t))) (λ f2 e2.
     let low : 6 ≤ second xs = ltb-false _ _ f2 in
@@ -119,7 +137,8 @@ pdu_is xs fits =
 -- ---- what is spelled is read
 
 -- the header at the front
-at_header : (version len : ℕ) (rest : List ℕ) → version < 2 ^ 16 → len < 2 ^ 16 → pdu_front (headed version len rest) ≡ pdu_by version len (headed version len rest)
+at_header : (version len : ℕ) (rest : List ℕ) → version < 2 ^ 16 → len < 2 ^ 16
+    → pdu_front (headed version len rest) ≡ pdu_by version len (headed version len rest)
 unfolding pdu_front
 at_header version len rest v l =
     let four : ltb (length (headed version len rest)) 4 ≡ false = le-ltb _ _ (omega (arith, length_headed version len rest)) in
@@ -128,7 +147,8 @@ at_header version len rest v l =
     ∙ ap (λ (n : ℕ). pdu_by version n (headed version len rest)) (second_headed version len rest l)
 
 -- a whole PDU at the front
-at_whole : (ident body after : List ℕ) → length ident ≡ 6 → 6 + length body ≤ 4096 → pdu_front (headed 1 (6 + length body) (ident ++ (body ++ after))) ≡ pdu_cut (10 + length body) (cut message_front body)
+at_whole : (ident body after : List ℕ) → length ident ≡ 6 → 6 + length body ≤ 4096
+    → pdu_front (headed 1 (6 + length body) (ident ++ (body ++ after))) ≡ pdu_cut (10 + length body) (cut message_front body)
 at_whole ident body after ident_len fits =
     let len : ℕ = 6 + length body in
     let xs : List ℕ = headed 1 len (ident ++ (body ++ after)) in
@@ -146,7 +166,14 @@ at_whole ident body after ident_len fits =
 
 pdu_again : (ms : List LabelMessage) (text after : List ℕ) → SpellsPdu ms text → pdu_front (text ++ after) ≡ whole (length text) ms
 pdu_again ms text after s =
-    let size : 10 + length s.body ≡ length text = omega (arith, ap (λ (xs : List ℕ). length xs) s.parts, length_headed 1 (6 + length s.body) (s.ident ++ s.body), length-append s.ident s.body, s.ident_len) in
+    let size : 10 + length s.body ≡ length text =
+    omega (
+      arith,
+      ap (λ (xs : List ℕ). length xs) s.parts,
+      length_headed 1 (6 + length s.body) (s.ident ++ s.body),
+      length-append s.ident s.body,
+      s.ident_len,
+    ) in
     ap (λ (xs : List ℕ). pdu_front (xs ++ after)) s.parts
     ∙ ap (λ (ys : List ℕ). pdu_front (headed 1 (6 + length s.body) ys)) (append_assoc s.ident s.body after)
     ∙ at_whole s.ident s.body after s.ident_len s.fits
@@ -172,11 +199,14 @@ wrong_version version len octets other = take_branch (not (eqb version 1)) (wron
 front_fault : (ms : List LabelMessage) (p q : ℕ) (d e : LdpFault) → ms ≡ [] → p ≡ q → d ≡ e → wrong q e ≡ bad ms p d
 front_fault ms p q d e none at is = fault_is wrong p q d e at is ∙ ap (λ (ns : List LabelMessage). bad ns p d) (sym none)
 
-fails_pdu : (octets : List ℕ) (ms : List LabelMessage) (offset : ℕ) (e : LdpFault) → IsOctets octets → PduFault octets ms offset e → pdu_front octets ≡ bad ms offset e
+fails_pdu : (octets : List ℕ) (ms : List LabelMessage) (offset : ℕ) (e : LdpFault) → IsOctets octets → PduFault octets ms offset e
+    → pdu_front octets ≡ bad ms offset e
 fails_pdu octets ms offset e fits (faulty.version version len rest v l parts other none at is) =
-    ap pdu_front parts ∙ at_header version len rest v l ∙ wrong_version version len (headed version len rest) other ∙ front_fault ms offset 0 e faults.Version none at is
+    ap pdu_front parts ∙ at_header version len rest v l ∙ wrong_version version len (headed version len rest) other
+    ∙ front_fault ms offset 0 e faults.Version none at is
 fails_pdu octets ms offset e fits (faulty.pdu_length len rest l parts why none at is) =
-    ap pdu_front parts ∙ at_header 1 len rest (omega arith) l ∙ wrong_length len (headed 1 len rest) why ∙ front_fault ms offset 2 e faults.PduLength none at is
+    ap pdu_front parts ∙ at_header 1 len rest (omega arith) l ∙ wrong_length len (headed 1 len rest) why
+    ∙ front_fault ms offset 2 e faults.PduLength none at is
 fails_pdu octets ms offset e fits (faulty.in_message ident body after ident_len len parts left place begins pos h at) =
     let body_fits : IsOctets body = inner_octets (headed 1 (6 + length body) ident) body after octets fits parts in
     let there : 10 + ((length body - length left) + place) ≡ offset = omega (arith, at) in
@@ -194,7 +224,8 @@ body_same len xs ys room =
       | inr le ↦ ap (take (len - 6)) (drop-append-le 10 xs ys le) ∙ take-append-le (len - 6) (drop 10 xs) ys (omega (arith, length-drop 10 xs, room))
     ]
 
-pdu_kept : (xs ys : List ℕ) (ms : List LabelMessage) (offset : ℕ) (e : LdpFault) → pdu_front xs ≡ bad ms offset e → pdu_front (xs ++ ys) ≡ bad ms offset e
+pdu_kept : (xs ys : List ℕ) (ms : List LabelMessage) (offset : ℕ) (e : LdpFault) → pdu_front xs ≡ bad ms offset e
+    → pdu_front (xs ++ ys) ≡ bad ms offset e
 unfolding pdu_front
 pdu_kept xs ys ms offset e h =
     let a = not_waiting (ltb (length xs) 4) _ ms offset e h in

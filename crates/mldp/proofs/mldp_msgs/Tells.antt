@@ -9,7 +9,8 @@ use Rattle.mldp.specs.mldp_msgs.Reading.{told_or, latest, found_with, found_of}
 
 -- ---- one more TLV
 
-latest_more : {A : Type 0} (told : Tlv → Option A) (o : Option A) (ts : List Tlv) (t : Tlv) → latest told o (ts ++ t ∷ []) ≡ told_or (told t) (latest told o ts)
+latest_more : {A : Type 0} (told : Tlv → Option A) (o : Option A) (ts : List Tlv) (t : Tlv)
+    → latest told o (ts ++ t ∷ []) ≡ told_or (told t) (latest told o ts)
 latest_more told o [] t = refl
 latest_more told o (u ∷ us) t = latest_more told (told_or (told u) o) us t
 
@@ -62,7 +63,8 @@ told_again told ts h = by_known (is_some (latest told None ts)) refl
 there : (u t : Tlv) (us : List Tlv) → Contains us t → Contains (u ∷ us) t
 there u t us h = (suc h.0, omega (arith, h.1), h.2)
 
-pub latest_some : {A : Type 0} (told : Tlv → Option A) (o : Option A) (ts : List Tlv) (a : A) → latest told o ts ≡ Some a → (o ≡ Some a) ⊎ ((t : Tlv) × Contains ts t × (told t ≡ Some a))
+pub latest_some : {A : Type 0} (told : Tlv → Option A) (o : Option A) (ts : List Tlv) (a : A) → latest told o ts ≡ Some a
+    → (o ≡ Some a) ⊎ ((t : Tlv) × Contains ts t × (told t ≡ Some a))
 latest_some told o [] a e = inl e
 latest_some told o (u ∷ us) a e =
     elim (latest_some told (told_or (told u) o) us a e) [
@@ -97,7 +99,8 @@ none_last : {A : Type 0} (told : Tlv → Option A) (ts : List Tlv) (t : Tlv) →
 none_last told [] t h = h.0
 none_last told (u ∷ us) t h = none_last told us t h.1
 
-stays : {A : Type 0} (told : Tlv → Option A) → TellsNew told → (o : Option A) (before : List Tlv) (octets : List ℕ) (ts : List Tlv) (rest : List ℕ) → ArePartsAfter SpellsTlv IsNew before octets ts rest → (¬ NoneTells told before) → latest told o ts ≡ o
+stays : {A : Type 0} (told : Tlv → Option A) → TellsNew told → (o : Option A) (before : List Tlv) (octets : List ℕ) (ts : List Tlv) (rest : List ℕ)
+    → ArePartsAfter SpellsTlv IsNew before octets ts rest → (¬ NoneTells told before) → latest told o ts ≡ o
 stays told new o before octets [] rest h is = refl
 stays {A} told new o before octets (t ∷ ts) rest (text, after, spells, fits, parts, more) is =
     let P : Option A → Type 0 = λ x. told t ≡ x → latest told (told_or x o) ts ≡ o in
@@ -111,7 +114,9 @@ here_or : (u t : Tlv) (us : List Tlv) → Contains (u ∷ us) t → (u ≡ t) �
 here_or u t us (zero, lt, e) = inl e
 here_or u t us (suc k, lt, e) = inr (k, omega arith, e)
 
-pub known : {A : Type 0} (told : Tlv → Option A) → TellsNew told → (o : Option A) (before : List Tlv) (octets : List ℕ) (ts : List Tlv) (rest : List ℕ) → ArePartsAfter SpellsTlv IsNew before octets ts rest → (t : Tlv) (a : A) → Contains ts t → told t ≡ Some a → latest told o ts ≡ Some a
+pub known : {A : Type 0} (told : Tlv → Option A) → TellsNew told
+    → (o : Option A) (before : List Tlv) (octets : List ℕ) (ts : List Tlv) (rest : List ℕ) → ArePartsAfter SpellsTlv IsNew before octets ts rest
+    → (t : Tlv) (a : A) → Contains ts t → told t ≡ Some a → latest told o ts ≡ Some a
 known told new o before octets [] rest h t a has e = absurd (omega (arith, has.1))
 known {A} told new o before octets (u ∷ us) rest (text, after, spells, fits, parts, more) t a has e =
     elim (here_or u t us has) [

@@ -61,7 +61,8 @@ unfolding kind_of
 kind_is bits kind is =
     let low : (bits * 2 ^ 14 + kind) % 2 ^ 14 ≡ kind = omega (arith, is.1) in
     let high : (bits * 2 ^ 14 + kind) / 2 ^ 15 ≡ bits / 2 = omega (arith, is.1) in
-    subst (λ (k : ℕ). KindIs bits kind (kind_by k ((bits * 2 ^ 14 + kind) / 2 ^ 15))) (sym low) (kind_by_is bits kind ((bits * 2 ^ 14 + kind) / 2 ^ 15) is.0 high)
+    subst (λ (k : ℕ). KindIs bits kind (kind_by k ((bits * 2 ^ 14 + kind) / 2 ^ 15))) (sym low)
+    (kind_by_is bits kind ((bits * 2 ^ 14 + kind) / 2 ^ 15) is.0 high)
 
 two_kinds : {P : Type 0} (kind : ℕ) → kind ≡ 0x0100 → kind ≡ 0x0200 → P
 two_kinds kind a b = absurd (omega (arith, a, b))
@@ -141,13 +142,15 @@ like_again value h = by_test (is_unlike value) refl
 -- a value that begins with an element is of a kind
 spelled_like : (f : Fec) (text more : List ℕ) (value : List ℕ) → fec.Spells f text → value ≡ text ++ more → ¬ IsUnlikeValue value
 spelled_like f text more value s parts h =
-    let same : h.octet ∷ h.more ≡ fec.kind_octet f.kind ∷ ((fec.root f.root ++ fec.opaque f.opaque) ++ more) = sym h.parts ∙ parts ∙ ap (λ (xs : List ℕ). xs ++ more) s.octets in
+    let same : h.octet ∷ h.more ≡ fec.kind_octet f.kind ∷ ((fec.root f.root ++ fec.opaque f.opaque) ++ more) =
+    sym h.parts ∙ parts ∙ ap (λ (xs : List ℕ). xs ++ more) s.octets in
     let one : h.octet ≡ fec.kind_octet f.kind = cc in
     h.other f.kind one
 
 -- ---- the FEC element
 
-element_is : (before : List Tlv) (bits kind : ℕ) (value : List ℕ) → kind ≡ 0x0100 → NoneTells fec_of before → IsOctets value → (¬ IsUnlikeValue value) → ValueMeans before bits kind value (element_of value)
+element_is : (before : List Tlv) (bits kind : ℕ) (value : List ℕ) → kind ≡ 0x0100 → NoneTells fec_of before → IsOctets value → (¬ IsUnlikeValue value)
+    → ValueMeans before bits kind value (element_of value)
 unfolding element_of
 element_is before bits kind value is new fits like = by_read (fec_at (start value)) refl
   where
@@ -171,7 +174,8 @@ element_is before bits kind value is new fits like = by_read (fec_at (start valu
         (λ t. behind x e (eqb-false _ _ (not_true (eqb x.1.place (length value)) t)))
         (λ f g. subst (ValueMeans before bits kind value) g ((is, whole x e (eqb-true _ _ (not_false (eqb x.1.place (length value)) f))), new))
 
-fec_is : (before : List Tlv) (bits kind : ℕ) (value : List ℕ) → kind ≡ 0x0100 → IsOctets value → ValueMeans before bits kind value (first_element (is_some (latest fec_of None before)) value)
+fec_is : (before : List Tlv) (bits kind : ℕ) (value : List ℕ) → kind ≡ 0x0100 → IsOctets value
+    → ValueMeans before bits kind value (first_element (is_some (latest fec_of None before)) value)
 fec_is before bits kind value is fits =
     let P : Result Tlv (ℕ × Stop) → Type 0 = ValueMeans before bits kind value in
     let known : Bool = is_some (latest fec_of None before) in
@@ -183,13 +187,15 @@ fec_is before bits kind value is fits =
 
 -- ---- the label
 
-label_text : (value : List ℕ) → length value ≡ 4 → IsOctets value → value ≡ to_be_bytes w32 (from_be_bytes w32 value / 2 ^ 20 * 2 ^ 20 + from_be_bytes w32 value % 2 ^ 20)
+label_text : (value : List ℕ) → length value ≡ 4 → IsOctets value
+    → value ≡ to_be_bytes w32 (from_be_bytes w32 value / 2 ^ 20 * 2 ^ 20 + from_be_bytes w32 value % 2 ^ 20)
 label_text value len fits =
     let n : ℕ = from_be_bytes w32 value in
     let same : n ≡ n / 2 ^ 20 * 2 ^ 20 + n % 2 ^ 20 = omega arith in
     sym (wide32.back value len fits) ∙ ap (to_be_bytes w32) same
 
-label_is : (before : List Tlv) (bits kind : ℕ) (value : List ℕ) → kind ≡ 0x0200 → IsOctets value → ValueMeans before bits kind value (label_at (is_some (latest label_of None before)) value)
+label_is : (before : List Tlv) (bits kind : ℕ) (value : List ℕ) → kind ≡ 0x0200 → IsOctets value
+    → ValueMeans before bits kind value (label_at (is_some (latest label_of None before)) value)
 unfolding label_at
 label_is before bits kind value is fits =
     let P : Result Tlv (ℕ × Stop) → Type 0 = ValueMeans before bits kind value in
@@ -199,15 +205,18 @@ label_is before bits kind value is fits =
     let below : n < 2 ^ 32 = wide32.below value fits in
     meets P known _ _ z refl (λ t. first.again (inr (is, is_told label_of before t)) refl refl) (λ f0 e0.
     let new : NoneTells label_of before = untold label_of before f0 in
-    meets P (not (eqb (length value) 4)) _ _ z e0 (λ t. first.label_length is new (eqb-false _ _ (not_true (eqb (length value) 4) t)) refl refl) (λ f1 e1.
+    meets P (not (eqb (length value) 4)) _ _ z e0 (λ t. first.label_length is new (eqb-false _ _ (not_true (eqb (length value) 4) t)) refl refl)
+    (λ f1 e1.
     let len : length value ≡ 4 = eqb-true _ _ (not_false (eqb (length value) 4) f1) in
-    meets P (ltb (n % 2 ^ 20) 16) _ _ z e1 (λ t. first.label_low is new (n / 2 ^ 20) (n % 2 ^ 20) (omega (arith, below)) (ltb-true _ _ t) (label_text value len fits) refl refl) (λ f2 e2.
+    meets P (ltb (n % 2 ^ 20) 16) _ _ z e1 (λ t. first.label_low is new (n / 2 ^ 20) (n % 2 ^ 20) (omega (arith, below)) (ltb-true _ _ t)
+    (label_text value len fits) refl refl) (λ f2 e2.
     let low : 16 ≤ n % 2 ^ 20 = ltb-false _ _ f2 in
     subst P e2 ((is, (low, omega arith), (n / 2 ^ 20, omega (arith, below), label_text value len fits)), new))))
 
 -- ---- the value
 
-pub value_is : (before : List Tlv) (bits kind : ℕ) (k : TlvKind) (value : List ℕ) → KindIs bits kind (Some k) → IsOctets value → ValueMeans before bits kind value (value_of (found_of before) k value)
+pub value_is : (before : List Tlv) (bits kind : ℕ) (k : TlvKind) (value : List ℕ) → KindIs bits kind (Some k) → IsOctets value
+    → ValueMeans before bits kind value (value_of (found_of before) k value)
 unfolding value_of
 value_is before bits kind kinds.Fec value is fits = fec_is before bits kind value is fits
 value_is before bits kind kinds.Label value is fits = label_is before bits kind value is fits
@@ -223,19 +232,24 @@ element_again f value s =
     let same : eqb (0 + length value) (length value) ≡ true = eq-eqb _ _ (omega arith) in
     ap (element_by (length value)) read ∙ rw same refl
 
-label_number : (high label : ℕ) → high < 2 ^ 12 → label < 2 ^ 20 → (value : List ℕ) → value ≡ to_be_bytes w32 (high * 2 ^ 20 + label) → from_be_bytes w32 value % 2 ^ 20 ≡ label
+label_number : (high label : ℕ) → high < 2 ^ 12 → label < 2 ^ 20 → (value : List ℕ) → value ≡ to_be_bytes w32 (high * 2 ^ 20 + label)
+    → from_be_bytes w32 value % 2 ^ 20 ≡ label
 label_number high label h l value parts =
-    let n : from_be_bytes w32 value ≡ high * 2 ^ 20 + label = ap (from_be_bytes w32) parts ∙ wide32.again (high * 2 ^ 20 + label) (omega (arith, h, l)) in
+    let n : from_be_bytes w32 value ≡ high * 2 ^ 20 + label =
+    ap (from_be_bytes w32) parts ∙ wide32.again (high * 2 ^ 20 + label) (omega (arith, h, l)) in
     omega (arith, n, l)
 
 -- the value of a new label TLV, of four octets
-label_at_is : (before : List Tlv) (high label : ℕ) → high < 2 ^ 12 → label < 2 ^ 20 → (value : List ℕ) → value ≡ to_be_bytes w32 (high * 2 ^ 20 + label) → NoneTells label_of before → label_at (is_some (latest label_of None before)) value ≡ label_by label
+label_at_is : (before : List Tlv) (high label : ℕ) → high < 2 ^ 12 → label < 2 ^ 20 → (value : List ℕ)
+    → value ≡ to_be_bytes w32 (high * 2 ^ 20 + label) → NoneTells label_of before
+    → label_at (is_some (latest label_of None before)) value ≡ label_by label
 unfolding label_at
 label_at_is before high label h l value parts new =
     let four : eqb (length value) 4 ≡ true = eq-eqb _ _ (ap (λ (xs : List ℕ). length xs) parts) in
     rw (untold_again label_of before new, four) (ap label_by (label_number high label h l value parts))
 
-pub value_again : (before : List Tlv) (bits kind : ℕ) (k : TlvKind) (value : List ℕ) (t : Tlv) → KindIs bits kind (Some k) → Says bits kind value t → IsNew before t → value_of (found_of before) k value ≡ Ok t
+pub value_again : (before : List Tlv) (bits kind : ℕ) (k : TlvKind) (value : List ℕ) (t : Tlv) → KindIs bits kind (Some k) → Says bits kind value t
+    → IsNew before t → value_of (found_of before) k value ≡ Ok t
 unfolding value_of
 value_again before bits kind kinds.Fec value (tlvs.Fec f) is says new =
     let like : is_unlike value ≡ false = like_again value (spelled_like f value [] value says.1 (sym (append-nil value))) in
@@ -262,34 +276,42 @@ as_fec : (before : List Tlv) (value : List ℕ) → value_of (found_of before) k
 unfolding value_of
 as_fec before value = refl
 
-as_label : (before : List Tlv) (value : List ℕ) → value_of (found_of before) kinds.Label value ≡ label_at (is_some (latest label_of None before)) value
+as_label : (before : List Tlv) (value : List ℕ)
+    → value_of (found_of before) kinds.Label value ≡ label_at (is_some (latest label_of None before)) value
 unfolding value_of
 as_label before value = refl
 
 -- a new FEC TLV
-as_element : (before : List Tlv) (value : List ℕ) → NoneTells fec_of before → (¬ IsUnlikeValue value) → first_element (is_some (latest fec_of None before)) value ≡ element_of value
+as_element : (before : List Tlv) (value : List ℕ) → NoneTells fec_of before → (¬ IsUnlikeValue value)
+    → first_element (is_some (latest fec_of None before)) value ≡ element_of value
 as_element before value new like = rw (untold_again fec_of before new, like_again value like) refl
 
-element_fails : (value : List ℕ) (f : FecFault) → IsOctets value → fec_faults.FirstFault (start value) f → element_of value ≡ answer (4 + f.place) (faults.Fec f.reason)
+element_fails : (value : List ℕ) (f : FecFault) → IsOctets value → fec_faults.FirstFault (start value) f
+    → element_of value ≡ answer (4 + f.place) (faults.Fec f.reason)
 unfolding element_of
 element_fails value f fits h = ap (element_by (length value)) (fails_fec (start value) f fits h)
 
-element_behind : (value : List ℕ) (f : Fec) (text more : List ℕ) → fec.Spells f text → value ≡ text ++ more → 0 < length more → element_of value ≡ answer 0 faults.TlvLength
+element_behind : (value : List ℕ) (f : Fec) (text more : List ℕ) → fec.Spells f text → value ≡ text ++ more → 0 < length more
+    → element_of value ≡ answer 0 faults.TlvLength
 unfolding element_of
 element_behind value f text more s parts pos =
     let d : Cursor = record { left = more; place = 0 + length text } in
     let read : fec_at (start value) ≡ Ok (f, d) = fec_again (start value) f text d s (record { parts = parts; place = refl }) in
-    let other : eqb (0 + length text) (length value) ≡ false = ne_eqb _ _ (λ same. absurd (omega (arith, same, pos, ap (λ (xs : List ℕ). length xs) parts, length-append text more))) in
+    let other : eqb (0 + length text) (length value) ≡ false =
+    ne_eqb _ _ (λ same. absurd (omega (arith, same, pos, ap (λ (xs : List ℕ). length xs) parts, length-append text more))) in
     ap (element_by (length value)) read ∙ rw other refl
 
-label_long : (before : List Tlv) (value : List ℕ) → NoneTells label_of before → length value ≢ 4 → label_at (is_some (latest label_of None before)) value ≡ answer 0 faults.TlvLength
+label_long : (before : List Tlv) (value : List ℕ) → NoneTells label_of before → length value ≢ 4
+    → label_at (is_some (latest label_of None before)) value ≡ answer 0 faults.TlvLength
 unfolding label_at
 label_long before value new len = rw (untold_again label_of before new, ne_eqb _ _ len) refl
 
-fec_again_fails : (before : List Tlv) (value : List ℕ) → (¬ NoneTells fec_of before) → first_element (is_some (latest fec_of None before)) value ≡ answer 0 faults.TlvLength
+fec_again_fails : (before : List Tlv) (value : List ℕ) → (¬ NoneTells fec_of before)
+    → first_element (is_some (latest fec_of None before)) value ≡ answer 0 faults.TlvLength
 fec_again_fails before value h = rw (told_again fec_of before h) refl
 
-label_again_fails : (before : List Tlv) (value : List ℕ) → (¬ NoneTells label_of before) → label_at (is_some (latest label_of None before)) value ≡ answer 0 faults.TlvLength
+label_again_fails : (before : List Tlv) (value : List ℕ) → (¬ NoneTells label_of before)
+    → label_at (is_some (latest label_of None before)) value ≡ answer 0 faults.TlvLength
 unfolding label_at
 label_again_fails before value h = rw (told_again label_of before h) refl
 
@@ -297,22 +319,36 @@ label_again_fails before value h = rw (told_again label_of before h) refl
 abbrev pub ValueFails : List Tlv → ℕ → ℕ → List ℕ → ℕ → Stop → Type 0
 ValueFails before bits kind value offset s = (k : TlvKind) × KindIs bits kind (Some k) × (value_of (found_of before) k value ≡ Err (offset, s))
 
-pub value_fails : (before : List Tlv) (bits kind : ℕ) (value : List ℕ) (offset : ℕ) (e : LdpFault) → IsOctets value → ValueFault before kind value offset e → ValueFails before bits kind value offset (stops.Fault e)
+pub value_fails : (before : List Tlv) (bits kind : ℕ) (value : List ℕ) (offset : ℕ) (e : LdpFault) → IsOctets value
+    → ValueFault before kind value offset e → ValueFails before bits kind value offset (stops.Fault e)
 value_fails before bits kind value offset e fits (first.again (inl (is, told)) at same) =
     (kinds.Fec, is, as_fec before value ∙ fec_again_fails before value told ∙ fault_is answer offset 0 e faults.TlvLength at same)
 value_fails before bits kind value offset e fits (first.again (inr (is, told)) at same) =
     (kinds.Label, is, as_label before value ∙ label_again_fails before value told ∙ fault_is answer offset 0 e faults.TlvLength at same)
-value_fails before bits kind value offset e fits (first.in_fec is new like f h at same) =
-    (kinds.Fec, is, as_fec before value ∙ as_element before value new like ∙ element_fails value f fits h ∙ fault_is answer offset (4 + f.place) e (faults.Fec f.reason) at same)
-value_fails before bits kind value offset e fits (first.behind_fec is new f text more s parts pos at same) =
-    (kinds.Fec, is, as_fec before value ∙ as_element before value new (spelled_like f text more value s parts) ∙ element_behind value f text more s parts pos ∙ fault_is answer offset 0 e faults.TlvLength at same)
+value_fails before bits kind value offset e fits (first.in_fec is new like f h at same) = (
+  kinds.Fec,
+  is,
+  as_fec before value ∙ as_element before value new like ∙ element_fails value f fits h
+      ∙ fault_is answer offset (4 + f.place) e (faults.Fec f.reason) at same,
+)
+value_fails before bits kind value offset e fits (first.behind_fec is new f text more s parts pos at same) = (
+  kinds.Fec,
+  is,
+  as_fec before value ∙ as_element before value new (spelled_like f text more value s parts)
+      ∙ element_behind value f text more s parts pos ∙ fault_is answer offset 0 e faults.TlvLength at same,
+)
 value_fails before bits kind value offset e fits (first.label_length is new len at same) =
     (kinds.Label, is, as_label before value ∙ label_long before value new len ∙ fault_is answer offset 0 e faults.TlvLength at same)
 value_fails before bits kind value offset e fits (first.label_low is new high label h low parts at same) =
-    let below : ltb label 16 ≡ true = lt-ltb _ _ low in
-    (kinds.Label, is, as_label before value ∙ label_at_is before high label h (omega (arith, low)) value parts new ∙ rw below (fault_is answer offset 4 e faults.Label at same))
+    let below : ltb label 16 ≡ true = lt-ltb _ _ low in (
+      kinds.Label,
+      is,
+      as_label before value ∙ label_at_is before high label h (omega (arith, low)) value parts new
+          ∙ rw below (fault_is answer offset 4 e faults.Label at same),
+    )
 
 -- an element of no multipoint LSP is answered
-pub value_unlike : (before : List Tlv) (value : List ℕ) → NoneTells fec_of before → IsUnlikeValue value → value_of (found_of before) kinds.Fec value ≡ Err (0, stops.Unlike)
+pub value_unlike : (before : List Tlv) (value : List ℕ) → NoneTells fec_of before → IsUnlikeValue value
+    → value_of (found_of before) kinds.Fec value ≡ Err (0, stops.Unlike)
 unfolding value_of
 value_unlike before value new unlike = rw (untold_again fec_of before new, unlike_again value unlike) refl

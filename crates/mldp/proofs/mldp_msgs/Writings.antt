@@ -45,7 +45,14 @@ label_spelled l is = record {
 carries : (f : Fec) (l : ℕ) → IsElement f → IsLabel l → Carries f l (written_tlvs f l)
 carries f l s is = record {
   said = tlvs.Fec f ∷ tlvs.Label l ∷ [];
-  are = (tlv 0 0x0100 (fec.written f), tlv 0 0x0200 (to_be_bytes w32 l), fec_spelled f s, tt, refl, (tlv 0 0x0200 (to_be_bytes w32 l), [], label_spelled l is, (refl, tt), sym (append-nil (tlv 0 0x0200 (to_be_bytes w32 l))), refl));
+  are = (
+    tlv 0 0x0100 (fec.written f),
+    tlv 0 0x0200 (to_be_bytes w32 l),
+    fec_spelled f s,
+    tt,
+    refl,
+    (tlv 0 0x0200 (to_be_bytes w32 l), [], label_spelled l is, (refl, tt), sym (append-nil (tlv 0 0x0200 (to_be_bytes w32 l))), refl),
+  );
   has_fec = (0, omega arith, refl);
   has_label = (1, omega arith, refl);
 }
@@ -92,13 +99,28 @@ pdu_spelled me id m h router =
       parts = refl;
       ident_len = omega (arith, length-append (addr_octets me) (0 ∷ 0 ∷ []), router);
       fits = omega (arith, message_len id m h);
-      messages = record { units = record { messages = m ∷ []; octets = text } ∷ []; each = (message_spelled id m h, tt); parts = sym (append-nil text) ∙ sym (append-nil (text ++ [])); carried = refl };
+      messages =
+          record {
+            units = record { messages = m ∷ []; octets = text } ∷ [];
+            each = (message_spelled id m h, tt);
+            parts =
+                sym (append-nil text) ∙ sym (append-nil (text ++ []));
+            carried = refl;
+          };
     }
 
 pdu_len : (me : Addr) (id : ℕ) (m : LabelMessage) → IsWritable m → IsRouter me → length (written me id m) < 2 ^ 16
-pdu_len me id m h router = omega (arith, message_len id m h, router, length-append (addr_octets me ++ 0 ∷ 0 ∷ []) (written_message id m), length-append (addr_octets me) (0 ∷ 0 ∷ []))
+pdu_len me id m h router =
+    omega (
+      arith,
+      message_len id m h,
+      router,
+      length-append (addr_octets me ++ 0 ∷ 0 ∷ []) (written_message id m),
+      length-append (addr_octets me) (0 ∷ 0 ∷ []),
+    )
 
-pub waits_alone : (me : Addr) (id : ℕ) (m : LabelMessage) → IsWritable m → IsRouter me → fed {E = LdpFault} pdu_front unfed (written me id m) ≡ record { waiting = m ∷ []; held = []; before = length (written me id m); fault = None }
+pub waits_alone : (me : Addr) (id : ℕ) (m : LabelMessage) → IsWritable m → IsRouter me
+    → fed {E = LdpFault} pdu_front unfed (written me id m) ≡ record { waiting = m ∷ []; held = []; before = length (written me id m); fault = None }
 waits_alone me id m h router =
     let text : List ℕ = written me id m in
     let place : further 0 (length text) ≡ length text = omega (arith, pdu_len me id m h router) in

@@ -14,7 +14,8 @@ use Rattle.label_defs.proofs.KeyLemmas.{node_cmp_total}
 use Rattle.mldp_node.specs.label_ends.Maps.{is_node}
 use Rattle.mldp_node.proofs.label_ends.NodeMaps.{find-lookup}
 
-lookup-apart : {X : Type 0} (q : NodeId) (es : List (NodeId × X)) → AllByRecursion (λ at. is_node q at ≡ false) (keys_of es) → lookup (is_node q) es ≡ None
+lookup-apart : {X : Type 0} (q : NodeId) (es : List (NodeId × X)) → AllByRecursion (λ at. is_node q at ≡ false) (keys_of es)
+    → lookup (is_node q) es ≡ None
 lookup-apart q [] h = refl
 lookup-apart q (e ∷ es) h = rw h.0 (lookup-apart q es h.1)
 
@@ -25,15 +26,21 @@ module _ {X : Type 0} (p : X → Bool) where
   not_some : (x : X) → Some x ≡ None → ⊥
   not_some x e = (let no : true ≡ false = ap is_some e in absurd cc)
 
-  count-put : (k : NodeId) (v : X) (es : List (NodeId × X)) → find node_cmp k es ≡ None → count_by p (values_of (put node_cmp k v es)) ≡ cond (p v) 1 0 + count_by p (values_of es)
+  count-put : (k : NodeId) (v : X) (es : List (NodeId × X)) → find node_cmp k es ≡ None
+      → count_by p (values_of (put node_cmp k v es)) ≡ cond (p v) 1 0 + count_by p (values_of es)
   count-put k v [] none = count-cons v []
   count-put k v (e ∷ es) none =
-      elim (node_cmp k e.0) as (λ r. node_cmp k e.0 ≡ r → cond (is_eq r) (Some e.1) (find node_cmp k es) ≡ None → count_by p (values_of (finite.Entries.by_order r ((k, v) ∷ e ∷ es) ((e.0, v) ∷ es) (e ∷ put node_cmp k v es))) ≡ cond (p v) 1 0 + count_by p (values_of (e ∷ es))) [
+      elim (node_cmp k e.0) as (λ r. node_cmp k e.0 ≡ r → cond (is_eq r) (Some e.1) (find node_cmp k es) ≡ None
+      → count_by p (values_of (finite.Entries.by_order r ((k, v) ∷ e ∷ es) ((e.0, v) ∷ es) (e ∷ put node_cmp k v es)))
+      ≡ cond (p v) 1 0 + count_by p (values_of (e ∷ es))) [
         | Less ↦ λ r n. count-cons v (e.1 ∷ values_of es)
         | Equal ↦ λ r n. absurd (not_some e.1 n)
         | Greater ↦ λ r n.
             let behind = count-put k v es n in
-            count-cons e.1 (values_of (put node_cmp k v es)) ∙ (ap (λ (n : ℕ). cond (p e.1) 1 0 + n) behind ∙ (swapped (cond (p e.1) 1 0) (cond (p v) 1 0) (count_by p (values_of es)) ∙ ap (λ (n : ℕ). cond (p v) 1 0 + n) (sym (count-cons e.1 (values_of es)))))
+            count-cons e.1 (values_of (put node_cmp k v es))
+            ∙ (ap (λ (n : ℕ). cond (p e.1) 1 0 + n) behind
+            ∙ (swapped (cond (p e.1) 1 0) (cond (p v) 1 0) (count_by p (values_of es))
+            ∙ ap (λ (n : ℕ). cond (p v) 1 0 + n) (sym (count-cons e.1 (values_of es)))))
       ] refl none
     where
       swapped : (a b c : ℕ) → a + (b + c) ≡ b + (a + c)
@@ -46,10 +53,13 @@ module _ {X : Type 0} (p : X → Bool) where
   no-entries : entries (from_entries {X = X} {R = node_cmp} []) ≡ []
   no-entries = no-length _ (sym (len-entries (from_entries [])) ∙ len-empty node_cmp X)
 
-  pub count-map : (es : List (NodeId × X)) → IsDistinct is_node (keys_of es) → count_by p (values (from_entries {R = node_cmp} es)) ≡ count_by p (values_of es)
+  pub count-map : (es : List (NodeId × X)) → IsDistinct is_node (keys_of es)
+      → count_by p (values (from_entries {R = node_cmp} es)) ≡ count_by p (values_of es)
   count-map [] h = ap (λ (l : List (NodeId × X)). count_by p (values_of l)) no-entries
   count-map (e ∷ es) h =
-      let none : find node_cmp e.0 (entries (from_entries {R = node_cmp} es)) ≡ None = sym (get-entries (from_entries {R = node_cmp} es) e.0) ∙ (get-from_entries node_cmp_total es e.0 ∙ find-lookup es e.0 ∙ lookup-apart e.0 es (IsDistinct-head is_node e.0 (keys_of es) h)) in
+      let none : find node_cmp e.0 (entries (from_entries {R = node_cmp} es)) ≡ None =
+      sym (get-entries (from_entries {R = node_cmp} es) e.0)
+      ∙ (get-from_entries node_cmp_total es e.0 ∙ find-lookup es e.0 ∙ lookup-apart e.0 es (IsDistinct-head is_node e.0 (keys_of es) h)) in
       ap (λ (l : List (NodeId × X)). count_by p (values_of l)) (entries-insert node_cmp_total (from_entries es) e.0 e.1)
       ∙ (count-put e.0 e.1 (entries (from_entries es)) none
       ∙ (ap (λ (n : ℕ). cond (p e.1) 1 0 + n) (count-map es (IsDistinct-tail is_node e.0 (keys_of es) h)) ∙ sym (count-cons e.1 (values_of es))))

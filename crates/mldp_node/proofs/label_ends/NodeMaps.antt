@@ -31,32 +31,39 @@ module _ {X : Type 0} where
   pub seen : (m : NodeMap X) (q : NodeId) → maps.get (maps.from_entries {R = node_cmp} m.entries) q ≡ get is_node m q
   seen m q = maps.get-from_entries node_cmp_total m.entries q ∙ find-lookup m.entries q
 
-  pub comes : (old new : NodeMap X) (peer : NodeId) (value : X) → ((q : NodeId) → get is_node new q ≡ cond (is_node peer q) (Some value) (get is_node old q))
+  pub comes : (old new : NodeMap X) (peer : NodeId) (value : X)
+      → ((q : NodeId) → get is_node new q ≡ cond (is_node peer q) (Some value) (get is_node old q))
       → maps.from_entries {R = node_cmp} new.entries ≡ maps.insert (maps.from_entries old.entries) peer value
   comes old new peer value each = same_map node_cmp_total node_cmp_exact _ _ (λ q.
-      seen new q ∙ (each q ∙ ((λ i. cond (flips peer q i) (Some value) (sym (seen old q) i)) ∙ sym (maps.get-insert node_cmp_total (maps.from_entries old.entries) peer value q))))
+      seen new q ∙ (each q ∙ ((λ i. cond (flips peer q i) (Some value) (sym (seen old q) i))
+      ∙ sym (maps.get-insert node_cmp_total (maps.from_entries old.entries) peer value q))))
 
   pub goes : (old new : NodeMap X) (peer : NodeId) → ((q : NodeId) → get is_node new q ≡ cond (is_node peer q) None (get is_node old q))
       → maps.from_entries {R = node_cmp} new.entries ≡ maps.remove (maps.from_entries old.entries) peer
   goes old new peer each = same_map node_cmp_total node_cmp_exact _ _ (λ q.
-      seen new q ∙ (each q ∙ ((λ i. cond (flips peer q i) None (sym (seen old q) i)) ∙ sym (maps.get-remove node_cmp_total (maps.from_entries old.entries) peer q))))
+      seen new q ∙ (each q ∙ ((λ i. cond (flips peer q i) None (sym (seen old q) i))
+      ∙ sym (maps.get-remove node_cmp_total (maps.from_entries old.entries) peer q))))
 
-  find-map : (change : X → X) (es : List (NodeId × X)) (q : NodeId) → find node_cmp q (map (λ (e : NodeId × X). (e.0, change e.1)) es) ≡ option_map change (find node_cmp q es)
+  find-map : (change : X → X) (es : List (NodeId × X)) (q : NodeId)
+      → find node_cmp q (map (λ (e : NodeId × X). (e.0, change e.1)) es) ≡ option_map change (find node_cmp q es)
   find-map change [] q = refl
   find-map change (e ∷ es) q = by (eq_by_cmp node_cmp q e.0) (find-map change es q)
     where
       by : (t : Bool) → find node_cmp q (map (λ (x : NodeId × X). (x.0, change x.1)) es) ≡ option_map change (find node_cmp q es)
-          → cond t (Some (change e.1)) (find node_cmp q (map (λ (x : NodeId × X). (x.0, change x.1)) es)) ≡ option_map change (cond t (Some e.1) (find node_cmp q es))
+          → cond t (Some (change e.1)) (find node_cmp q (map (λ (x : NodeId × X). (x.0, change x.1)) es))
+          ≡ option_map change (cond t (Some e.1) (find node_cmp q es))
       by true rest = refl
       by false rest = rest
 
   -- all entries change
   pub all_change : (change : X → X) (es : List (NodeId × X))
-      → maps.from_entries {R = node_cmp} (map (λ (e : NodeId × X). (e.0, change e.1)) es) ≡ maps.from_entries (map (λ (e : NodeId × X). (e.0, change e.1)) (maps.entries (maps.from_entries {R = node_cmp} es)))
+      → maps.from_entries {R = node_cmp} (map (λ (e : NodeId × X). (e.0, change e.1)) es)
+      ≡ maps.from_entries (map (λ (e : NodeId × X). (e.0, change e.1)) (maps.entries (maps.from_entries {R = node_cmp} es)))
   all_change change es = same_map node_cmp_total node_cmp_exact _ _ (λ q.
       maps.get-from_entries node_cmp_total (map (λ (e : NodeId × X). (e.0, change e.1)) es) q ∙ find-map change es q
       ∙ ap (option_map change) (sym (maps.get-from_entries node_cmp_total es q) ∙ maps.get-entries (maps.from_entries es) q)
-      ∙ sym (maps.get-from_entries node_cmp_total (map (λ (e : NodeId × X). (e.0, change e.1)) (maps.entries (maps.from_entries es))) q ∙ find-map change (maps.entries (maps.from_entries es)) q))
+      ∙ sym (maps.get-from_entries node_cmp_total (map (λ (e : NodeId × X). (e.0, change e.1)) (maps.entries (maps.from_entries es))) q
+      ∙ find-map change (maps.entries (maps.from_entries es)) q))
 
 pub octets_seen : (m : NodeMap (List ℕ)) (q : NodeId) → octets_at m q ≡ waiting_for (maps.from_entries {R = node_cmp} m.entries) q
 octets_seen m q = ap (λ (o : Option (List ℕ)). elim o [ None ↦ [] | Some octets ↦ octets ]) (sym (seen m q))

@@ -26,7 +26,8 @@ cost_kept : (test : Bool) (cost : ℕ) (link : Link) → 1 ≤ cost → cost ≤
 cost_kept true cost link least most h = (least, most)
 cost_kept false cost link least most h = h
 
-pair_kept : (test other_test : Bool) (cost : ℕ) (own other : Link) → JoinsSamePair (priced_if test cost own) (priced_if other_test cost other) → JoinsSamePair own other
+pair_kept : (test other_test : Bool) (cost : ℕ) (own other : Link) → JoinsSamePair (priced_if test cost own) (priced_if other_test cost other)
+    → JoinsSamePair own other
 pair_kept true true cost own other h = h
 pair_kept true false cost own other h = h
 pair_kept false true cost own other h = h
@@ -41,19 +42,22 @@ module _ (a b : NodeId) (cost : ℕ) where
   at_place : (links : List Link) (k : ℕ) (d : Link) → k < length links → get_or (with_cost a b cost links) k d ≡ priced a b cost (get_or links k d)
   at_place links k d within = get_or-map (priced a b cost) links k d d within
 
-  pair_at : (links : List Link) (own other new next : Link) → new ≡ priced a b cost own → next ≡ priced a b cost other → JoinsSamePair new next → JoinsSamePair own other
+  pair_at : (links : List Link) (own other new next : Link) → new ≡ priced a b cost own → next ≡ priced a b cost other → JoinsSamePair new next
+      → JoinsSamePair own other
   pair_at links own other new next e f same =
       pair_kept (joins a b own) (joins a b other) cost own other
       (subst (λ (x : Link). JoinsSamePair x (priced a b cost other)) e (subst (λ (y : Link). JoinsSamePair new y) f same))
 
-  pub priced_topology : (nodes : ℕ) (links : List Link) → 1 ≤ cost → cost ≤ 65535 → IsTopology nodes links → IsTopology nodes (with_cost a b cost links)
+  pub priced_topology : (nodes : ℕ) (links : List Link) → 1 ≤ cost → cost ≤ 65535 → IsTopology nodes links
+      → IsTopology nodes (with_cost a b cost links)
   priced_topology nodes links least most h = record {
     few_nodes = h.few_nodes;
     few_links = let s = size links in let f = h.few_links in omega arith;
     ends = λ k d within. subst (HasEnds nodes) (sym (at_place links k d (inside k within))) (ends_kept nodes _ cost _ (h.ends k d (inside k within)));
     costs = λ k d within. subst HasCost (sym (at_place links k d (inside k within))) (cost_kept _ cost _ least most (h.costs k d (inside k within)));
     once = λ i j d before within same. h.once i j d before (inside j within)
-        (pair_at links (get_or links i d) (get_or links j d) _ _ (at_place links i d (let w = inside j within in omega arith)) (at_place links j d (inside j within)) same);
+        (pair_at links (get_or links i d) (get_or links j d) _ _ (at_place links i d (let w = inside j within in omega arith))
+        (at_place links j d (inside j within)) same);
   }
     where
       inside : (k : ℕ) → k < length (with_cost a b cost links) → k < length links
@@ -61,9 +65,11 @@ module _ (a b : NodeId) (cost : ℕ) where
 
   -- ---- walks
 
-  ends_of : (x y : ℕ) (link : Link) → ((link.a.0 ≡ x) × (link.b.0 ≡ y)) ⊎ ((link.a.0 ≡ y) × (link.b.0 ≡ x)) → (((priced a b cost link).a.0 ≡ x) × ((priced a b cost link).b.0 ≡ y)) ⊎ (((priced a b cost link).a.0 ≡ y) × ((priced a b cost link).b.0 ≡ x))
+  ends_of : (x y : ℕ) (link : Link) → ((link.a.0 ≡ x) × (link.b.0 ≡ y)) ⊎ ((link.a.0 ≡ y) × (link.b.0 ≡ x))
+      → (((priced a b cost link).a.0 ≡ x) × ((priced a b cost link).b.0 ≡ y)) ⊎ (((priced a b cost link).a.0 ≡ y) × ((priced a b cost link).b.0 ≡ x))
   ends_of x y link h =
-      subst (λ (m : NodeId). ((m.0 ≡ x) × ((priced a b cost link).b.0 ≡ y)) ⊎ ((m.0 ≡ y) × ((priced a b cost link).b.0 ≡ x))) (sym (same_a (joins a b link) cost link))
+      subst (λ (m : NodeId). ((m.0 ≡ x) × ((priced a b cost link).b.0 ≡ y)) ⊎ ((m.0 ≡ y) × ((priced a b cost link).b.0 ≡ x)))
+      (sym (same_a (joins a b link) cost link))
       (subst (λ (n : NodeId). ((link.a.0 ≡ x) × (n.0 ≡ y)) ⊎ ((link.a.0 ≡ y) × (n.0 ≡ x))) (sym (same_b (joins a b link) cost link)) h)
 
   linked_kept : (links : List Link) (x y old : ℕ) → IsLinked links x y old → (new : ℕ) × IsLinked (with_cost a b cost links) x y new
@@ -72,14 +78,19 @@ module _ (a b : NodeId) (cost : ℕ) where
         (priced a b cost h.link).cost,
         record {
           link = priced a b cost h.link;
-          listed = (place.0, (let s = size links in let w = place.1 in omega arith), get_or-map (priced a b cost) links place.0 h.link (priced a b cost h.link) place.1 ∙ ap (priced a b cost) place.2);
+          listed = (
+            place.0,
+            (let s = size links in let w = place.1 in omega arith),
+            get_or-map (priced a b cost) links place.0 h.link (priced a b cost h.link) place.1 ∙ ap (priced a b cost) place.2,
+          );
           ends = ends_of x y h.link h.ends;
           priced = refl;
         },
       )
 
   walk_kept : (links : List Link) (steps : List ℕ) (from to sum : ℕ) → IsWalk links from steps to sum → Reaches (with_cost a b cost links) from to
-  walk_kept links [] from to sum walk = subst (λ (k : ℕ). Reaches (with_cost a b cost links) from k) walk.0 (reaches_itself (with_cost a b cost links) from)
+  walk_kept links [] from to sum walk =
+      subst (λ (k : ℕ). Reaches (with_cost a b cost links) from k) walk.0 (reaches_itself (with_cost a b cost links) from)
   walk_kept links (next ∷ steps) from to sum walk =
       let linked = linked_kept links from next walk.0 walk.2 in
       step_reaches (with_cost a b cost links) from next to linked.0 linked.1 (walk_kept links steps next to walk.1 walk.3)

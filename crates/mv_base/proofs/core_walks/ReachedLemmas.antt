@@ -14,24 +14,28 @@ use Rattle.mv_base.proofs.core_walks.WalkLemmas.{good, reaches_itself, reaches_t
 
 -- ---- what is reached over so many links is reached by a walk
 
-joined_reaches : (links : List Link) (passes : ℕ → Bool) (node : ℕ) (link : Link) → ((other : ℕ) → passes other ≡ true → Reaches links 0 other) → Contains links link → joins_to passes node link ≡ true → Reaches links 0 node
+joined_reaches : (links : List Link) (passes : ℕ → Bool) (node : ℕ) (link : Link) → ((other : ℕ) → passes other ≡ true → Reaches links 0 other)
+    → Contains links link → joins_to passes node link ≡ true → Reaches links 0 node
 joined_reaches links passes node link reach listed h = by_end (or_cases _ _ h)
   where
     by_end : ((nat_eq link.a.0 node && passes link.b.0) ≡ true) ⊎ ((nat_eq link.b.0 node && passes link.a.0) ≡ true) → Reaches links 0 node
     by_end (inl e) =
         let parts = and_parts (nat_eq link.a.0 node) (passes link.b.0) e in
         subst (λ (k : ℕ). Reaches links 0 k) (eqb-true link.a.0 node parts.0)
-        (reaches_through links 0 link.b.0 link.a.0 (reach link.b.0 parts.1) (step_reaches links link.b.0 link.a.0 link.a.0 link.cost (linked_here links link listed) (reaches_itself links link.a.0)))
+        (reaches_through links 0 link.b.0 link.a.0 (reach link.b.0 parts.1)
+        (step_reaches links link.b.0 link.a.0 link.a.0 link.cost (linked_here links link listed) (reaches_itself links link.a.0)))
     by_end (inr e) =
         let parts = and_parts (nat_eq link.b.0 node) (passes link.a.0) e in
         subst (λ (k : ℕ). Reaches links 0 k) (eqb-true link.b.0 node parts.0)
-        (reaches_through links 0 link.a.0 link.b.0 (reach link.a.0 parts.1) (step_reaches links link.a.0 link.b.0 link.b.0 link.cost (linked_there links link listed) (reaches_itself links link.b.0)))
+        (reaches_through links 0 link.a.0 link.b.0 (reach link.a.0 parts.1)
+        (step_reaches links link.a.0 link.b.0 link.b.0 link.cost (linked_there links link listed) (reaches_itself links link.b.0)))
 
 pub reaches_within : (links : List Link) (count node : ℕ) → reached_within links count node ≡ true → Reaches links 0 node
 reaches_within links zero node h = subst (λ (k : ℕ). Reaches links 0 k) (sym (eqb-true node 0 h)) (reaches_itself links 0)
 reaches_within links (suc count) node h = by_last (reaches_within links count) (or_cases _ _ h)
   where
-    by_last : ((other : ℕ) → reached_within links count other ≡ true → Reaches links 0 other) → (reached_within links count node ≡ true) ⊎ (list_any (joins_to (reached_within links count) node) links ≡ true) → Reaches links 0 node
+    by_last : ((other : ℕ) → reached_within links count other ≡ true → Reaches links 0 other)
+        → (reached_within links count node ≡ true) ⊎ (list_any (joins_to (reached_within links count) node) links ≡ true) → Reaches links 0 node
     by_last reach (inl e) = reach node e
     by_last reach (inr e) =
         let found = Any-from_list_any (joins_to (reached_within links count) node) links e in
@@ -39,21 +43,25 @@ reaches_within links (suc count) node h = by_last (reaches_within links count) (
 
 -- ---- one link more
 
-joined : (passes : ℕ → Bool) (a b : ℕ) (link : Link) → ((link.a.0 ≡ a) × (link.b.0 ≡ b)) ⊎ ((link.a.0 ≡ b) × (link.b.0 ≡ a)) → passes a ≡ true → joins_to passes b link ≡ true
+joined : (passes : ℕ → Bool) (a b : ℕ) (link : Link) → ((link.a.0 ≡ a) × (link.b.0 ≡ b)) ⊎ ((link.a.0 ≡ b) × (link.b.0 ≡ a)) → passes a ≡ true
+    → joins_to passes b link ≡ true
 joined passes a b link (inl e) h = or_right _ _ (and_from _ _ (eq-eqb link.b.0 b e.1) (ap passes e.0 ∙ h))
 joined passes a b link (inr e) h = or_left _ _ (and_from _ _ (eq-eqb link.a.0 b e.0) (ap passes e.1 ∙ h))
 
-further_within : (links : List Link) (count a b cost : ℕ) → IsLinked links a b cost → reached_within links count a ≡ true → reached_within links (suc count) b ≡ true
+further_within : (links : List Link) (count a b cost : ℕ) → IsLinked links a b cost → reached_within links count a ≡ true
+    → reached_within links (suc count) b ≡ true
 further_within links count a b cost linked h =
     let at = linked.listed in
     or_right (reached_within links count b) _
-    (list_any-from_Any (joins_to (reached_within links count) b) links (at.0, linked.link, at.1, at.2, joined (reached_within links count) a b linked.link linked.ends h))
+    (list_any-from_Any (joins_to (reached_within links count) b) links
+    (at.0, linked.link, at.1, at.2, joined (reached_within links count) a b linked.link linked.ends h))
 
 still_within : (links : List Link) (node some more : ℕ) → some ≤ more → reached_within links some node ≡ true → reached_within links more node ≡ true
 still_within links node some zero le h = subst (λ (k : ℕ). reached_within links k node ≡ true) (let e : some ≡ 0 = omega arith in e) h
 still_within links node some (suc more) le h = by_order (still_within links node some more) (cases_eq some (suc more))
   where
-    by_order : (some ≤ more → reached_within links some node ≡ true → reached_within links more node ≡ true) → (some ≡ suc more) ⊎ (some ≡ suc more → ⊥) → reached_within links (suc more) node ≡ true
+    by_order : (some ≤ more → reached_within links some node ≡ true → reached_within links more node ≡ true)
+        → (some ≡ suc more) ⊎ (some ≡ suc more → ⊥) → reached_within links (suc more) node ≡ true
     by_order still (inl e) = subst (λ (k : ℕ). reached_within links k node ≡ true) e h
     by_order still (inr n) = or_left _ _ (still (omega arith) h)
 
@@ -87,7 +95,8 @@ IsWider passes wider = (k : ℕ) → passes k ≡ true → wider k ≡ true
 
 count_below-wider : (passes wider : ℕ → Bool) (number : ℕ) → IsWider passes wider → count_below passes number ≤ count_below wider number
 count_below-wider passes wider zero h = omega arith
-count_below-wider passes wider (suc number) h = omega (arith, count_below-wider passes wider number h, one-more (passes number) (wider number) (h number))
+count_below-wider passes wider (suc number) h =
+    omega (arith, count_below-wider passes wider number h, one-more (passes number) (wider number) (h number))
 
 one-same : (b c : Bool) → cond c 1 0 ≤ cond b 1 0 → c ≡ true → b ≡ true
 one-same true c le h = refl
@@ -95,7 +104,8 @@ one-same false true le h = absurd (omega arith)
 one-same false false le h = h
 
 -- A wider test that as many numbers pass is passed by no other ones.
-none_wider : (passes wider : ℕ → Bool) (number : ℕ) → IsWider passes wider → count_below wider number ≤ count_below passes number → (k : ℕ) → k < number → wider k ≡ true → passes k ≡ true
+none_wider : (passes wider : ℕ → Bool) (number : ℕ) → IsWider passes wider → count_below wider number ≤ count_below passes number → (k : ℕ)
+    → k < number → wider k ≡ true → passes k ≡ true
 none_wider passes wider zero h le k within e = absurd (omega arith)
 none_wider passes wider (suc number) h le k within e =
     by_place (none_wider passes wider number h (omega (arith, one-more (passes number) (wider number) (h number)))) (cases_eq k number)
@@ -117,11 +127,15 @@ record ClosesBy (links : List Link) (nodes count : ℕ) : Type 0 where
   early : round ≤ count
   closed : IsClosed links nodes round
 
-grows_or_closes : (links : List Link) (nodes : ℕ) → 0 < nodes → (count : ℕ) → ClosesBy links nodes count ⊎ (count < count_below (reached_within links count) nodes)
+grows_or_closes : (links : List Link) (nodes : ℕ) → 0 < nodes → (count : ℕ)
+    → ClosesBy links nodes count ⊎ (count < count_below (reached_within links count) nodes)
 grows_or_closes links nodes pos zero = inr (omega (arith, first_counts (reached_within links 0) nodes refl pos))
 grows_or_closes links nodes pos (suc count) = by_round (grows_or_closes links nodes pos count)
   where
-    by_count : count < count_below (reached_within links count) nodes → (count_below (reached_within links count) nodes < count_below (reached_within links (suc count)) nodes) ⊎ (count_below (reached_within links (suc count)) nodes ≤ count_below (reached_within links count) nodes) → ClosesBy links nodes (suc count) ⊎ (suc count < count_below (reached_within links (suc count)) nodes)
+    by_count : count < count_below (reached_within links count) nodes
+        → (count_below (reached_within links count) nodes < count_below (reached_within links (suc count)) nodes)
+        ⊎ (count_below (reached_within links (suc count)) nodes ≤ count_below (reached_within links count) nodes)
+        → ClosesBy links nodes (suc count) ⊎ (suc count < count_below (reached_within links (suc count)) nodes)
     by_count grown (inl less) = inr (omega arith)
     by_count grown (inr le) = inl (record {
       round = count;
@@ -129,7 +143,8 @@ grows_or_closes links nodes pos (suc count) = by_round (grows_or_closes links no
       closed = none_wider (reached_within links count) (reached_within links (suc count)) nodes (λ k h. or_left _ _ h) le;
     })
 
-    by_round : ClosesBy links nodes count ⊎ (count < count_below (reached_within links count) nodes) → ClosesBy links nodes (suc count) ⊎ (suc count < count_below (reached_within links (suc count)) nodes)
+    by_round : ClosesBy links nodes count ⊎ (count < count_below (reached_within links count) nodes)
+        → ClosesBy links nodes (suc count) ⊎ (suc count < count_below (reached_within links (suc count)) nodes)
     by_round (inl c) = inl (let le = c.early in record { round = c.round; early = omega arith; closed = c.closed })
     by_round (inr grown) = by_count grown (cases_lt _ _)
 
@@ -142,13 +157,15 @@ closes links nodes pos = by_growth (grows_or_closes links nodes pos nodes)
 
 -- ---- what a walk reaches is reached over as many links as there are nodes
 
-along : (nodes : ℕ) (links : List Link) (round : ℕ) → IsTopology nodes links → IsClosed links nodes round → (steps : List ℕ) (from to cost : ℕ) → reached_within links round from ≡ true → IsWalk links from steps to cost → reached_within links round to ≡ true
+along : (nodes : ℕ) (links : List Link) (round : ℕ) → IsTopology nodes links → IsClosed links nodes round → (steps : List ℕ) (from to cost : ℕ)
+    → reached_within links round from ≡ true → IsWalk links from steps to cost → reached_within links round to ≡ true
 along nodes links round t closed [] from to cost h walk = subst (λ (k : ℕ). reached_within links round k ≡ true) walk.0 h
 along nodes links round t closed (next ∷ behind) from to cost h walk =
     along nodes links round t closed behind next to walk.1
     (closed next (good nodes links from next walk.0 t walk.2).b_within (further_within links round from next walk.0 walk.2 h)) walk.3
 
-pub within_nodes : (nodes : ℕ) (links : List Link) (node : ℕ) → IsTopology nodes links → node < nodes → Reaches links 0 node → reached_within links nodes node ≡ true
+pub within_nodes : (nodes : ℕ) (links : List Link) (node : ℕ) → IsTopology nodes links → node < nodes → Reaches links 0 node
+    → reached_within links nodes node ≡ true
 within_nodes nodes links node t within h =
     let c = closes links nodes (omega arith) in
     still_within links node c.round nodes c.early
@@ -160,7 +177,8 @@ all_below-at : (passes : ℕ → Bool) (number k : ℕ) → all_below passes num
 all_below-at passes zero k h within = absurd (omega arith)
 all_below-at passes (suc number) k h within = by_place (all_below-at passes number k) (and_parts _ _ h) (cases_eq k number)
   where
-    by_place : (all_below passes number ≡ true → k < number → passes k ≡ true) → (all_below passes number ≡ true) × (passes number ≡ true) → (k ≡ number) ⊎ (k ≡ number → ⊥) → passes k ≡ true
+    by_place : (all_below passes number ≡ true → k < number → passes k ≡ true) → (all_below passes number ≡ true) × (passes number ≡ true)
+        → (k ≡ number) ⊎ (k ≡ number → ⊥) → passes k ≡ true
     by_place lower parts (inl same) = ap passes same ∙ parts.1
     by_place lower parts (inr other) = lower parts.0 (omega arith)
 
@@ -200,7 +218,8 @@ or_none false y e = sym e
 or_one : (x y : Bool) → y ≡ true → true ≡ (x || y)
 or_one x y e = sym (or_right x y e)
 
-marked_by : (b : Bool) (next : List Bool) (node k : ℕ) → node < length next → get_or (cond b (set next node true) next) k false ≡ (get_or next k false || (nat_eq node k && b))
+marked_by : (b : Bool) (next : List Bool) (node k : ℕ) → node < length next
+    → get_or (cond b (set next node true) next) k false ≡ (get_or next k false || (nat_eq node k && b))
 marked_by false next node k within = or_none (get_or next k false) (nat_eq node k && false) (and_none (nat_eq node k))
   where
     and_none : (x : Bool) → (x && false) ≡ false
@@ -211,7 +230,8 @@ marked_by true next node k within = by_place (cases_eq k node)
     by_place : (k ≡ node) ⊎ (k ≡ node → ⊥) → get_or (set next node true) k false ≡ (get_or next k false || (nat_eq node k && true))
     by_place (inl e) =
         ap (λ (j : ℕ). get_or (set next node true) j false) e
-        ∙ (get_or-set_same next node true false within ∙ or_one (get_or next k false) (nat_eq node k && true) (and_from _ _ (eq-eqb node k (sym e)) refl))
+        ∙ (get_or-set_same next node true false within
+        ∙ or_one (get_or next k false) (nat_eq node k && true) (and_from _ _ (eq-eqb node k (sym e)) refl))
     by_place (inr n) =
         get_or-set_other next node k true false n
         ∙ or_none (get_or next k false) (nat_eq node k && true) (ap (λ (b : Bool). b && true) (ne_eqb node k (λ e. n (sym e))))
@@ -229,26 +249,32 @@ all-length : (marks next : List Bool) (links : List Link) → length (fold (mark
 all-length marks next [] = refl
 all-length marks next (link ∷ more) = all-length marks (marked_link marks next link) more ∙ link-length marks next link
 
-link_at : (marks next : List Bool) (link : Link) (k : ℕ) → length next ≡ 64 → HasEnds 64 link → get_or (marked_link marks next link) k false ≡ (get_or next k false || joins_to (λ (n : ℕ). get_or marks n false) k link)
+link_at : (marks next : List Bool) (link : Link) (k : ℕ) → length next ≡ 64 → HasEnds 64 link
+    → get_or (marked_link marks next link) k false ≡ (get_or next k false || joins_to (λ (n : ℕ). get_or marks n false) k link)
 link_at marks next link k size ends =
     let a : link.a.0 < length next = let w = ends.a in omega arith in
-    let b : link.b.0 < length (marked marks next link.a.0 link.b.0) = let w = ends.b in omega (arith, marked-length (get_or marks link.b.0 false) next link.a.0) in
+    let b : link.b.0 < length (marked marks next link.a.0 link.b.0) = let w = ends.b in
+    omega (arith, marked-length (get_or marks link.b.0 false) next link.a.0) in
     marked_by (get_or marks link.a.0 false) (marked marks next link.a.0 link.b.0) link.b.0 k b
     ∙ (ap (λ (x : Bool). x || (nat_eq link.b.0 k && get_or marks link.a.0 false)) (marked_by (get_or marks link.b.0 false) next link.a.0 k a)
     ∙ or_again (get_or next k false) (nat_eq link.a.0 k && get_or marks link.b.0 false) (nat_eq link.b.0 k && get_or marks link.a.0 false))
 
-joins-same : (some other : ℕ → Bool) (k : ℕ) (link : Link) → HasEnds 64 link → ((node : ℕ) → node < 64 → some node ≡ other node) → joins_to some k link ≡ joins_to other k link
+joins-same : (some other : ℕ → Bool) (k : ℕ) (link : Link) → HasEnds 64 link → ((node : ℕ) → node < 64 → some node ≡ other node)
+    → joins_to some k link ≡ joins_to other k link
 joins-same some other k link ends same =
     ap (λ (x : Bool). (nat_eq link.a.0 k && x) || (nat_eq link.b.0 k && some link.a.0)) (same link.b.0 ends.b)
     ∙ ap (λ (x : Bool). (nat_eq link.a.0 k && other link.b.0) || (nat_eq link.b.0 k && x)) (same link.a.0 ends.a)
 
-round_at : (marks : List Bool) (passes : ℕ → Bool) → ((node : ℕ) → node < 64 → get_or marks node false ≡ passes node) → (links : List Link) (next : List Bool) (k : ℕ) → length next ≡ 64 → All (HasEnds 64) links → get_or (fold (marked_link marks) next links) k false ≡ (get_or next k false || list_any (joins_to passes k) links)
+round_at : (marks : List Bool) (passes : ℕ → Bool) → ((node : ℕ) → node < 64 → get_or marks node false ≡ passes node)
+    → (links : List Link) (next : List Bool) (k : ℕ) → length next ≡ 64 → All (HasEnds 64) links
+    → get_or (fold (marked_link marks) next links) k false ≡ (get_or next k false || list_any (joins_to passes k) links)
 round_at marks passes same [] next k size ends = or_none (get_or next k false) false refl
 round_at marks passes same (link ∷ more) next k size ends =
     let head = All-head (HasEnds 64) link more ends in
     round_at marks passes same more (marked_link marks next link) k (link-length marks next link ∙ size) (All-tail (HasEnds 64) link more ends)
     ∙ (ap (λ (x : Bool). x || list_any (joins_to passes k) more)
-    (link_at marks next link k size head ∙ ap (λ (x : Bool). get_or next k false || x) (joins-same (λ (n : ℕ). get_or marks n false) passes k link head same))
+    (link_at marks next link k size head ∙ ap (λ (x : Bool). get_or next k false || x)
+    (joins-same (λ (n : ℕ). get_or marks n false) passes k link head same))
     ∙ or_again (get_or next k false) (joins_to passes k link) (list_any (joins_to passes k) more))
 
 ends_of_64 : (nodes : ℕ) (links : List Link) → IsTopology nodes links → All (HasEnds 64) links
@@ -260,7 +286,8 @@ ends_of_64 nodes links t = All-weaker (HasEnds nodes) (HasEnds 64) wider links t
     wider : (link : Link) → HasEnds nodes link → HasEnds 64 link
     wider link h = let x = h.a in let y = h.b in record { a = omega (arith, few); b = omega (arith, few); two = h.two }
 
-pub are_next : (nodes : ℕ) (links : List Link) (count : ℕ) (marks : List Bool) → IsTopology nodes links → AreMarks links count marks → AreMarks links (count + 1) (next_marks marks links)
+pub are_next : (nodes : ℕ) (links : List Link) (count : ℕ) (marks : List Bool) → IsTopology nodes links → AreMarks links count marks
+    → AreMarks links (count + 1) (next_marks marks links)
 are_next nodes links count marks t h = rw add-one (record { size = all-length marks marks links ∙ h.size; same = same })
   where
     same : (node : ℕ) → node < 64 → get_or (next_marks marks links) node false ≡ reached_within links (suc count) node
@@ -268,7 +295,8 @@ are_next nodes links count marks t h = rw add-one (record { size = all-length ma
         round_at marks (reached_within links count) h.same links marks node h.size (ends_of_64 nodes links t)
         ∙ ap (λ (x : Bool). x || list_any (joins_to (reached_within links count) node) links) (h.same node within)
 
-all_taken : (marks : List Bool) (passes : ℕ → Bool) (number : ℕ) → number ≤ length marks → ((k : ℕ) → k < number → get_or marks k false ≡ passes k) → list_all (λ (mark : Bool). mark) (take number marks) ≡ all_below passes number
+all_taken : (marks : List Bool) (passes : ℕ → Bool) (number : ℕ) → number ≤ length marks → ((k : ℕ) → k < number → get_or marks k false ≡ passes k)
+    → list_all (λ (mark : Bool). mark) (take number marks) ≡ all_below passes number
 all_taken marks passes zero fits same = refl
 all_taken marks passes (suc number) fits same =
     subst (λ (n : ℕ). list_all (λ (mark : Bool). mark) (take n marks) ≡ (all_below passes number && passes number)) (add-one number)
@@ -277,12 +305,14 @@ all_taken marks passes (suc number) fits same =
     ∙ ap (λ (x : Bool). all_below passes number && x) (same number (omega arith))))
 
 -- The test of all marks behind the last round.
-pub all_marks : (nodes round : ℕ) (links : List Link) (marks : List Bool) (result : Bool) → IsTopology nodes links → round ≡ nodes → AreMarks links round marks → result ≡ list_all (λ (mark : Bool). mark) (take nodes marks) → result ≡ is_connected nodes links
+pub all_marks : (nodes round : ℕ) (links : List Link) (marks : List Bool) (result : Bool) → IsTopology nodes links → round ≡ nodes
+    → AreMarks links round marks → result ≡ list_all (λ (mark : Bool). mark) (take nodes marks) → result ≡ is_connected nodes links
 all_marks nodes round links marks result t last h told =
     let few = t.few_nodes in
     let size = h.size in
     told ∙ all_taken marks (reached_within links nodes) nodes (omega arith)
     (λ k within. h.same k (omega arith) ∙ ap (λ (count : ℕ). reached_within links count k) last)
 
-pub all_walks : (nodes : ℕ) (links : List Link) (result : Bool) → IsTopology nodes links → result ≡ is_connected nodes links → IsTrue result ↔ IsConnected nodes links
+pub all_walks : (nodes : ℕ) (links : List Link) (result : Bool) → IsTopology nodes links → result ≡ is_connected nodes links
+    → IsTrue result ↔ IsConnected nodes links
 all_walks nodes links result t told = subst (λ (r : Bool). IsTrue r ↔ IsConnected nodes links) (sym told) (connected_walks nodes links t)

@@ -36,7 +36,8 @@ IsOctets-behind a b h = subst IsOctets (drop_at a b (length a) refl) (IsOctets-d
 
 -- ---- the walk, step by step
 
-pub passed : {M E : Type 0} (front : List ℕ → Front M E) (n place : ℕ) (bs : List ℕ) → n ≤ length bs → cut_at front place n bs ≡ cut_at front (place + n) 0 (drop n bs)
+pub passed : {M E : Type 0} (front : List ℕ → Front M E) (n place : ℕ) (bs : List ℕ) → n ≤ length bs
+    → cut_at front place n bs ≡ cut_at front (place + n) 0 (drop n bs)
 unfolding cut_at
 passed front zero place bs le = rw add-zero refl
 passed front (suc n) place [] le = absurd (omega arith)
@@ -45,7 +46,8 @@ passed front (suc n) place (b ∷ bs) le =
     passed front n (place + 1) bs (omega arith) ∙ ap (λ (p : ℕ). cut_at front p 0 (drop n bs)) e
 
 -- a whole unit stands here
-pub one_further : {M E : Type 0} (front : List ℕ → Front M E) (place n : ℕ) (ms : List M) (xs : List ℕ) → 0 < n → n ≤ length xs → front xs ≡ whole n ms → cut_at front place 0 xs ≡ with_front ms (cut_at front (place + n) 0 (drop n xs))
+pub one_further : {M E : Type 0} (front : List ℕ → Front M E) (place n : ℕ) (ms : List M) (xs : List ℕ) → 0 < n → n ≤ length xs
+    → front xs ≡ whole n ms → cut_at front place 0 xs ≡ with_front ms (cut_at front (place + n) 0 (drop n xs))
 unfolding cut_at
 one_further front place zero ms xs pos le e = absurd (omega arith)
 one_further front place (suc n) ms [] pos le e = absurd (omega arith)
@@ -55,13 +57,15 @@ one_further front place (suc n) ms (b ∷ bs) pos le e =
     rw (e, cut_at, down) (ap (with_front ms) (passed front n (place + 1) bs (omega arith) ∙ ap (λ (p : ℕ). cut_at front p 0 (drop n bs)) there))
 
 -- too little stands here
-pub waits : {M E : Type 0} (front : List ℕ → Front M E) (place : ℕ) (xs : List ℕ) → front xs ≡ more → cut_at front place 0 xs ≡ record { messages = []; rest = xs; fault = None }
+pub waits : {M E : Type 0} (front : List ℕ → Front M E) (place : ℕ) (xs : List ℕ) → front xs ≡ more
+    → cut_at front place 0 xs ≡ record { messages = []; rest = xs; fault = None }
 unfolding cut_at
 waits front place [] e = refl
 waits front place (b ∷ bs) e = rw (e, cut_at) refl
 
 -- a fault stands here
-pub stops : {M E : Type 0} (front : List ℕ → Front M E) (place offset : ℕ) (fault : E) (ms : List M) (xs : List ℕ) → front [] ≡ more → front xs ≡ bad ms offset fault → cut_at front place 0 xs ≡ record { messages = ms; rest = xs; fault = Some (place + offset, fault) }
+pub stops : {M E : Type 0} (front : List ℕ → Front M E) (place offset : ℕ) (fault : E) (ms : List M) (xs : List ℕ) → front [] ≡ more
+    → front xs ≡ bad ms offset fault → cut_at front place 0 xs ≡ record { messages = ms; rest = xs; fault = Some (place + offset, fault) }
 unfolding cut_at
 stops front place offset fault ms [] none e = absurd cc
 stops front place offset fault ms (b ∷ bs) none e = rw (e, cut_at) refl
@@ -75,17 +79,22 @@ with_both a b c = ap (λ (ms : List _). record { messages = ms; rest = c.rest; f
 -- ---- whole units in front
 
 -- one unit in front
-past : {M E : Type 0} (front : List ℕ → Front M E) (Spells : List M → List ℕ → Type 0) (framing : IsFraming front Spells) (place : ℕ) (ms : List M) (text after : List ℕ) → Spells ms text → cut_at front place 0 (text ++ after) ≡ with_front ms (cut_at front (place + length text) 0 after)
+past : {M E : Type 0} (front : List ℕ → Front M E) (Spells : List M → List ℕ → Type 0) (framing : IsFraming front Spells) (place : ℕ) (ms : List M)
+    (text after : List ℕ) → Spells ms text → cut_at front place 0 (text ++ after) ≡ with_front ms (cut_at front (place + length text) 0 after)
 past front Spells framing place ms text after h =
-    one_further front place (length text) ms (text ++ after) (framing.filled ms text h) (omega (arith, length-append text after)) (framing.again ms text after h)
+    one_further front place (length text) ms (text ++ after) (framing.filled ms text h) (omega (arith, length-append text after))
+    (framing.again ms text after h)
     ∙ ap (λ (xs : List ℕ). with_front ms (cut_at front (place + length text) 0 xs)) (drop_at text after (length text) refl)
 
 -- all of them
-pub past_all : {M E : Type 0} (front : List ℕ → Front M E) (Spells : List M → List ℕ → Type 0) (framing : IsFraming front Spells) (place : ℕ) (units : List (Spelled M)) (after : List ℕ) → AreUnits Spells units → cut_at front place 0 (octets_of units ++ after) ≡ with_front (messages_of units) (cut_at front (place + length (octets_of units)) 0 after)
+pub past_all : {M E : Type 0} (front : List ℕ → Front M E) (Spells : List M → List ℕ → Type 0) (framing : IsFraming front Spells) (place : ℕ)
+    (units : List (Spelled M)) (after : List ℕ) → AreUnits Spells units
+    → cut_at front place 0 (octets_of units ++ after) ≡ with_front (messages_of units) (cut_at front (place + length (octets_of units)) 0 after)
 past_all front Spells framing place [] after h = rw add-zero refl
 past_all front Spells framing place (u ∷ us) after h =
     let whole_text : octets_of (u ∷ us) ++ after ≡ u.octets ++ (octets_of us ++ after) = append_assoc u.octets (octets_of us) after in
-    let len : place + length u.octets + length (octets_of us) ≡ place + length (octets_of (u ∷ us)) = omega (arith, length-append u.octets (octets_of us)) in
+    let len : place + length u.octets + length (octets_of us) ≡ place + length (octets_of (u ∷ us)) =
+    omega (arith, length-append u.octets (octets_of us)) in
     ap (λ (xs : List ℕ). cut_at front place 0 xs) whole_text
     ∙ past front Spells framing place u.messages u.octets (octets_of us ++ after) h.0
     ∙ ap (with_front u.messages) (past_all front Spells framing (place + length u.octets) us after h.1)
@@ -93,9 +102,12 @@ past_all front Spells framing place (u ∷ us) after h =
     ∙ sym (with_both u.messages (messages_of us) (cut_at front (place + length (octets_of (u ∷ us))) 0 after))
 
 -- what stands behind whole units is cut as if it came alone
-pub begun : {M E : Type 0} (front : List ℕ → Front M E) (Spells : List M → List ℕ → Type 0) (framing : IsFraming front Spells) (place there : ℕ) (stream : List ℕ) (ms : List M) (rest : List ℕ) → Begins Spells stream ms rest → there + length rest ≡ place + length stream → cut_at front place 0 stream ≡ with_front ms (cut_at front there 0 rest)
+pub begun : {M E : Type 0} (front : List ℕ → Front M E) (Spells : List M → List ℕ → Type 0) (framing : IsFraming front Spells) (place there : ℕ)
+    (stream : List ℕ) (ms : List M) (rest : List ℕ) → Begins Spells stream ms rest → there + length rest ≡ place + length stream
+    → cut_at front place 0 stream ≡ with_front ms (cut_at front there 0 rest)
 begun front Spells framing place there stream ms rest b at =
-    let len : place + length (octets_of b.units) ≡ there = omega (arith, at, ap (λ (xs : List ℕ). length xs) b.parts, length-append (octets_of b.units) rest) in
+    let len : place + length (octets_of b.units) ≡ there =
+    omega (arith, at, ap (λ (xs : List ℕ). length xs) b.parts, length-append (octets_of b.units) rest) in
     ap (λ (xs : List ℕ). cut_at front place 0 xs) b.parts
     ∙ past_all front Spells framing place b.units rest b.each
     ∙ ap (λ (p : ℕ). with_front (messages_of b.units) (cut_at front p 0 rest)) len
@@ -104,7 +116,8 @@ begun front Spells framing place there stream ms rest b at =
 pub nothing_begun : {M : Type 0} (Spells : List M → List ℕ → Type 0) (stream : List ℕ) → Begins Spells stream [] stream
 nothing_begun Spells stream = record { units = []; each = tt; parts = refl; carried = refl }
 
-pub begun_more : {M : Type 0} (Spells : List M → List ℕ → Type 0) (stream : List ℕ) (ms : List M) (rest more_octets : List ℕ) → Begins Spells stream ms rest → Begins Spells (stream ++ more_octets) ms (rest ++ more_octets)
+pub begun_more : {M : Type 0} (Spells : List M → List ℕ → Type 0) (stream : List ℕ) (ms : List M) (rest more_octets : List ℕ)
+    → Begins Spells stream ms rest → Begins Spells (stream ++ more_octets) ms (rest ++ more_octets)
 begun_more Spells stream ms rest ys b = record {
   units = b.units;
   each = b.each;
@@ -112,7 +125,8 @@ begun_more Spells stream ms rest ys b = record {
   carried = b.carried;
 }
 
-pub begun_behind : {M : Type 0} (Spells : List M → List ℕ → Type 0) (ms : List M) (text after : List ℕ) (ns : List M) (rest stream : List ℕ) → Spells ms text → stream ≡ text ++ after → Begins Spells after ns rest → Begins Spells stream (ms ++ ns) rest
+pub begun_behind : {M : Type 0} (Spells : List M → List ℕ → Type 0) (ms : List M) (text after : List ℕ) (ns : List M) (rest stream : List ℕ)
+    → Spells ms text → stream ≡ text ++ after → Begins Spells after ns rest → Begins Spells stream (ms ++ ns) rest
 begun_behind Spells ms text after ns rest stream h parts b = record {
   units = record { messages = ms; octets = text } ∷ b.units;
   each = (h, b.each);
@@ -125,24 +139,31 @@ begun_behind Spells ms text after ns rest stream h parts b = record {
 -- what stands behind the whole units, whose messages are the first of all, in octets that end at this place
 abbrev pub Ends : {M E : Type 0} → (List ℕ → Front M E) → ℕ → List ℕ → List M → List M → Option (ℕ × E) → Type 0
 Ends front end rest first all None = (front rest ≡ more) × (all ≡ first)
-Ends {M} front end rest first all (Some f) = (last : List M) × (offset : ℕ) × (front rest ≡ bad last offset f.1) × (f.0 + length rest ≡ end + offset) × (all ≡ first ++ last)
+Ends {M} front end rest first all (Some f) =
+    (last : List M) × (offset : ℕ) × (front rest ≡ bad last offset f.1) × (f.0 + length rest ≡ end + offset) × (all ≡ first ++ last)
 
-pub record Found {M E : Type 0} (front : List ℕ → Front M E) (Spells : List M → List ℕ → Type 0) (place : ℕ) (xs : List ℕ) (c : Cut M E) : Type 0 where
-  pub first : List M
-  pub begins : Begins Spells xs first c.rest
-  pub ends : Ends front (place + length xs) c.rest first c.messages c.fault
+pub record Found {M E : Type 0} (front : List ℕ → Front M E) (Spells : List M → List ℕ → Type 0) (place : ℕ) (xs : List ℕ) (c : Cut M E) : Type 0
+  where
+    pub first : List M
+    pub begins : Begins Spells xs first c.rest
+    pub ends : Ends front (place + length xs) c.rest first c.messages c.fault
 
 -- the same behind a unit
-ends_behind : {M E : Type 0} (front : List ℕ → Front M E) (end : ℕ) (rest : List ℕ) (ms first all : List M) (o : Option (ℕ × E)) → Ends front end rest first all o → Ends front end rest (ms ++ first) (ms ++ all) o
+ends_behind : {M E : Type 0} (front : List ℕ → Front M E) (end : ℕ) (rest : List ℕ) (ms first all : List M) (o : Option (ℕ × E))
+    → Ends front end rest first all o → Ends front end rest (ms ++ first) (ms ++ all) o
 ends_behind front end rest ms first all None (stands, same) = (stands, ap (λ (xs : List _). ms ++ xs) same)
-ends_behind front end rest ms first all (Some f) (last, offset, stands, at, same) = (last, offset, stands, at, ap (λ (xs : List _). ms ++ xs) same ∙ sym (append_assoc ms first last))
+ends_behind front end rest ms first all (Some f) (last, offset, stands, at, same) =
+    (last, offset, stands, at, ap (λ (xs : List _). ms ++ xs) same ∙ sym (append_assoc ms first last))
 
-found_at : {M E : Type 0} (front : List ℕ → Front M E) (Spells : List M → List ℕ → Type 0) (framing : IsFraming front Spells) (n place : ℕ) (xs : List ℕ) → length xs ≤ n → IsOctets xs
-    → ((p : ℕ) (ys : List ℕ) → length ys < length xs → IsOctets ys → Found front Spells p ys (cut_at front p 0 ys)) → (o : Front M E) → front xs ≡ o → Found front Spells place xs (cut_at front place 0 xs)
+found_at : {M E : Type 0} (front : List ℕ → Front M E) (Spells : List M → List ℕ → Type 0) (framing : IsFraming front Spells) (n place : ℕ)
+    (xs : List ℕ) → length xs ≤ n → IsOctets xs
+    → ((p : ℕ) (ys : List ℕ) → length ys < length xs → IsOctets ys → Found front Spells p ys (cut_at front p 0 ys)) → (o : Front M E) → front xs ≡ o
+    → Found front Spells place xs (cut_at front place 0 xs)
 found_at front Spells framing n place xs le fits others more e =
     subst (Found front Spells place xs) (sym (waits front place xs e)) (record { first = []; begins = nothing_begun Spells xs; ends = (e, refl) })
 found_at front Spells framing n place xs le fits others (bad ms offset fault) e =
-    subst (Found front Spells place xs) (sym (stops front place offset fault ms xs framing.empty e)) (record { first = []; begins = nothing_begun Spells xs; ends = (ms, offset, e, omega arith, refl) })
+    subst (Found front Spells place xs) (sym (stops front place offset fault ms xs framing.empty e))
+    (record { first = []; begins = nothing_begun Spells xs; ends = (ms, offset, e, omega arith, refl) })
 found_at front Spells framing n place xs le fits others (whole k ms) e =
     let taken = framing.taken xs k ms fits e in
     let len : length (take k xs) ≡ k = length-take-le k xs taken.0 in
@@ -154,34 +175,46 @@ found_at front Spells framing n place xs le fits others (whole k ms) e =
     subst (Found front Spells place xs) (sym (one_further front place k ms xs pos taken.0 e)) (record {
       first = ms ++ rest.first;
       begins = begun_behind Spells ms (take k xs) (drop k xs) rest.first c.rest xs taken.1 (sym (take-append-drop k xs)) rest.begins;
-      ends = ends_behind front (place + length xs) c.rest ms rest.first c.messages c.fault (subst (λ (m : ℕ). Ends front m c.rest rest.first c.messages c.fault) end rest.ends);
+      ends = ends_behind front (place + length xs) c.rest ms rest.first c.messages c.fault
+          (subst (λ (m : ℕ). Ends front m c.rest rest.first c.messages c.fault) end rest.ends);
     })
 
-found_by : {M E : Type 0} (front : List ℕ → Front M E) (Spells : List M → List ℕ → Type 0) (framing : IsFraming front Spells) (n place : ℕ) (xs : List ℕ) → length xs ≤ n → IsOctets xs → Found front Spells place xs (cut_at front place 0 xs)
-found_by front Spells framing zero place xs le fits = found_at front Spells framing zero place xs le fits (λ p ys lt f. absurd (omega arith)) (front xs) refl
-found_by front Spells framing (suc n) place xs le fits = found_at front Spells framing (suc n) place xs le fits (λ p ys lt f. found_by front Spells framing n p ys (omega arith) f) (front xs) refl
+found_by : {M E : Type 0} (front : List ℕ → Front M E) (Spells : List M → List ℕ → Type 0) (framing : IsFraming front Spells) (n place : ℕ)
+    (xs : List ℕ) → length xs ≤ n → IsOctets xs → Found front Spells place xs (cut_at front place 0 xs)
+found_by front Spells framing zero place xs le fits =
+    found_at front Spells framing zero place xs le fits (λ p ys lt f. absurd (omega arith)) (front xs) refl
+found_by front Spells framing (suc n) place xs le fits =
+    found_at front Spells framing (suc n) place xs le fits (λ p ys lt f. found_by front Spells framing n p ys (omega arith) f) (front xs) refl
 
-pub found : {M E : Type 0} (front : List ℕ → Front M E) (Spells : List M → List ℕ → Type 0) (framing : IsFraming front Spells) (place : ℕ) (xs : List ℕ) → IsOctets xs → Found front Spells place xs (cut_at front place 0 xs)
+pub found : {M E : Type 0} (front : List ℕ → Front M E) (Spells : List M → List ℕ → Type 0) (framing : IsFraming front Spells) (place : ℕ)
+    (xs : List ℕ) → IsOctets xs → Found front Spells place xs (cut_at front place 0 xs)
 found front Spells framing place xs fits = found_by front Spells framing (length xs) place xs (omega arith) fits
 
 -- where more has to come, no prefix is a whole unit, and none where a fault stands, whatever comes
-pub none_whole : {M E : Type 0} (front : List ℕ → Front M E) (Spells : List M → List ℕ → Type 0) (framing : IsFraming front Spells) (rest : List ℕ) → front rest ≡ more → NoUnit Spells rest
+pub none_whole : {M E : Type 0} (front : List ℕ → Front M E) (Spells : List M → List ℕ → Type 0) (framing : IsFraming front Spells) (rest : List ℕ)
+    → front rest ≡ more → NoUnit Spells rest
 none_whole front Spells framing rest e ms text after h same =
     let clash : whole (length text) ms ≡ more = sym (framing.again ms text after h) ∙ ap front (sym same) ∙ e in absurd cc
 
 -- ---- one cut and the next
 
 -- what comes later is cut behind the whole units and what was held back
-pub cut_on : {M E : Type 0} (front : List ℕ → Front M E) (Spells : List M → List ℕ → Type 0) (framing : IsFraming front Spells) (place there : ℕ) (xs ys : List ℕ) (c : Cut M E) → (f : Found front Spells place xs c) → there + length c.rest ≡ place + length xs → cut_at front place 0 (xs ++ ys) ≡ with_front f.first (cut_at front there 0 (c.rest ++ ys))
+pub cut_on : {M E : Type 0} (front : List ℕ → Front M E) (Spells : List M → List ℕ → Type 0) (framing : IsFraming front Spells) (place there : ℕ)
+    (xs ys : List ℕ) (c : Cut M E) → (f : Found front Spells place xs c) → there + length c.rest ≡ place + length xs
+    → cut_at front place 0 (xs ++ ys) ≡ with_front f.first (cut_at front there 0 (c.rest ++ ys))
 cut_on front Spells framing place there xs ys c f at =
-    begun front Spells framing place there (xs ++ ys) f.first (c.rest ++ ys) (begun_more Spells xs f.first c.rest ys f.begins) (omega (arith, at, length-append c.rest ys, length-append xs ys))
+    begun front Spells framing place there (xs ++ ys) f.first (c.rest ++ ys) (begun_more Spells xs f.first c.rest ys f.begins)
+    (omega (arith, at, length-append c.rest ys, length-append xs ys))
 
 -- the rest of a cut is no longer than what was cut
-pub rest_le : {M E : Type 0} (front : List ℕ → Front M E) (Spells : List M → List ℕ → Type 0) (place : ℕ) (xs : List ℕ) (c : Cut M E) → Found front Spells place xs c → length c.rest ≤ length xs
+pub rest_le : {M E : Type 0} (front : List ℕ → Front M E) (Spells : List M → List ℕ → Type 0) (place : ℕ) (xs : List ℕ) (c : Cut M E)
+    → Found front Spells place xs c → length c.rest ≤ length xs
 rest_le front Spells place xs c f = omega (arith, ap (λ (ys : List ℕ). length ys) f.begins.parts, length-append (octets_of f.begins.units) c.rest)
 
 -- a fault stays, with the messages before it
-pub cut_stays : {M E : Type 0} (front : List ℕ → Front M E) (Spells : List M → List ℕ → Type 0) (kind : IsStream front Spells) (place : ℕ) (xs ys : List ℕ) (c : Cut M E) (f : ℕ × E) → Found front Spells place xs c → c.fault ≡ Some f → cut_at front place 0 (xs ++ ys) ≡ record { messages = c.messages; rest = c.rest ++ ys; fault = Some f }
+pub cut_stays : {M E : Type 0} (front : List ℕ → Front M E) (Spells : List M → List ℕ → Type 0) (kind : IsStream front Spells) (place : ℕ)
+    (xs ys : List ℕ) (c : Cut M E) (f : ℕ × E) → Found front Spells place xs c → c.fault ≡ Some f
+    → cut_at front place 0 (xs ++ ys) ≡ record { messages = c.messages; rest = c.rest ++ ys; fault = Some f }
 cut_stays front Spells kind place xs ys c f h e =
     let ends = subst (Ends front (place + length xs) c.rest h.first c.messages) e h.ends in
     let short = rest_le front Spells place xs c h in
@@ -196,16 +229,22 @@ cut_stays front Spells kind place xs ys c f h e =
 -- ---- one way to split
 
 -- No unit's spelling begins another's.
-pub one_unit : {M E : Type 0} (front : List ℕ → Front M E) (Spells : List M → List ℕ → Type 0) → IsFraming front Spells → (ms ns : List M) (text other x y : List ℕ) → Spells ms text → Spells ns other → text ++ x ≡ other ++ y → (text ≡ other) × (ms ≡ ns)
+pub one_unit : {M E : Type 0} (front : List ℕ → Front M E) (Spells : List M → List ℕ → Type 0) → IsFraming front Spells
+    → (ms ns : List M) (text other x y : List ℕ) → Spells ms text → Spells ns other → text ++ x ≡ other ++ y → (text ≡ other) × (ms ≡ ns)
 one_unit {M} {E} front Spells framing ms ns text other x y a b same =
-    let both : ◌≡◌ {A = Front M E} (whole (length text) ms) (whole (length other) ns) = sym (framing.again ms text x a) ∙ ap front same ∙ framing.again ns other y b in
+    let both : ◌≡◌ {A = Front M E} (whole (length text) ms) (whole (length other) ns) =
+    sym (framing.again ms text x a) ∙ ap front same ∙ framing.again ns other y b in
     let parts = whole_is (length text) (length other) ms ns both in
     (sym (take_at text x (length text) refl) ∙ ap (take (length text)) same ∙ take_at other y (length text) (sym parts.0), parts.1)
 
-same_units : {M E : Type 0} (front : List ℕ → Front M E) (Spells : List M → List ℕ → Type 0) → IsFraming front Spells → (us vs : List (Spelled M)) (a b : List ℕ) → AreUnits Spells us → AreUnits Spells vs → NoUnit Spells a → NoUnit Spells b → octets_of us ++ a ≡ octets_of vs ++ b → (messages_of us ≡ messages_of vs) × (a ≡ b)
+same_units : {M E : Type 0} (front : List ℕ → Front M E) (Spells : List M → List ℕ → Type 0) → IsFraming front Spells
+    → (us vs : List (Spelled M)) (a b : List ℕ) → AreUnits Spells us → AreUnits Spells vs → NoUnit Spells a → NoUnit Spells b
+    → octets_of us ++ a ≡ octets_of vs ++ b → (messages_of us ≡ messages_of vs) × (a ≡ b)
 same_units front Spells framing [] [] a b h k none none' same = (refl, same)
-same_units front Spells framing [] (v ∷ vs) a b h k none none' same = absurd (none v.messages v.octets (octets_of vs ++ b) k.0 (same ∙ append_assoc v.octets (octets_of vs) b))
-same_units front Spells framing (u ∷ us) [] a b h k none none' same = absurd (none' u.messages u.octets (octets_of us ++ a) h.0 (sym same ∙ append_assoc u.octets (octets_of us) a))
+same_units front Spells framing [] (v ∷ vs) a b h k none none' same =
+    absurd (none v.messages v.octets (octets_of vs ++ b) k.0 (same ∙ append_assoc v.octets (octets_of vs) b))
+same_units front Spells framing (u ∷ us) [] a b h k none none' same =
+    absurd (none' u.messages u.octets (octets_of us ++ a) h.0 (sym same ∙ append_assoc u.octets (octets_of us) a))
 same_units {M} front Spells framing (u ∷ us) (v ∷ vs) a b h k none none' same =
     let x : List ℕ = octets_of us ++ a in
     let y : List ℕ = octets_of vs ++ b in
@@ -215,23 +254,45 @@ same_units {M} front Spells framing (u ∷ us) (v ∷ vs) a b h k none none' sam
     let rest = same_units front Spells framing us vs a b h.1 k.1 none none' behind in
     (ap (λ (ms : List M). ms ++ messages_of us) one.1 ∙ ap (λ (ms : List M). v.messages ++ ms) rest.0, rest.1)
 
-pub one_split : {M E : Type 0} (front : List ℕ → Front M E) (Spells : List M → List ℕ → Type 0) (framing : IsFraming front Spells) (stream : List ℕ) (ms ns : List M) (a b : List ℕ) → Splits Spells stream ms a → Splits Spells stream ns b → (ms ≡ ns) × (a ≡ b)
+pub one_split : {M E : Type 0} (front : List ℕ → Front M E) (Spells : List M → List ℕ → Type 0) (framing : IsFraming front Spells) (stream : List ℕ)
+    (ms ns : List M) (a b : List ℕ) → Splits Spells stream ms a → Splits Spells stream ns b → (ms ≡ ns) × (a ≡ b)
 one_split front Spells framing stream ms ns a b s t =
-    let is = same_units front Spells framing s.begins.units t.begins.units a b s.begins.each t.begins.each s.no_unit t.no_unit (sym s.begins.parts ∙ t.begins.parts) in
+    let is = same_units front Spells framing s.begins.units t.begins.units a b s.begins.each t.begins.each s.no_unit t.no_unit
+    (sym s.begins.parts ∙ t.begins.parts) in
     (s.begins.carried ∙ is.0 ∙ sym t.begins.carried, is.1)
 
 -- what a cut without a fault finds is a split
-pub cut_splits : {M E : Type 0} (front : List ℕ → Front M E) (Spells : List M → List ℕ → Type 0) (framing : IsFraming front Spells) (stream : List ℕ) → IsOctets stream → (cut front stream).fault ≡ None → Splits Spells stream (cut front stream).messages (cut front stream).rest × (front (cut front stream).rest ≡ more)
+pub cut_splits : {M E : Type 0} (front : List ℕ → Front M E) (Spells : List M → List ℕ → Type 0) (framing : IsFraming front Spells) (stream : List ℕ)
+    → IsOctets stream → (cut front stream).fault ≡ None
+    → Splits Spells stream (cut front stream).messages (cut front stream).rest × (front (cut front stream).rest ≡ more)
 cut_splits {M} {E} front Spells framing stream fits none =
     let f = found front Spells framing 0 stream fits in
     let c : Cut M E = cut front stream in
-    let ends = subst (Ends front (0 + length stream) c.rest f.first c.messages) none f.ends in
-    (record { begins = subst (λ (ms : List M). Begins Spells stream ms c.rest) (sym ends.1) f.begins; no_unit = none_whole front Spells framing c.rest ends.0 }, ends.0)
+    let ends = subst (Ends front (0 + length stream) c.rest f.first c.messages) none f.ends in (
+      record {
+        begins = subst (λ (ms : List M). Begins Spells stream ms c.rest) (sym ends.1) f.begins;
+        no_unit =
+            none_whole front Spells framing c.rest ends.0;
+      },
+      ends.0,
+    )
 
 -- ..and one with a fault
-pub cut_fails : {M E : Type 0} (front : List ℕ → Front M E) (Spells : List M → List ℕ → Type 0) (framing : IsFraming front Spells) (stream : List ℕ) (f : ℕ × E) → IsOctets stream → (cut front stream).fault ≡ Some f → Fails Spells (λ rest ms offset e. front rest ≡ bad ms offset e) stream (cut front stream).messages f.0 f.1
+pub cut_fails : {M E : Type 0} (front : List ℕ → Front M E) (Spells : List M → List ℕ → Type 0) (framing : IsFraming front Spells) (stream : List ℕ)
+    (f : ℕ × E) → IsOctets stream → (cut front stream).fault ≡ Some f
+    → Fails Spells (λ rest ms offset e. front rest ≡ bad ms offset e) stream (cut front stream).messages f.0 f.1
 cut_fails {M} {E} front Spells framing stream f fits some =
     let h = found front Spells framing 0 stream fits in
     let c : Cut M E = cut front stream in
     let ends = subst (Ends front (0 + length stream) c.rest h.first c.messages) some h.ends in
-    record { first = h.first; last = ends.0; rest = c.rest; offset = ends.1; begins = h.begins; faulty = ends.2; messages = ends.4; at = omega (arith, ends.3) }
+    record {
+      first = h.first;
+      last = ends.0;
+      rest = c.rest;
+      offset = ends.1;
+      begins = h.begins;
+      faulty = ends.2;
+      messages = ends.4;
+      at =
+          omega (arith, ends.3);
+    }

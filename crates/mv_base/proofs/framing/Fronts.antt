@@ -4,7 +4,8 @@ use Rattle.mv_base.specs.framing.Cut.{Front}
 use Rattle.mv_base.specs.framing.Cut.Front.{more, whole, bad}
 
 -- Where a whole unit stands, no fault was met.
-pub not_bad : {M E : Type 0} (b : Bool) (before : List M) (offset : ℕ) (e : E) (r : Front M E) (n : ℕ) (ms : List M) → cond b (bad before offset e) r ≡ whole n ms → (b ≡ false) × (r ≡ whole n ms)
+pub not_bad : {M E : Type 0} (b : Bool) (before : List M) (offset : ℕ) (e : E) (r : Front M E) (n : ℕ) (ms : List M)
+    → cond b (bad before offset e) r ≡ whole n ms → (b ≡ false) × (r ≡ whole n ms)
 not_bad true before offset e r n ms h = absurd cc
 not_bad false before offset e r n ms h = (refl, h)
 
@@ -14,16 +15,19 @@ not_more true r n ms h = absurd cc
 not_more false r n ms h = (refl, h)
 
 -- Where a fault stands, enough came to tell it.
-pub not_waiting : {M E : Type 0} (b : Bool) (r : Front M E) (before : List M) (offset : ℕ) (e : E) → cond b more r ≡ bad before offset e → (b ≡ false) × (r ≡ bad before offset e)
+pub not_waiting : {M E : Type 0} (b : Bool) (r : Front M E) (before : List M) (offset : ℕ) (e : E) → cond b more r ≡ bad before offset e
+    → (b ≡ false) × (r ≡ bad before offset e)
 not_waiting true r before offset e h = absurd cc
 not_waiting false r before offset e h = (refl, h)
 
 -- Where more has to come, no fault was met.
-pub not_bad_yet : {M E : Type 0} (b : Bool) (before : List M) (offset : ℕ) (e : E) (r : Front M E) → cond b (bad before offset e) r ≡ more → (b ≡ false) × (r ≡ more)
+pub not_bad_yet : {M E : Type 0} (b : Bool) (before : List M) (offset : ℕ) (e : E) (r : Front M E) → cond b (bad before offset e) r ≡ more
+    → (b ≡ false) × (r ≡ more)
 not_bad_yet true before offset e r h = absurd cc
 not_bad_yet false before offset e r h = (refl, h)
 
-pub bad_is : {M E : Type 0} (before others : List M) (m n : ℕ) (e f : E) → ◌≡◌ {A = Front M E} (bad before m e) (bad others n f) → (m ≡ n) × (e ≡ f) × (before ≡ others)
+pub bad_is : {M E : Type 0} (before others : List M) (m n : ℕ) (e f : E) → ◌≡◌ {A = Front M E} (bad before m e) (bad others n f)
+    → (m ≡ n) × (e ≡ f) × (before ≡ others)
 bad_is before others m n e f h = (cc, cc, cc)
 
 pub whole_is : {M E : Type 0} (m n : ℕ) (ms ns : List M) → ◌≡◌ {A = Front M E} (whole m ms) (whole n ns) → (m ≡ n) × (ms ≡ ns)

@@ -35,7 +35,8 @@ pub is_headed : (xs : List ℕ) → IsOctets xs → 4 ≤ length xs → xs ≡ h
 is_headed xs fits le =
     let a : to_be_bytes w16 (first xs) ≡ take 2 xs = wide16.back (take 2 xs) (length-take-le 2 xs (omega arith)) (octets_before 2 xs fits) in
     let l : length (take 2 (drop 2 xs)) ≡ 2 = length-take-le 2 (drop 2 xs) (omega (arith, length-drop 2 xs)) in
-    let b : to_be_bytes w16 (second xs) ≡ take 2 (drop 2 xs) = wide16.back (take 2 (drop 2 xs)) l (octets_before 2 (drop 2 xs) (octets_behind 2 xs fits)) in
+    let b : to_be_bytes w16 (second xs) ≡ take 2 (drop 2 xs) =
+    wide16.back (take 2 (drop 2 xs)) l (octets_before 2 (drop 2 xs) (octets_behind 2 xs fits)) in
     sym (take-append-drop 2 xs)
     ∙ ap (λ (ys : List ℕ). take 2 xs ++ ys) (sym (take-append-drop 2 (drop 2 xs)) ∙ ap (λ (ys : List ℕ). take 2 (drop 2 xs) ++ ys) (drop-drop 2 2 xs))
     ∙ ap (λ (ys : List ℕ). ys ++ (take 2 (drop 2 xs) ++ drop 4 xs)) (sym a)
@@ -45,4 +46,6 @@ pub first_more : (xs ys : List ℕ) → 4 ≤ length xs → first (xs ++ ys) ≡
 first_more xs ys le = ap (from_be_bytes w16) (take-append-le 2 xs ys (omega arith))
 
 pub second_more : (xs ys : List ℕ) → 4 ≤ length xs → second (xs ++ ys) ≡ second xs
-second_more xs ys le = ap (λ (zs : List ℕ). from_be_bytes w16 (take 2 zs)) (drop-append-le 2 xs ys (omega arith)) ∙ ap (from_be_bytes w16) (take-append-le 2 (drop 2 xs) ys (omega (arith, length-drop 2 xs)))
+second_more xs ys le =
+    ap (λ (zs : List ℕ). from_be_bytes w16 (take 2 zs)) (drop-append-le 2 xs ys (omega arith))
+    ∙ ap (from_be_bytes w16) (take-append-le 2 (drop 2 xs) ys (omega (arith, length-drop 2 xs)))

@@ -70,7 +70,8 @@ same_equal a b h =
 pub ties_same : (a b : Direction) → eq_by_cmp direction_cmp a b ≡ same_direction a b
 ties_same a b = elim (cases_Bool (same_direction a b)) [
   | inl t ↦ ties direction_cmp direction_cmp_total a b (same_equal a b t) ∙ sym t
-  | inr f ↦ apart direction_cmp direction_cmp_exact a b (λ e. true≢false (sym (subst (λ (x : Direction). same_direction a x ≡ true) e (same_itself a)) ∙ f)) ∙ sym f
+  | inr f ↦ apart direction_cmp direction_cmp_exact a b
+      (λ e. true≢false (sym (subst (λ (x : Direction). same_direction a x ≡ true) e (same_itself a)) ∙ f)) ∙ sym f
 ]
 
 pub same_turned : (a b : Direction) → same_direction a b ≡ same_direction b a
@@ -87,7 +88,8 @@ same_turned a b = elim (cases_Bool (same_direction a b)) [
 pub same_of_keys : (a b : Direction) → is_key (key_of a) (key_of b) ≡ same_direction a b
 same_of_keys a b = by a.kind b.kind
   where
-    by : (k l : Kind) → is_key (key_of (direction k a.from a.to)) (key_of (direction l b.from b.to)) ≡ same_direction (direction k a.from a.to) (direction l b.from b.to)
+    by : (k l : Kind) → is_key (key_of (direction k a.from a.to)) (key_of (direction l b.from b.to))
+        ≡ same_direction (direction k a.from a.to) (direction l b.from b.to)
     by kinds.Bgp kinds.Bgp = refl
     by kinds.Ldp kinds.Ldp = refl
     by kinds.Bgp kinds.Ldp = refl
@@ -102,12 +104,14 @@ key_back k = by k.is_ldp
 
 pub key_equal : (k l : Key) → is_key k l ≡ true → k ≡ l
 key_equal k l h =
-    let same : same_direction (direction_of k) (direction_of l) ≡ true = sym (same_of_keys (direction_of k) (direction_of l)) ∙ (λ i. is_key (key_back k i) (key_back l i)) ∙ h in
+    let same : same_direction (direction_of k) (direction_of l) ≡ true =
+    sym (same_of_keys (direction_of k) (direction_of l)) ∙ (λ i. is_key (key_back k i) (key_back l i)) ∙ h in
     sym (key_back k) ∙ ap key_of (same_equal (direction_of k) (direction_of l) same) ∙ key_back l
 
 pub key_turned : (k l : Key) → is_key k l ≡ is_key l k
 key_turned k l =
-    (λ i. is_key (sym (key_back k) i) (sym (key_back l) i)) ∙ same_of_keys (direction_of k) (direction_of l) ∙ same_turned (direction_of k) (direction_of l)
+    (λ i. is_key (sym (key_back k) i) (sym (key_back l) i)) ∙ same_of_keys (direction_of k) (direction_of l)
+    ∙ same_turned (direction_of k) (direction_of l)
     ∙ sym (same_of_keys (direction_of l) (direction_of k)) ∙ (λ i. is_key (key_back l i) (key_back k i))
 
 -- how the order tells a direction from that of a key

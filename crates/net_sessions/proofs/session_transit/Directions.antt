@@ -26,7 +26,8 @@ pub found : (es : List (Key × List ℕ)) (d : Direction) → find direction_cmp
 found [] d = refl
 found (e ∷ es) d = λ i. cond (tied d e.0 i) (Some e.1) (found es d i)
 
-among : (es : List (Key × List ℕ)) (d : Direction) → list_any (eq_by_cmp direction_cmp d) (map (λ e. direction_of e.0) es) ≡ is_some (lookup (is_key (key_of d)) es)
+among : (es : List (Key × List ℕ)) (d : Direction)
+    → list_any (eq_by_cmp direction_cmp d) (map (λ e. direction_of e.0) es) ≡ is_some (lookup (is_key (key_of d)) es)
 among [] d = refl
 among (e ∷ es) d = (λ i. tied d e.0 i || among es d i) ∙ here (is_key (key_of d) e.0) e.1 (lookup (is_key (key_of d)) es)
   where
@@ -103,7 +104,8 @@ module _ (old new : KeyMap) (at : Direction) where
 
   stays_joined : (change : List ℕ → List ℕ) → Changes change → (d : Direction) → is_joined_at (transit_of new) d ≡ is_joined_at (transit_of old) d
   stays_joined change each d =
-      joined_seen new d ∙ ap is_some (each (key_of d)) ∙ changed_joined (is_key (key_of at) (key_of d)) change (get is_key old (key_of d)) ∙ sym (joined_seen old d)
+      joined_seen new d ∙ ap is_some (each (key_of d)) ∙ changed_joined (is_key (key_of at) (key_of d)) change (get is_key old (key_of d))
+      ∙ sym (joined_seen old d)
 
   pub puts : (more : List ℕ) → Changes (λ d. d ++ more) → Puts at more (transit_of old) (transit_of new)
   puts more each = record {
@@ -112,7 +114,8 @@ module _ (old new : KeyMap) (at : Direction) where
         ∙ (λ i. cond (sym (joined_seen old d) i) (sym (octets_seen old d) i ++ cond (same_of_keys at d i) more []) (sym (octets_seen old d) i));
   }
     where
-      longer : (b : Bool) (o : Option (List ℕ)) → octets_in (cond b (option_map (λ d. d ++ more) o) o) ≡ cond (is_some o) (octets_in o ++ cond b more []) (octets_in o)
+      longer : (b : Bool) (o : Option (List ℕ)) → octets_in (cond b (option_map (λ d. d ++ more) o) o)
+          ≡ cond (is_some o) (octets_in o ++ cond b more []) (octets_in o)
       longer true None = refl
       longer true (Some x) = refl
       longer false None = refl
@@ -125,7 +128,8 @@ module _ (old new : KeyMap) (at : Direction) where
         let kept = get is_key old (key_of d) in
         octets_seen new d ∙ ap octets_in (each (key_of d))
         ∙ ap (λ (b : Bool). octets_in (cond b (option_map (λ x. drop count x) kept) kept)) (same_of_keys at d ∙ same_turned at d)
-        ∙ shorter (same_direction d at) kept (octets_at (transit_of old) at) (λ t. sym (octets_seen old d) ∙ ap (octets_at (transit_of old)) (same_equal d at t))
+        ∙ shorter (same_direction d at) kept (octets_at (transit_of old) at)
+        (λ t. sym (octets_seen old d) ∙ ap (octets_at (transit_of old)) (same_equal d at t))
         ∙ ap (λ (x : List ℕ). cond (same_direction d at) (drop count (octets_at (transit_of old) at)) x) (sym (octets_seen old d));
     none = λ apart. octets_seen old at ∙ nothing (get is_key old (key_of at)) (sym (joined_seen old at) ∙ apart);
   }
@@ -142,6 +146,7 @@ module _ (old new : KeyMap) (at : Direction) where
       cut None = sym (drop-nil count)
       cut (Some x) = refl
 
-      shorter : (b : Bool) (o : Option (List ℕ)) (here : List ℕ) → (b ≡ true → octets_in o ≡ here) → octets_in (cond b (option_map (λ x. drop count x) o) o) ≡ cond b (drop count here) (octets_in o)
+      shorter : (b : Bool) (o : Option (List ℕ)) (here : List ℕ) → (b ≡ true → octets_in o ≡ here)
+          → octets_in (cond b (option_map (λ x. drop count x) o) o) ≡ cond b (drop count here) (octets_in o)
       shorter true o here same = cut o ∙ ap (drop count) (same refl)
       shorter false o here same = refl

@@ -24,7 +24,8 @@ module _ {X : Type 0} (goes : Key → Bool) (k : Key) where
       none false = refl
   lookup_without (e ∷ es) =
       split (goes e.0)
-      ∙ step (goes e.0) (is_key k e.0) (goes k) e.1 (lookup (is_key k) es) (lookup (is_key k) (without goes es)) (λ h. ap goes (key_equal k e.0 h)) (lookup_without es)
+      ∙ step (goes e.0) (is_key k e.0) (goes k) e.1 (lookup (is_key k) es) (lookup (is_key k) (without goes es)) (λ h. ap goes (key_equal k e.0 h))
+      (lookup_without es)
     where
       split : (hit : Bool) → lookup (is_key k) (cond (not hit) (e ∷ without goes es) (without goes es))
           ≡ cond hit (lookup (is_key k) (without goes es)) (lookup (is_key k) (e ∷ without goes es))

@@ -33,10 +33,12 @@ size-cons e es = sum_by-cons (λ e. length e.1) e es
 not_some : (x : List ℕ) → Some x ≡ None → ⊥
 not_some x e = true≢false (ap is_some e)
 
-size-put : (k : Direction) (v : List ℕ) (es : List (Direction × List ℕ)) → find direction_cmp k es ≡ None → size (put direction_cmp k v es) ≡ length v + size es
+size-put : (k : Direction) (v : List ℕ) (es : List (Direction × List ℕ)) → find direction_cmp k es ≡ None
+    → size (put direction_cmp k v es) ≡ length v + size es
 size-put k v [] none = size-cons (k, v) []
 size-put k v (e ∷ es) none =
-    elim (direction_cmp k e.0) as (λ r. direction_cmp k e.0 ≡ r → cond (is_eq r) (Some e.1) (find direction_cmp k es) ≡ None → size (maps.Entries.by_order r ((k, v) ∷ e ∷ es) ((e.0, v) ∷ es) (e ∷ put direction_cmp k v es)) ≡ length v + size (e ∷ es)) [
+    elim (direction_cmp k e.0) as (λ r. direction_cmp k e.0 ≡ r → cond (is_eq r) (Some e.1) (find direction_cmp k es) ≡ None
+    → size (maps.Entries.by_order r ((k, v) ∷ e ∷ es) ((e.0, v) ∷ es) (e ∷ put direction_cmp k v es)) ≡ length v + size (e ∷ es)) [
       | Less ↦ λ r n. size-cons (k, v) (e ∷ es)
       | Equal ↦ λ r n. absurd (not_some e.1 n)
       | Greater ↦ λ r n. omega (arith, size-cons e (put direction_cmp k v es), size-put k v es n, size-cons e es)
@@ -50,10 +52,12 @@ at_itself : (k : Direction) → eq_by_cmp direction_cmp k k ≡ true
 at_itself k = ties_same k k ∙ same_itself k
 
 -- what stands at the direction, and all the rest
-parts : (m : Octets) (k : Direction) (here : Option (List ℕ)) → get m k ≡ here → size (entries m) ≡ length (octets_in here) + size (entries (remove m k))
+parts : (m : Octets) (k : Direction) (here : Option (List ℕ)) → get m k ≡ here
+    → size (entries m) ≡ length (octets_in here) + size (entries (remove m k))
 parts m k here e = by here e
   where
-    is_there : (q : Direction) (b : Bool) (o other : Option (List ℕ)) → get m k ≡ o → (b ≡ false → other ≡ get m q) → eq_by_cmp direction_cmp q k ≡ b → cond b o other ≡ get m q
+    is_there : (q : Direction) (b : Bool) (o other : Option (List ℕ)) → get m k ≡ o → (b ≡ false → other ≡ get m q) → eq_by_cmp direction_cmp q k ≡ b
+        → cond b o other ≡ get m q
     is_there q true o other e same tie = sym e ∙ ap (get m) (sym (same_equal q k (sym (ties_same q k) ∙ tie)))
     is_there q false o other e same tie = same refl
 
@@ -66,7 +70,8 @@ parts m k here e = by here e
     by (Some x) e =
         ap (λ (x : Octets). size (entries x)) (sym (same_map direction_cmp_total direction_cmp_exact (insert (remove m k) k x) m (λ q.
         get-insert direction_cmp_total (remove m k) k x q
-        ∙ is_there q (eq_by_cmp direction_cmp q k) (Some x) (get (remove m k) q) e (λ apart. get-remove direction_cmp_total m k q ∙ (λ i. cond (apart i) None (get m q))) refl)))
+        ∙ is_there q (eq_by_cmp direction_cmp q k) (Some x) (get (remove m k) q) e
+        (λ apart. get-remove direction_cmp_total m k q ∙ (λ i. cond (apart i) None (get m q))) refl)))
         ∙ total-new (remove m k) k x (get-remove direction_cmp_total m k k ∙ (λ i. cond (at_itself k i) None (get m k)))
 
 changed : (m n : Octets) (k : Direction) (now : Option (List ℕ)) → ((q : Direction) → get n q ≡ cond (eq_by_cmp direction_cmp q k) now (get m q))
@@ -87,7 +92,8 @@ changed m n k now each =
 octets_there : (m : KeyMap) (k : Key) → get (transit_of m).octets (direction_of k) ≡ kept.get is_key m k
 octets_there m k = octets_kept m (direction_of k) ∙ ap (kept.get is_key m) (key_back k)
 
-pub held_changes : (old new : KeyMap) (k : Key) (now : Option (List ℕ)) → ((q : Key) → kept.get is_key new q ≡ cond (is_key k q) now (kept.get is_key old q))
+pub held_changes : (old new : KeyMap) (k : Key) (now : Option (List ℕ))
+    → ((q : Key) → kept.get is_key new q ≡ cond (is_key k q) now (kept.get is_key old q))
     → held new + length (kept_at old k) ≡ held old + length (octets_in now)
 held_changes old new k now each =
     ap (λ (o : Option (List ℕ)). held new + length (octets_in o)) (sym (octets_there old k))
@@ -97,17 +103,20 @@ held_changes old new k now each =
 -- what one key has changes
 module _ (old new : KeyMap) (k : Key) (change : List ℕ → List ℕ)
     (each : (q : Key) → kept.get is_key new q ≡ cond (is_key k q) (option_map change (kept.get is_key old q)) (kept.get is_key old q)) where
-  held_changed : (here : Option (List ℕ)) → kept.get is_key old k ≡ here → held new + length (octets_in here) ≡ held old + length (octets_in (option_map change here))
+  held_changed : (here : Option (List ℕ)) → kept.get is_key old k ≡ here
+      → held new + length (octets_in here) ≡ held old + length (octets_in (option_map change here))
   held_changed here e =
       ap (λ (o : Option (List ℕ)). held new + length (octets_in o)) (sym e)
       ∙ held_changes old new k (option_map change here) (λ q. each q ∙ at (is_key k q) q refl)
     where
-      at : (b : Bool) (q : Key) → is_key k q ≡ b → cond b (option_map change (kept.get is_key old q)) (kept.get is_key old q) ≡ cond b (option_map change here) (kept.get is_key old q)
+      at : (b : Bool) (q : Key) → is_key k q ≡ b → cond b (option_map change (kept.get is_key old q)) (kept.get is_key old q)
+          ≡ cond b (option_map change here) (kept.get is_key old q)
       at true q tie = ap (option_map change) (ap (kept.get is_key old) (sym (key_equal k q tie)) ∙ e)
       at false q tie = refl
 
 module _ (old new : KeyMap) (k : Key) where
-  pub held_more : (more : List ℕ) → ((q : Key) → kept.get is_key new q ≡ cond (is_key k q) (option_map (λ d. d ++ more) (kept.get is_key old q)) (kept.get is_key old q))
+  pub held_more : (more : List ℕ) → ((q : Key) → kept.get is_key new q
+      ≡ cond (is_key k q) (option_map (λ d. d ++ more) (kept.get is_key old q)) (kept.get is_key old q))
       → is_some (kept.get is_key old k) ≡ true → held old + length more ≡ held new
   held_more more each is = by (kept.get is_key old k) refl is
     where
@@ -115,7 +124,8 @@ module _ (old new : KeyMap) (k : Key) where
       by None e is = absurd (true≢false (sym is))
       by (Some x) e is = omega (arith, held_changed old new k (λ d. d ++ more) each (Some x) e, length-append x more)
 
-  pub held_less : (count : ℕ) → ((q : Key) → kept.get is_key new q ≡ cond (is_key k q) (option_map (λ d. drop count d) (kept.get is_key old q)) (kept.get is_key old q))
+  pub held_less : (count : ℕ) → ((q : Key) → kept.get is_key new q
+      ≡ cond (is_key k q) (option_map (λ d. drop count d) (kept.get is_key old q)) (kept.get is_key old q))
       → held new + length (take count (kept_at old k)) ≡ held old
   held_less count each = by (kept.get is_key old k) refl
     where
@@ -147,7 +157,9 @@ no_length [] h = refl
 no_length (e ∷ es) h = absurd (omega (arith, h))
 
 none_held : size (entries (from_entries {X = List ℕ} {R = direction_cmp} [])) ≡ 0
-none_held = ap size (no_length (entries (from_entries {X = List ℕ} {R = direction_cmp} [])) (sym (len-entries (from_entries {X = List ℕ} {R = direction_cmp} [])) ∙ len-empty direction_cmp (List ℕ)))
+none_held =
+    ap size (no_length (entries (from_entries {X = List ℕ} {R = direction_cmp} []))
+    (sym (len-entries (from_entries {X = List ℕ} {R = direction_cmp} [])) ∙ len-empty direction_cmp (List ℕ)))
 
 pub nothing_held : (m : KeyMap) → m.entries ≡ [] → 0 ≡ held m
 nothing_held m e = sym (ap (λ (es : List (Key × List ℕ)). size (entries (from_entries {R = direction_cmp} (entries_of es)))) e ∙ none_held)
@@ -173,7 +185,8 @@ abbrev pub most : ℕ
 most = 18446744073709551615
 
 -- what is left where all entries that pass a test go, counted anew
-pub counted_anew : (goes : Key → Bool) (old new : KeyMap) (total : ℕ) → IsDistinct is_key (keys_of old.entries) → IsDistinct is_key (keys_of new.entries)
+pub counted_anew : (goes : Key → Bool) (old new : KeyMap) (total : ℕ) → IsDistinct is_key (keys_of old.entries)
+    → IsDistinct is_key (keys_of new.entries)
     → new.entries ≡ without goes old.entries → held old ≤ most → total ≡ min (all_of new.entries) most → total ≡ held new
 counted_anew goes old new total distinct_old distinct_new left few is =
     omega (arith, is, few, all_held old.entries distinct_old, all_held new.entries distinct_new, ap all_of left, fewer goes old.entries)
@@ -181,7 +194,8 @@ counted_anew goes old new total distinct_old distinct_new left few is =
 min_more : (a b : ℕ) → min (min a most + b) most ≡ min (a + b) most
 min_more a b = omega arith
 
-pub count_more : {X : Type 0} (f : X → ℕ) (xs : List X) (i : ℕ) (d : X) (count size : ℕ) → i < length xs → count ≡ min (sum_by f (take i xs)) most → size ≡ f (get_or xs i d)
+pub count_more : {X : Type 0} (f : X → ℕ) (xs : List X) (i : ℕ) (d : X) (count size : ℕ) → i < length xs → count ≡ min (sum_by f (take i xs)) most
+    → size ≡ f (get_or xs i d)
     → min (count + size) most ≡ min (sum_by f (take (i + 1) xs)) most
 count_more f xs i d count size lt h k =
     (λ j. min (h j + k j) most) ∙ min_more (sum_by f (take i xs)) (f (get_or xs i d)) ∙ ap (λ (n : ℕ). min n most) (sym (sum_by_more f xs i d lt))

@@ -22,7 +22,8 @@ ids_more number (suc count) =
     ∙ ap (λ k. node_of number ∷ node_ids (number + 1) count ++ node_of k ∷ []) last
 
 -- What is made of the first nodes, and of one node more.
-pub made_of_more : {A : Type 0} (made : NodeId → A) (count : ℕ) → map made (node_ids 0 (count + 1)) ≡ map made (node_ids 0 count) ++ made (record { 0 = count }) ∷ []
+pub made_of_more : {A : Type 0} (made : NodeId → A) (count : ℕ)
+    → map made (node_ids 0 (count + 1)) ≡ map made (node_ids 0 count) ++ made (record { 0 = count }) ∷ []
 made_of_more made count =
     let last : 0 + count ≡ count = omega arith in
     ap (map made) (ids_more 0 count)
@@ -30,7 +31,8 @@ made_of_more made count =
     ∙ ap (λ k. map made (node_ids 0 count) ++ made (node_of k) ∷ []) last
 
 -- What is made of those directions that lead away from a node is what is made of all, where nothing is made of the others.
-pub made_by_ways : {A : Type 0} (made : Direction → List A) (n : NodeId) (all : List Direction) → ((over : Direction) → ¬ (over.from ≡ n) → made over ≡ []) →
+pub made_by_ways : {A : Type 0} (made : Direction → List A) (n : NodeId) (all : List Direction)
+    → ((over : Direction) → ¬ (over.from ≡ n) → made over ≡ []) →
     flat_map made (ways_from n all) ≡ flat_map made all
 made_by_ways made n [] nothing = refl
 made_by_ways made n (over ∷ more) nothing = by (is_from n over) refl (made_by_ways made n more nothing)
@@ -39,5 +41,6 @@ made_by_ways made n (over ∷ more) nothing = by (is_from n over) refl (made_by_
         → flat_map made (cond here (over ∷ ways_from n more) (ways_from n more)) ≡ made over ++ flat_map made more
     by true is rest = ap (λ lines. made over ++ lines) rest
     by false is rest =
-        let other : ¬ (over.from ≡ n) = λ same. let equal : eqb over.from.0 n.0 ≡ true = eq-eqb over.from.0 n.0 (ap (λ (m : NodeId). m.0) same) in absurd cc in
+        let other : ¬ (over.from ≡ n) = λ same. let equal : eqb over.from.0 n.0 ≡ true = eq-eqb over.from.0 n.0 (ap (λ (m : NodeId). m.0) same) in
+        absurd cc in
         rest ∙ ap (λ first. first ++ flat_map made more) (sym (nothing over other))

@@ -1,5 +1,6 @@
 //! The octets in transit over the sessions that are joined, by direction.
-ghost use Rattle.std.specs.Prelude.{◌≡◌, ◌+◌, ◌<◌, ◌≤◌, ◌||◌, ◌++◌, [], None, Some, take, drop, length, not, min, sum_by, option_map, if◌then◌else◌, IfOk, OnOk, OnErr};
+ghost use Rattle.std.specs.Prelude.{◌≡◌, ◌+◌, ◌<◌, ◌≤◌, ◌||◌, ◌++◌, [], None, Some, take};
+ghost use Rattle.std.specs.Prelude.{drop, length, not, min, sum_by, option_map, if◌then◌else◌, IfOk, OnOk, OnErr};
 ghost use Rattle.indexmap.specs.IndexMap.{get, spare, IsUnique};
 ghost use Rattle.net_sessions.specs.declared.session_transit.sessions.Key.{Key};
 ghost use Rattle.net_sessions.specs.session_transit.TransitData.{direction};

@@ -39,7 +39,8 @@ with_sessions network joined moving stream = record network { joined = joined; t
 
 -- ---- the node before the call
 
-before_begun : (n : NodeId) (network : OctetNetwork Nodes) (joined : Direction → Bool) (moving : Direction → List ℕ) (stream : Direction → Stream) (call : Call) (state : AnyNode)
+before_begun : (n : NodeId) (network : OctetNetwork Nodes) (joined : Direction → Bool) (moving : Direction → List ℕ) (stream : Direction → Stream)
+    (call : Call) (state : AnyNode)
     → ((kind : Kind) (peer : NodeId) → begins call kind peer ≡ false → stream (direction kind peer n) ≡ network.stream (direction kind peer n))
     → ((kind : Kind) (peer : NodeId) → begins call kind peer ≡ true → stream (direction kind peer n) ≡ unfed)
     → IsNodeAt n network [] state → IsNodeBefore n (with_sessions network joined moving stream) call state
@@ -62,7 +63,8 @@ before_begun n network joined moving stream call (any.CoreNode state) same begun
 
 -- Node n makes the call behind an act on sessions, from the network of which the plane is: what is joined then, what is in transit and
 -- which streams there are, so that the row of acts is that of the call from there, and the network is steady behind it at the moment.
-pub record Begins (at : Standing) (plane : PlaneView) (n : NodeId) (call : Call) (acts : List (OctetAct NodeCall)) (moment : Moment) (transit : TransitData) : Type 0 where
+pub record Begins (at : Standing) (plane : PlaneView) (n : NodeId) (call : Call) (acts : List (OctetAct NodeCall)) (moment : Moment)
+    (transit : TransitData) : Type 0 where
   pub within : n.0 < length at.scenario.nodes
   pub current : at.moment.late n ≡ false
   pub late : (m : NodeId) → moment.late m ≡ at.moment.late m
@@ -72,15 +74,20 @@ pub record Begins (at : Standing) (plane : PlaneView) (n : NodeId) (call : Call)
   pub joined_is : (over : Direction) → joined over ≡ is_joined_at transit over
   pub octets_are : (over : Direction) → moving over ≡ octets_at transit over
   pub others : (over : Direction) → (over.to ≡ n → ⊥) → stream over ≡ at.network.stream over
-  pub streams : (kind : Kind) (peer : NodeId) → begins call kind peer ≡ false → stream (direction kind peer n) ≡ at.network.stream (direction kind peer n)
+  pub streams : (kind : Kind) (peer : NodeId) → begins call kind peer ≡ false
+      → stream (direction kind peer n) ≡ at.network.stream (direction kind peer n)
   pub begun : (kind : Kind) (peer : NodeId) → begins call kind peer ≡ true → stream (direction kind peer n) ≡ unfed
-  pub runs : (new : Behind (OctetNetwork Nodes)) → octet_act system (with_sessions at.network joined moving stream) (octets.Call (Own n call)) ≡ Some new
+  pub runs : (new : Behind (OctetNetwork Nodes))
+      → octet_act system (with_sessions at.network joined moving stream) (octets.Call (Own n call)) ≡ Some new
       → octet_run system at.network acts ≡ Some (record { network = new.network; puts = new.puts ++ [] })
-  pub lacks : octet_act system (with_sessions at.network joined moving stream) (octets.Call (Own n call)) ≡ None → octet_run system at.network acts ≡ None
-  pub steady : (new : Behind (OctetNetwork Nodes)) → octet_act system (with_sessions at.network joined moving stream) (octets.Call (Own n call)) ≡ Some new
+  pub lacks : octet_act system (with_sessions at.network joined moving stream) (octets.Call (Own n call)) ≡ None
+      → octet_run system at.network acts ≡ None
+  pub steady : (new : Behind (OctetNetwork Nodes))
+      → octet_act system (with_sessions at.network joined moving stream) (octets.Call (Own n call)) ≡ Some new
       → IsElsewhere n (with_sessions at.network joined moving stream) moving new → IsSteady moment new.network
 
-module _ (at : Standing) (plane : PlaneView) (is : IsIn at plane) (n : NodeId) (call : Call) (acts : List (OctetAct NodeCall)) (moment : Moment) (transit : TransitData)
+module _ (at : Standing) (plane : PlaneView) (is : IsIn at plane) (n : NodeId) (call : Call) (acts : List (OctetAct NodeCall)) (moment : Moment)
+    (transit : TransitData)
     (begin : Begins at plane n call acts moment transit) where
   abbrev network : OctetNetwork Nodes
   network = at.network
@@ -110,39 +117,50 @@ module _ (at : Standing) (plane : PlaneView) (is : IsIn at plane) (n : NodeId) (
     joined = begin.joined_is;
     octets = begin.octets_are;
     others = λ m apart below.
-        has_kept m network base plane.nodes plane.nodes refl refl refl (λ over to. begin.others over (λ e. apart (sym to ∙ e))) refl (is.nodes m below);
+        has_kept m network base plane.nodes plane.nodes refl refl refl (λ over to. begin.others over (λ e. apart (sym to ∙ e))) refl
+        (is.nodes m below);
   }
 
-  module _ (node : NetworkNode) (answer : Result (Unit {0}) EdgeFault) (answers : Answers plane.core plane.clock (after call) has.node node answer) where
-    -- where the node answers Ok, the acts are made
-    begin_made : answer ≡ Ok tt → (new : Behind (OctetNetwork Nodes)) × (found ≡ Some new) × IsMidway at.scenario at.cores moment n new.puts new.network (worked n plane node transit)
-    begin_made e =
-        turn_made at.scenario at.cores at.moment moment n network base begin.moving plane transit found (any.node_after network.state n has.is.state call) (call_made n base has.is.state call before) node
-        is.around begin.within is_base (call_lacks n base has.is.state call before) begin.steady
-        (subst (λ (r : Result (Unit {0}) EdgeFault). OnOk r (Makes plane.core plane.clock (after call) has.node node)) e answers.made network.state n stands has.is.state has.is.is)
-        (subst (λ (r : Result (Unit {0}) EdgeFault). OnOk r (spent_in node ≡ None)) e answers.goes_on)
-        (subst (λ (s : Scenario). IsPlacedAt s n node) is.around.scenario_is (answers.placed network.state.scenario n has.placed))
-        (answers.toward (subst (λ (r : Result (Unit {0}) EdgeFault). OnOk r (spent_in node ≡ None)) e answers.goes_on) (core_at network.state n) stands.known has.is.toward)
+  module _ (node : NetworkNode) (answer : Result (Unit {0}) EdgeFault) (answers : Answers plane.core plane.clock (after call) has.node node answer)
+    where
+      -- where the node answers Ok, the acts are made
+      begin_made : answer ≡ Ok tt → (new : Behind (OctetNetwork Nodes)) × (found ≡ Some new)
+          × IsMidway at.scenario at.cores moment n new.puts new.network (worked n plane node transit)
+      begin_made e =
+          turn_made at.scenario at.cores at.moment moment n network base begin.moving plane transit found
+          (any.node_after network.state n has.is.state call) (call_made n base has.is.state call before) node
+          is.around begin.within is_base (call_lacks n base has.is.state call before) begin.steady
+          (subst (λ (r : Result (Unit {0}) EdgeFault). OnOk r (Makes plane.core plane.clock (after call) has.node node)) e answers.made network.state n
+          stands has.is.state has.is.is)
+          (subst (λ (r : Result (Unit {0}) EdgeFault). OnOk r (spent_in node ≡ None)) e answers.goes_on)
+          (subst (λ (s : Scenario). IsPlacedAt s n node) is.around.scenario_is (answers.placed network.state.scenario n has.placed))
+          (answers.toward (subst (λ (r : Result (Unit {0}) EdgeFault). OnOk r (spent_in node ≡ None)) e answers.goes_on) (core_at network.state n)
+          stands.known has.is.toward)
 
-    -- where it lacks a label, so does the network
-    begin_lacks : answer ≡ Err faults.NoLabel → octet_run system network acts ≡ None
-    begin_lacks e =
-        begin.lacks (turn_lacks at.scenario at.cores at.moment moment n network base begin.moving plane transit found (any.node_after network.state n has.is.state call) (call_made n base has.is.state call before)
-        (answers.lacks e has.unspent network.state n stands has.is.state has.is.is))
+      -- where it lacks a label, so does the network
+      begin_lacks : answer ≡ Err faults.NoLabel → octet_run system network acts ≡ None
+      begin_lacks e =
+          begin.lacks (turn_lacks at.scenario at.cores at.moment moment n network base begin.moving plane transit found
+          (any.node_after network.state n has.is.state call) (call_made n base has.is.state call before)
+          (answers.lacks e has.unspent network.state n stands has.is.state has.is.is))
 
 -- ---- what the plane leaves and writes
 
-module _ (Fits : Standing → Type 0) (change : Moment → Moment) (plane : PlaneView) (n : NodeId) (call : Call) (acts : List (OctetAct NodeCall)) (transit : TransitData)
-    (begin : (at : Standing) → Fits at → IsIn at plane → Begins at plane n call acts (change at.moment) transit) (old node : NetworkNode) (place : slice_get plane.nodes n.0 ≡ Some old)
+module _ (Fits : Standing → Type 0) (change : Moment → Moment) (plane : PlaneView) (n : NodeId) (call : Call) (acts : List (OctetAct NodeCall))
+    (transit : TransitData)
+    (begin : (at : Standing) → Fits at → IsIn at plane → Begins at plane n call acts (change at.moment) transit) (old node : NetworkNode)
+    (place : slice_get plane.nodes n.0 ≡ Some old)
     (answer : Result (Unit {0}) EdgeFault) (answers : Answers plane.core plane.clock (after call) old node answer) where
   abbrev middle : PlaneView
   middle = worked n plane node transit
 
   answers_in : (at : Standing) → (own : HasNode at.network plane.nodes n []) → Answers plane.core plane.clock (after call) own.node node answer
-  answers_in at own = subst (λ (o : NetworkNode). Answers plane.core plane.clock (after call) o node answer) (same_Some old own.node (sym place ∙ own.at)) answers
+  answers_in at own =
+      subst (λ (o : NetworkNode). Answers plane.core plane.clock (after call) o node answer) (same_Some old own.node (sym place ∙ own.at)) answers
 
   made_in : (at : Standing) → Fits at → IsIn at plane → answer ≡ Ok tt → (new : Behind (OctetNetwork Nodes))
-      × (octet_run system at.network acts ≡ Some (record { network = new.network; puts = new.puts ++ [] })) × IsMidway at.scenario at.cores (change at.moment) n new.puts new.network middle
+      × (octet_run system at.network acts ≡ Some (record { network = new.network; puts = new.puts ++ [] }))
+      × IsMidway at.scenario at.cores (change at.moment) n new.puts new.network middle
   made_in at fits is e =
       let start = begin at fits is in
       let made = begin_made at plane is n call acts (change at.moment) transit start node answer (answers_in at (is.nodes n start.within)) e in
@@ -151,17 +169,21 @@ module _ (Fits : Standing → Type 0) (change : Moment → Moment) (plane : Plan
   begin_some : IsSome Fits plane → OnOk answer (IsSomeMidway n middle)
   begin_some = turn_some Fits change acts no_lines n plane middle answer made_in
 
-  begin_acts : (new : PlaneView) (lines new_lines : List ReportLine) (result : Result (Unit {0}) NodeFault) → Settles n answer middle new lines new_lines result
+  begin_acts : (new : PlaneView) (lines new_lines : List ReportLine) (result : Result (Unit {0}) NodeFault)
+      → Settles n answer middle new lines new_lines result
       → Acts Fits change acts no_lines plane new lines new_lines result
   begin_acts new lines new_lines result settles =
       turn_acts Fits change acts no_lines n plane middle answer made_in
-      (λ at fits is e. (let start = begin at fits is in begin_lacks at plane is n call acts (change at.moment) transit start node answer (answers_in at (is.nodes n start.within)) e))
+      (λ at fits is e. (let start = begin at fits is in
+      begin_lacks at plane is n call acts (change at.moment) transit start node answer (answers_in at (is.nodes n start.within)) e))
       new lines new_lines result (λ at. refl) settles
 
 -- the same of the node at a place of the plane, as the call has it
-module _ (Fits : Standing → Type 0) (change : Moment → Moment) (plane seen : PlaneView) (view : plane ≡ seen) (some : IsSome Fits seen) (n : NodeId) (call : Call) (acts : List (OctetAct NodeCall))
+module _ (Fits : Standing → Type 0) (change : Moment → Moment) (plane seen : PlaneView) (view : plane ≡ seen) (some : IsSome Fits seen) (n : NodeId)
+    (call : Call) (acts : List (OctetAct NodeCall))
     (transit : TransitData) (begin : (at : Standing) → Fits at → IsIn at plane → Begins at plane n call acts (change at.moment) transit)
-    (below : (at : Standing) → Fits at → n.0 < length at.scenario.nodes) (place : ℕ) (own : place ≡ n.0) (old d node : NetworkNode) (is : old ≡ get_or plane.nodes place d)
+    (below : (at : Standing) → Fits at → n.0 < length at.scenario.nodes) (place : ℕ) (own : place ≡ n.0) (old d node : NetworkNode)
+    (is : old ≡ get_or plane.nodes place d)
     (answer : Result (Unit {0}) EdgeFault) (answers : Answers plane.core plane.clock (after call) old node answer) where
   here : IsSome Fits plane
   here = subst (IsSome Fits) (sym view) some
@@ -173,9 +195,12 @@ module _ (Fits : Standing → Type 0) (change : Moment → Moment) (plane seen :
   turned at = record plane { nodes = slice_set plane.nodes at node; transit = transit }
 
   pub turn_midway : OnOk answer (IsSomeMidway n (turned place))
-  turn_midway = subst (λ (k : ℕ). OnOk answer (IsSomeMidway n (turned k))) (sym own) (begin_some Fits change plane n call acts transit begin old node stands_there answer answers here)
+  turn_midway =
+      subst (λ (k : ℕ). OnOk answer (IsSomeMidway n (turned k))) (sym own)
+      (begin_some Fits change plane n call acts transit begin old node stands_there answer answers here)
 
-  pub turn_done : (new : PlaneView) (lines new_lines : List ReportLine) (result : Result (Unit {0}) NodeFault) → Settles n answer (turned place) new lines new_lines result
+  pub turn_done : (new : PlaneView) (lines new_lines : List ReportLine) (result : Result (Unit {0}) NodeFault)
+      → Settles n answer (turned place) new lines new_lines result
       → Acts Fits change acts no_lines seen new lines new_lines result
   turn_done new lines new_lines result settles =
       subst (λ (p : PlaneView). Acts Fits change acts no_lines p new lines new_lines result) view

@@ -50,7 +50,8 @@ use Rattle.network_acts.proofs.control_plane.OwnLemmas.{own_acts}
 -- ---- the VRFs of an edge
 
 -- a VRF of the edge is among its VRFs, by its number
-any_own : (me : NodeId) (number : ℕ) (vrfs : List Vrf) (place id : ℕ) (vrf : Vrf) (test : OwnVrf → Bool) → slice_get vrfs place ≡ Some vrf → vrf.edge.0 ≡ me.0 → id ≡ number + place
+any_own : (me : NodeId) (number : ℕ) (vrfs : List Vrf) (place id : ℕ) (vrf : Vrf) (test : OwnVrf → Bool) → slice_get vrfs place ≡ Some vrf
+    → vrf.edge.0 ≡ me.0 → id ≡ number + place
     → test (record { id = record { 0 = id }; vrf = vrf }) ≡ true → list_any test (vrfs_from me number vrfs) ≡ true
 any_own me number [] place id vrf test at edge is passes = absurd (none-some vrf at)
 any_own me number (first ∷ more) zero id vrf test at edge is passes =
@@ -60,12 +61,14 @@ any_own me number (first ∷ more) zero id vrf test at edge is passes =
     let mine : first.edge.0 ≡ me.0 = ap (λ (v : Vrf). v.edge.0) same ∙ edge in
     let numbered : number ≡ id = omega (arith, is) in
     let is_it : test own ≡ true = (λ i. test (record { id = record { 0 = numbered i }; vrf = same i })) ∙ passes in
-    ap (list_any test) (cond-true (first.edge.0 == me.0) (own ∷ rest) rest (eq-eqb first.edge.0 me.0 mine)) ∙ ap (λ (b : Bool). b || list_any test rest) is_it
+    ap (list_any test) (cond-true (first.edge.0 == me.0) (own ∷ rest) rest (eq-eqb first.edge.0 me.0 mine))
+    ∙ ap (λ (b : Bool). b || list_any test rest) is_it
 any_own me number (first ∷ more) (suc place) id vrf test at edge is passes =
     by (first.edge.0 == me.0) (any_own me (number + 1) more place id vrf test at edge (omega (arith, is)) passes)
   where
     by : (b : Bool) → list_any test (vrfs_from me (number + 1) more) ≡ true
-        → list_any test (cond b (record { id = record { 0 = number }; vrf = first } ∷ vrfs_from me (number + 1) more) (vrfs_from me (number + 1) more)) ≡ true
+        → list_any test (cond b (record { id = record { 0 = number }; vrf = first } ∷ vrfs_from me (number + 1) more)
+        (vrfs_from me (number + 1) more)) ≡ true
     by true later = or_right (test (record { id = record { 0 = number }; vrf = first })) (list_any test (vrfs_from me (number + 1) more)) later
     by false later = later
 
@@ -80,7 +83,8 @@ record IsVrfOf (scenario : Scenario) (n : NodeId) (vrf : ℕ) : Type 0 where
 vrf_of : (scenario : Scenario) (n : NodeId) (vrf : VrfId) → edge_of_vrf scenario vrf ≡ Some n → IsVrfOf scenario n vrf.0
 vrf_of scenario n vrf e = by (slice_get scenario.vrfs vrf.0) refl e
   where
-    by : (o : Option Vrf) → slice_get scenario.vrfs vrf.0 ≡ o → elim o [ None ↦ None | Some found ↦ Some found.edge ] ≡ Some n → IsVrfOf scenario n vrf.0
+    by : (o : Option Vrf) → slice_get scenario.vrfs vrf.0 ≡ o → elim o [ None ↦ None | Some found ↦ Some found.edge ] ≡ Some n
+        → IsVrfOf scenario n vrf.0
     by None at h = absurd (none-some n h)
     by (Some found) at h = record { found = found; at = at; edge = same_Some found.edge n h }
 
@@ -93,12 +97,14 @@ record IsIfaceOf (scenario : Scenario) (n : NodeId) (iface : IfaceId) : Type 0 w
 iface_of : (scenario : Scenario) (n : NodeId) (iface : IfaceId) → edge_of scenario iface ≡ Some n → IsIfaceOf scenario n iface
 iface_of scenario n iface e = by (slice_get scenario.ifaces iface.0) refl e
   where
-    in_vrf : (found : Iface) (o : Option Vrf) → slice_get scenario.vrfs found.vrf.0 ≡ o → elim o [ None ↦ None | Some vrf ↦ Some vrf.edge ] ≡ Some n → IsVrfOf scenario n found.vrf.0
+    in_vrf : (found : Iface) (o : Option Vrf) → slice_get scenario.vrfs found.vrf.0 ≡ o → elim o [ None ↦ None | Some vrf ↦ Some vrf.edge ] ≡ Some n
+        → IsVrfOf scenario n found.vrf.0
     in_vrf found None at h = absurd (none-some n h)
     in_vrf found (Some vrf) at h = record { found = vrf; at = at; edge = same_Some vrf.edge n h }
 
     by : (o : Option Iface) → slice_get scenario.ifaces iface.0 ≡ o
-        → elim o [ None ↦ None | Some found ↦ elim (slice_get scenario.vrfs found.vrf.0) [ None ↦ None | Some vrf ↦ Some vrf.edge ] ] ≡ Some n → IsIfaceOf scenario n iface
+        → elim o [ None ↦ None | Some found ↦ elim (slice_get scenario.vrfs found.vrf.0) [ None ↦ None | Some vrf ↦ Some vrf.edge ] ] ≡ Some n
+        → IsIfaceOf scenario n iface
     by None at h = absurd (none-some n h)
     by (Some found) at h = record { found = found; at = at; vrf = in_vrf found (slice_get scenario.vrfs found.vrf.0) refl h }
 
@@ -112,24 +118,30 @@ no_core_node scenario rules n vrf is none =
     let edge : IsEdge scenario n = subst (IsEdge scenario) is.edge (vrf_rules_at scenario rules vrf is.found is.at).edge in
     (let t : true ≡ false = sym edge.edge ∙ (ap edge_or (sym edge.at) ∙ none) in cc)
 
-pub has_vrf : (scenario : Scenario) → Rules scenario → (n : NodeId) (vrf : VrfId) (node : NetworkNode) → IsPlacedAt scenario n node → edge_of_vrf scenario vrf ≡ Some n → HasVrf node vrf
+pub has_vrf : (scenario : Scenario) → Rules scenario → (n : NodeId) (vrf : VrfId) (node : NetworkNode) → IsPlacedAt scenario n node
+    → edge_of_vrf scenario vrf ≡ Some n → HasVrf node vrf
 has_vrf scenario rules n vrf (nodes.Edge edge) placed e =
     let is = vrf_of scenario n vrf e in
     subst (λ (h : Home). list_any (λ (own : OwnVrf). own.id.0 == vrf.0) (vrfs_from h.me 0 h.scenario.vrfs) ≡ true) (sym placed.0)
-    (any_own n 0 scenario.vrfs vrf.0 vrf.0 is.found (λ own. own.id.0 == vrf.0) is.at (ap (λ (m : NodeId). m.0) is.edge) (omega arith) (eq-eqb vrf.0 vrf.0 refl))
+    (any_own n 0 scenario.vrfs vrf.0 vrf.0 is.found (λ own. own.id.0 == vrf.0) is.at (ap (λ (m : NodeId). m.0) is.edge) (omega arith)
+    (eq-eqb vrf.0 vrf.0 refl))
 has_vrf scenario rules n vrf (nodes.CoreNode core) placed e = absurd (no_core_node scenario rules n vrf.0 (vrf_of scenario n vrf e) placed.1)
 
-pub has_iface : (scenario : Scenario) → Rules scenario → (n : NodeId) (iface : IfaceId) (node : NetworkNode) → IsPlacedAt scenario n node → edge_of scenario iface ≡ Some n → HasIface node iface
+pub has_iface : (scenario : Scenario) → Rules scenario → (n : NodeId) (iface : IfaceId) (node : NetworkNode) → IsPlacedAt scenario n node
+    → edge_of scenario iface ≡ Some n → HasIface node iface
 has_iface scenario rules n iface (nodes.Edge edge) placed e =
     let is = iface_of scenario n iface e in
     subst (λ (h : Home). list_any (λ (own : OwnVrf). is_iface_of h.scenario own.id iface) (vrfs_from h.me 0 h.scenario.vrfs) ≡ true) (sym placed.0)
-    (any_own n 0 scenario.vrfs is.found.vrf.0 is.found.vrf.0 is.vrf.found (λ own. is_iface_of scenario own.id iface) is.vrf.at (ap (λ (m : NodeId). m.0) is.vrf.edge) (omega arith)
-    (ap (λ (o : Option Iface). elim o [ None ↦ false | Some found ↦ is_of_vrf is.found.vrf found ]) is.at ∙ eq-eqb is.found.vrf.0 is.found.vrf.0 refl))
+    (any_own n 0 scenario.vrfs is.found.vrf.0 is.found.vrf.0 is.vrf.found (λ own. is_iface_of scenario own.id iface) is.vrf.at
+    (ap (λ (m : NodeId). m.0) is.vrf.edge) (omega arith)
+    (ap (λ (o : Option Iface). elim o [ None ↦ false | Some found ↦ is_of_vrf is.found.vrf found ]) is.at
+    ∙ eq-eqb is.found.vrf.0 is.found.vrf.0 refl))
 has_iface scenario rules n iface (nodes.CoreNode core) placed e =
     let is = iface_of scenario n iface e in absurd (no_core_node scenario rules n is.found.vrf.0 is.vrf placed.1)
 
 -- the VRF is one of the node that stands there
-pub own_vrf : (n : NodeId) (vrf : VrfId) (plane : PlaneView) (node : NetworkNode) → IsSome (IsVrfEdge n vrf) plane → ((at : Standing) → IsWithin n at → IsIn at plane → IsNodeThere at n node)
+pub own_vrf : (n : NodeId) (vrf : VrfId) (plane : PlaneView) (node : NetworkNode) → IsSome (IsVrfEdge n vrf) plane
+    → ((at : Standing) → IsWithin n at → IsIn at plane → IsNodeThere at n node)
     → HasVrf node vrf
 own_vrf n vrf plane node (at, place, is) stands =
     has_vrf at.scenario (subst Rules is.around.scenario_is is.around.steady.sound.lines.rules) n vrf node
@@ -144,7 +156,8 @@ kept_by n network (any.Edge state) (nodes.CoreNode core) is at = absurd is
 kept_by n network (any.CoreNode state) (nodes.Edge edge) is at = absurd is
 kept_by n network (any.CoreNode state) (nodes.CoreNode core) is at = ap control_of at.node
 
-module _ (plane : PlaneView) (n : NodeId) (old : NetworkNode) (place : slice_get plane.nodes n.0 ≡ Some old) (at : Standing) (is : IsIn at plane) (node : IsCurrent n at) where
+module _ (plane : PlaneView) (n : NodeId) (old : NetworkNode) (place : slice_get plane.nodes n.0 ≡ Some old) (at : Standing) (is : IsIn at plane)
+    (node : IsCurrent n at) where
   same_node : (is.nodes n node.within).node ≡ old
   same_node = let has = is.nodes n node.within in same_Some has.node old (sym has.at ∙ place)
 
@@ -158,7 +171,9 @@ module _ (plane : PlaneView) (n : NodeId) (old : NetworkNode) (place : slice_get
   unspent_here = subst (λ (o : NetworkNode). spent_in o ≡ None) same_node (is.nodes n node.within).unspent
 
   pub placed_here : IsPlacedAt at.scenario n old
-  placed_here = subst (λ (s : Scenario). IsPlacedAt s n old) is.around.scenario_is (subst (λ (o : NetworkNode). IsPlacedAt at.network.state.scenario n o) same_node (is.nodes n node.within).placed)
+  placed_here =
+      subst (λ (s : Scenario). IsPlacedAt s n old) is.around.scenario_is
+      (subst (λ (o : NetworkNode). IsPlacedAt at.network.state.scenario n o) same_node (is.nodes n node.within).placed)
 
   rules_here : Rules at.scenario
   rules_here = subst Rules is.around.scenario_is is.around.steady.sound.lines.rules
@@ -172,8 +187,10 @@ module _ (plane : PlaneView) (n : NodeId) (old : NetworkNode) (place : slice_get
 -- ---- acts
 
 -- where less fits, the same acts
-pub acts_where : (Fits Less : Standing → Type 0) → ((at : Standing) → Less at → Fits at) → (acts : List (OctetAct NodeCall)) (old new : PlaneView) (lines new_lines : List ReportLine)
-    (result : Result (Unit {0}) NodeFault) → Acts Fits same_moment acts no_lines old new lines new_lines result → Acts Less same_moment acts no_lines old new lines new_lines result
+pub acts_where : (Fits Less : Standing → Type 0) → ((at : Standing) → Less at → Fits at)
+    → (acts : List (OctetAct NodeCall)) (old new : PlaneView) (lines new_lines : List ReportLine)
+    (result : Result (Unit {0}) NodeFault) → Acts Fits same_moment acts no_lines old new lines new_lines result
+    → Acts Less same_moment acts no_lines old new lines new_lines result
 acts_where Fits Less fits acts old new lines new_lines result row = record {
   made = by result row.made;
   lacks = λ e at less is. row.lacks e at (fits at less) is;
@@ -193,33 +210,43 @@ set_own [] place x at = refl
 set_own (y ∷ xs) zero x at = ap (λ z. z ∷ xs) (sym (same_Some y x at))
 set_own (y ∷ xs) (suc place) x at = ap (λ l. y ∷ l) (set_own xs place x at)
 
-module _ (plane : PlaneView) (n : NodeId) (call : Call) (calm : (kind : Kind) (peer : NodeId) → begins call kind peer ≡ false) (sound : IsSoundCall call) (old node : NetworkNode)
-    (place : slice_get plane.nodes n.0 ≡ Some old) (answer : Result (Unit {0}) EdgeFault) (answers : Answers plane.core plane.clock (after call) old node answer)
+module _ (plane : PlaneView) (n : NodeId) (call : Call) (calm : (kind : Kind) (peer : NodeId) → begins call kind peer ≡ false)
+    (sound : IsSoundCall call) (old node : NetworkNode)
+    (place : slice_get plane.nodes n.0 ≡ Some old) (answer : Result (Unit {0}) EdgeFault)
+    (answers : Answers plane.core plane.clock (after call) old node answer)
     (Fits : Standing → Type 0) (current : (at : Standing) → Fits at → IsCurrent n at) (is_full : Standing → Bool) (full : Bool)
     (same_full : (at : Standing) → Fits at → IsIn at plane → is_full at ≡ full) (room : spent_in old ≡ None → OnTaken answer (full ≡ false))
     (refused : answer ≡ Err faults.Full → (full ≡ true) × (node ≡ old)) where
   abbrev middle : PlaneView
   middle = worked n plane node plane.transit
 
-  acts : (new : PlaneView) (lines new_lines : List ReportLine) (result : Result (Unit {0}) NodeFault) → Settles n answer middle new lines new_lines result
+  acts : (new : PlaneView) (lines new_lines : List ReportLine) (result : Result (Unit {0}) NodeFault)
+      → Settles n answer middle new lines new_lines result
       → Acts Fits same_moment (octets.Call (Own n call) ∷ []) no_lines plane new lines new_lines result
   acts new lines new_lines result settles =
       acts_where (IsCurrent n) Fits current (octets.Call (Own n call) ∷ []) plane new lines new_lines result
       (own_acts plane n call calm sound old node place answer answers new lines new_lines result settles)
 
-  has_room : (told : Result (Unit {0}) EdgeFault) → answer ≡ told → (OnTaken told (full ≡ false) → full ≡ false) → (at : Standing) → Fits at → IsIn at plane → is_full at ≡ false
+  has_room : (told : Result (Unit {0}) EdgeFault) → answer ≡ told → (OnTaken told (full ≡ false) → full ≡ false) → (at : Standing) → Fits at
+      → IsIn at plane → is_full at ≡ false
   has_room told e taken at fits is =
-      same_full at fits is ∙ taken (subst (λ (r : Result (Unit {0}) EdgeFault). OnTaken r (full ≡ false)) e (room (unspent_here plane n old place at is (current at fits))))
+      same_full at fits is ∙ taken (subst (λ (r : Result (Unit {0}) EdgeFault). OnTaken r (full ≡ false)) e
+      (room (unspent_here plane n old place at is (current at fits))))
 
-  pub customer_acts : (new : PlaneView) (lines new_lines : List ReportLine) (result : Result Verdict NodeFault) → SettlesCustomer n answer middle new lines new_lines result
+  pub customer_acts : (new : PlaneView) (lines new_lines : List ReportLine) (result : Result Verdict NodeFault)
+      → SettlesCustomer n answer middle new lines new_lines result
       → CustomerActs Fits n call is_full plane new lines new_lines result
   customer_acts new lines new_lines result settles = record {
-    made = λ e at fits is. (has_room (Ok tt) (settles.made e).answered (λ r. r) at fits is, (acts new lines new_lines (Ok tt) (settles.made e)).made at fits is);
+    made = λ e at fits is. (
+      has_room (Ok tt) (settles.made e).answered (λ r. r) at fits is,
+      (acts new lines new_lines (Ok tt) (settles.made e)).made at fits is,
+    );
     full = λ e.
         let all = settles.full e in
         let stays = refused all.0 in (
           (λ at fits is. same_full at fits is ∙ stays.0),
-          all.1 ∙ ap (λ (l : List NetworkNode). record plane { nodes = l }) (ap (slice_set plane.nodes n.0) stays.1 ∙ set_own plane.nodes n.0 old place),
+          all.1 ∙ ap (λ (l : List NetworkNode). record plane { nodes = l })
+              (ap (slice_set plane.nodes n.0) stays.1 ∙ set_own plane.nodes n.0 old place),
           all.2,
         );
     lacks = λ e at fits is.

@@ -27,7 +27,8 @@ use Rattle.network_acts.proofs.control_plane.QueryLemmas.{there}
 -- ---- the VRFs of an edge
 
 -- a VRF of the scenario is among those of its edge
-pub own_among : (me : NodeId) (number place : ℕ) (vrfs : List Vrf) (vrf : Vrf) (id : VrfId) → slice_get vrfs place ≡ Some vrf → vrf.edge ≡ me → id.0 ≡ number + place
+pub own_among : (me : NodeId) (number place : ℕ) (vrfs : List Vrf) (vrf : Vrf) (id : VrfId) → slice_get vrfs place ≡ Some vrf → vrf.edge ≡ me
+    → id.0 ≡ number + place
     → Among (record { id = id; vrf = vrf }) (vrfs_from me number vrfs)
 own_among me number place [] vrf id at edge is = absurd (none-some vrf at)
 own_among me number zero (first ∷ more) vrf id at edge is =
@@ -37,10 +38,12 @@ own_among me number zero (first ∷ more) vrf id at edge is =
     let rest = vrfs_from me (number + 1) more in
     subst (λ (b : Bool). Among (record { id = id; vrf = vrf }) (cond b (record { id = record { 0 = number }; vrf = first } ∷ rest) rest)) (sym mine)
     (inl (λ i. record { id = record { 0 = numbered i }; vrf = sym same i }))
-own_among me number (suc place) (first ∷ more) vrf id at edge is = by (first.edge.0 == me.0) (own_among me (number + 1) place more vrf id at edge (omega (arith, is)))
+own_among me number (suc place) (first ∷ more) vrf id at edge is =
+    by (first.edge.0 == me.0) (own_among me (number + 1) place more vrf id at edge (omega (arith, is)))
   where
     by : (b : Bool) → Among (record { id = id; vrf = vrf }) (vrfs_from me (number + 1) more)
-        → Among (record { id = id; vrf = vrf }) (cond b (record { id = record { 0 = number }; vrf = first } ∷ vrfs_from me (number + 1) more) (vrfs_from me (number + 1) more))
+        → Among (record { id = id; vrf = vrf }) (cond b (record { id = record { 0 = number }; vrf = first } ∷ vrfs_from me (number + 1) more)
+        (vrfs_from me (number + 1) more))
     by true later = inr later
     by false later = later
 
@@ -58,13 +61,16 @@ edge_or None = false
 edge_or (Some node) = node.edge
 
 -- the node of a VRF's edge has the VRF
-pub vrf_there : (scenario : Scenario) (n : NodeId) (vrf : Vrf) (id : VrfId) (node : NetworkNode) → IsEdge scenario vrf.edge → slice_get scenario.vrfs id.0 ≡ Some vrf → vrf.edge ≡ n → IsPlacedAt scenario n node
+pub vrf_there : (scenario : Scenario) (n : NodeId) (vrf : Vrf) (id : VrfId) (node : NetworkNode) → IsEdge scenario vrf.edge
+    → slice_get scenario.vrfs id.0 ≡ Some vrf → vrf.edge ≡ n → IsPlacedAt scenario n node
     → HasVrf node id
 vrf_there scenario n vrf id (nodes.Edge edge) is_edge at own placed =
     subst (λ (h : Home). list_any (λ (o : OwnVrf). o.id.0 == id.0) (vrfs_from h.me 0 h.scenario.vrfs) ≡ true) (sym placed.0)
-    (any_of (λ o. o.id.0 == id.0) (record { id = id; vrf = vrf }) (vrfs_from n 0 scenario.vrfs) (own_among n 0 id.0 scenario.vrfs vrf id at own (omega arith)) (eq-eqb id.0 id.0 refl))
+    (any_of (λ o. o.id.0 == id.0) (record { id = id; vrf = vrf }) (vrfs_from n 0 scenario.vrfs)
+    (own_among n 0 id.0 scenario.vrfs vrf id at own (omega arith)) (eq-eqb id.0 id.0 refl))
 vrf_there scenario n vrf id (nodes.CoreNode core) is_edge at own placed =
-    absurd (let t : true ≡ false = sym is_edge.edge ∙ (ap edge_or (sym is_edge.at) ∙ (ap (λ (m : NodeId). world.is_edge scenario m) own ∙ placed.1)) in cc)
+    absurd (let t : true ≡ false =
+    sym is_edge.edge ∙ (ap edge_or (sym is_edge.at) ∙ (ap (λ (m : NodeId). world.is_edge scenario m) own ∙ placed.1)) in cc)
 
 -- ---- at a node of the plane
 
@@ -76,7 +82,8 @@ module _ (n : NodeId) (vrf : VrfId) (plane : PlaneView) where
       vrf_there at.scenario n own.vrf vrf node (vrf_rules_at at.scenario rules vrf.0 own.vrf own.stands).edge own.stands own.edge placed
 
   -- the VRF is one of the node
-  pub vrf_here : (node : NetworkNode) → IsSome (IsEdgeOf vrf n) plane → ((at : Standing) → IsWithin n at → IsIn at plane → IsNodeThere at n node) → HasVrf node vrf
+  pub vrf_here : (node : NetworkNode) → IsSome (IsEdgeOf vrf n) plane → ((at : Standing) → IsWithin n at → IsIn at plane → IsNodeThere at n node)
+      → HasVrf node vrf
   vrf_here node (at, own, is) stands = has_own node at own is (stands at own.current.within is)
 
   -- which is an edge
@@ -86,10 +93,13 @@ module _ (n : NodeId) (vrf : VrfId) (plane : PlaneView) where
       let stands = there at n plane has.node own.current.within is has.at in
       by has.node stands.keeps (has_own has.node at own is stands)
     where
-      by : (node : NetworkNode) → at.network.state.node n ≡ data_in node → HasVrf node vrf → (edge : EdgeData) × (at.network.state.node n ≡ world.Edge edge)
+      by : (node : NetworkNode) → at.network.state.node n ≡ data_in node → HasVrf node vrf
+          → (edge : EdgeData) × (at.network.state.node n ≡ world.Edge edge)
       by (nodes.Edge edge) keeps has = (data_of edge, keeps)
       by (nodes.CoreNode core) keeps has = absurd has
 
-  pub own_here : (at : Standing) (own : IsEdgeOf vrf n at) → IsIn at plane → Among (record { id = vrf; vrf = own.vrf }) (own_vrfs (place_of at.network.state n))
+  pub own_here : (at : Standing) (own : IsEdgeOf vrf n at) → IsIn at plane
+      → Among (record { id = vrf; vrf = own.vrf }) (own_vrfs (place_of at.network.state n))
   own_here at own is =
-      own_among n 0 vrf.0 at.network.state.scenario.vrfs own.vrf vrf (ap (λ (s : Scenario). slice_get s.vrfs vrf.0) is.around.scenario_is ∙ own.stands) own.edge (omega arith)
+      own_among n 0 vrf.0 at.network.state.scenario.vrfs own.vrf vrf
+      (ap (λ (s : Scenario). slice_get s.vrfs vrf.0) is.around.scenario_is ∙ own.stands) own.edge (omega arith)

@@ -37,9 +37,11 @@ use Rattle.network_acts.proofs.control_plane.SteadyLemmas.{alone, call_streams, 
 -- a node is the same where another one takes over the present costs
 known_at : (n m : NodeId) (network : OctetNetwork Nodes) (state : AnyNode) → IsNodeAt m network [] state → IsNodeAt m (with_known n network) [] state
 known_at n m network (any.Edge state) at = record { node = at.node; unspent = at.unspent; waiting = at.waiting; streams = at.streams }
-known_at n m network (any.CoreNode state) at = record { node = at.node; unspent = at.unspent; waiting = at.waiting; silent = at.silent; streams = at.streams }
+known_at n m network (any.CoreNode state) at =
+    record { node = at.node; unspent = at.unspent; waiting = at.waiting; silent = at.silent; streams = at.streams }
 
-module _ (scenario : Scenario) (cores : Cores) (moment : Moment) (n : NodeId) (network : OctetNetwork Nodes) (plane : PlaneView) (is : IsPlane scenario cores moment network plane)
+module _ (scenario : Scenario) (cores : Cores) (moment : Moment) (n : NodeId) (network : OctetNetwork Nodes) (plane : PlaneView)
+    (is : IsPlane scenario cores moment network plane)
     (within : n.0 < length scenario.nodes) where
   abbrev has : HasNode network plane.nodes n []
   has = is.nodes n within
@@ -60,7 +62,8 @@ module _ (scenario : Scenario) (cores : Cores) (moment : Moment) (n : NodeId) (n
   stands = record {
     placed = has.placed;
     known = subst (λ (t : Topology). IsCoreOf t.nodes t.links (core_at (following network.state n) n)) (sym is.around.core)
-        (subst (λ (c : Core). IsCoreOf (length scenario.nodes) network.state.links c) knows (is.around.of_scenario.core network.state.links repriced));
+        (subst (λ (c : Core). IsCoreOf (length scenario.nodes) network.state.links c) knows
+        (is.around.of_scenario.core network.state.links repriced));
     clock = is.around.clock;
   }
 
@@ -82,22 +85,27 @@ module _ (scenario : Scenario) (cores : Cores) (moment : Moment) (n : NodeId) (n
         state = own.is.state;
         is = own.is.is;
         at = known_at n m network own.is.state own.is.at;
-        toward = subst (λ (c : Core). IsWaitingTowardRoots c (labels_in own.node)) (λ i. network.state.cores (cond (sym (node_apart m n apart) i) network.state.links (network.state.known m))) own.is.toward;
+        toward = subst (λ (c : Core). IsWaitingTowardRoots c (labels_in own.node))
+            (λ i. network.state.cores (cond (sym (node_apart m n apart) i) network.state.links (network.state.known m))) own.is.toward;
       };
     });
   }
     where
-      by : (m : NodeId) → m.0 < length scenario.nodes → (b : Bool) → cond b false (moment.late m) ≡ false → cond b network.state.links (network.state.known m) ≡ network.state.links
+      by : (m : NodeId) → m.0 < length scenario.nodes → (b : Bool) → cond b false (moment.late m) ≡ false
+          → cond b network.state.links (network.state.known m) ≡ network.state.links
       by m below true early = refl
       by m below false early = is.around.known m below early
 
-  steady_behind : (new : Behind (OctetNetwork Nodes)) → octet_act system network one ≡ Some new → IsElsewhere n (with_known n network) network.transit new → IsSteady next new.network
+  steady_behind : (new : Behind (OctetNetwork Nodes)) → octet_act system network one ≡ Some new
+      → IsElsewhere n (with_known n network) network.transit new → IsSteady next new.network
   steady_behind new e elsewhere =
       let old : IsSteady moment network = is.around.steady in
       let ends = follows_ends network new n e in
       steady_next next network new.network
-      (run_stays network.state.scenario network [] n (octet_run system network (one ∷ [])) (record { network = new.network; puts = new.puts ++ [] }) (run_one network one new e)
-      (act_stays network.state.scenario (acts.Reroute n) (subst (λ (s : Scenario). n.0 < length s.nodes) (sym is.around.scenario_is) within) (alone network) (steady_stays moment network old)))
+      (run_stays network.state.scenario network [] n (octet_run system network (one ∷ [])) (record { network = new.network; puts = new.puts ++ [] })
+      (run_one network one new e)
+      (act_stays network.state.scenario (acts.Reroute n) (subst (λ (s : Scenario). n.0 < length s.nodes) (sym is.around.scenario_is) within)
+      (alone network) (steady_stays moment network old)))
       elsewhere.scenario
       (λ over j. old.whose over (sym (elsewhere.joined over) ∙ j))
       (λ over j quiet. ends over.kind over.to over.from ∙ old.up over (sym (elsewhere.joined over) ∙ j) quiet)
@@ -106,56 +114,70 @@ module _ (scenario : Scenario) (cores : Cores) (moment : Moment) (n : NodeId) (n
   abbrev behind : AnyNode
   behind = node_after (following network.state n) n has.is.state Rerouted
 
-  some : (new : Behind (OctetNetwork Nodes)) → octet_act system network one ≡ Some new → IsNodeAt n new.network new.puts behind × IsElsewhere n (with_known n network) network.transit new
+  some : (new : Behind (OctetNetwork Nodes)) → octet_act system network one ≡ Some new
+      → IsNodeAt n new.network new.puts behind × IsElsewhere n (with_known n network) network.transit new
   some new e = follow_made n network has.is.state has.is.at new e
 
-  module _ (node : NetworkNode) (result : Result (Unit {0}) EdgeFault) (answers : Answers plane.core plane.clock (after Rerouted) has.node node result)
+  module _ (node : NetworkNode) (result : Result (Unit {0}) EdgeFault)
+      (answers : Answers plane.core plane.clock (after Rerouted) has.node node result)
       (waits : OnOk result (WaitsTowardRootsOf plane.core (labels_in node))) where
-    by_made : OnOk result ((network' : Nodes) (m : NodeId) → Stands network' m plane.core plane.clock has.node → (state : AnyNode) → IsNode state has.node → IsNode (node_after network' m state Rerouted) node)
+    by_made : OnOk result ((network' : Nodes) (m : NodeId) → Stands network' m plane.core plane.clock has.node → (state : AnyNode)
+        → IsNode state has.node → IsNode (node_after network' m state Rerouted) node)
         → OnOk result (spent_in node ≡ None) → result ≡ Ok tt → IsNode behind node × (spent_in node ≡ None)
     by_made made goes e = by result made goes e
       where
-        by : (r : Result (Unit {0}) EdgeFault) → OnOk r ((network' : Nodes) (m : NodeId) → Stands network' m plane.core plane.clock has.node → (state : AnyNode) → IsNode state has.node → IsNode (node_after network' m state Rerouted) node)
+        by : (r : Result (Unit {0}) EdgeFault) → OnOk r
+            ((network' : Nodes) (m : NodeId) → Stands network' m plane.core plane.clock has.node → (state : AnyNode) → IsNode state has.node
+            → IsNode (node_after network' m state Rerouted) node)
             → OnOk r (spent_in node ≡ None) → r ≡ Ok tt → IsNode behind node × (spent_in node ≡ None)
         by (Ok done) m g f = (m (following network.state n) n stands has.is.state has.is.is, g)
         by (Err fault) m g f = absurd cc
 
-    pub follow_made_at : result ≡ Ok tt → (new : Behind (OctetNetwork Nodes)) × (octet_act system network one ≡ Some new) × IsMidway scenario cores next n new.puts new.network (worked n plane node plane.transit)
+    pub follow_made_at : result ≡ Ok tt → (new : Behind (OctetNetwork Nodes)) × (octet_act system network one ≡ Some new)
+        × IsMidway scenario cores next n new.puts new.network (worked n plane node plane.transit)
     follow_made_at e =
         let own = by_made answers.made answers.goes_on e in
-        turn_made scenario cores moment next n network (with_known n network) network.transit plane plane.transit (octet_act system network one) behind some node
+        turn_made scenario cores moment next n network (with_known n network) network.transit plane plane.transit (octet_act system network one)
+        behind some node
         is.around within base (follow_lacks n network has.is.state has.is.at) steady_behind own.0 own.1
         (subst (λ (s : Scenario). IsPlacedAt s n node) is.around.scenario_is (answers.placed network.state.scenario n has.placed))
-        (subst (λ (r : Result (Unit {0}) EdgeFault). OnOk r (WaitsTowardRootsOf plane.core (labels_in node))) e waits (core_at (following network.state n) n) stands.known)
+        (subst (λ (r : Result (Unit {0}) EdgeFault). OnOk r (WaitsTowardRootsOf plane.core (labels_in node))) e waits
+        (core_at (following network.state n) n) stands.known)
 
     pub follow_lacks_at : result ≡ Err faults.NoLabel → octet_act system network one ≡ None
     follow_lacks_at e =
-        turn_lacks scenario cores moment next n network (with_known n network) network.transit plane plane.transit (octet_act system network one) behind some
+        turn_lacks scenario cores moment next n network (with_known n network) network.transit plane plane.transit (octet_act system network one)
+        behind some
         (answers.lacks e has.unspent (following network.state n) n stands has.is.state has.is.is)
 
 -- ---- what the plane leaves and writes
 
-module _ (plane : PlaneView) (n : NodeId) (old node : NetworkNode) (place : slice_get plane.nodes n.0 ≡ Some old) (answer : Result (Unit {0}) EdgeFault)
-    (answers : Answers plane.core plane.clock (after Rerouted) old node answer) (waits : OnOk answer (WaitsTowardRootsOf plane.core (labels_in node))) where
-  abbrev middle : PlaneView
-  middle = worked n plane node plane.transit
+module _ (plane : PlaneView) (n : NodeId) (old node : NetworkNode) (place : slice_get plane.nodes n.0 ≡ Some old)
+    (answer : Result (Unit {0}) EdgeFault)
+    (answers : Answers plane.core plane.clock (after Rerouted) old node answer) (waits : OnOk answer (WaitsTowardRootsOf plane.core (labels_in node)))
+  where
+    abbrev middle : PlaneView
+    middle = worked n plane node plane.transit
 
-  answers_in : (at : Standing) → (own : HasNode at.network plane.nodes n []) → Answers plane.core plane.clock (after Rerouted) own.node node answer
-  answers_in at own = subst (λ (o : NetworkNode). Answers plane.core plane.clock (after Rerouted) o node answer) (same_Some old own.node (sym place ∙ own.at)) answers
+    answers_in : (at : Standing) → (own : HasNode at.network plane.nodes n []) → Answers plane.core plane.clock (after Rerouted) own.node node answer
+    answers_in at own =
+        subst (λ (o : NetworkNode). Answers plane.core plane.clock (after Rerouted) o node answer) (same_Some old own.node (sym place ∙ own.at)) answers
 
-  made_in : (at : Standing) → IsWithin n at → IsIn at plane → answer ≡ Ok tt → (new : Behind (OctetNetwork Nodes))
-      × (octet_run system at.network (octets.Call (Follow n) ∷ []) ≡ Some (record { network = new.network; puts = new.puts ++ [] }))
-      × IsMidway at.scenario at.cores (with_current n at.moment) n new.puts new.network middle
-  made_in at fits is e =
-      let made = follow_made_at at.scenario at.cores at.moment n at.network plane is fits node answer (answers_in at (is.nodes n fits)) waits e in
-      (made.0, run_one at.network (octets.Call (Follow n)) made.0 made.1, made.2)
+    made_in : (at : Standing) → IsWithin n at → IsIn at plane → answer ≡ Ok tt → (new : Behind (OctetNetwork Nodes))
+        × (octet_run system at.network (octets.Call (Follow n) ∷ []) ≡ Some (record { network = new.network; puts = new.puts ++ [] }))
+        × IsMidway at.scenario at.cores (with_current n at.moment) n new.puts new.network middle
+    made_in at fits is e =
+        let made = follow_made_at at.scenario at.cores at.moment n at.network plane is fits node answer (answers_in at (is.nodes n fits)) waits e in
+        (made.0, run_one at.network (octets.Call (Follow n)) made.0 made.1, made.2)
 
-  pub follow_some : IsSome (IsWithin n) plane → OnOk answer (IsSomeMidway n middle)
-  follow_some = turn_some (IsWithin n) (with_current n) (octets.Call (Follow n) ∷ []) no_lines n plane middle answer made_in
+    pub follow_some : IsSome (IsWithin n) plane → OnOk answer (IsSomeMidway n middle)
+    follow_some = turn_some (IsWithin n) (with_current n) (octets.Call (Follow n) ∷ []) no_lines n plane middle answer made_in
 
-  pub follow_acts : (new : PlaneView) (lines new_lines : List ReportLine) (result : Result (Unit {0}) NodeFault) → Settles n answer middle new lines new_lines result
-      → Acts (IsWithin n) (with_current n) (octets.Call (Follow n) ∷ []) no_lines plane new lines new_lines result
-  follow_acts new lines new_lines result settles =
-      turn_acts (IsWithin n) (with_current n) (octets.Call (Follow n) ∷ []) no_lines n plane middle answer made_in
-      (λ at fits is e. run_none at.network (octets.Call (Follow n)) (follow_lacks_at at.scenario at.cores at.moment n at.network plane is fits node answer (answers_in at (is.nodes n fits)) waits e))
-      new lines new_lines result (λ at. refl) settles
+    pub follow_acts : (new : PlaneView) (lines new_lines : List ReportLine) (result : Result (Unit {0}) NodeFault)
+        → Settles n answer middle new lines new_lines result
+        → Acts (IsWithin n) (with_current n) (octets.Call (Follow n) ∷ []) no_lines plane new lines new_lines result
+    follow_acts new lines new_lines result settles =
+        turn_acts (IsWithin n) (with_current n) (octets.Call (Follow n) ∷ []) no_lines n plane middle answer made_in
+        (λ at fits is e. run_none at.network (octets.Call (Follow n))
+        (follow_lacks_at at.scenario at.cores at.moment n at.network plane is fits node answer (answers_in at (is.nodes n fits)) waits e))
+        new lines new_lines result (λ at. refl) settles

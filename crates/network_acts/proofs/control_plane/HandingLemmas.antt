@@ -48,15 +48,18 @@ if_none : (b : Bool) (other : Option (List ℕ)) → octets_or (cond b None othe
 if_none true other = refl
 if_none false other = refl
 
-own_less : (own : FinMap node_cmp (List ℕ)) (node other : NodeId) → waiting_for (maps.remove own node) other ≡ cond (node.0 == other.0) [] (waiting_for own other)
+own_less : (own : FinMap node_cmp (List ℕ)) (node other : NodeId)
+    → waiting_for (maps.remove own node) other ≡ cond (node.0 == other.0) [] (waiting_for own other)
 own_less own node other =
     ap octets_or (maps.get-remove node_cmp_total own node other)
     ∙ (if_none (eq_by_cmp node_cmp other node) (maps.get own other) ∙ ap (λ (b : Bool). cond b [] (waiting_for own other)) (one_node other node))
 
 -- nothing waits for the session that is handed out, and for each other one what waited
-handed_for : (state : AnyNode) (kind other : Kind) (peer q : NodeId) → waiting_in (handed_by state kind peer) other q ≡ cond (is_that other q kind peer) [] (waiting_in state other q)
+handed_for : (state : AnyNode) (kind other : Kind) (peer q : NodeId)
+    → waiting_in (handed_by state kind peer) other q ≡ cond (is_that other q kind peer) [] (waiting_in state other q)
 handed_for (any.Edge state) kind other peer q =
-    waiting_less state.waiting (session_with kind peer) (session_with other q) ∙ ap (λ (b : Bool). cond b [] (waiting_at state.waiting (session_with other q))) (tie other kind q peer)
+    waiting_less state.waiting (session_with kind peer) (session_with other q)
+    ∙ ap (λ (b : Bool). cond b [] (waiting_at state.waiting (session_with other q))) (tie other kind q peer)
 handed_for (any.CoreNode state) kinds.Ldp kinds.Ldp peer q = own_less state.node.waiting peer q
 handed_for (any.CoreNode state) kinds.Ldp kinds.Bgp peer q = refl
 handed_for (any.CoreNode state) kinds.Bgp kinds.Ldp peer q = refl
@@ -77,7 +80,8 @@ kind_itself kinds.Bgp = refl
 kind_itself kinds.Ldp = refl
 
 -- a direction from the same node that is another one keeps what waits
-others_wait : (state : AnyNode) (way other : Direction) → way.from ≡ other.from → (other ≡ way → ⊥) → octets_for (handed_over state way) other ≡ octets_for state other
+others_wait : (state : AnyNode) (way other : Direction) → way.from ≡ other.from → (other ≡ way → ⊥)
+    → octets_for (handed_over state way) other ≡ octets_for state other
 others_wait state way other from apart = handed_for state way.kind other.kind way.to other.to ∙ by (is_that other.kind other.to way.kind way.to) refl
   where
     by : (b : Bool) → is_that other.kind other.to way.kind way.to ≡ b → cond b [] (octets_for state other) ≡ octets_for state other
@@ -111,7 +115,8 @@ all_none (way ∷ more) state other none = all_none more (handed_over state way)
 pub emptied : (ways : List Direction) (state : AnyNode) (way : Direction) → Among way ways → octets_for (handed_all state ways) way ≡ []
 emptied [] state way a = absurd a
 emptied (first ∷ more) state way (inl same) =
-    all_none more (handed_over state first) way (subst (λ (w : Direction). octets_for (handed_over state first) w ≡ []) (sym same) (own_gone state first))
+    all_none more (handed_over state first) way (subst (λ (w : Direction). octets_for (handed_over state first) w ≡ []) (sym same)
+    (own_gone state first))
 emptied (first ∷ more) state way (inr later) = emptied more (handed_over state first) way later
 
 module _ (n : NodeId) (puts : List Put) where
@@ -126,29 +131,34 @@ module _ (n : NodeId) (puts : List Put) where
     once = w.once.1;
     away = λ other a. w.away other (inr a);
     waits = λ other a.
-        others_wait state way other (w.away way (inl refl) ∙ sym (w.away other (inr a))) (λ same. w.once.0 (subst (λ (d : Direction). Among d more) same a))
+        others_wait state way other (w.away way (inl refl) ∙ sym (w.away other (inr a)))
+        (λ same. w.once.0 (subst (λ (d : Direction). Among d more) same a))
         ∙ w.waits other (inr a);
   }
 
   -- the lines are those of what was put
   pub lines_put : (ways : List Direction) (state : AnyNode) → Waits state ways → handing_lines state ways ≡ flat_map (put_line puts) ways
   lines_put [] state w = refl
-  lines_put (way ∷ more) state w = λ i. octets_line way (w.waits way (inl refl) i) ++ lines_put more (handed_over state way) (rest_waits state way more w) i
+  lines_put (way ∷ more) state w =
+      λ i. octets_line way (w.waits way (inl refl) i) ++ lines_put more (handed_over state way) (rest_waits state way more w) i
 
   -- nothing goes over a direction that is none of them
   pub none_over : (ways : List Direction) (state : AnyNode) (over : Direction) → (Among over ways → ⊥) → handing_over state ways over ≡ []
   none_over [] state over none = refl
   none_over (way ∷ more) state over none = by (same_direction way over) refl (none_over more (handed_over state way) over (λ a. none (inr a)))
     where
-      by : (b : Bool) → same_direction way over ≡ b → handing_over (handed_over state way) more over ≡ [] → (cond b (octets_for state way) [] ++ handing_over (handed_over state way) more over) ≡ []
+      by : (b : Bool) → same_direction way over ≡ b → handing_over (handed_over state way) more over ≡ []
+          → (cond b (octets_for state way) [] ++ handing_over (handed_over state way) more over) ≡ []
       by true e rest = absurd (none (inl (sym (direction_is way over e))))
       by false e rest = rest
 
   -- over each of them goes what was put
-  pub goes_over : (ways : List Direction) (state : AnyNode) (over : Direction) → Waits state ways → Among over ways → handing_over state ways over ≡ octets_over over puts
+  pub goes_over : (ways : List Direction) (state : AnyNode) (over : Direction) → Waits state ways → Among over ways
+      → handing_over state ways over ≡ octets_over over puts
   goes_over [] state over w a = absurd a
   goes_over (way ∷ more) state over w (inl same) =
-      (λ i. cond (test i) (octets_for state way) [] ++ none_over more (handed_over state way) over (λ a. w.once.0 (subst (λ (d : Direction). Among d more) same a)) i)
+      (λ i. cond (test i) (octets_for state way) []
+      ++ none_over more (handed_over state way) over (λ a. w.once.0 (subst (λ (d : Direction). Among d more) same a)) i)
       ∙ (end (octets_for state way) ∙ (w.waits way (inl refl) ∙ ap (λ (d : Direction). octets_over d puts) (sym same)))
     where
       test : same_direction way over ≡ true
@@ -176,12 +186,14 @@ Shares n network (any.Edge state) = (network.state.node n ≡ world.Edge state.e
 Shares n network (any.CoreNode state) = (network.state.node n ≡ world.CoreNode state.node.part) × (state.node.spent ≡ None)
     × ((peer : NodeId) → stream_at state.streams (ldp_with peer) ≡ network.stream (direction kinds.Ldp peer n))
 
-shares_over : (n : NodeId) (network : OctetNetwork Nodes) (state : AnyNode) (kind : Kind) (peer : NodeId) → Shares n network state → Shares n network (handed_by state kind peer)
+shares_over : (n : NodeId) (network : OctetNetwork Nodes) (state : AnyNode) (kind : Kind) (peer : NodeId) → Shares n network state
+    → Shares n network (handed_by state kind peer)
 shares_over n network (any.Edge state) kind peer h = h
 shares_over n network (any.CoreNode state) kinds.Bgp peer h = h
 shares_over n network (any.CoreNode state) kinds.Ldp peer h = h
 
-shares_all : (n : NodeId) (network : OctetNetwork Nodes) (ways : List Direction) (state : AnyNode) → Shares n network state → Shares n network (handed_all state ways)
+shares_all : (n : NodeId) (network : OctetNetwork Nodes) (ways : List Direction) (state : AnyNode) → Shares n network state
+    → Shares n network (handed_all state ways)
 shares_all n network [] state h = h
 shares_all n network (way ∷ more) state h = shares_all n network more (handed_over state way) (shares_over n network state way.kind way.to h)
 
@@ -190,20 +202,25 @@ shares n network puts (any.Edge state) at = (at.node, at.unspent, at.streams)
 shares n network puts (any.CoreNode state) at = (at.node, at.unspent, at.streams)
 
 idle_at : (n : NodeId) (network : OctetNetwork Nodes) (state : AnyNode) → Shares n network state
-    → ((kind : Kind) (peer : NodeId) → IsWay network.state.scenario (direction kind n peer) → waiting_in state kind peer ≡ []) → IsNodeAt n network [] state
+    → ((kind : Kind) (peer : NodeId) → IsWay network.state.scenario (direction kind n peer) → waiting_in state kind peer ≡ [])
+    → IsNodeAt n network [] state
 idle_at n network (any.Edge state) h none = record { node = h.0; unspent = h.1; waiting = λ kind peer way. none kind peer way; streams = h.2 }
 idle_at n network (any.CoreNode state) h none =
     record { node = h.0; unspent = h.1; waiting = λ peer way. none kinds.Ldp peer way; silent = λ peer. refl; streams = h.2 }
 
 -- a node of the network that has handed out all that it put
-pub handed_at : (n : NodeId) (network : OctetNetwork Nodes) (puts : List Put) (ways : List Direction) (state : AnyNode) → IsNodeAt n network puts state
-    → ((kind : Kind) (peer : NodeId) → IsWay network.state.scenario (direction kind n peer) → Among (direction kind n peer) ways) → IsNodeAt n network [] (handed_all state ways)
+pub handed_at : (n : NodeId) (network : OctetNetwork Nodes) (puts : List Put) (ways : List Direction) (state : AnyNode)
+    → IsNodeAt n network puts state
+    → ((kind : Kind) (peer : NodeId) → IsWay network.state.scenario (direction kind n peer) → Among (direction kind n peer) ways)
+    → IsNodeAt n network [] (handed_all state ways)
 handed_at n network puts ways state at each =
-    idle_at n network (handed_all state ways) (shares_all n network ways state (shares n network puts state at)) (λ kind peer way. emptied ways state (direction kind n peer) (each kind peer way))
+    idle_at n network (handed_all state ways) (shares_all n network ways state (shares n network puts state at))
+    (λ kind peer way. emptied ways state (direction kind n peer) (each kind peer way))
 
 -- what waits in a node of the network is what it put
 pub put_waits : (n : NodeId) (network : OctetNetwork Nodes) (puts : List Put) (state : AnyNode) → IsNodeAt n network puts state
-    → (kind : Kind) (peer : NodeId) → IsWay network.state.scenario (direction kind n peer) → waiting_in state kind peer ≡ octets_over (direction kind n peer) puts
+    → (kind : Kind) (peer : NodeId) → IsWay network.state.scenario (direction kind n peer)
+    → waiting_in state kind peer ≡ octets_over (direction kind n peer) puts
 put_waits n network puts (any.Edge state) at kind peer way = at.waiting kind peer way
 put_waits n network puts (any.CoreNode state) at kinds.Bgp peer way = sym (at.silent peer)
 put_waits n network puts (any.CoreNode state) at kinds.Ldp peer way = at.waiting peer way

@@ -26,7 +26,8 @@ pub one_handed : (way : Direction) (state : AnyNode) (node : NetworkNode) (old n
 one_handed way state node old new lines new_lines is puts told = record {
   is = is;
   joined = puts.joined;
-  octets = λ over. puts.octets over ∙ ap (λ (more : List ℕ). cond (is_joined_at old over) (octets_at old over ++ more) (octets_at old over)) (sym (append-nil (cond (same_direction way over) (octets_for state way) [])));
+  octets = λ over. puts.octets over ∙ ap (λ (more : List ℕ). cond (is_joined_at old over) (octets_at old over ++ more) (octets_at old over))
+      (sym (append-nil (cond (same_direction way over) (octets_for state way) [])));
   told = told ∙ ap (λ (more : List ReportLine). lines ++ more) (sym (append-nil (octets_line way (octets_for state way))));
 }
 
@@ -43,7 +44,8 @@ none_handed way state node transit lines is none = record {
   joined = λ over. refl;
   octets = λ over.
       none_put (same_direction way over) (is_joined_at transit over) (octets_at transit over)
-      ∙ ap (λ (o : List ℕ). cond (is_joined_at transit over) (octets_at transit over ++ (cond (same_direction way over) o [] ++ [])) (octets_at transit over)) (sym none);
+      ∙ ap (λ (o : List ℕ). cond (is_joined_at transit over) (octets_at transit over ++ (cond (same_direction way over) o [] ++ []))
+      (octets_at transit over)) (sym none);
   told = sym (append-nil lines) ∙ ap (λ (o : List ℕ). lines ++ (octets_line way o ++ [])) (sym none);
 }
 
@@ -53,25 +55,31 @@ all_then : (first more : List Direction) (state : AnyNode) → handed_all state 
 all_then [] more state = refl
 all_then (way ∷ first) more state = all_then first more (handed_over state way)
 
-lines_then : (first more : List Direction) (state : AnyNode) → handing_lines state (first ++ more) ≡ handing_lines state first ++ handing_lines (handed_all state first) more
+lines_then : (first more : List Direction) (state : AnyNode)
+    → handing_lines state (first ++ more) ≡ handing_lines state first ++ handing_lines (handed_all state first) more
 lines_then [] more state = refl
 lines_then (way ∷ first) more state =
     ap (λ (l : List ReportLine). octets_line way (octets_for state way) ++ l) (lines_then first more (handed_over state way))
-    ∙ sym (append_assoc (octets_line way (octets_for state way)) (handing_lines (handed_over state way) first) (handing_lines (handed_all (handed_over state way) first) more))
+    ∙ sym (append_assoc (octets_line way (octets_for state way)) (handing_lines (handed_over state way) first)
+    (handing_lines (handed_all (handed_over state way) first) more))
 
-over_then : (first more : List Direction) (state : AnyNode) (over : Direction) → handing_over state (first ++ more) over ≡ handing_over state first over ++ handing_over (handed_all state first) more over
+over_then : (first more : List Direction) (state : AnyNode) (over : Direction)
+    → handing_over state (first ++ more) over ≡ handing_over state first over ++ handing_over (handed_all state first) more over
 over_then [] more state over = refl
 over_then (way ∷ first) more state over =
     let own : List ℕ = cond (same_direction way over) (octets_for state way) [] in
     ap (λ (l : List ℕ). own ++ l) (over_then first more (handed_over state way) over)
     ∙ sym (append_assoc own (handing_over (handed_over state way) first over) (handing_over (handed_all (handed_over state way) first) more over))
 
-puts_then : (joined : Bool) (base first more : List ℕ) → cond joined (cond joined (base ++ first) base ++ more) (cond joined (base ++ first) base) ≡ cond joined (base ++ (first ++ more)) base
+puts_then : (joined : Bool) (base first more : List ℕ)
+    → cond joined (cond joined (base ++ first) base ++ more) (cond joined (base ++ first) base) ≡ cond joined (base ++ (first ++ more)) base
 puts_then true base first more = append_assoc base first more
 puts_then false base first more = refl
 
-hands_then : (first more : List Direction) (state : AnyNode) (middle node : NetworkNode) (old between new : TransitData) (lines own new_lines : List ReportLine)
-    → HandsOut first state middle old between lines own → HandsOut more (handed_all state first) node between new own new_lines → HandsOut (first ++ more) state node old new lines new_lines
+hands_then : (first more : List Direction) (state : AnyNode) (middle node : NetworkNode) (old between new : TransitData)
+    (lines own new_lines : List ReportLine)
+    → HandsOut first state middle old between lines own → HandsOut more (handed_all state first) node between new own new_lines
+    → HandsOut (first ++ more) state node old new lines new_lines
 hands_then first more state middle node old between new lines own new_lines a b = record {
   is = subst (λ (s : AnyNode). IsNode s node) (sym (all_then first more state)) b.is;
   joined = λ over. b.joined over ∙ a.joined over;
@@ -92,14 +100,16 @@ abbrev pub no_way : Direction
 no_way = record { kind = kinds.Bgp; from = record { 0 = 0 }; to = record { 0 = 0 } }
 
 -- What stands once so many first directions are done.
-pub record OnWay (ways : List Direction) (done : ℕ) (old node : NetworkNode) (transit now : TransitData) (lines lines_now : List ReportLine) : Type 0 where
-  pub handed : (state : AnyNode) → IsNode state old → HandsOut (take done ways) state node transit now lines lines_now
-  pub unspent : spent_in node ≡ None
-  pub peers : (over : Direction) → MayBePeer old over.kind over.to → MayBePeer node over.kind over.to
-  pub placed : (scenario : Scenario) (n : NodeId) → IsPlacedAt scenario n old → IsPlacedAt scenario n node
-  pub waits : (own : Core) → IsWaitingTowardRoots own (labels_in old) → IsWaitingTowardRoots own (labels_in node)
+pub record OnWay (ways : List Direction) (done : ℕ) (old node : NetworkNode) (transit now : TransitData) (lines lines_now : List ReportLine) : Type 0
+  where
+    pub handed : (state : AnyNode) → IsNode state old → HandsOut (take done ways) state node transit now lines lines_now
+    pub unspent : spent_in node ≡ None
+    pub peers : (over : Direction) → MayBePeer old over.kind over.to → MayBePeer node over.kind over.to
+    pub placed : (scenario : Scenario) (n : NodeId) → IsPlacedAt scenario n old → IsPlacedAt scenario n node
+    pub waits : (own : Core) → IsWaitingTowardRoots own (labels_in old) → IsWaitingTowardRoots own (labels_in node)
 
-one_more : (ways : List Direction) (done : ℕ) (way d : Direction) → done < length ways → way ≡ get_or ways done d → take (done + 1) ways ≡ take done ways ++ way ∷ []
+one_more : (ways : List Direction) (done : ℕ) (way d : Direction) → done < length ways → way ≡ get_or ways done d
+    → take (done + 1) ways ≡ take done ways ++ way ∷ []
 one_more ways done way d lt same =
     let next : done + 1 ≡ suc done = omega arith in
     ap (λ (k : ℕ). take k ways) next ∙ (take-suc ways done d lt ∙ ap (λ (w : Direction). take done ways ++ w ∷ []) (sym same))
@@ -111,8 +121,10 @@ among_at (first ∷ more) zero way d lt same = inl same
 among_at (first ∷ more) (suc place) way d lt same = inr (among_at more place way d (omega (arith, lt)) same)
 
 -- once all are done
-pub all_done : (ways : List Direction) (done : ℕ) (old node : NetworkNode) (transit now : TransitData) (lines lines_now : List ReportLine) → length ways ≤ done
-    → OnWay ways done old node transit now lines lines_now → (state : AnyNode) → IsNode state old → HandsOut ways state node transit now lines lines_now
+pub all_done : (ways : List Direction) (done : ℕ) (old node : NetworkNode) (transit now : TransitData) (lines lines_now : List ReportLine)
+    → length ways ≤ done
+    → OnWay ways done old node transit now lines lines_now → (state : AnyNode) → IsNode state old
+    → HandsOut ways state node transit now lines lines_now
 all_done ways done old node transit now lines lines_now le on state is =
     subst (λ (own : List Direction). HandsOut own state node transit now lines lines_now) (take_all done ways le) (on.handed state is)
 
@@ -120,7 +132,8 @@ nothing_put : (joined : Bool) (octets : List ℕ) → octets ≡ cond joined (oc
 nothing_put true octets = sym (append-nil octets)
 nothing_put false octets = refl
 
-pub none_done : (ways : List Direction) (node : NetworkNode) (transit : TransitData) (lines : List ReportLine) → spent_in node ≡ None → OnWay ways 0 node node transit transit lines lines
+pub none_done : (ways : List Direction) (node : NetworkNode) (transit : TransitData) (lines : List ReportLine) → spent_in node ≡ None
+    → OnWay ways 0 node node transit transit lines lines
 none_done ways node transit lines unspent = record {
   handed = λ state is. record {
     is = is;
@@ -134,7 +147,8 @@ none_done ways node transit lines unspent = record {
   waits = λ own h. h;
 }
 
-pub one_done : (ways : List Direction) (done : ℕ) (way : Direction) (old node next : NetworkNode) (transit now then_ : TransitData) (lines lines_now lines_then_ : List ReportLine)
+pub one_done : (ways : List Direction) (done : ℕ) (way : Direction) (old node next : NetworkNode) (transit now then_ : TransitData)
+    (lines lines_now lines_then_ : List ReportLine)
     → (d : Direction) → done < length ways → way ≡ get_or ways done d → OnWay ways done old node transit now lines lines_now
     → ((state : AnyNode) → IsNode state node → HandsOut (way ∷ []) state next now then_ lines_now lines_then_) → spent_in next ≡ None
     → ((over : Direction) → MayBePeer node over.kind over.to → MayBePeer next over.kind over.to)
@@ -142,8 +156,10 @@ pub one_done : (ways : List Direction) (done : ℕ) (way : Direction) (old node 
     → ((own : Core) → IsWaitingTowardRoots own (labels_in node) → IsWaitingTowardRoots own (labels_in next))
     → OnWay ways (done + 1) old next transit then_ lines lines_then_
 one_done ways done way old node next transit now then_ lines lines_now lines_then_ d lt same on handed unspent peers placed waits = record {
-  handed = λ state is. subst (λ (own : List Direction). HandsOut own state next transit then_ lines lines_then_) (sym (one_more ways done way d lt same))
-      (hands_then (take done ways) (way ∷ []) state node next transit now then_ lines lines_now lines_then_ (on.handed state is) (handed (handed_all state (take done ways)) (on.handed state is).is));
+  handed = λ state is. subst (λ (own : List Direction). HandsOut own state next transit then_ lines lines_then_)
+      (sym (one_more ways done way d lt same))
+      (hands_then (take done ways) (way ∷ []) state node next transit now then_ lines lines_now lines_then_ (on.handed state is)
+      (handed (handed_all state (take done ways)) (on.handed state is).is));
   unspent = unspent;
   peers = λ over h. peers over (on.peers over h);
   placed = λ scenario n h. placed scenario n (on.placed scenario n h);

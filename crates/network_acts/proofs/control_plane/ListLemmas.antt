@@ -11,7 +11,8 @@ pub among_kept : {X : Type 0} (test : X → Bool) (x : X) (xs : List X) → Amon
 among_kept test x [] a = absurd a
 among_kept {X} test x (y ∷ xs) a = by (test y) refl (among_kept test x xs) a
   where
-    by : (b : Bool) → test y ≡ b → (Among x (filter test xs) → Among x xs × (test x ≡ true)) → Among x (cond b (y ∷ filter test xs) (filter test xs)) → Among x (y ∷ xs) × (test x ≡ true)
+    by : (b : Bool) → test y ≡ b → (Among x (filter test xs) → Among x xs × (test x ≡ true)) → Among x (cond b (y ∷ filter test xs) (filter test xs))
+        → Among x (y ∷ xs) × (test x ≡ true)
     by true e rest (inl same) = (inl same, ap test same ∙ e)
     by true e rest (inr later) = (let r = rest later in (inr r.0, r.1))
     by false e rest later = (let r = rest later in (inr r.0, r.1))
@@ -35,11 +36,13 @@ once_kept {X} test (y ∷ xs) once = by (test y) (once_kept test xs once.1)
     by false rest = rest
 
 -- where the others give nothing, those that pass give all
-pub flat_kept : {X Y : Type 0} (test : X → Bool) (give : X → List Y) (xs : List X) → ((x : X) → test x ≡ false → give x ≡ []) → flat_map give (filter test xs) ≡ flat_map give xs
+pub flat_kept : {X Y : Type 0} (test : X → Bool) (give : X → List Y) (xs : List X) → ((x : X) → test x ≡ false → give x ≡ [])
+    → flat_map give (filter test xs) ≡ flat_map give xs
 flat_kept test give [] none = refl
 flat_kept {X} {Y} test give (y ∷ xs) none = by (test y) refl (flat_kept test give xs none)
   where
-    by : (b : Bool) → test y ≡ b → flat_map give (filter test xs) ≡ flat_map give xs → flat_map give (cond b (y ∷ filter test xs) (filter test xs)) ≡ flat_map give (y ∷ xs)
+    by : (b : Bool) → test y ≡ b → flat_map give (filter test xs) ≡ flat_map give xs
+        → flat_map give (cond b (y ∷ filter test xs) (filter test xs)) ≡ flat_map give (y ∷ xs)
     by true e rest = ap (λ (l : List Y). give y ++ l) rest
     by false e rest = rest ∙ ap (λ (l : List Y). l ++ flat_map give xs) (sym (none y e))
 
@@ -50,7 +53,8 @@ get_set [] place x within = absurd (omega (arith, within))
 get_set (y ∷ xs) zero x within = refl
 get_set (y ∷ xs) (suc place) x within = get_set xs place x (omega (arith, within))
 
-pub get_set_other : {X : Type 0} (xs : List X) (place other : ℕ) (x : X) → (other ≡ place → ⊥) → slice_get (slice_set xs place x) other ≡ slice_get xs other
+pub get_set_other : {X : Type 0} (xs : List X) (place other : ℕ) (x : X) → (other ≡ place → ⊥)
+    → slice_get (slice_set xs place x) other ≡ slice_get xs other
 get_set_other [] place other x apart = refl
 get_set_other (y ∷ xs) zero zero x apart = absurd (apart refl)
 get_set_other (y ∷ xs) zero (suc other) x apart = refl

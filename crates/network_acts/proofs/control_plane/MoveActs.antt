@@ -28,7 +28,8 @@ use Rattle.network_acts.proofs.control_plane.MoveLemmas.{end_up, move_lacks_at, 
 use Rattle.network_acts.proofs.control_plane.OwnLemmas.{acted, node_there, turn_some}
 use Rattle.network_acts.proofs.control_plane.SteadyLemmas.{run_none, run_one}
 
-module _ (over : Direction) (count : ℕ) (plane : PlaneView) (some : IsSome (IsMovable over) plane) (place : ℕ) (own : place ≡ over.to.0) (node d : NetworkNode)
+module _ (over : Direction) (count : ℕ) (plane : PlaneView) (some : IsSome (IsMovable over) plane) (place : ℕ) (own : place ≡ over.to.0)
+    (node d : NetworkNode)
     (is_node : node ≡ get_or plane.nodes place d) where
   same_at : (at : Standing) (fits : IsMovable over at) (is : IsIn at plane) → (is.nodes over.to fits.within).node ≡ node
   same_at at fits is =
@@ -53,7 +54,8 @@ module _ (over : Direction) (count : ℕ) (plane : PlaneView) (some : IsSome (Is
       subst (λ (x : NetworkNode). is_end_up over.kind (data_in x) over.from ≡ true) (same_at at fits is)
       (end_up at.scenario at.cores at.moment at.network plane is over.kind over.from over.to count fits.within fits.current fits.joined fits.up)
 
-  module _ (transit : TransitData) (takes : Takes over count plane.transit transit) (bytes : List ℕ) (are : bytes ≡ take count (octets_at plane.transit over)) (next : NetworkNode)
+  module _ (transit : TransitData) (takes : Takes over count plane.transit transit) (bytes : List ℕ)
+      (are : bytes ≡ take count (octets_at plane.transit over)) (next : NetworkNode)
       (answer : Result (Unit {0}) EdgeFault) (answers : AnswersOctets plane.core plane.clock over.kind over.from bytes node next answer) where
     abbrev middle : PlaneView
     middle = worked over.to plane next transit
@@ -63,16 +65,20 @@ module _ (over : Direction) (count : ℕ) (plane : PlaneView) (some : IsSome (Is
     bytes_in at is = are ∙ ap (take count) (sym (is.transit over))
 
     answers_in : (at : Standing) (fits : IsMovable over at) (is : IsIn at plane)
-        → AnswersOctets plane.core plane.clock over.kind over.from (take count (at.network.transit over)) (is.nodes over.to fits.within).node next answer
+        → AnswersOctets plane.core plane.clock over.kind over.from (take count (at.network.transit over)) (is.nodes over.to fits.within).node next
+        answer
     answers_in at fits is =
-        subst (λ (o : List ℕ). AnswersOctets plane.core plane.clock over.kind over.from o (is.nodes over.to fits.within).node next answer) (bytes_in at is)
+        subst (λ (o : List ℕ). AnswersOctets plane.core plane.clock over.kind over.from o (is.nodes over.to fits.within).node next answer)
+        (bytes_in at is)
         (subst (λ (x : NetworkNode). AnswersOctets plane.core plane.clock over.kind over.from bytes x next answer) (sym (same_at at fits is)) answers)
 
     made_in : (at : Standing) → IsMovable over at → IsIn at plane → answer ≡ Ok tt → (new : Behind (OctetNetwork Nodes))
         × (octet_run system at.network (octets.Move over count ∷ []) ≡ Some (record { network = new.network; puts = new.puts ++ [] }))
         × IsMidway at.scenario at.cores at.moment over.to new.puts new.network middle
     made_in at fits is e =
-        let made = move_made_at at.scenario at.cores at.moment at.network plane is over.kind over.from over.to count fits.within fits.current fits.joined fits.up transit takes next answer
+        let made =
+        move_made_at at.scenario at.cores at.moment at.network plane is over.kind over.from over.to count fits.within fits.current fits.joined
+        fits.up transit takes next answer
         (answers_in at fits is) e in
         (made.0, run_one at.network (octets.Move over count) made.0 made.1, made.2)
 
@@ -84,24 +90,29 @@ module _ (over : Direction) (count : ℕ) (plane : PlaneView) (some : IsSome (Is
         let at = some.0 in
         let fits = some.1 in
         let is = some.2 in
-        none_faulty at.scenario at.cores at.moment at.network plane is over.kind over.from over.to count fits.within fits.current fits.joined fits.up transit takes next answer (answers_in at fits is) fault e
+        none_faulty at.scenario at.cores at.moment at.network plane is over.kind over.from over.to count fits.within fits.current fits.joined fits.up
+        transit takes next answer (answers_in at fits is) fault e
 
-    pub move_acts : (new : PlaneView) (lines new_lines : List ReportLine) (result : Result (Unit {0}) NodeFault) → SettlesTaken over bytes answer middle new lines new_lines result
+    pub move_acts : (new : PlaneView) (lines new_lines : List ReportLine) (result : Result (Unit {0}) NodeFault)
+        → SettlesTaken over bytes answer middle new lines new_lines result
         → Acts (IsMovable over) same_moment (octets.Move over count ∷ []) (taken_line over count) plane new lines new_lines result
     move_acts new lines new_lines result settles = record {
       made = by result settles.answered settles.made;
       lacks = λ e at fits is. (
         run_none at.network (octets.Move over count)
-            (move_lacks_at at.scenario at.cores at.moment at.network plane is over.kind over.from over.to count fits.within fits.current fits.joined fits.up transit takes next answer (answers_in at fits is)
+            (move_lacks_at at.scenario at.cores at.moment at.network plane is over.kind over.from over.to count fits.within fits.current fits.joined
+            fits.up transit takes next answer (answers_in at fits is)
             (settles.lacks e).0),
         (settles.lacks e).1,
       );
     }
       where
         by : (r : Result (Unit {0}) NodeFault) → OnOk r (answer ≡ Ok tt)
-            → OnOk r ((scenario : Scenario) (cores : Cores) (moment : Moment) (puts : List Put) (network : OctetNetwork Nodes) → IsMidway scenario cores moment over.to puts network middle
+            → OnOk r ((scenario : Scenario) (cores : Cores) (moment : Moment) (puts : List Put) (network : OctetNetwork Nodes)
+            → IsMidway scenario cores moment over.to puts network middle
             → IsPlane scenario cores moment network new × (new_lines ≡ (lines ++ line_of over bytes ∷ []) ++ put_lines scenario puts))
-            → OnOk r ((at : Standing) → IsMovable over at → IsIn at plane → Acted at at.moment (octets.Move over count ∷ []) (taken_line over count at) lines new_lines new)
+            → OnOk r ((at : Standing) → IsMovable over at → IsIn at plane
+            → Acted at at.moment (octets.Move over count ∷ []) (taken_line over count at) lines new_lines new)
         by (Ok done) answered made = λ at fits is.
             let x = made_in at fits is answered in
             acted at at.moment (octets.Move over count ∷ []) (taken_line over count at) x.0 lines (lines ++ line_of over bytes ∷ []) new_lines new x.1

@@ -45,49 +45,64 @@ use Rattle.network_acts.proofs.control_plane.SteadyLemmas.{alone, run_one, run_s
 -- ---- streams
 
 -- messages that are taken move no stream
-taken_streams : (over : Direction) (messages : List SessionMessage) (old : OctetNetwork Nodes) (new : Behind (OctetNetwork Nodes)) → all_taken system old over messages ≡ Some new
+taken_streams : (over : Direction) (messages : List SessionMessage) (old : OctetNetwork Nodes) (new : Behind (OctetNetwork Nodes))
+    → all_taken system old over messages ≡ Some new
     → (other : Direction) → new.network.stream other ≡ old.stream other
-taken_streams over [] old new e other = ap (λ (b : Behind (OctetNetwork Nodes)). b.network.stream other) (sym (same_Some (record { network = old; puts = [] }) new e))
-taken_streams over (message ∷ more) old new e other = by (system.taken over message old.state) (λ next rest h. taken_streams over more next rest h other) e
+taken_streams over [] old new e other =
+    ap (λ (b : Behind (OctetNetwork Nodes)). b.network.stream other) (sym (same_Some (record { network = old; puts = [] }) new e))
+taken_streams over (message ∷ more) old new e other =
+    by (system.taken over message old.state) (λ next rest h. taken_streams over more next rest h other) e
   where
-    behind : (next : Behind (OctetNetwork Nodes)) → ((middle : OctetNetwork Nodes) (rest : Behind (OctetNetwork Nodes)) → all_taken system middle over more ≡ Some rest → rest.network.stream other ≡ middle.stream other)
-        → (o : Option (Behind (OctetNetwork Nodes))) → all_taken system next.network over more ≡ o → with_earlier next.puts o ≡ Some new → new.network.stream other ≡ next.network.stream other
+    behind : (next : Behind (OctetNetwork Nodes))
+        → ((middle : OctetNetwork Nodes) (rest : Behind (OctetNetwork Nodes)) → all_taken system middle over more ≡ Some rest
+        → rest.network.stream other ≡ middle.stream other)
+        → (o : Option (Behind (OctetNetwork Nodes))) → all_taken system next.network over more ≡ o → with_earlier next.puts o ≡ Some new
+        → new.network.stream other ≡ next.network.stream other
     behind next later None f h = absurd (none-some new h)
     behind next later (Some rest) f h =
-        ap (λ (b : Behind (OctetNetwork Nodes)). b.network.stream other) (sym (same_Some (record { network = rest.network; puts = next.puts ++ rest.puts }) new h)) ∙ later next.network rest f
+        ap (λ (b : Behind (OctetNetwork Nodes)). b.network.stream other)
+        (sym (same_Some (record { network = rest.network; puts = next.puts ++ rest.puts }) new h)) ∙ later next.network rest f
 
-    by : (o : Option (Stepped Nodes)) → ((middle : OctetNetwork Nodes) (rest : Behind (OctetNetwork Nodes)) → all_taken system middle over more ≡ Some rest → rest.network.stream other ≡ middle.stream other)
-        → (with_step old o >>? λ next. with_earlier next.puts (all_taken system next.network over more)) ≡ Some new → new.network.stream other ≡ old.stream other
+    by : (o : Option (Stepped Nodes)) → ((middle : OctetNetwork Nodes) (rest : Behind (OctetNetwork Nodes))
+        → all_taken system middle over more ≡ Some rest → rest.network.stream other ≡ middle.stream other)
+        → (with_step old o >>? λ next. with_earlier next.puts (all_taken system next.network over more)) ≡ Some new
+        → new.network.stream other ≡ old.stream other
     by None later h = absurd (none-some new h)
     by (Some stepped) later h =
         let next : Behind (OctetNetwork Nodes) = record { network = octets.with_octets old stepped; puts = stepped.puts } in
         behind next later (all_taken system next.network over more) refl h
 
 -- octets that are moved go to one stream
-move_streams : (over : Direction) (count : ℕ) (old : OctetNetwork Nodes) (new : Behind (OctetNetwork Nodes)) → octet_act system old (octets.Move over count) ≡ Some new
+move_streams : (over : Direction) (count : ℕ) (old : OctetNetwork Nodes) (new : Behind (OctetNetwork Nodes))
+    → octet_act system old (octets.Move over count) ≡ Some new
     → (other : Direction) → same_direction other over ≡ false → new.network.stream other ≡ old.stream other
 move_streams over count old new e other apart = by (old.joined over) e
   where
     left : OctetNetwork Nodes
     left = record old {
       transit = λ own. cond (same_direction own over) (drop count (old.transit over)) (old.transit own);
-      stream = λ own. cond (same_direction own over) (record (fed (front_of over.kind) (old.stream over) (take count (old.transit over))) { waiting = [] }) (old.stream own);
+      stream = λ own. cond (same_direction own over)
+          (record (fed (front_of over.kind) (old.stream over) (take count (old.transit over))) { waiting = [] }) (old.stream own);
     }
 
-    by : (joined : Bool) → cond joined (moved system old over count) (Some (record { network = old; puts = [] })) ≡ Some new → new.network.stream other ≡ old.stream other
+    by : (joined : Bool) → cond joined (moved system old over count) (Some (record { network = old; puts = [] })) ≡ Some new
+        → new.network.stream other ≡ old.stream other
     by false h = ap (λ (b : Behind (OctetNetwork Nodes)). b.network.stream other) (sym (same_Some (record { network = old; puts = [] }) new h))
     by true h =
         taken_streams over (fed (front_of over.kind) (old.stream over) (take count (old.transit over))).waiting left new h other
-        ∙ ap (λ (b : Bool). cond b (record (fed (front_of over.kind) (old.stream over) (take count (old.transit over))) { waiting = [] }) (old.stream other)) apart
+        ∙ ap (λ (b : Bool). cond b (record (fed (front_of over.kind) (old.stream over) (take count (old.transit over))) { waiting = [] })
+        (old.stream other)) apart
 
 -- a node that takes octets has the sessions that it had
-taking_has : (network : Nodes) (n : NodeId) (state : AnyNode) (kind : Kind) (from : NodeId) (octets : List ℕ) → HasSessions kind state → HasSessions kind (node_taking network n state kind from octets)
+taking_has : (network : Nodes) (n : NodeId) (state : AnyNode) (kind : Kind) (from : NodeId) (octets : List ℕ) → HasSessions kind state
+    → HasSessions kind (node_taking network n state kind from octets)
 taking_has network n (any.Edge state) kind from octets has = has
 taking_has network n (any.CoreNode state) kind from octets has = has
 
 -- ---- the act
 
-module _ (scenario : Scenario) (cores : Cores) (moment : Moment) (network : OctetNetwork Nodes) (plane : PlaneView) (is : IsPlane scenario cores moment network plane)
+module _ (scenario : Scenario) (cores : Cores) (moment : Moment) (network : OctetNetwork Nodes) (plane : PlaneView)
+    (is : IsPlane scenario cores moment network plane)
     (kind : Kind) (from n : NodeId) (count : ℕ) (within : n.0 < length scenario.nodes) (current : moment.late n ≡ false)
     (joined : network.joined (direction kind from n) ≡ true) (quiet : moment.rising (direction kind from n) ≡ false) where
   abbrev over : Direction
@@ -115,7 +130,8 @@ module _ (scenario : Scenario) (cores : Cores) (moment : Moment) (network : Octe
   sessions : HasSessions kind has.is.state
   sessions = has_sessions has.is.state has.node kind from has.is.is peer_may
 
-  no_fault_over : (moment' : Moment) (there : OctetNetwork Nodes) → IsSteady moment' there → there.joined over ≡ true → (there.stream over).fault ≡ None
+  no_fault_over : (moment' : Moment) (there : OctetNetwork Nodes) → IsSteady moment' there → there.joined over ≡ true
+      → (there.stream over).fault ≡ None
   no_fault_over moment' there steady j =
       (subst (λ (b : Bool). IsLine kind b (there.stream over) (there.transit over) (steady.pending over)) j (steady.lines over)).sound
 
@@ -131,21 +147,25 @@ module _ (scenario : Scenario) (cores : Cores) (moment : Moment) (network : Octe
   abbrev behind : AnyNode
   behind = node_taking network.state n has.is.state kind from octets_taken
 
-  some : (new : Behind (OctetNetwork Nodes)) → octet_act system network one ≡ Some new → IsNodeAt n new.network new.puts behind × IsElsewhere n network (rest_of network over count) new
+  some : (new : Behind (OctetNetwork Nodes)) → octet_act system network one ≡ Some new
+      → IsNodeAt n new.network new.puts behind × IsElsewhere n network (rest_of network over count) new
   some new e = move_made n from kind count network joined has.is.state has.is.at sessions calm_stream new e
 
-  steady_behind : (new : Behind (OctetNetwork Nodes)) → octet_act system network one ≡ Some new → IsElsewhere n network (rest_of network over count) new → IsSteady moment new.network
+  steady_behind : (new : Behind (OctetNetwork Nodes)) → octet_act system network one ≡ Some new
+      → IsElsewhere n network (rest_of network over count) new → IsSteady moment new.network
   steady_behind new e elsewhere =
       let ends = moves_ends network new over count e in
       steady_next moment network new.network
-      (run_stays network.state.scenario network (lines.Take kind from n octets_taken ∷ []) n (octet_run system network (one ∷ [])) (record { network = new.network; puts = new.puts ++ [] }) (run_one network one new e)
+      (run_stays network.state.scenario network (lines.Take kind from n octets_taken ∷ []) n (octet_run system network (one ∷ []))
+      (record { network = new.network; puts = new.puts ++ [] }) (run_one network one new e)
       (act_stays network.state.scenario (acts.Move kind from n count) tt (alone network) (steady_stays moment network old)))
       elsewhere.scenario
       (λ other j. old.whose other (sym (elsewhere.joined other) ∙ j))
       (λ other j still. ends other.kind other.to other.from ∙ old.up other (sym (elsewhere.joined other) ∙ j) still)
       (λ other down. by other (same_direction other over) refl (sym (ends other.kind other.to other.from) ∙ down))
     where
-      by : (other : Direction) (b : Bool) → same_direction other over ≡ b → is_end_up other.kind (network.state.node other.to) other.from ≡ false → new.network.stream other ≡ unfed
+      by : (other : Direction) (b : Bool) → same_direction other over ≡ b → is_end_up other.kind (network.state.node other.to) other.from ≡ false
+          → new.network.stream other ≡ unfed
       by other true same down =
           let up = old.up over joined quiet in
           let here = direction_is other over same in
@@ -166,26 +186,32 @@ module _ (scenario : Scenario) (cores : Cores) (moment : Moment) (network : Octe
       others = λ m apart below. is.nodes m below;
     }
 
-    module _ (node : NetworkNode) (result : Result (Unit {0}) EdgeFault) (answers : AnswersOctets plane.core plane.clock kind from octets_taken has.node node result) where
-      by_made : OnOk result (Makes plane.core plane.clock (taking kind from octets_taken) has.node node) → OnOk result (spent_in node ≡ None) → result ≡ Ok tt → IsNode behind node × (spent_in node ≡ None)
+    module _ (node : NetworkNode) (result : Result (Unit {0}) EdgeFault)
+        (answers : AnswersOctets plane.core plane.clock kind from octets_taken has.node node result) where
+      by_made : OnOk result (Makes plane.core plane.clock (taking kind from octets_taken) has.node node) → OnOk result (spent_in node ≡ None)
+          → result ≡ Ok tt → IsNode behind node × (spent_in node ≡ None)
       by_made made goes e = by result made goes e
         where
-          by : (r : Result (Unit {0}) EdgeFault) → OnOk r (Makes plane.core plane.clock (taking kind from octets_taken) has.node node) → OnOk r (spent_in node ≡ None) → r ≡ Ok tt → IsNode behind node × (spent_in node ≡ None)
+          by : (r : Result (Unit {0}) EdgeFault) → OnOk r (Makes plane.core plane.clock (taking kind from octets_taken) has.node node)
+              → OnOk r (spent_in node ≡ None) → r ≡ Ok tt → IsNode behind node × (spent_in node ≡ None)
           by (Ok done) m g f = (m network.state n stands has.is.state has.is.is, g)
           by (Err fault) m g f = absurd cc
 
       -- where the node answers Ok, the octets are moved
-      pub move_made_at : result ≡ Ok tt → (new : Behind (OctetNetwork Nodes)) × (octet_act system network one ≡ Some new) × IsMidway scenario cores moment n new.puts new.network (worked n plane node transit)
+      pub move_made_at : result ≡ Ok tt → (new : Behind (OctetNetwork Nodes)) × (octet_act system network one ≡ Some new)
+          × IsMidway scenario cores moment n new.puts new.network (worked n plane node transit)
       move_made_at e =
           let own = by_made answers.answers.made answers.answers.goes_on e in
-          turn_made scenario cores moment moment n network network (rest_of network over count) plane transit (octet_act system network one) behind some node
+          turn_made scenario cores moment moment n network network (rest_of network over count) plane transit (octet_act system network one) behind
+          some node
           is.around within base (move_lacks n from kind count network joined has.is.state has.is.at sessions calm_stream) steady_behind own.0 own.1
           (subst (λ (s : Scenario). IsPlacedAt s n node) is.around.scenario_is (answers.answers.placed network.state.scenario n has.placed))
           (answers.answers.toward own.1 (core_at network.state n) stands.known has.is.toward)
 
       pub move_lacks_at : result ≡ Err faults.NoLabel → octet_act system network one ≡ None
       move_lacks_at e =
-          turn_lacks scenario cores moment moment n network network (rest_of network over count) plane transit (octet_act system network one) behind some
+          turn_lacks scenario cores moment moment n network network (rest_of network over count) plane transit (octet_act system network one) behind
+          some
           (answers.answers.lacks e has.unspent network.state n stands has.is.state has.is.is)
 
       -- no fault of the stream can come
@@ -202,7 +228,9 @@ module _ (scenario : Scenario) (cores : Cores) (moment : Moment) (network : Octe
           own faulty = answers.taken fault e has.unspent (goes faulty) network.state n stands has.is.state has.is.is
 
           by : IsSessionFault kind from node fault → (found : Option (Behind (OctetNetwork Nodes))) → octet_act system network one ≡ found → ⊥
-          by faulty None f = goes_spent behind node (own faulty) (goes faulty) (move_lacks n from kind count network joined has.is.state has.is.at sessions calm_stream f)
+          by faulty None f =
+              goes_spent behind node (own faulty) (goes faulty)
+              (move_lacks n from kind count network joined has.is.state has.is.at sessions calm_stream f)
           by faulty (Some new) f =
               let step = some new f in
               let there = taking_has network.state n has.is.state kind from octets_taken sessions in

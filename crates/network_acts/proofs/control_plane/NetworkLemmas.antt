@@ -47,7 +47,8 @@ use Rattle.network_acts.proofs.control_plane.SteadyLemmas.{alone, steady_next, s
 -- ---- nodes
 
 -- a node of which the network keeps what is told is the same there
-at_kept : (m : NodeId) (old new : OctetNetwork Nodes) (state : AnyNode) → new.state.scenario ≡ old.state.scenario → new.state.node m ≡ old.state.node m
+at_kept : (m : NodeId) (old new : OctetNetwork Nodes) (state : AnyNode) → new.state.scenario ≡ old.state.scenario
+    → new.state.node m ≡ old.state.node m
     → ((over : Direction) → over.to ≡ m → new.stream over ≡ old.stream over) → IsNodeAt m old [] state → IsNodeAt m new [] state
 at_kept m old new (any.Edge state) scenario node streams at = record {
   node = node ∙ at.node;
@@ -63,8 +64,10 @@ at_kept m old new (any.CoreNode state) scenario node streams at = record {
   streams = λ peer. at.streams peer ∙ sym (streams (direction kinds.Ldp peer m) refl);
 }
 
-pub has_kept : (m : NodeId) (old new : OctetNetwork Nodes) (nodes new_nodes : List NetworkNode) → new.state.scenario ≡ old.state.scenario → new.state.node m ≡ old.state.node m
-    → core_at new.state m ≡ core_at old.state m → ((over : Direction) → over.to ≡ m → new.stream over ≡ old.stream over) → slice_get new_nodes m.0 ≡ slice_get nodes m.0 → HasNode old nodes m [] → HasNode new new_nodes m []
+pub has_kept : (m : NodeId) (old new : OctetNetwork Nodes) (nodes new_nodes : List NetworkNode) → new.state.scenario ≡ old.state.scenario
+    → new.state.node m ≡ old.state.node m
+    → core_at new.state m ≡ core_at old.state m → ((over : Direction) → over.to ≡ m → new.stream over ≡ old.stream over)
+    → slice_get new_nodes m.0 ≡ slice_get nodes m.0 → HasNode old nodes m [] → HasNode new new_nodes m []
 has_kept m old new nodes new_nodes scenario node known streams same own = record {
   node = own.node;
   at = same ∙ own.at;
@@ -83,12 +86,16 @@ pub first_at : (n : NodeId) (network : OctetNetwork Nodes) → network.state.nod
     → ((over : Direction) → over.to ≡ n → network.stream over ≡ unfed) → IsNodeAt n network [] (first_node network.state.scenario n)
 first_at n network node streams = by (is_edge network.state.scenario n) node
   where
-    by : (b : Bool) → network.state.node n ≡ cond b (world.Edge (edges.fresh network.state.scenario.labels)) (world.CoreNode (labels.fresh network.state.scenario.labels))
-        → IsNodeAt n network [] (cond b (any.Edge (fresh_state network.state.scenario.labels)) (any.CoreNode (fresh_core network.state.scenario.labels)))
+    by : (b : Bool) → network.state.node n ≡ cond b (world.Edge (edges.fresh network.state.scenario.labels))
+        (world.CoreNode (labels.fresh network.state.scenario.labels))
+        → IsNodeAt n network [] (cond b (any.Edge (fresh_state network.state.scenario.labels))
+        (any.CoreNode (fresh_core network.state.scenario.labels)))
     by true e = record {
       node = e;
       unspent = refl;
-      waiting = λ kind peer way. ap (λ (o : Option (List ℕ)). elim o [ None ↦ [] | Some octets ↦ octets ]) (maps.get-empty peer_cmp (record { kind = kind; peer = peer }));
+      waiting =
+          λ kind peer way. ap (λ (o : Option (List ℕ)). elim o [ None ↦ [] | Some octets ↦ octets ])
+          (maps.get-empty peer_cmp (record { kind = kind; peer = peer }));
       streams = λ kind peer.
           ap (λ (o : Option Stream). elim o [ None ↦ unfed | Some stream ↦ stream ]) (maps.get-empty peer_cmp (record { kind = kind; peer = peer }))
           ∙ sym (streams (direction kind peer n) refl);
@@ -99,11 +106,13 @@ first_at n network node streams = by (is_edge network.state.scenario n) node
       waiting = λ peer way. ap (λ (o : Option (List ℕ)). elim o [ None ↦ [] | Some octets ↦ octets ]) (maps.get-empty node_cmp peer);
       silent = λ peer. refl;
       streams = λ peer.
-          ap (λ (o : Option Stream). elim o [ None ↦ unfed | Some stream ↦ stream ]) (maps.get-empty peer_cmp (record { kind = kinds.Ldp; peer = peer }))
+          ap (λ (o : Option Stream). elim o [ None ↦ unfed | Some stream ↦ stream ])
+          (maps.get-empty peer_cmp (record { kind = kinds.Ldp; peer = peer }))
           ∙ sym (streams (direction kinds.Ldp peer n) refl);
     }
 
-pub has_first : (scenario : Scenario) (n : NodeId) (network : OctetNetwork Nodes) (nodes : List NetworkNode) (node : NetworkNode) → network.state.scenario ≡ scenario
+pub has_first : (scenario : Scenario) (n : NodeId) (network : OctetNetwork Nodes) (nodes : List NetworkNode) (node : NetworkNode)
+    → network.state.scenario ≡ scenario
     → network.state.node n ≡ fresh_node network.state.scenario n → ((over : Direction) → over.to ≡ n → network.stream over ≡ unfed)
     → slice_get nodes n.0 ≡ Some node → IsFirst scenario n node → HasNode network nodes n []
 has_first scenario n network nodes node same fresh streams at is = record {
@@ -133,25 +142,29 @@ first_true false b e = e
 -- ---- a node that begins anew: `leads` says whether a direction leads to it, `leaves` whether it leads away from it
 
 -- the streams to it are fresh, and all others are as before
-stream_anew : (leads leaves joined : Bool) (stream : Stream) → leads ≡ true → cond (leads && not (joined && not (leaves || leads))) unfed stream ≡ unfed
+stream_anew : (leads leaves joined : Bool) (stream : Stream) → leads ≡ true
+    → cond (leads && not (joined && not (leaves || leads))) unfed stream ≡ unfed
 stream_anew true true true stream e = refl
 stream_anew true true false stream e = refl
 stream_anew true false true stream e = refl
 stream_anew true false false stream e = refl
 stream_anew false leaves joined stream e = absurd (let f : true ≡ false = sym e in cc)
 
-stream_kept : (leads leaves joined : Bool) (stream : Stream) → leads ≡ false → cond (leads && not (joined && not (leaves || leads))) unfed stream ≡ stream
+stream_kept : (leads leaves joined : Bool) (stream : Stream) → leads ≡ false
+    → cond (leads && not (joined && not (leaves || leads))) unfed stream ≡ stream
 stream_kept true leaves joined stream e = absurd (let f : true ≡ false = e in cc)
 stream_kept false leaves joined stream e = refl
 
 -- an end that is down holds back nothing
-fresh_anew : (kind : Kind) (peer : NodeId) (new old : NodeState) (leads leaves joined : Bool) (stream : Stream) → (is_end_up kind old peer ≡ false → stream ≡ unfed)
+fresh_anew : (kind : Kind) (peer : NodeId) (new old : NodeState) (leads leaves joined : Bool) (stream : Stream)
+    → (is_end_up kind old peer ≡ false → stream ≡ unfed)
     → is_end_up kind (cond leads new old) peer ≡ false → cond (leads && not (joined && not (leaves || leads))) unfed stream ≡ unfed
 fresh_anew kind peer new old true leaves joined stream was down = stream_anew true leaves joined stream refl
 fresh_anew kind peer new old false leaves joined stream was down = was down
 
 -- a direction that is joined still leads to an end that is up
-up_anew : (kind : Kind) (peer : NodeId) (new old : NodeState) (leads leaves joined : Bool) → (joined && not (leaves || leads)) ≡ true → (joined ≡ true → is_end_up kind old peer ≡ true)
+up_anew : (kind : Kind) (peer : NodeId) (new old : NodeState) (leads leaves joined : Bool) → (joined && not (leaves || leads)) ≡ true
+    → (joined ≡ true → is_end_up kind old peer ≡ true)
     → is_end_up kind (cond leads new old) peer ≡ true
 up_anew kind peer new old leads leaves false e was = absurd (let f : false ≡ true = e in cc)
 up_anew kind peer new old leads true true e was = absurd (let f : false ≡ true = e in cc)
@@ -173,7 +186,8 @@ module _ (at : Standing) (plane : PlaneView) (is : IsIn at plane) where
   abbrev later : ℕ → OctetNetwork Nodes
   later ticks = with_octets network (unchanged (record network.state { clock = network.state.clock + ticks }))
 
-  pub elapsed : (ticks : ℕ) → plane.clock + ticks < 9223372036854775808 → Passes at (octets.Call (Elapse ticks) ∷ []) at.moment (record plane { clock = plane.clock + ticks })
+  pub elapsed : (ticks : ℕ) → plane.clock + ticks < 9223372036854775808
+      → Passes at (octets.Call (Elapse ticks) ∷ []) at.moment (record plane { clock = plane.clock + ticks })
   elapsed ticks small = record {
     network = later ticks;
     run = refl;
@@ -190,7 +204,8 @@ module _ (at : Standing) (plane : PlaneView) (is : IsIn at plane) where
         ways = around.ways;
         joined = around.joined;
         steady = steady_next at.moment network (later ticks)
-            (act_stays network.state.scenario (acts.Tick ticks) tt (alone network) (steady_stays at.moment network steady)) refl steady.whose steady.up steady.fresh;
+            (act_stays network.state.scenario (acts.Tick ticks) tt (alone network) (steady_stays at.moment network steady)) refl steady.whose
+            steady.up steady.fresh;
       };
       nodes = λ n within. has_kept n network (later ticks) plane.nodes plane.nodes refl refl refl (λ over e. refl) refl (is.nodes n within);
       transit = λ over. nothing_more (network.joined over) (network.transit over) ∙ is.transit over;
@@ -202,7 +217,8 @@ module _ (at : Standing) (plane : PlaneView) (is : IsIn at plane) where
   abbrev dearer : NodeId → NodeId → ℕ → OctetNetwork Nodes
   dearer a b cost = with_octets network (unchanged (record network.state { links = with_cost a b cost network.state.links }))
 
-  pub priced : (a b : NodeId) (cost : ℕ) (core : Topology) → IsCost cost → core ≡ record { nodes = plane.core.nodes; links = with_cost a b cost plane.core.links }
+  pub priced : (a b : NodeId) (cost : ℕ) (core : Topology) → IsCost cost
+      → core ≡ record { nodes = plane.core.nodes; links = with_cost a b cost plane.core.links }
       → Passes at (octets.Call (Price a b cost) ∷ []) (all_late at.moment) (record plane { core = core })
   priced a b cost core is_cost priced_is = record {
     network = dearer a b cost;
@@ -220,7 +236,8 @@ module _ (at : Standing) (plane : PlaneView) (is : IsIn at plane) where
         ways = around.ways;
         joined = around.joined;
         steady = steady_next (all_late at.moment) network (dearer a b cost)
-            (act_stays network.state.scenario (acts.SetCost a b cost) is_cost (alone network) (steady_stays at.moment network steady)) refl steady.whose steady.up steady.fresh;
+            (act_stays network.state.scenario (acts.SetCost a b cost) is_cost (alone network) (steady_stays at.moment network steady)) refl
+            steady.whose steady.up steady.fresh;
       };
       nodes = λ n within. has_kept n network (dearer a b cost) plane.nodes plane.nodes refl refl refl (λ over e. refl) refl (is.nodes n within);
       transit = λ over. nothing_more (network.joined over) (network.transit over) ∙ is.transit over;
@@ -230,12 +247,15 @@ module _ (at : Standing) (plane : PlaneView) (is : IsIn at plane) where
   -- ---- sessions
 
   abbrev without : (Direction → Bool) → OctetNetwork Nodes
-  without hit = record network { joined = λ over. network.joined over && not (hit over); transit = λ over. if hit over then [] else network.transit over }
+  without hit =
+      record network { joined = λ over. network.joined over && not (hit over); transit = λ over. if hit over then [] else network.transit over }
 
-  joined_without : (hit : Direction → Bool) (transit : TransitData) → Loses hit plane.transit transit → (over : Direction) → (network.joined over && not (hit over)) ≡ is_joined_at transit over
+  joined_without : (hit : Direction → Bool) (transit : TransitData) → Loses hit plane.transit transit → (over : Direction)
+      → (network.joined over && not (hit over)) ≡ is_joined_at transit over
   joined_without hit transit loses over = ap (λ (b : Bool). b && not (hit over)) (around.joined over) ∙ sym (loses.joined over)
 
-  transit_without : (hit : Direction → Bool) (transit : TransitData) → Loses hit plane.transit transit → (over : Direction) → cond (hit over) [] (network.transit over) ≡ octets_at transit over
+  transit_without : (hit : Direction → Bool) (transit : TransitData) → Loses hit plane.transit transit → (over : Direction)
+      → cond (hit over) [] (network.transit over) ≡ octets_at transit over
   transit_without hit transit loses over = ap (λ (l : List ℕ). cond (hit over) [] l) (is.transit over) ∙ sym (loses.octets over)
 
   pub lost : (kind : Kind) (a b : NodeId) (transit : TransitData) → Loses (is_of_session kind a b) plane.transit transit
@@ -261,7 +281,8 @@ module _ (at : Standing) (plane : PlaneView) (is : IsIn at plane) where
             (λ over joined quiet. steady.up over (first_true (network.joined over) (not (is_of_session kind a b over)) joined) quiet)
             steady.fresh;
       };
-      nodes = λ n within. has_kept n network (without (is_of_session kind a b)) plane.nodes plane.nodes refl refl refl (λ over e. refl) refl (is.nodes n within);
+      nodes = λ n within. has_kept n network (without (is_of_session kind a b)) plane.nodes plane.nodes refl refl refl (λ over e. refl) refl
+          (is.nodes n within);
       transit = transit_without (is_of_session kind a b) transit loses;
     };
   }
@@ -274,7 +295,10 @@ module _ (at : Standing) (plane : PlaneView) (is : IsIn at plane) where
 
     abbrev anew : OctetNetwork Nodes
     anew = with_octets
-        (record (without (is_at n)) { stream = λ over. if leads_to n over && not (network.joined over && not (is_at n over)) then unfed else network.stream over })
+        (record (without (is_at n)) {
+          stream = λ over. if leads_to n over
+              && not (network.joined over && not (is_at n over)) then unfed else network.stream over;
+        })
         (unchanged (with_node network.state n fresh))
 
     steady_anew : IsSteady at.moment anew
@@ -282,9 +306,11 @@ module _ (at : Standing) (plane : PlaneView) (is : IsIn at plane) where
         (act_stays network.state.scenario (acts.Restart n) tt (alone network) (steady_stays at.moment network steady)) refl
         (λ over joined. steady.whose over (first_true (network.joined over) (not (is_at n over)) joined))
         (λ over joined quiet.
-        up_anew over.kind over.from fresh (network.state.node over.to) (leads_to n over) (over.from.0 == n.0) (network.joined over) joined (λ was. steady.up over was quiet))
+        up_anew over.kind over.from fresh (network.state.node over.to) (leads_to n over) (over.from.0 == n.0) (network.joined over) joined
+        (λ was. steady.up over was quiet))
         (λ over down.
-        fresh_anew over.kind over.from fresh (network.state.node over.to) (leads_to n over) (over.from.0 == n.0) (network.joined over) (network.stream over) (steady.fresh over) down)
+        fresh_anew over.kind over.from fresh (network.state.node over.to) (leads_to n over) (over.from.0 == n.0) (network.joined over)
+        (network.stream over) (steady.fresh over) down)
 
     module _ (node : NetworkNode) (first : IsFirst at.scenario n node) (within : n.0 < length at.scenario.nodes) where
       abbrev nodes_anew : List NetworkNode
@@ -300,12 +326,14 @@ module _ (at : Standing) (plane : PlaneView) (is : IsIn at plane) where
         | inr apart ↦
             has_kept m network anew plane.nodes nodes_anew refl
             (ap (λ (b : Bool). cond b fresh (network.state.node m)) (node_apart m n apart)) refl
-            (λ over e. stream_kept (leads_to n over) (over.from.0 == n.0) (network.joined over) (network.stream over) (node_apart over.to n (λ same. apart (sym e ∙ same))))
+            (λ over e. stream_kept (leads_to n over) (over.from.0 == n.0) (network.joined over) (network.stream over)
+            (node_apart over.to n (λ same. apart (sym e ∙ same))))
             (get_set_other plane.nodes n.0 m.0 node (λ e. apart (λ i. record { 0 = e i }))) (is.nodes m below)
       ]
 
       pub restarted : (transit : TransitData) → Loses (is_at n) plane.transit transit
-          → Passes at (octets.Lose (is_at n) ∷ octets.Forget (leads_to n) ∷ octets.Call (Reset n) ∷ []) at.moment (record plane { nodes = nodes_anew; transit = transit })
+          → Passes at (octets.Lose (is_at n) ∷ octets.Forget (leads_to n) ∷ octets.Call (Reset n) ∷ []) at.moment
+          (record plane { nodes = nodes_anew; transit = transit })
       restarted transit loses = record {
         network = anew;
         run = refl;
@@ -325,23 +353,30 @@ module _ (at : Standing) (plane : PlaneView) (is : IsIn at plane) where
           };
           nodes = has_anew;
           transit = λ over.
-              nothing_more (network.joined over && not (is_at n over)) (cond (is_at n over) [] (network.transit over)) ∙ transit_without (is_at n) transit loses over;
+              nothing_more (network.joined over && not (is_at n over)) (cond (is_at n over) [] (network.transit over))
+              ∙ transit_without (is_at n) transit loses over;
         };
       }
 
 -- ---- calls
 
-pub sets_cost : (plane old : PlaneView) → plane ≡ old → (a b : NodeId) (cost : ℕ) (core : Topology) (result : Result (Unit {0}) NoMemory) → IsCost cost
+pub sets_cost : (plane old : PlaneView) → plane ≡ old → (a b : NodeId) (cost : ℕ) (core : Topology) (result : Result (Unit {0}) NoMemory)
+    → IsCost cost
     → IfOk result (λ done. core ≡ record { nodes = plane.core.nodes; links = with_cost a b cost plane.core.links })
     → OnOk result ((at : Standing) → IsIn at old → Passes at (octets.Call (Price a b cost) ∷ []) (all_late at.moment) (record plane { core = core }))
 sets_cost plane old seen a b cost core (Ok done) is_cost set = λ at is. priced at plane (subst (IsIn at) (sym seen) is) a b cost core is_cost set
 sets_cost plane old seen a b cost core (Err fault) is_cost set = tt
 
-pub restarts : (plane old : PlaneView) → plane ≡ old → (scenario : Scenario) (n : NodeId) (place : ℕ) (first node : NetworkNode) (transit : TransitData) → place ≡ n.0 → node ≡ first
-    → IsFirst scenario n first → n.0 < length scenario.nodes → Loses (is_at n) plane.transit transit → (at : Standing) → IsOf scenario at → IsIn at old
-    → Passes at (octets.Lose (is_at n) ∷ octets.Forget (leads_to n) ∷ octets.Call (Reset n) ∷ []) at.moment (record plane { nodes = slice_set plane.nodes place node; transit = transit })
+pub restarts : (plane old : PlaneView) → plane ≡ old
+    → (scenario : Scenario) (n : NodeId) (place : ℕ) (first node : NetworkNode) (transit : TransitData) → place ≡ n.0 → node ≡ first
+    → IsFirst scenario n first → n.0 < length scenario.nodes → Loses (is_at n) plane.transit transit → (at : Standing) → IsOf scenario at
+    → IsIn at old
+    → Passes at (octets.Lose (is_at n) ∷ octets.Forget (leads_to n) ∷ octets.Call (Reset n) ∷ []) at.moment
+    (record plane { nodes = slice_set plane.nodes place node; transit = transit })
 restarts plane old seen scenario n place first node transit place_is node_is is_first within loses at of is =
-    subst (λ (nodes : List NetworkNode). Passes at (octets.Lose (is_at n) ∷ octets.Forget (leads_to n) ∷ octets.Call (Reset n) ∷ []) at.moment (record plane { nodes = nodes; transit = transit }))
+    subst (λ (nodes : List NetworkNode). Passes at (octets.Lose (is_at n) ∷ octets.Forget (leads_to n) ∷ octets.Call (Reset n) ∷ []) at.moment
+    (record plane { nodes = nodes; transit = transit }))
     (λ i. slice_set plane.nodes (sym place_is i) (sym node_is i))
-    (restarted at plane (subst (IsIn at) (sym seen) is) n first (subst (λ (s : Scenario). IsFirst s n first) (sym of) is_first) (subst (λ (s : Scenario). n.0 < length s.nodes) (sym of) within)
+    (restarted at plane (subst (IsIn at) (sym seen) is) n first (subst (λ (s : Scenario). IsFirst s n first) (sym of) is_first)
+    (subst (λ (s : Scenario). n.0 < length s.nodes) (sym of) within)
     transit loses)

@@ -75,27 +75,36 @@ module _ (at : Standing) (plane : PlaneView) (is : IsIn at plane) (kind : Kind) 
     | inr f ↦ ap (λ (h : Bool). cond (h && not (network.joined over)) unfed (network.stream over)) f
   ]
 
-  steady_behind : (new : Behind (OctetNetwork Nodes)) → octet_act system base one ≡ Some new → IsElsewhere a base network.transit new → IsSteady at.moment new.network
+  steady_behind : (new : Behind (OctetNetwork Nodes)) → octet_act system base one ≡ Some new → IsElsewhere a base network.transit new
+      → IsSteady at.moment new.network
   steady_behind new e elsewhere =
       let old : IsSteady at.moment network = is.around.steady in
       let streams = call_streams base (Own a (Noticed kind b)) new e in
       let ends = calls_ends base new a (Noticed kind b) e (notice_has a base kind b) in
       steady_next at.moment network new.network
-      (run_stays network.state.scenario network [] a (octet_run system network (forget ∷ one ∷ [])) (record { network = new.network; puts = new.puts ++ [] })
+      (run_stays network.state.scenario network [] a (octet_run system network (forget ∷ one ∷ []))
+      (record { network = new.network; puts = new.puts ++ [] })
       (run_two network forget one (record { network = base; puts = [] }) new refl e)
-      (act_stays network.state.scenario (acts.Notice kind a b) (subst (λ (s : Scenario). a.0 < length s.nodes) (sym is.around.scenario_is) lost.within) (alone network) (steady_stays at.moment network old)))
+      (act_stays network.state.scenario (acts.Notice kind a b)
+      (subst (λ (s : Scenario). a.0 < length s.nodes) (sym is.around.scenario_is) lost.within) (alone network)
+      (steady_stays at.moment network old)))
       elsewhere.scenario
       (λ over j. old.whose over (sym (elsewhere.joined over) ∙ j))
       (λ over j quiet.
-      end_cases (is_end_up over.kind (new.network.state.node over.to) over.from ≡ true) ((over.to.0 == a.0) && (same_kind kind over.kind && (b.0 == over.from.0))) false
-      (is_end_up over.kind (network.state.node over.to) over.from) (is_end_up over.kind (new.network.state.node over.to) over.from) (ends over.kind over.to over.from)
-      (λ here same. absurd (let f : true ≡ false = sym j ∙ (elsewhere.joined over ∙ (ap network.joined (here_is a kind b over here) ∙ lost.apart)) in cc))
+      end_cases (is_end_up over.kind (new.network.state.node over.to) over.from ≡ true)
+      ((over.to.0 == a.0) && (same_kind kind over.kind && (b.0 == over.from.0))) false
+      (is_end_up over.kind (network.state.node over.to) over.from) (is_end_up over.kind (new.network.state.node over.to) over.from)
+      (ends over.kind over.to over.from)
+      (λ here same. absurd (let f : true ≡ false = sym j ∙ (elsewhere.joined over ∙ (ap network.joined (here_is a kind b over here) ∙ lost.apart)) in
+      cc))
       (λ other same. same ∙ old.up over (sym (elsewhere.joined over) ∙ j) quiet))
       (λ over down.
       end_cases (new.network.stream over ≡ unfed) ((over.to.0 == a.0) && (same_kind kind over.kind && (b.0 == over.from.0))) false
-      (is_end_up over.kind (network.state.node over.to) over.from) (is_end_up over.kind (new.network.state.node over.to) over.from) (ends over.kind over.to over.from)
+      (is_end_up over.kind (network.state.node over.to) over.from) (is_end_up over.kind (new.network.state.node over.to) over.from)
+      (ends over.kind over.to over.from)
       (λ here same. streams over ∙ (ap forgotten (here_is a kind b over here) ∙ forgotten_there))
-      (λ other same. streams over ∙ still_fresh (is_from_peer kind a b over && not (network.joined over)) (network.stream over) (old.fresh over (sym same ∙ down))))
+      (λ other same. streams over ∙ still_fresh (is_from_peer kind a b over && not (network.joined over)) (network.stream over)
+      (old.fresh over (sym same ∙ down))))
 
   pub notice_begins : Begins at plane a (Noticed kind b) (forget ∷ one ∷ []) at.moment plane.transit
   notice_begins = record {
@@ -110,7 +119,8 @@ module _ (at : Standing) (plane : PlaneView) (is : IsIn at plane) (kind : Kind) 
     others = λ over apart. kept_elsewhere over (λ e. apart (ap (λ (d : Direction). d.to) e));
     streams = λ own peer none.
         kept_elsewhere (direction own peer a)
-        (λ e. (let f : true ≡ false = sym (session_itself kind b) ∙ subst (λ (d : Direction). begins (Noticed kind b) d.kind d.from ≡ false) e none in cc));
+        (λ e. (let f : true ≡ false = sym (session_itself kind b) ∙ subst (λ (d : Direction). begins (Noticed kind b) d.kind d.from ≡ false) e none in
+        cc));
     begun = λ own peer e. ap forgotten (session_is a kind b own peer e) ∙ forgotten_there;
     runs = λ new e. run_two network forget one (record { network = base; puts = [] }) new refl e;
     lacks = λ e. none_two network forget one (record { network = base; puts = [] }) refl e;

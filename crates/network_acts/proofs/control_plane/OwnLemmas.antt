@@ -55,9 +55,11 @@ edge_or None = false
 edge_or (Some node) = node.edge
 
 -- a session of the scenario is one that the node may have
-pub may_be : (scenario : Scenario) (n : NodeId) (node : NetworkNode) → IsPlacedAt scenario n node → (kind : Kind) (peer : NodeId) → IsWay scenario (direction kind n peer) → MayBePeer node kind peer
+pub may_be : (scenario : Scenario) (n : NodeId) (node : NetworkNode) → IsPlacedAt scenario n node → (kind : Kind) (peer : NodeId)
+    → IsWay scenario (direction kind n peer) → MayBePeer node kind peer
 may_be scenario n (nodes.Edge edge) placed kinds.Bgp peer way =
-    subst (λ (h : Home). Among peer (peers_of h)) (sym placed.0) (let h = way_has scenario kinds.Bgp n peer way in is_peer scenario n peer h.1 (λ e. h.2 (ap (λ (x : NodeId). x.0) (sym e))))
+    subst (λ (h : Home). Among peer (peers_of h)) (sym placed.0)
+    (let h = way_has scenario kinds.Bgp n peer way in is_peer scenario n peer h.1 (λ e. h.2 (ap (λ (x : NodeId). x.0) (sym e))))
 may_be scenario n (nodes.Edge edge) placed kinds.Ldp peer way = tt
 may_be scenario n (nodes.CoreNode core) placed kinds.Ldp peer way = refl
 may_be scenario n (nodes.CoreNode core) placed kinds.Bgp peer way =
@@ -67,13 +69,18 @@ may_be scenario n (nodes.CoreNode core) placed kinds.Bgp peer way =
 -- ---- a node behind its call
 
 -- a call that begins no stream is no raise over BGP
-pub calm_call : (n : NodeId) (network : OctetNetwork Nodes) (call : Call) → ((kind : Kind) (peer : NodeId) → begins call kind peer ≡ false) → HasCall n network call
-calm_call n network call calm peer e = absurd (let t : true ≡ false = sym (node_itself peer peer refl) ∙ (ap (λ (c : Call). begins c kinds.Bgp peer) (sym e) ∙ calm kinds.Bgp peer) in cc)
+pub calm_call : (n : NodeId) (network : OctetNetwork Nodes) (call : Call) → ((kind : Kind) (peer : NodeId) → begins call kind peer ≡ false)
+    → HasCall n network call
+calm_call n network call calm peer e =
+    absurd (let t : true ≡ false = sym (node_itself peer peer refl) ∙ (ap (λ (c : Call). begins c kinds.Bgp peer) (sym e) ∙ calm kinds.Bgp peer) in
+    cc)
 
 -- ---- the act
 
-module _ (scenario : Scenario) (cores : Cores) (moment : Moment) (n : NodeId) (network : OctetNetwork Nodes) (plane : PlaneView) (is : IsPlane scenario cores moment network plane)
-    (within : n.0 < length scenario.nodes) (current : moment.late n ≡ false) (call : Call) (calm : (kind : Kind) (peer : NodeId) → begins call kind peer ≡ false) (sound : IsSoundCall call) where
+module _ (scenario : Scenario) (cores : Cores) (moment : Moment) (n : NodeId) (network : OctetNetwork Nodes) (plane : PlaneView)
+    (is : IsPlane scenario cores moment network plane)
+    (within : n.0 < length scenario.nodes) (current : moment.late n ≡ false) (call : Call)
+    (calm : (kind : Kind) (peer : NodeId) → begins call kind peer ≡ false) (sound : IsSoundCall call) where
   abbrev has : HasNode network plane.nodes n []
   has = is.nodes n within
 
@@ -94,41 +101,52 @@ module _ (scenario : Scenario) (cores : Cores) (moment : Moment) (n : NodeId) (n
       (λ over j quiet. ends over.kind over.to over.from ∙ old.up over (sym (joined over) ∙ j) quiet)
       (λ over down. call_streams network (Own n call) new e over ∙ old.fresh over (sym (ends over.kind over.to over.from) ∙ down))
 
-  module _ (node : NetworkNode) (result : Result (Unit {0}) EdgeFault) (answers : Answers plane.core plane.clock (after call) has.node node result) where
-    by_made : OnOk result ((network' : Nodes) (m : NodeId) → Stands network' m plane.core plane.clock has.node → (state : AnyNode) → IsNode state has.node → IsNode (node_after network' m state call) node)
-        → OnOk result (spent_in node ≡ None) → result ≡ Ok tt → IsNode (node_after network.state n has.is.state call) node × (spent_in node ≡ None)
-    by_made made goes e = by result made goes e
-      where
-        by : (r : Result (Unit {0}) EdgeFault) → OnOk r ((network' : Nodes) (m : NodeId) → Stands network' m plane.core plane.clock has.node → (state : AnyNode) → IsNode state has.node → IsNode (node_after network' m state call) node)
-            → OnOk r (spent_in node ≡ None) → r ≡ Ok tt → IsNode (node_after network.state n has.is.state call) node × (spent_in node ≡ None)
-        by (Ok done) m g f = (m network.state n stands has.is.state has.is.is, g)
-        by (Err fault) m g f = absurd cc
+  module _ (node : NetworkNode) (result : Result (Unit {0}) EdgeFault) (answers : Answers plane.core plane.clock (after call) has.node node result)
+    where
+      by_made : OnOk result ((network' : Nodes) (m : NodeId) → Stands network' m plane.core plane.clock has.node → (state : AnyNode)
+          → IsNode state has.node → IsNode (node_after network' m state call) node)
+          → OnOk result (spent_in node ≡ None) → result ≡ Ok tt → IsNode (node_after network.state n has.is.state call) node × (spent_in node ≡ None)
+      by_made made goes e = by result made goes e
+        where
+          by : (r : Result (Unit {0}) EdgeFault) → OnOk r
+              ((network' : Nodes) (m : NodeId) → Stands network' m plane.core plane.clock has.node → (state : AnyNode) → IsNode state has.node
+              → IsNode (node_after network' m state call) node)
+              → OnOk r (spent_in node ≡ None) → r ≡ Ok tt → IsNode (node_after network.state n has.is.state call) node × (spent_in node ≡ None)
+          by (Ok done) m g f = (m network.state n stands has.is.state has.is.is, g)
+          by (Err fault) m g f = absurd cc
 
-    some : (new : Behind (OctetNetwork Nodes)) → octet_act system network own ≡ Some new → IsNodeAt n new.network new.puts (node_after network.state n has.is.state call) × IsElsewhere n network network.transit new
-    some new f = call_made n network has.is.state call (before_calm n network call has.is.state calm has.is.at) new f
+      some : (new : Behind (OctetNetwork Nodes)) → octet_act system network own ≡ Some new
+          → IsNodeAt n new.network new.puts (node_after network.state n has.is.state call) × IsElsewhere n network network.transit new
+      some new f = call_made n network has.is.state call (before_calm n network call has.is.state calm has.is.at) new f
 
-    -- where the node answers Ok, the act is made
-    pub own_made : result ≡ Ok tt → (new : Behind (OctetNetwork Nodes)) × (octet_act system network own ≡ Some new) × IsMidway scenario cores moment n new.puts new.network (worked n plane node plane.transit)
-    own_made e =
-        let behind = by_made answers.made answers.goes_on e in
-        turn_made scenario cores moment moment n network network network.transit plane plane.transit (octet_act system network own) (node_after network.state n has.is.state call) some node
-        is.around within (same_base scenario cores moment n network plane is)
-        (call_lacks n network has.is.state call (before_calm n network call has.is.state calm has.is.at)) (λ new f elsewhere. steady_behind new f elsewhere.scenario elsewhere.joined) behind.0 behind.1
-        (subst (λ (s : Scenario). IsPlacedAt s n node) is.around.scenario_is (answers.placed network.state.scenario n has.placed))
-        (answers.toward behind.1 (core_at network.state n) stands.known has.is.toward)
+      -- where the node answers Ok, the act is made
+      pub own_made : result ≡ Ok tt → (new : Behind (OctetNetwork Nodes)) × (octet_act system network own ≡ Some new)
+          × IsMidway scenario cores moment n new.puts new.network (worked n plane node plane.transit)
+      own_made e =
+          let behind = by_made answers.made answers.goes_on e in
+          turn_made scenario cores moment moment n network network network.transit plane plane.transit (octet_act system network own)
+          (node_after network.state n has.is.state call) some node
+          is.around within (same_base scenario cores moment n network plane is)
+          (call_lacks n network has.is.state call (before_calm n network call has.is.state calm has.is.at))
+          (λ new f elsewhere. steady_behind new f elsewhere.scenario elsewhere.joined) behind.0 behind.1
+          (subst (λ (s : Scenario). IsPlacedAt s n node) is.around.scenario_is (answers.placed network.state.scenario n has.placed))
+          (answers.toward behind.1 (core_at network.state n) stands.known has.is.toward)
 
-    -- where it lacks a label, so does the network
-    pub own_lacks : result ≡ Err faults.NoLabel → octet_act system network own ≡ None
-    own_lacks e =
-        turn_lacks scenario cores moment moment n network network network.transit plane plane.transit (octet_act system network own) (node_after network.state n has.is.state call) some
-        (answers.lacks e has.unspent network.state n stands has.is.state has.is.is)
+      -- where it lacks a label, so does the network
+      pub own_lacks : result ≡ Err faults.NoLabel → octet_act system network own ≡ None
+      own_lacks e =
+          turn_lacks scenario cores moment moment n network network network.transit plane plane.transit (octet_act system network own)
+          (node_after network.state n has.is.state call) some
+          (answers.lacks e has.unspent network.state n stands has.is.state has.is.is)
 
 -- ---- what the plane leaves and writes
 
 -- the lines of an act whose node handed out what it put
-pub acted : (at : Standing) (moment : Moment) (acts : List (OctetAct NodeCall)) (first : List ReportLine) (before : Behind (OctetNetwork Nodes)) (lines own new_lines : List ReportLine) (new : PlaneView)
+pub acted : (at : Standing) (moment : Moment) (acts : List (OctetAct NodeCall)) (first : List ReportLine) (before : Behind (OctetNetwork Nodes))
+    (lines own new_lines : List ReportLine) (new : PlaneView)
     → octet_run system at.network acts ≡ Some (record { network = before.network; puts = before.puts ++ [] }) → own ≡ lines ++ first
-    → IsPlane at.scenario at.cores moment before.network new × (new_lines ≡ own ++ put_lines at.scenario before.puts) → Acted at moment acts first lines new_lines new
+    → IsPlane at.scenario at.cores moment before.network new × (new_lines ≡ own ++ put_lines at.scenario before.puts)
+    → Acted at moment acts first lines new_lines new
 acted at moment acts first before lines told new_lines new run told_is made = record {
   new = record { network = before.network; puts = before.puts ++ [] };
   run = run;
@@ -141,7 +159,8 @@ acted at moment acts first before lines told new_lines new run told_is made = re
 }
 
 -- What a plane does whose node's step was midway where the node answered Ok, and which has settled.
-module _ (Fits : Standing → Type 0) (change : Moment → Moment) (acts : List (OctetAct NodeCall)) (first : Standing → List ReportLine) (n : NodeId) (plane middle : PlaneView)
+module _ (Fits : Standing → Type 0) (change : Moment → Moment) (acts : List (OctetAct NodeCall)) (first : Standing → List ReportLine) (n : NodeId)
+    (plane middle : PlaneView)
     (answer : Result (Unit {0}) EdgeFault)
     (made_in : (at : Standing) → Fits at → IsIn at plane → answer ≡ Ok tt → (new : Behind (OctetNetwork Nodes))
     × (octet_run system at.network acts ≡ Some (record { network = new.network; puts = new.puts ++ [] }))
@@ -155,7 +174,8 @@ module _ (Fits : Standing → Type 0) (change : Moment → Moment) (acts : List 
       by (Err fault) e = tt
 
   pub turn_acts : ((at : Standing) → Fits at → IsIn at plane → answer ≡ Err faults.NoLabel → octet_run system at.network acts ≡ None)
-      → (new : PlaneView) (lines new_lines : List ReportLine) (result : Result (Unit {0}) NodeFault) → ((at : Standing) → first at ≡ []) → Settles n answer middle new lines new_lines result
+      → (new : PlaneView) (lines new_lines : List ReportLine) (result : Result (Unit {0}) NodeFault) → ((at : Standing) → first at ≡ [])
+      → Settles n answer middle new lines new_lines result
       → Acts Fits change acts first plane new lines new_lines result
   turn_acts lacks_in new lines new_lines result none settles = record {
     made = by result settles.answered settles.made;
@@ -163,41 +183,52 @@ module _ (Fits : Standing → Type 0) (change : Moment → Moment) (acts : List 
   }
     where
       by : (r : Result (Unit {0}) NodeFault) → OnOk r (answer ≡ Ok tt)
-          → OnOk r ((scenario : Scenario) (cores : Cores) (moment : Moment) (puts : List Put) (network : OctetNetwork Nodes) → IsMidway scenario cores moment n puts network middle
+          → OnOk r ((scenario : Scenario) (cores : Cores) (moment : Moment) (puts : List Put) (network : OctetNetwork Nodes)
+          → IsMidway scenario cores moment n puts network middle
           → IsPlane scenario cores moment network new × (new_lines ≡ lines ++ put_lines scenario puts))
           → OnOk r ((at : Standing) → Fits at → IsIn at plane → Acted at (change at.moment) acts (first at) lines new_lines new)
       by (Ok done) answered made = λ at fits is.
           let x = made_in at fits is answered in
-          acted at (change at.moment) acts (first at) x.0 lines lines new_lines new x.1 (sym (append-nil lines) ∙ ap (λ (l : List ReportLine). lines ++ l) (sym (none at)))
+          acted at (change at.moment) acts (first at) x.0 lines lines new_lines new x.1
+          (sym (append-nil lines) ∙ ap (λ (l : List ReportLine). lines ++ l) (sym (none at)))
           (made at.scenario at.cores (change at.moment) x.0.puts x.0.network x.2)
       by (Err halt) answered made = tt
 
-module _ (plane : PlaneView) (n : NodeId) (call : Call) (calm : (kind : Kind) (peer : NodeId) → begins call kind peer ≡ false) (sound : IsSoundCall call) (old node : NetworkNode)
-    (place : slice_get plane.nodes n.0 ≡ Some old) (answer : Result (Unit {0}) EdgeFault) (answers : Answers plane.core plane.clock (after call) old node answer) where
+module _ (plane : PlaneView) (n : NodeId) (call : Call) (calm : (kind : Kind) (peer : NodeId) → begins call kind peer ≡ false)
+    (sound : IsSoundCall call) (old node : NetworkNode)
+    (place : slice_get plane.nodes n.0 ≡ Some old) (answer : Result (Unit {0}) EdgeFault)
+    (answers : Answers plane.core plane.clock (after call) old node answer) where
   answers_in : (at : Standing) → (has : HasNode at.network plane.nodes n []) → Answers plane.core plane.clock (after call) has.node node answer
-  answers_in at has = subst (λ (o : NetworkNode). Answers plane.core plane.clock (after call) o node answer) (same_Some old has.node (sym place ∙ has.at)) answers
+  answers_in at has =
+      subst (λ (o : NetworkNode). Answers plane.core plane.clock (after call) o node answer) (same_Some old has.node (sym place ∙ has.at)) answers
 
   own_made_in : (at : Standing) → IsCurrent n at → IsIn at plane → answer ≡ Ok tt → (new : Behind (OctetNetwork Nodes))
       × (octet_run system at.network (octets.Call (Own n call) ∷ []) ≡ Some (record { network = new.network; puts = new.puts ++ [] }))
       × IsMidway at.scenario at.cores at.moment n new.puts new.network (worked n plane node plane.transit)
   own_made_in at fits is e =
-      let made = own_made at.scenario at.cores at.moment n at.network plane is fits.within fits.current call calm sound node answer (answers_in at (is.nodes n fits.within)) e in
+      let made =
+      own_made at.scenario at.cores at.moment n at.network plane is fits.within fits.current call calm sound node answer
+      (answers_in at (is.nodes n fits.within)) e in
       (made.0, run_one at.network (octets.Call (Own n call)) made.0 made.1, made.2)
 
   pub own_some : IsSome (IsCurrent n) plane → OnOk answer (IsSomeMidway n (worked n plane node plane.transit))
-  own_some = turn_some (IsCurrent n) same_moment (octets.Call (Own n call) ∷ []) no_lines n plane (worked n plane node plane.transit) answer own_made_in
+  own_some =
+      turn_some (IsCurrent n) same_moment (octets.Call (Own n call) ∷ []) no_lines n plane (worked n plane node plane.transit) answer own_made_in
 
-  pub own_acts : (new : PlaneView) (lines new_lines : List ReportLine) (result : Result (Unit {0}) NodeFault) → Settles n answer (worked n plane node plane.transit) new lines new_lines result
+  pub own_acts : (new : PlaneView) (lines new_lines : List ReportLine) (result : Result (Unit {0}) NodeFault)
+      → Settles n answer (worked n plane node plane.transit) new lines new_lines result
       → Acts (IsCurrent n) same_moment (octets.Call (Own n call) ∷ []) no_lines plane new lines new_lines result
   own_acts new lines new_lines result settles =
       turn_acts (IsCurrent n) same_moment (octets.Call (Own n call) ∷ []) no_lines n plane (worked n plane node plane.transit) answer own_made_in
       (λ at fits is e. run_none at.network (octets.Call (Own n call))
-      (own_lacks at.scenario at.cores at.moment n at.network plane is fits.within fits.current call calm sound node answer (answers_in at (is.nodes n fits.within)) e))
+      (own_lacks at.scenario at.cores at.moment n at.network plane is fits.within fits.current call calm sound node answer
+      (answers_in at (is.nodes n fits.within)) e))
       new lines new_lines result (λ at. refl) settles
 
 -- ---- the node at a place
 
-module _ (Fits : Standing → Type 0) (n : NodeId) (below : (at : Standing) → Fits at → n.0 < length at.scenario.nodes) (plane : PlaneView) (some : IsSome Fits plane) (place : ℕ)
+module _ (Fits : Standing → Type 0) (n : NodeId) (below : (at : Standing) → Fits at → n.0 < length at.scenario.nodes) (plane : PlaneView)
+    (some : IsSome Fits plane) (place : ℕ)
     (own : place ≡ n.0) (node d : NetworkNode) (is : node ≡ get_or plane.nodes place d) where
   -- it is the node of that number
   pub node_there : (at : Standing) → Fits at → IsIn at plane → slice_get plane.nodes n.0 ≡ Some node
@@ -215,4 +246,5 @@ module _ (Fits : Standing → Type 0) (n : NodeId) (below : (at : Standing) → 
       let has = some.2.nodes n (below at some.1) in
       let same : has.node ≡ node = same_Some has.node node (sym has.at ∙ node_here) in
       ap (λ (t : Topology). t.nodes) some.2.around.core
-      ∙ (counted at.scenario n has.node (subst (λ (s : Scenario). IsPlacedAt s n has.node) some.2.around.scenario_is has.placed) ∙ ap count_around same)
+      ∙ (counted at.scenario n has.node (subst (λ (s : Scenario). IsPlacedAt s n has.node) some.2.around.scenario_is has.placed)
+      ∙ ap count_around same)

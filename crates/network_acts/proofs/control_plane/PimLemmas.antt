@@ -65,7 +65,8 @@ module _ (core : Topology) (now : ℕ) (iface : IfaceId) (octets : List ℕ) (me
   abbrev Row : Result (Unit {0}) EdgeFault → NetworkNode → NetworkNode → Type 0
   Row result = OfEdges (λ old new. AnswersPim core now iface octets old new result)
 
-  pub pim_answers : (result : Result (Unit {0}) EdgeFault) (old new : NetworkNode) → Row result old new → Answers core now (after (Pim iface message)) old new result
+  pub pim_answers : (result : Result (Unit {0}) EdgeFault) (old new : NetworkNode) → Row result old new
+      → Answers core now (after (Pim iface message)) old new result
   pim_answers result (nodes.Edge old) (nodes.Edge new) row = edge_call core now (Pim iface message) old new result (row.answers message spelled)
   pim_answers result (nodes.Edge old) (nodes.CoreNode new) row = absurd row
   pim_answers result (nodes.CoreNode old) new row = absurd row
@@ -78,16 +79,20 @@ module _ (core : Topology) (now : ℕ) (iface : IfaceId) (octets : List ℕ) (me
         → refused_by (is_ours (home_of edge).scenario iface message) (is_over edge now iface message) ≡ told
     refused_as edge told e = ap (refusal edge now iface) (sym spelled) ∙ e
 
-    pub pim_room : (old new : NetworkNode) → IsPlacedAt scenario n old → Row result old new → spent_in old ≡ None → OnTaken result (lacks_entry_room iface message now (control_of (data_in old)) ≡ false)
+    pub pim_room : (old new : NetworkNode) → IsPlacedAt scenario n old → Row result old new → spent_in old ≡ None
+        → OnTaken result (lacks_entry_room iface message now (control_of (data_in old)) ≡ false)
     pim_room (nodes.Edge old) (nodes.Edge new) placed row unspent =
-        on_taken result (λ read. not_over (is_ours (home_of old).scenario iface message) (is_over old now iface message) (ours_at old placed) (refused_as old None read.2)) (row.made unspent)
+        on_taken result (λ read. not_over (is_ours (home_of old).scenario iface message) (is_over old now iface message) (ours_at old placed)
+        (refused_as old None read.2)) (row.made unspent)
     pim_room (nodes.Edge old) (nodes.CoreNode new) placed row unspent = absurd row
     pim_room (nodes.CoreNode old) new placed row unspent = absurd row
 
-    pub pim_refused : (old new : NetworkNode) → IsPlacedAt scenario n old → Row result old new → result ≡ Err faults.Full → (lacks_entry_room iface message now (control_of (data_in old)) ≡ true) × (new ≡ old)
+    pub pim_refused : (old new : NetworkNode) → IsPlacedAt scenario n old → Row result old new → result ≡ Err faults.Full
+        → (lacks_entry_room iface message now (control_of (data_in old)) ≡ true) × (new ≡ old)
     pim_refused (nodes.Edge old) (nodes.Edge new) placed row e =
         let refused = row.refused faults.Full e refl in (
-          over_full (is_ours (home_of old).scenario iface message) (is_over old now iface message) (ours_at old placed) (refused_as old (Some faults.Full) refused.0),
+          over_full (is_ours (home_of old).scenario iface message) (is_over old now iface message) (ours_at old placed)
+              (refused_as old (Some faults.Full) refused.0),
           ap (λ (v : EdgeView). nodes.Edge v) refused.1,
         )
     pim_refused (nodes.Edge old) (nodes.CoreNode new) placed row e = absurd row
@@ -96,10 +101,14 @@ module _ (core : Topology) (now : ℕ) (iface : IfaceId) (octets : List ℕ) (me
     pub pim_only : (old new : NetworkNode) → IsPlacedAt scenario n old → Row result old new → IsOneOf (faults.Full ∷ []) result
     pim_only (nodes.Edge old) (nodes.Edge new) placed row = λ fault e. by fault e (row.refused fault e)
       where
-        full : (fault : EdgeFault) → refusal old now iface (decoded octets) ≡ Some fault → Among fault (faults.NoLabel ∷ faults.NoMemory ∷ faults.Full ∷ [])
-        full fault e = inr (inr (inl (only_full (is_ours (home_of old).scenario iface message) (is_over old now iface message) fault (ours_at old placed) (refused_as old (Some fault) e))))
+        full : (fault : EdgeFault) → refusal old now iface (decoded octets) ≡ Some fault
+            → Among fault (faults.NoLabel ∷ faults.NoMemory ∷ faults.Full ∷ [])
+        full fault e =
+            inr (inr (inl (only_full (is_ours (home_of old).scenario iface message) (is_over old now iface message) fault (ours_at old placed)
+            (refused_as old (Some fault) e))))
 
-        by : (fault : EdgeFault) → result ≡ Err fault → (spent_by fault ≡ None → (refusal old now iface (decoded octets) ≡ Some fault) × (new ≡ old)) → Among fault (faults.NoLabel ∷ faults.NoMemory ∷ faults.Full ∷ [])
+        by : (fault : EdgeFault) → result ≡ Err fault → (spent_by fault ≡ None → (refusal old now iface (decoded octets) ≡ Some fault) × (new ≡ old))
+            → Among fault (faults.NoLabel ∷ faults.NoMemory ∷ faults.Full ∷ [])
         by faults.NoLabel e refused = inl refl
         by faults.NoMemory e refused = inr (inl refl)
         by faults.Full e refused = full faults.Full (refused refl).0

@@ -29,8 +29,11 @@ set_placed scenario nodes place node stays placed = record {
         → (own : NetworkNode) × (slice_get (slice_set nodes place node) m.0 ≡ Some own) × IsPlacedAt scenario m own
     by m (own, at, is) true e =
         let same : m.0 ≡ place = eqb-true m.0 place e in
-        let here : place < length nodes = subst (λ (k : ℕ). k < length nodes) same (slice_get_within nodes m.0 own at) in
-        (node, subst (λ (k : ℕ). slice_get (slice_set nodes place node) k ≡ Some node) (sym same) (get_set nodes place node here), stays m same own at is)
+        let here : place < length nodes = subst (λ (k : ℕ). k < length nodes) same (slice_get_within nodes m.0 own at) in (
+          node,
+          subst (λ (k : ℕ). slice_get (slice_set nodes place node) k ≡ Some node) (sym same) (get_set nodes place node here),
+          stays m same own at is,
+        )
     by m (own, at, is) false e =
         (own, get_set_other nodes place m.0 node (λ same. (let t : true ≡ false = sym (eq-eqb m.0 place same) ∙ e in cc)) ∙ at, is)
 
@@ -58,11 +61,13 @@ pub no_change : (plane : PlaneView) → KeepsPlaces plane plane
 no_change plane = record { keeps = λ scenario placed. placed }
 
 -- the node of that number begins anew
-pub anew_placed : (plane now : PlaneView) → plane ≡ now → (scenario : Scenario) (n : NodeId) (place : ℕ) (first node : NetworkNode) → place ≡ n.0 → node ≡ first → IsPlacedAt scenario n first
+pub anew_placed : (plane now : PlaneView) → plane ≡ now → (scenario : Scenario) (n : NodeId) (place : ℕ) (first node : NetworkNode) → place ≡ n.0
+    → node ≡ first → IsPlacedAt scenario n first
     → ArePlaced scenario now.nodes → ArePlaced scenario (slice_set plane.nodes place node)
 anew_placed plane now seen scenario n place first node place_is node_is is placed =
     set_placed scenario plane.nodes place node
-    (λ m same own at was. subst (λ (k : NodeId). IsPlacedAt scenario k node) (sym (one_node m n (same ∙ place_is))) (subst (IsPlacedAt scenario n) (sym node_is) is))
+    (λ m same own at was. subst (λ (k : NodeId). IsPlacedAt scenario k node) (sym (one_node m n (same ∙ place_is)))
+    (subst (IsPlacedAt scenario n) (sym node_is) is))
     (subst (λ (p : PlaneView). ArePlaced scenario p.nodes) (sym seen) placed)
   where
     one_node : (a b : NodeId) → a.0 ≡ b.0 → a ≡ b

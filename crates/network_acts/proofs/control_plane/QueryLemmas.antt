@@ -45,14 +45,16 @@ use Rattle.network_acts.proofs.control_plane.ListLemmas.{found}
 -- ---- nodes
 
 -- the node at a place of the plane is that of the network
-pub there : (at : Standing) (n : NodeId) (plane : PlaneView) (node : NetworkNode) → IsWithin n at → IsIn at plane → slice_get plane.nodes n.0 ≡ Some node → IsNodeThere at n node
+pub there : (at : Standing) (n : NodeId) (plane : PlaneView) (node : NetworkNode) → IsWithin n at → IsIn at plane
+    → slice_get plane.nodes n.0 ≡ Some node → IsNodeThere at n node
 there at n plane node within is place =
     let has : HasNode at.network plane.nodes n [] = is.nodes n within in
     subst (IsNodeThere at n) (same_Some has.node node (sym has.at ∙ place))
     (record { placed = has.placed; unspent = has.unspent; keeps = data_same n at.network [] has.node has.is; is = has.is })
 
 -- what stands at a place of the plane, if anything does, is the node of that number
-pub found_at : (own now : PlaneView) → own ≡ now → (n : NodeId) (nodes : List NetworkNode) → nodes ≡ own.nodes → (place : ℕ) → place ≡ n.0 → (r : Option (Bor NetworkNode)) → IsItemAt nodes place r
+pub found_at : (own now : PlaneView) → own ≡ now → (n : NodeId) (nodes : List NetworkNode) → nodes ≡ own.nodes → (place : ℕ) → place ≡ n.0
+    → (r : Option (Bor NetworkNode)) → IsItemAt nodes place r
     → IfSome r (λ node. (at : Standing) → IsIn at now → IsNodeThere at n node.now)
 found_at own now same n nodes are place number None item = tt
 found_at own now same n nodes are place number (Some node) item = λ at is.
@@ -62,7 +64,8 @@ found_at own now same n nodes are place number (Some node) item = λ at is.
     there at n own node.now (subst (λ (k : ℕ). n.0 < k) in_own.around.count (slice_get_within own.nodes n.0 node.now here)) in_own here
 
 -- and stands there
-pub stands_at : (own now : PlaneView) → own ≡ now → (n : NodeId) (nodes : List NetworkNode) → nodes ≡ own.nodes → (place : ℕ) → place ≡ n.0 → (r : Option (Bor NetworkNode)) → IsItemAt nodes place r
+pub stands_at : (own now : PlaneView) → own ≡ now → (n : NodeId) (nodes : List NetworkNode) → nodes ≡ own.nodes → (place : ℕ) → place ≡ n.0
+    → (r : Option (Bor NetworkNode)) → IsItemAt nodes place r
     → IfSome r (λ node. slice_get now.nodes n.0 ≡ Some node.now)
 stands_at own now same n nodes are place number None item = tt
 stands_at own now same n nodes are place number (Some node) item =
@@ -80,7 +83,8 @@ module _ (n : NodeId) (network : OctetNetwork Nodes) where
         let has = way_has network.state.scenario kinds.Bgp n peer way in
         let scenario_is : (home_in edge).scenario ≡ network.state.scenario = ap (λ (h : Home). h.scenario) home in
         let me_is : (home_in edge).me ≡ n = ap (λ (h : Home). h.me) home in
-        sym ((is.parts no_core).peers peer (subst (λ (s : Scenario). Among peer (edges s)) (sym scenario_is) (is_among network.state.scenario peer has.1))
+        sym ((is.parts no_core).peers peer (subst (λ (s : Scenario). Among peer (edges s)) (sym scenario_is)
+        (is_among network.state.scenario peer has.1))
         (λ same. has.2 (ap (λ (m : NodeId). m.0) (sym me_is ∙ sym same))))
         ∙ at.waiting kinds.Bgp peer way
     edge_waits (any.CoreNode state) is at kind peer way = absurd is
@@ -97,23 +101,27 @@ module _ (n : NodeId) (network : OctetNetwork Nodes) where
   core_waits core (any.Edge state) is at peer way = absurd is
 
 -- an edge of the plane is the edge there
-pub edge_there : (at : Standing) (n : NodeId) (plane : PlaneView) (edge : EdgeView) → IsIn at plane → IsNodeThere at n (nodes.Edge edge) → IsEdgeThere at n edge
+pub edge_there : (at : Standing) (n : NodeId) (plane : PlaneView) (edge : EdgeView) → IsIn at plane → IsNodeThere at n (nodes.Edge edge)
+    → IsEdgeThere at n edge
 edge_there at n plane edge is there = record {
   home = there.placed.0 ∙ ap (λ (s : Scenario). home_of s n) is.around.scenario_is;
   unspent = there.unspent;
   keeps = there.keeps;
-  waits = λ kind peer way. edge_waits n at.network edge there.placed.0 there.is.state there.is.is there.is.at kind peer (subst (λ (s : Scenario). IsWay s (direction kind n peer)) (sym is.around.scenario_is) way);
+  waits = λ kind peer way. edge_waits n at.network edge there.placed.0 there.is.state there.is.is there.is.at kind peer
+      (subst (λ (s : Scenario). IsWay s (direction kind n peer)) (sym is.around.scenario_is) way);
   streams = edge_streams n at.network edge there.placed.0 there.is.state there.is.is there.is.at;
   toward = there.is.toward;
 }
 
 -- a core node of the plane is the core node there
-pub core_there : (at : Standing) (n : NodeId) (plane : PlaneView) (core : CoreView) → IsIn at plane → IsNodeThere at n (nodes.CoreNode core) → IsCoreThere at n core.labels
+pub core_there : (at : Standing) (n : NodeId) (plane : PlaneView) (core : CoreView) → IsIn at plane → IsNodeThere at n (nodes.CoreNode core)
+    → IsCoreThere at n core.labels
 core_there at n plane core is there = record {
   place = there.placed.0 ∙ ap (λ (s : Scenario). node_place s n) is.around.scenario_is;
   unspent = there.unspent;
   keeps = there.keeps;
-  waits = λ peer way. core_waits n at.network core there.is.state there.is.is there.is.at peer (subst (λ (s : Scenario). IsWay s (direction kinds.Ldp n peer)) (sym is.around.scenario_is) way);
+  waits = λ peer way. core_waits n at.network core there.is.state there.is.is there.is.at peer
+      (subst (λ (s : Scenario). IsWay s (direction kinds.Ldp n peer)) (sym is.around.scenario_is) way);
   toward = there.is.toward;
 }
 
@@ -122,7 +130,8 @@ core_there at n plane core is there = record {
 sum_more : (f : NodeId → ℕ) (count : ℕ) → sum_by f (node_ids 0 (count + 1)) ≡ sum_by f (node_ids 0 count) + f (record { 0 = count })
 sum_more f count =
     let n : NodeId = record { 0 = count } in
-    ap (sum_by f) (sym (map-id (node_ids 0 (count + 1))) ∙ (made_of_more (λ m. m) count ∙ ap (λ (l : List NodeId). l ++ n ∷ []) (map-id (node_ids 0 count))))
+    ap (sum_by f) (sym (map-id (node_ids 0 (count + 1)))
+    ∙ (made_of_more (λ m. m) count ∙ ap (λ (l : List NodeId). l ++ n ∷ []) (map-id (node_ids 0 count))))
     ∙ (sum_by-append f (node_ids 0 count) (n ∷ []) ∙ (let last = sum_by-cons f n [] in omega (arith, last)))
 
 min_sum : (count due sum a b c : ℕ) → count ≡ min a most → due ≡ min b most → c ≡ a + b → sum ≡ min (count + due) most → sum ≡ min c most
@@ -133,8 +142,10 @@ abbrev pub AreDue : PlaneView → ℕ → ℕ → Type 0
 AreDue plane place count = (at : Standing) → IsIn at plane → count ≡ min (sum_by (node_due at.network.state) (node_ids 0 place)) most
 
 -- one node more
-pub due_more : (plane : PlaneView) (place count due sum : ℕ) (node : NetworkNode) → place < length plane.nodes → node ≡ get_or plane.nodes place node → AreDue plane place count
-    → (spent_in node ≡ None → (network : Nodes) (n : NodeId) → IsPlacedAt network.scenario n node → network.node n ≡ data_in node → network.clock ≡ plane.clock
+pub due_more : (plane : PlaneView) (place count due sum : ℕ) (node : NetworkNode) → place < length plane.nodes → node ≡ get_or plane.nodes place node
+    → AreDue plane place count
+    → (spent_in node ≡ None → (network : Nodes) (n : NodeId) → IsPlacedAt network.scenario n node → network.node n ≡ data_in node
+    → network.clock ≡ plane.clock
     → due ≡ min (node_due network n) most)
     → sum ≡ min (count + due) most → AreDue plane (place + 1) sum
 due_more plane place count due sum node below is counted asked summed at in_plane =
@@ -145,7 +156,8 @@ due_more plane place count due sum node below is counted asked summed at in_plan
     let own : IsNodeThere at n node = there at n plane node within in_plane (has.at ∙ ap (λ (x : NetworkNode). Some x) same) in
     let here : due ≡ min (node_due at.network.state n) most = asked own.unspent at.network.state n own.placed own.keeps in_plane.around.clock in
     let before : count ≡ min (sum_by (node_due at.network.state) (node_ids 0 place)) most = counted at in_plane in
-    min_sum count due sum (sum_by (node_due at.network.state) (node_ids 0 place)) (node_due at.network.state n) (sum_by (node_due at.network.state) (node_ids 0 (place + 1))) before here
+    min_sum count due sum (sum_by (node_due at.network.state) (node_ids 0 place)) (node_due at.network.state n)
+    (sum_by (node_due at.network.state) (node_ids 0 (place + 1))) before here
     (sum_more (node_due at.network.state) place) summed
 
 -- all of them
@@ -157,10 +169,12 @@ all_due plane place count all counted at in_plane =
 -- ---- sessions
 
 -- both ends of a session at a place are nodes
-pub ends_at : (sessions : List Session) (place : ℕ) (d : Session) (plane : PlaneView) → place < length sessions → IsSome (HaveEnds sessions) plane → IsSome (HasEnds (get_or sessions place d)) plane
+pub ends_at : (sessions : List Session) (place : ℕ) (d : Session) (plane : PlaneView) → place < length sessions → IsSome (HaveEnds sessions) plane
+    → IsSome (HasEnds (get_or sessions place d)) plane
 ends_at sessions place d plane below (at, have, is) = (at, have place d below, is)
 
 -- What is counted of the first so many sessions: in each network that the plane is, those that are not ready.
 abbrev pub AreUnready : PlaneView → List Session → ℕ → ℕ → Type 0
 AreUnready plane sessions place count =
-    (at : Standing) → HaveEnds sessions at → IsIn at plane → count ≡ min (count_by (λ session. not (is_ready (without_copies at.network) session)) (take place sessions)) most
+    (at : Standing) → HaveEnds sessions at → IsIn at plane
+    → count ≡ min (count_by (λ session. not (is_ready (without_copies at.network) session)) (take place sessions)) most

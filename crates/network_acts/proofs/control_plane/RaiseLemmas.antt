@@ -37,16 +37,21 @@ use Rattle.network_acts.proofs.control_plane.SteadyLemmas.{alone, call_streams, 
 
 -- ---- an end that comes up
 
-module _ (at : Standing) (plane : PlaneView) (is : IsIn at plane) (n : NodeId) (within : n.0 < length at.scenario.nodes) (kind : Kind) (peer : NodeId) (way : IsWay at.scenario (direction kind n peer))
+module _ (at : Standing) (plane : PlaneView) (is : IsIn at plane) (n : NodeId) (within : n.0 < length at.scenario.nodes) (kind : Kind) (peer : NodeId)
+    (way : IsWay at.scenario (direction kind n peer))
     (down : is_end_up kind (at.network.state.node n) peer ≡ false) where
   -- an end that was down has a fresh stream
   raise_begun : (own : Kind) (from : NodeId) → begins (Raised kind peer) own from ≡ true → at.network.stream (direction own from n) ≡ unfed
   raise_begun own from e = ap at.network.stream (session_is n kind peer own from e) ∙ is.around.steady.fresh (direction kind peer n) down
 
-  raise_steady : (joined : Direction → Bool) (moving : Direction → List ℕ) (stream : Direction → Stream) (moment : Moment) (new : Behind (OctetNetwork Nodes))
-      → octet_act system (with_sessions at.network joined moving stream) (octets.Call (Own n (Raised kind peer))) ≡ Some new → IsElsewhere n (with_sessions at.network joined moving stream) moving new
-      → Stays at.network.state.scenario new.network → ((over : Direction) → stream over ≡ at.network.stream over) → ((over : Direction) → joined over ≡ true → IsWay at.network.state.scenario over)
-      → ((over : Direction) → joined over ≡ true → moment.rising over ≡ false → (over ≡ direction kind peer n → ⊥) → is_end_up over.kind (at.network.state.node over.to) over.from ≡ true)
+  raise_steady : (joined : Direction → Bool) (moving : Direction → List ℕ) (stream : Direction → Stream) (moment : Moment)
+      (new : Behind (OctetNetwork Nodes))
+      → octet_act system (with_sessions at.network joined moving stream) (octets.Call (Own n (Raised kind peer))) ≡ Some new
+      → IsElsewhere n (with_sessions at.network joined moving stream) moving new
+      → Stays at.network.state.scenario new.network → ((over : Direction) → stream over ≡ at.network.stream over)
+      → ((over : Direction) → joined over ≡ true → IsWay at.network.state.scenario over)
+      → ((over : Direction) → joined over ≡ true → moment.rising over ≡ false → (over ≡ direction kind peer n → ⊥)
+      → is_end_up over.kind (at.network.state.node over.to) over.from ≡ true)
       → IsSteady moment new.network
   raise_steady joined moving stream moment new e elsewhere stays same whose up =
       let base = with_sessions at.network joined moving stream in
@@ -54,19 +59,24 @@ module _ (at : Standing) (plane : PlaneView) (is : IsIn at plane) (n : NodeId) (
       steady_next moment at.network new.network stays elsewhere.scenario
       (λ over j. whose over (sym (elsewhere.joined over) ∙ j))
       (λ over j quiet.
-      end_cases (is_end_up over.kind (new.network.state.node over.to) over.from ≡ true) ((over.to.0 == n.0) && (same_kind kind over.kind && (peer.0 == over.from.0))) true
-      (is_end_up over.kind (at.network.state.node over.to) over.from) (is_end_up over.kind (new.network.state.node over.to) over.from) (ends over.kind over.to over.from)
+      end_cases (is_end_up over.kind (new.network.state.node over.to) over.from ≡ true)
+      ((over.to.0 == n.0) && (same_kind kind over.kind && (peer.0 == over.from.0))) true
+      (is_end_up over.kind (at.network.state.node over.to) over.from) (is_end_up over.kind (new.network.state.node over.to) over.from)
+      (ends over.kind over.to over.from)
       (λ here raised. raised)
-      (λ other stayed. stayed ∙ up over (sym (elsewhere.joined over) ∙ j) quiet (λ there. (let f : true ≡ false = sym (here_itself n kind peer over there) ∙ other in cc))))
+      (λ other stayed. stayed ∙ up over (sym (elsewhere.joined over) ∙ j) quiet
+      (λ there. (let f : true ≡ false = sym (here_itself n kind peer over there) ∙ other in cc))))
       (λ over none.
       end_cases (new.network.stream over ≡ unfed) ((over.to.0 == n.0) && (same_kind kind over.kind && (peer.0 == over.from.0))) true
-      (is_end_up over.kind (at.network.state.node over.to) over.from) (is_end_up over.kind (new.network.state.node over.to) over.from) (ends over.kind over.to over.from)
+      (is_end_up over.kind (at.network.state.node over.to) over.from) (is_end_up over.kind (new.network.state.node over.to) over.from)
+      (ends over.kind over.to over.from)
       (λ here raised. absurd (let f : true ≡ false = sym raised ∙ none in cc))
       (λ other stayed. call_streams base (Own n (Raised kind peer)) new e over ∙ (same over ∙ is.around.steady.fresh over (sym stayed ∙ none))))
 
 -- ---- the first end
 
-of_session_is : (kind : Kind) (a b : NodeId) (over : Direction) → is_of_session kind a b over ≡ true → (over ≡ direction kind a b) ⊎ (over ≡ direction kind b a)
+of_session_is : (kind : Kind) (a b : NodeId) (over : Direction) → is_of_session kind a b over ≡ true
+    → (over ≡ direction kind a b) ⊎ (over ≡ direction kind b a)
 of_session_is kind a b over e =
     let parts = and_parts (same_kind kind over.kind) (is_between a b over.from over.to) e in
     let same = one_kind kind over.kind parts.0 in
@@ -124,16 +134,19 @@ module _ (at : Standing) (plane : PlaneView) (is : IsIn at plane) (kind : Kind) 
     ])
   ]
 
-  first_up : (over : Direction) → joined over ≡ true → same_direction over (direction kind a b) ≡ false → (over ≡ direction kind b a → ⊥) → is_end_up over.kind (network.state.node over.to) over.from ≡ true
+  first_up : (over : Direction) → joined over ≡ true → same_direction over (direction kind a b) ≡ false → (over ≡ direction kind b a → ⊥)
+      → is_end_up over.kind (network.state.node over.to) over.from ≡ true
   first_up over j quiet apart = elim (or_cases (network.joined over) (is_of_session kind a b over) j) [
     | inl was ↦ is.around.steady.up over was (down.calm over)
     | inr hit ↦ absurd (elim (of_session_is kind a b over hit) [
-      | inl e ↦ (let f : true ≡ false = sym (own_direction (direction kind a b)) ∙ (ap (λ (d : Direction). same_direction d (direction kind a b)) (sym e) ∙ quiet) in cc)
+      | inl e ↦ (let f : true ≡ false = sym (own_direction (direction kind a b))
+          ∙ (ap (λ (d : Direction). same_direction d (direction kind a b)) (sym e) ∙ quiet) in cc)
       | inr e ↦ apart e
     ])
   ]
 
-  pub first_begins : (transit : TransitData) → Joins (is_of_session kind a b) plane.transit transit → Begins at plane a (Raised kind b) (join ∷ one ∷ []) (with_rising kind a b at.moment) transit
+  pub first_begins : (transit : TransitData) → Joins (is_of_session kind a b) plane.transit transit
+      → Begins at plane a (Raised kind b) (join ∷ one ∷ []) (with_rising kind a b at.moment) transit
   first_begins transit joins = record {
     within = down.within;
     current = down.current;
@@ -150,9 +163,11 @@ module _ (at : Standing) (plane : PlaneView) (is : IsIn at plane) (kind : Kind) 
     lacks = λ e. none_two network join one (record { network = base; puts = [] }) refl e;
     steady = λ new e elsewhere.
         raise_steady at plane is a down.within kind b down.way down.first joined moving stream (with_rising kind a b at.moment) new e elsewhere
-        (run_stays network.state.scenario network [] a (octet_run system network (join ∷ one ∷ [])) (record { network = new.network; puts = new.puts ++ [] })
+        (run_stays network.state.scenario network [] a (octet_run system network (join ∷ one ∷ []))
+        (record { network = new.network; puts = new.puts ++ [] })
         (run_two network join one (record { network = base; puts = [] }) new refl e)
-        (act_stays network.state.scenario (acts.RaiseFirst kind a b) (subst (λ (s : Scenario). a.0 < length s.nodes) (sym is.around.scenario_is) down.within) (alone network)
+        (act_stays network.state.scenario (acts.RaiseFirst kind a b)
+        (subst (λ (s : Scenario). a.0 < length s.nodes) (sym is.around.scenario_is) down.within) (alone network)
         (steady_stays at.moment network is.around.steady)))
         same_stream whose first_up;
   }
@@ -166,7 +181,8 @@ module _ (at : Standing) (plane : PlaneView) (is : IsIn at plane) (kind : Kind) 
   back : IsWay at.scenario (direction kind b a)
   back = reversed at.scenario kind a b half.way
 
-  second_up : (over : Direction) → at.network.joined over ≡ true → false ≡ false → (over ≡ direction kind a b → ⊥) → is_end_up over.kind (at.network.state.node over.to) over.from ≡ true
+  second_up : (over : Direction) → at.network.joined over ≡ true → false ≡ false → (over ≡ direction kind a b → ⊥)
+      → is_end_up over.kind (at.network.state.node over.to) over.from ≡ true
   second_up over j quiet apart = is.around.steady.up over j (half.rising over (elim (cases_Bool (same_direction over (direction kind a b))) [
     | inl t ↦ absurd (apart (direction_is over (direction kind a b) t))
     | inr f ↦ f
@@ -188,9 +204,12 @@ module _ (at : Standing) (plane : PlaneView) (is : IsIn at plane) (kind : Kind) 
     runs = λ new e. run_one at.network second new e;
     lacks = λ e. run_none at.network second e;
     steady = λ new e elsewhere.
-        raise_steady at plane is b half.within kind a back half.down at.network.joined at.network.transit at.network.stream (none_rising at.moment) new e elsewhere
-        (run_stays at.network.state.scenario at.network [] b (octet_run system at.network (second ∷ [])) (record { network = new.network; puts = new.puts ++ [] }) (run_one at.network second new e)
-        (act_stays at.network.state.scenario (acts.RaiseSecond kind a b) (subst (λ (s : Scenario). b.0 < length s.nodes) (sym is.around.scenario_is) half.within) (alone at.network)
+        raise_steady at plane is b half.within kind a back half.down at.network.joined at.network.transit at.network.stream (none_rising at.moment)
+        new e elsewhere
+        (run_stays at.network.state.scenario at.network [] b (octet_run system at.network (second ∷ []))
+        (record { network = new.network; puts = new.puts ++ [] }) (run_one at.network second new e)
+        (act_stays at.network.state.scenario (acts.RaiseSecond kind a b)
+        (subst (λ (s : Scenario). b.0 < length s.nodes) (sym is.around.scenario_is) half.within) (alone at.network)
         (steady_stays at.moment at.network is.around.steady)))
         (λ over. refl) is.around.steady.whose second_up;
   }

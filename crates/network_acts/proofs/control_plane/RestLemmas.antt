@@ -47,7 +47,8 @@ module _ (scenario : Scenario) (cores : Cores) (moment : Moment) (n : NodeId) (p
 
   way_at : (kind : Kind) (peer : NodeId) → IsWay network.state.scenario (direction kind n peer) → Among (direction kind n peer) ways
   way_at kind peer way =
-      among_passing (is_from n) (direction kind n peer) (directions scenario) (subst (λ (s : Scenario). IsWay s (direction kind n peer)) around.scenario_is way) (node_itself n n refl)
+      among_passing (is_from n) (direction kind n peer) (directions scenario)
+      (subst (λ (s : Scenario). IsWay s (direction kind n peer)) around.scenario_is way) (node_itself n n refl)
 
   from_node : (way : Direction) → Among way ways → way.from ≡ n
   from_node way a = node_equal way.from n (among_kept (is_from n) way (directions scenario) a).1
@@ -82,7 +83,8 @@ module _ (scenario : Scenario) (cores : Cores) (moment : Moment) (n : NodeId) (p
     went over true e = ap (λ (l : List ℕ). octets_at plane.transit over ++ l) (sym (elim (node_cases over.from n) [
       | inl from ↦
           goes_over n puts ways state over waits
-          (among_passing (is_from n) over (directions scenario) (subst (λ (s : Scenario). IsWay s over) around.scenario_is (around.steady.whose over e)) (node_itself over.from n from))
+          (among_passing (is_from n) over (directions scenario)
+          (subst (λ (s : Scenario). IsWay s over) around.scenario_is (around.steady.whose over e)) (node_itself over.from n from))
       | inr apart ↦ none_over n puts ways state over (none_from over apart) ∙ sym (midway.away over apart)
     ]))
 
@@ -108,7 +110,13 @@ module _ (scenario : Scenario) (cores : Cores) (moment : Moment) (n : NodeId) (p
         at = get_set plane.nodes n.0 node (subst (λ (count : ℕ). n.0 < count) (sym around.count) midway.within);
         placed = placed;
         unspent = unspent;
-        is = record { state = handed_all state ways; is = handed.is; at = handed_at n network puts ways state midway.own.is.at way_at; toward = toward };
+        is = record {
+          state = handed_all state ways;
+          is = handed.is;
+          at = handed_at n network puts ways state midway.own.is.at way_at;
+          toward =
+              toward;
+        };
       })
       | inr apart ↦
           (let own = midway.nodes m apart within in
@@ -128,11 +136,13 @@ module _ (scenario : Scenario) (cores : Cores) (moment : Moment) (n : NodeId) (p
       transit = λ over.
           midway.transit over
           ∙ (went over (network.joined over) refl
-          ∙ (ap (λ (b : Bool). cond b (octets_at plane.transit over ++ handing_over state ways over) (octets_at plane.transit over)) (around.joined over) ∙ sym (handed.octets over)));
+          ∙ (ap (λ (b : Bool). cond b (octets_at plane.transit over ++ handing_over state ways over) (octets_at plane.transit over))
+          (around.joined over) ∙ sym (handed.octets over)));
     }
 
     pub told : new_lines ≡ lines ++ put_lines scenario puts
     told =
         handed.told
         ∙ ap (λ (l : List ReportLine). lines ++ l)
-        (lines_put n puts ways state waits ∙ made_by_ways (put_line puts) n (directions scenario) (λ over apart. silent puts over (midway.away over apart)))
+        (lines_put n puts ways state waits ∙ made_by_ways (put_line puts) n (directions scenario)
+        (λ over apart. silent puts over (midway.away over apart)))

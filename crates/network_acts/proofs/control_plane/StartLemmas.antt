@@ -41,7 +41,8 @@ length_more (y ∷ xs) x = (let e = length_more xs x in omega (arith, e))
 pub none_first : (scenario : Scenario) → AreFirst scenario 0 []
 none_first scenario = record { count_is = refl; each = λ n within. absurd (omega (arith, within)) }
 
-pub one_first : (scenario : Scenario) (count : ℕ) (n : NodeId) (nodes new : List NetworkNode) (node : NetworkNode) → AreFirst scenario count nodes → n.0 ≡ count → new ≡ nodes ++ node ∷ []
+pub one_first : (scenario : Scenario) (count : ℕ) (n : NodeId) (nodes new : List NetworkNode) (node : NetworkNode) → AreFirst scenario count nodes
+    → n.0 ≡ count → new ≡ nodes ++ node ∷ []
     → IsFirst scenario n node → AreFirst scenario (count + 1) new
 one_first scenario count n nodes new node before number more first = subst (AreFirst scenario (count + 1)) (sym more) (record {
   count_is = length_more nodes node ∙ ap (λ (c : ℕ). c + 1) before.count_is;
@@ -49,8 +50,11 @@ one_first scenario count n nodes new node before number more first = subst (AreF
     | inl there ↦ (let r = before.each m (subst (λ (c : ℕ). m.0 < c) before.count_is there.1) in (r.0, get_front nodes node m.0 there.1 ∙ r.1, r.2))
     | inr past ↦
         (let last : m.0 ≡ length nodes = omega (arith, past.0, within, before.count_is) in
-        let same : n.0 ≡ m.0 = omega (arith, last, number, before.count_is) in
-        (node, ap (slice_get (nodes ++ node ∷ [])) last ∙ get_last nodes node, subst (λ (k : NodeId). IsFirst scenario k node) (λ i. record { 0 = same i }) first))
+        let same : n.0 ≡ m.0 = omega (arith, last, number, before.count_is) in (
+          node,
+          ap (slice_get (nodes ++ node ∷ [])) last ∙ get_last nodes node,
+          subst (λ (k : NodeId). IsFirst scenario k node) (λ i. record { 0 = same i }) first,
+        ))
   ];
 })
 
@@ -61,13 +65,16 @@ abbrev made_of : {X : Type 0} (make : NodeId → X) → ℕ → Option X
 made_of make number = Some (make (record { 0 = number }))
 
 -- what is made of each node, in order
-made_at : {X : Type 0} (make : NodeId → X) (number count place : ℕ) → place < count → slice_get (map make (node_ids number count)) place ≡ made_of make (number + place)
+made_at : {X : Type 0} (make : NodeId → X) (number count place : ℕ) → place < count
+    → slice_get (map make (node_ids number count)) place ≡ made_of make (number + place)
 made_at make number zero place within = absurd (omega (arith, within))
 made_at make number (suc count) zero within = (let same : number ≡ number + 0 = omega (arith) in ap (made_of make) same)
 made_at make number (suc count) (suc place) within =
-    made_at make (number + 1) count place (omega (arith, within)) ∙ (let same : number + 1 + place ≡ number + suc place = omega (arith) in ap (made_of make) same)
+    made_at make (number + 1) count place (omega (arith, within))
+    ∙ (let same : number + 1 + place ≡ number + suc place = omega (arith) in ap (made_of make) same)
 
-ways_at : (scenario : Scenario) (ways : List (List Direction)) → ways ≡ map (λ n. ways_from n (directions scenario)) (all_nodes scenario) → (n : NodeId) → n.0 < length scenario.nodes
+ways_at : (scenario : Scenario) (ways : List (List Direction)) → ways ≡ map (λ n. ways_from n (directions scenario)) (all_nodes scenario)
+    → (n : NodeId) → n.0 < length scenario.nodes
     → slice_get ways n.0 ≡ Some (ways_from n (directions scenario))
 ways_at scenario ways are n within =
     ap (λ (w : List (List Direction)). slice_get w n.0) are
@@ -79,10 +86,12 @@ ways_at scenario ways are n within =
 -- ---- the core
 
 -- each node of a scenario is reached
-pub is_reached : (scenario : Scenario) (count : ℕ) (links : List Link) (node : NodeId) → IsConnected (length scenario.nodes) scenario.links → count ≡ length scenario.nodes → links ≡ scenario.links
+pub is_reached : (scenario : Scenario) (count : ℕ) (links : List Link) (node : NodeId) → IsConnected (length scenario.nodes) scenario.links
+    → count ≡ length scenario.nodes → links ≡ scenario.links
     → IsFirstUnreached count links node.0 → ⊥
 is_reached scenario count links node connected count_is links_are first =
-    first.unreached (subst (λ (l : List Link). Reaches l 0 node.0) (sym links_are) (connected node.0 (subst (λ (c : ℕ). node.0 < c) count_is first.within)))
+    first.unreached (subst (λ (l : List Link). Reaches l 0 node.0) (sym links_are)
+    (connected node.0 (subst (λ (c : ℕ). node.0 < c) count_is first.within)))
 
 -- ---- the plane
 
@@ -95,7 +104,8 @@ module _ (transit : TransitData) (none : transit ≡ nothing_joined) where
       sym (ap (λ (t : TransitData). octets_at t over) none
       ∙ ap (λ (o : Option (List ℕ)). elim o [ None ↦ [] | Some octets ↦ octets ]) (maps.get-empty direction_cmp over))
 
-pub first_plane : (scenario : Scenario) (plane : PlaneView) → Rules scenario → HasOctets scenario → AreFirst scenario (length scenario.nodes) plane.nodes
+pub first_plane : (scenario : Scenario) (plane : PlaneView) → Rules scenario → HasOctets scenario
+    → AreFirst scenario (length scenario.nodes) plane.nodes
     → plane.ways ≡ map (λ n. ways_from n (directions scenario)) (all_nodes scenario) → plane.transit ≡ nothing_joined
     → plane.core ≡ record { nodes = length scenario.nodes; links = scenario.links } → plane.clock ≡ 0
     → (cores : Cores) → AreCoresOf scenario cores → IsPlane scenario cores at_rest (start scenario cores).network plane
@@ -120,6 +130,7 @@ first_plane scenario plane rules octets first ways none core clock cores of_scen
       fresh = λ over down. refl;
     };
   };
-  nodes = λ n within. (let own = first.each n within in has_first scenario n (start scenario cores).network plane.nodes own.0 refl refl (λ over e. refl) own.1 own.2);
+  nodes = λ n within. (let own = first.each n within in
+      has_first scenario n (start scenario cores).network plane.nodes own.0 refl refl (λ over e. refl) own.1 own.2);
   transit = none_moving plane.transit none;
 }

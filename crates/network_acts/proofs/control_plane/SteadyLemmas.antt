@@ -33,18 +33,23 @@ use Rattle.network_acts.specs.control_plane.Plane.{IsSteady, Moment}
 -- what comes of a row of one act, and of two
 pub run_one : (network : OctetNetwork Nodes) (one : OctetAct NodeCall) (new : Behind (OctetNetwork Nodes)) → octet_act system network one ≡ Some new
     → octet_run system network (one ∷ []) ≡ Some (record { network = new.network; puts = new.puts ++ [] })
-run_one network one new e = ap (λ (o : Option (Behind (OctetNetwork Nodes))). o >>? λ next. with_earlier next.puts (octet_run system next.network [])) e
+run_one network one new e =
+    ap (λ (o : Option (Behind (OctetNetwork Nodes))). o >>? λ next. with_earlier next.puts (octet_run system next.network [])) e
 
-pub run_none : (network : OctetNetwork Nodes) (one : OctetAct NodeCall) → octet_act system network one ≡ None → octet_run system network (one ∷ []) ≡ None
+pub run_none : (network : OctetNetwork Nodes) (one : OctetAct NodeCall) → octet_act system network one ≡ None
+    → octet_run system network (one ∷ []) ≡ None
 run_none network one e = ap (λ (o : Option (Behind (OctetNetwork Nodes))). o >>? λ next. with_earlier next.puts (octet_run system next.network [])) e
 
-pub run_two : (network : OctetNetwork Nodes) (one other : OctetAct NodeCall) (middle new : Behind (OctetNetwork Nodes)) → octet_act system network one ≡ Some middle
-    → octet_act system middle.network other ≡ Some new → octet_run system network (one ∷ other ∷ []) ≡ Some (record { network = new.network; puts = middle.puts ++ (new.puts ++ []) })
+pub run_two : (network : OctetNetwork Nodes) (one other : OctetAct NodeCall) (middle new : Behind (OctetNetwork Nodes))
+    → octet_act system network one ≡ Some middle
+    → octet_act system middle.network other ≡ Some new
+    → octet_run system network (one ∷ other ∷ []) ≡ Some (record { network = new.network; puts = middle.puts ++ (new.puts ++ []) })
 run_two network one other middle new e f =
     ap (λ (o : Option (Behind (OctetNetwork Nodes))). o >>? λ next. with_earlier next.puts (octet_run system next.network (other ∷ []))) e
     ∙ ap (with_earlier middle.puts) (run_one middle.network other new f)
 
-pub none_two : (network : OctetNetwork Nodes) (one other : OctetAct NodeCall) (middle : Behind (OctetNetwork Nodes)) → octet_act system network one ≡ Some middle
+pub none_two : (network : OctetNetwork Nodes) (one other : OctetAct NodeCall) (middle : Behind (OctetNetwork Nodes))
+    → octet_act system network one ≡ Some middle
     → octet_act system middle.network other ≡ None → octet_run system network (one ∷ other ∷ []) ≡ None
 none_two network one other middle e f =
     ap (λ (o : Option (Behind (OctetNetwork Nodes))). o >>? λ next. with_earlier next.puts (octet_run system next.network (other ∷ []))) e
@@ -56,9 +61,11 @@ none_two network one other middle e f =
 abbrev pub alone : OctetNetwork Nodes → World
 alone network = record { network = network; copies = λ u n. []; datagrams = [] }
 
-pub run_stays : (scenario : Scenario) (network : OctetNetwork Nodes) (before : List ReportLine) (node : NodeId) (found : Option (Behind (OctetNetwork Nodes))) (new : Behind (OctetNetwork Nodes))
+pub run_stays : (scenario : Scenario) (network : OctetNetwork Nodes) (before : List ReportLine) (node : NodeId)
+    (found : Option (Behind (OctetNetwork Nodes))) (new : Behind (OctetNetwork Nodes))
     → found ≡ Some new → Gives (WorldStays scenario) (with_network (alone network) before found node) → Stays scenario new.network
-run_stays scenario network before node found new e gives = subst (λ (o : Option (Behind (OctetNetwork Nodes))). Gives (WorldStays scenario) (with_network (alone network) before o node)) e gives
+run_stays scenario network before node found new e gives =
+    subst (λ (o : Option (Behind (OctetNetwork Nodes))). Gives (WorldStays scenario) (with_network (alone network) before o node)) e gives
 
 pub steady_stays : (moment : Moment) (network : OctetNetwork Nodes) → IsSteady moment network → Stays network.state.scenario network
 steady_stays moment network steady = (steady.sound, (steady.pending, steady.lines))
@@ -87,29 +94,37 @@ steady_next moment old new stays same whose up fresh = record {
 
 -- ---- a call of a node
 
-pub own_stays : (moment : Moment) (network : OctetNetwork Nodes) (n : NodeId) (call : Call) (new : Behind (OctetNetwork Nodes)) → IsSteady moment network → n.0 < length network.state.scenario.nodes
+pub own_stays : (moment : Moment) (network : OctetNetwork Nodes) (n : NodeId) (call : Call) (new : Behind (OctetNetwork Nodes))
+    → IsSteady moment network → n.0 < length network.state.scenario.nodes
     → IsSoundCall call → octet_act system network (octets.Call (Own n call)) ≡ Some new → Stays network.state.scenario new.network
 own_stays moment network n call new steady within sound e =
-    run_stays network.state.scenario network [] n (octet_run system network (octets.Call (Own n call) ∷ [])) (record { network = new.network; puts = new.puts ++ [] })
+    run_stays network.state.scenario network [] n (octet_run system network (octets.Call (Own n call) ∷ []))
+    (record { network = new.network; puts = new.puts ++ [] })
     (run_one network (octets.Call (Own n call)) new e)
     (act_stays network.state.scenario (acts.At n call) (within, sound) (alone network) (steady_stays moment network steady))
 
-call_stream : (network : OctetNetwork Nodes) (found : Option (Stepped Nodes)) (new : Behind (OctetNetwork Nodes)) → octets.with_step network found ≡ Some new → (over : Direction) → new.network.stream over ≡ network.stream over
+call_stream : (network : OctetNetwork Nodes) (found : Option (Stepped Nodes)) (new : Behind (OctetNetwork Nodes))
+    → octets.with_step network found ≡ Some new → (over : Direction) → new.network.stream over ≡ network.stream over
 call_stream network None new e over = absurd (none-some new e)
-call_stream network (Some stepped) new e over = ap (λ (b : Behind (OctetNetwork Nodes)). b.network.stream over) (sym (same_Some (record { network = octets.with_octets network stepped; puts = stepped.puts }) new e))
+call_stream network (Some stepped) new e over =
+    ap (λ (b : Behind (OctetNetwork Nodes)). b.network.stream over)
+    (sym (same_Some (record { network = octets.with_octets network stepped; puts = stepped.puts }) new e))
 
 -- a call moves no stream
-pub call_streams : (network : OctetNetwork Nodes) (call : NodeCall) (new : Behind (OctetNetwork Nodes)) → octet_act system network (octets.Call call) ≡ Some new
+pub call_streams : (network : OctetNetwork Nodes) (call : NodeCall) (new : Behind (OctetNetwork Nodes))
+    → octet_act system network (octets.Call call) ≡ Some new
     → (over : Direction) → new.network.stream over ≡ network.stream over
 call_streams network call new e over = call_stream network (system.called call network.state) new e over
 
 -- A call that begins no stream moves no end.
-pub calm_ends : (network : OctetNetwork Nodes) (n : NodeId) (call : Call) (new : Behind (OctetNetwork Nodes)) → octet_act system network (octets.Call (Own n call)) ≡ Some new → HasCall n network call
+pub calm_ends : (network : OctetNetwork Nodes) (n : NodeId) (call : Call) (new : Behind (OctetNetwork Nodes))
+    → octet_act system network (octets.Call (Own n call)) ≡ Some new → HasCall n network call
     → ((kind : Kind) (peer : NodeId) → begins call kind peer ≡ false) → (kind : Kind) (m peer : NodeId)
     → is_end_up kind (new.network.state.node m) peer ≡ is_end_up kind (network.state.node m) peer
 calm_ends network n call new e has calm kind m peer =
     calls_ends network new n call e has kind m peer
-    ∙ ((λ i. cond ((m.0 == n.0) && calm kind peer i) (is_raise call) (is_end_up kind (network.state.node m) peer)) ∙ by (m.0 == n.0) (is_raise call) (is_end_up kind (network.state.node m) peer))
+    ∙ ((λ i. cond ((m.0 == n.0) && calm kind peer i) (is_raise call) (is_end_up kind (network.state.node m) peer))
+    ∙ by (m.0 == n.0) (is_raise call) (is_end_up kind (network.state.node m) peer))
   where
     by : (b x y : Bool) → cond (b && false) x y ≡ y
     by true x y = refl

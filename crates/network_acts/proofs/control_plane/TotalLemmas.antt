@@ -56,7 +56,8 @@ module _ (k : Direction) (size : ℕ) (g : Direction → ℕ) where
   sum_among : (ds : List Direction) → g k ≡ 0 → Once ds → Among k ds → sum_by either ds ≡ size + sum_by g ds
   sum_among [] zero once a = absurd a
   sum_among (d ∷ ds) zero once (inl same) =
-      let here : either d ≡ size = ap (λ (b : Bool). cond b size (g d)) (ap (λ (x : Direction). eq_by_cmp direction_cmp x k) (sym same) ∙ at_itself k) in
+      let here : either d ≡ size =
+      ap (λ (b : Bool). cond b size (g d)) (ap (λ (x : Direction). eq_by_cmp direction_cmp x k) (sym same) ∙ at_itself k) in
       let none : g d ≡ 0 = ap g (sym same) ∙ zero in
       let rest = sum_apart ds (λ a. once.0 (subst (λ (x : Direction). Among x ds) same a)) in
       sum_by-cons either d ds ∙ (let more = sum_by-cons g d ds in omega (arith, here, none, rest, more))
@@ -67,7 +68,8 @@ module _ (k : Direction) (size : ℕ) (g : Direction → ℕ) where
 
   sum_either : (ds : List Direction) → g k ≡ 0 → Once ds → Among k ds ⊎ (size ≡ 0) → sum_by either ds ≡ size + sum_by g ds
   sum_either ds zero once (inl a) = sum_among ds zero once a
-  sum_either ds zero once (inr none) = sum_alike either g ds (λ d. by d (eq_by_cmp direction_cmp d k) refl) ∙ (let total = sum_by g ds in omega (arith, none))
+  sum_either ds zero once (inr none) =
+      sum_alike either g ds (λ d. by d (eq_by_cmp direction_cmp d k) refl) ∙ (let total = sum_by g ds in omega (arith, none))
     where
       by : (d : Direction) (b : Bool) → eq_by_cmp direction_cmp d k ≡ b → cond b size (g d) ≡ g d
       by d true tie = none ∙ (sym zero ∙ ap g (sym (tied_same d k tie)))
@@ -85,7 +87,8 @@ size_at es over = length (octets_in (find direction_cmp over es))
 above : (k : Direction) (es : Entries) → T (below_all direction_cmp k es) → find direction_cmp k es ≡ None
 above k [] below = refl
 above k (e ∷ es) below =
-    by (direction_cmp k e.0) (front_of (is_lt (direction_cmp k e.0)) (below_all direction_cmp k es) below) (above k es (back_of (is_lt (direction_cmp k e.0)) (below_all direction_cmp k es) below))
+    by (direction_cmp k e.0) (front_of (is_lt (direction_cmp k e.0)) (below_all direction_cmp k es) below)
+    (above k es (back_of (is_lt (direction_cmp k e.0)) (below_all direction_cmp k es) below))
   where
     by : (o : Ordering) → T (is_lt o) → find direction_cmp k es ≡ None → cond (is_eq o) (Some e.1) (find direction_cmp k es) ≡ None
     by Less less rest = rest
@@ -94,16 +97,19 @@ above k (e ∷ es) below =
 
 nothing_there : (ds : List Direction) → sum_by (size_at []) ds ≡ 0
 nothing_there [] = refl
-nothing_there (d ∷ ds) = sum_by-cons (size_at []) d ds ∙ (let none : size_at [] d ≡ 0 = refl in let rest = nothing_there ds in omega (arith, none, rest))
+nothing_there (d ∷ ds) =
+    sum_by-cons (size_at []) d ds ∙ (let none : size_at [] d ≡ 0 = refl in let rest = nothing_there ds in omega (arith, none, rest))
 
 -- The sizes of all entries are those of what stands at directions, where each that has octets is one of them, once.
-entries_total : (es : Entries) (ds : List Direction) → T (is_sorted direction_cmp es) → Once ds → ((over : Direction) → Among over ds ⊎ (size_at es over ≡ 0))
+entries_total : (es : Entries) (ds : List Direction) → T (is_sorted direction_cmp es) → Once ds
+    → ((over : Direction) → Among over ds ⊎ (size_at es over ≡ 0))
     → sum_by (λ e. length e.1) es ≡ sum_by (size_at es) ds
 entries_total [] ds sorted once has = sym (nothing_there ds)
 entries_total (e ∷ es) ds sorted once has =
     sum_by-cons (λ (x : Direction × List ℕ). length x.1) e es
     ∙ (ap (λ (n : ℕ). length e.1 + n) (entries_total es ds (back_of (below_all direction_cmp e.0 es) (is_sorted direction_cmp es) sorted) once later)
-    ∙ (sym (sum_either e.0 (length e.1) (size_at es) ds none once first) ∙ sym (sum_alike (size_at (e ∷ es)) (either e.0 (length e.1) (size_at es)) ds (λ d. split (eq_by_cmp direction_cmp d e.0) d))))
+    ∙ (sym (sum_either e.0 (length e.1) (size_at es) ds none once first)
+    ∙ sym (sum_alike (size_at (e ∷ es)) (either e.0 (length e.1) (size_at es)) ds (λ d. split (eq_by_cmp direction_cmp d e.0) d))))
   where
     gone : find direction_cmp e.0 es ≡ None
     gone = above e.0 es (front_of (below_all direction_cmp e.0 es) (is_sorted direction_cmp es) sorted)
@@ -124,14 +130,16 @@ entries_total (e ∷ es) ds sorted once has =
     later : (over : Direction) → Among over ds ⊎ (size_at es over ≡ 0)
     later over = by (eq_by_cmp direction_cmp over e.0) refl (has over)
       where
-        by : (b : Bool) → eq_by_cmp direction_cmp over e.0 ≡ b → Among over ds ⊎ (length (octets_in (cond b (Some e.1) (find direction_cmp over es))) ≡ 0) → Among over ds ⊎ (size_at es over ≡ 0)
+        by : (b : Bool) → eq_by_cmp direction_cmp over e.0 ≡ b
+            → Among over ds ⊎ (length (octets_in (cond b (Some e.1) (find direction_cmp over es))) ≡ 0) → Among over ds ⊎ (size_at es over ≡ 0)
         by true tie has = inr (ap (size_at es) (tied_same over e.0 tie) ∙ none)
         by false tie has = has
 
 octets_total : (transit : TransitData) (ds : List Direction) → Once ds → ((over : Direction) → Among over ds ⊎ (octets_at transit over ≡ []))
     → total_of transit ≡ sum_by (λ over. length (octets_at transit over)) ds
 octets_total transit ds once has =
-    entries_total (entries transit.octets) ds (entries_sorted transit.octets) once (λ over. elim (has over) [ inl a ↦ inl a | inr e ↦ inr (sym (same over) ∙ ap (λ (l : List ℕ). length l) e) ])
+    entries_total (entries transit.octets) ds (entries_sorted transit.octets) once
+    (λ over. elim (has over) [ inl a ↦ inl a | inr e ↦ inr (sym (same over) ∙ ap (λ (l : List ℕ). length l) e) ])
     ∙ sym (sum_alike (λ over. length (octets_at transit over)) (size_at (entries transit.octets)) ds same)
   where
     same : (over : Direction) → length (octets_at transit over) ≡ size_at (entries transit.octets) over
@@ -142,10 +150,14 @@ octets_total transit ds once has =
 -- The octets that the plane holds are those in transit in the network: octets are on joined directions alone, and these are of the scenario.
 pub in_transit : (at : Standing) (plane : PlaneView) → IsIn at plane → total_of plane.transit ≡ octets_in_transit (without_copies at.network)
 in_transit at plane is =
-    octets_total plane.transit (directions at.network.state.scenario) (directions_once at.network.state.scenario is.around.steady.sound.lines.rules) (λ over. by over (at.network.joined over) refl)
-    ∙ sum_alike (λ over. length (octets_at plane.transit over)) (λ over. length (at.network.transit over)) (directions at.network.state.scenario) (λ over. ap (λ (l : List ℕ). length l) (sym (is.transit over)))
+    octets_total plane.transit (directions at.network.state.scenario) (directions_once at.network.state.scenario is.around.steady.sound.lines.rules)
+    (λ over. by over (at.network.joined over) refl)
+    ∙ sum_alike (λ over. length (octets_at plane.transit over)) (λ over. length (at.network.transit over)) (directions at.network.state.scenario)
+    (λ over. ap (λ (l : List ℕ). length l) (sym (is.transit over)))
   where
-    by : (over : Direction) (b : Bool) → at.network.joined over ≡ b → Among over (directions at.network.state.scenario) ⊎ (octets_at plane.transit over ≡ [])
+    by : (over : Direction) (b : Bool) → at.network.joined over ≡ b
+        → Among over (directions at.network.state.scenario) ⊎ (octets_at plane.transit over ≡ [])
     by over true e = inl (is.around.steady.whose over e)
     by over false e = inr (sym (is.transit over)
-        ∙ (subst (λ (b : Bool). IsLine over.kind b (at.network.stream over) (at.network.transit over) (is.around.steady.pending over)) e (is.around.steady.lines over)).0)
+        ∙ (subst (λ (b : Bool). IsLine over.kind b (at.network.stream over) (at.network.transit over) (is.around.steady.pending over)) e
+        (is.around.steady.lines over)).0)

@@ -23,7 +23,13 @@ use Rattle.network_defs.specs.session_defs.Example.{kept, keeping, upstream, rou
 
 writable : IsWritable withdraw
 writable = (
-  record { root = refl; fits = omega arith; shape = (fec.plain 1 (0 ∷ 0 ∷ 0 ∷ 7 ∷ []) ∷ [], ((λ e. omega (arith, e), omega arith, λ e. refl), tt), refl); octets = refl },
+  record {
+    root = refl;
+    fits = omega arith;
+    shape =
+        (fec.plain 1 (0 ∷ 0 ∷ 0 ∷ 7 ∷ []) ∷ [], ((λ e. omega (arith, e), omega arith, λ e. refl), tt), refl);
+    octets = refl;
+  },
   (omega arith, omega arith),
 )
 
@@ -39,7 +45,8 @@ honest : IsHonest keeping
 honest = record { taken = λ direction message kept carried. tt; called = λ call kept. (is_put, tt) }
 
 line : (kind : Kind) (joined : Bool) → IsLine kind joined unfed [] []
-line kind true = record { units = []; each = tt; octets = refl; messages = refl; partial = (stream_of kind).framing.empty; taken = refl; sound = refl }
+line kind true =
+    record { units = []; each = tt; octets = refl; messages = refl; partial = (stream_of kind).framing.empty; taken = refl; sound = refl }
 line kind false = (refl, refl)
 
 first_piece : kept (Call tt ∷ Move upstream 20 ∷ []) ≡ Some []
@@ -51,4 +58,5 @@ unfolding cut_at parts_at kind_of element_of label_at value_of tlv_at body_of me
 both_pieces = refl
 
 pub cut_in_two : CutInTwo
-cut_in_two = record { honest = honest; lines = λ direction. line direction.kind (same_direction direction upstream); first = first_piece; both = both_pieces }
+cut_in_two =
+    record { honest = honest; lines = λ direction. line direction.kind (same_direction direction upstream); first = first_piece; both = both_pieces }

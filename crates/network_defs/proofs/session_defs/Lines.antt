@@ -87,7 +87,8 @@ pub record Sent (kind : Kind) (octets : List ℕ) (messages : List SessionMessag
   pub octets_are : octets ≡ octets_of units
   pub messages_are : messages ≡ messages_of units
 
-sent_one : (kind own : Kind) (same : Bool) (unit : Spelled SessionMessage) (octets : List ℕ) (messages : List SessionMessage) → (same ≡ true → own ≡ kind) → IsPut own unit.messages unit.octets → Sent kind octets messages
+sent_one : (kind own : Kind) (same : Bool) (unit : Spelled SessionMessage) (octets : List ℕ) (messages : List SessionMessage)
+    → (same ≡ true → own ≡ kind) → IsPut own unit.messages unit.octets → Sent kind octets messages
     → Sent kind (cond same unit.octets [] ++ octets) (cond same unit.messages [] ++ messages)
 sent_one kind own true unit octets messages is put sent = record {
   units = unit ∷ sent.units;
@@ -97,48 +98,62 @@ sent_one kind own true unit octets messages is put sent = record {
 }
 sent_one kind own false unit octets messages is put sent = sent
 
-pub sent_over : (direction : Direction) (puts : List Put) → AllByRecursion (λ (put : Put). IsPut put.over.kind put.unit.messages put.unit.octets) puts → Sent direction.kind (octets_over direction puts) (messages_over direction puts)
+pub sent_over : (direction : Direction) (puts : List Put) → AllByRecursion (λ (put : Put). IsPut put.over.kind put.unit.messages put.unit.octets) puts
+    → Sent direction.kind (octets_over direction puts) (messages_over direction puts)
 sent_over direction [] are = record { units = []; each = tt; octets_are = refl; messages_are = refl }
 sent_over direction (put ∷ puts) are =
-    sent_one direction.kind put.over.kind (same_direction put.over direction) put.unit (octets_over direction puts) (messages_over direction puts) (λ e. ap (λ (d : Direction). d.kind) (direction_is put.over direction e)) are.0 (sent_over direction puts are.1)
+    sent_one direction.kind put.over.kind (same_direction put.over direction) put.unit (octets_over direction puts) (messages_over direction puts)
+    (λ e. ap (λ (d : Direction). d.kind) (direction_is put.over direction e)) are.0 (sent_over direction puts are.1)
 
 -- ---- lines
 
-put_behind : (kind : Kind) (stream : Stream) (transit : List ℕ) (pending : List SessionMessage) (octets : List ℕ) (messages : List SessionMessage) → Sent kind octets messages → Carried kind stream transit pending → Carried kind stream (transit ++ octets) (pending ++ messages)
+put_behind : (kind : Kind) (stream : Stream) (transit : List ℕ) (pending : List SessionMessage) (octets : List ℕ) (messages : List SessionMessage)
+    → Sent kind octets messages → Carried kind stream transit pending → Carried kind stream (transit ++ octets) (pending ++ messages)
 put_behind kind stream transit pending octets messages sent c = record {
   units = c.units ++ sent.units;
   each = are_both (IsPut kind) c.units sent.units c.each sent.each;
-  octets = sym (append_assoc stream.held transit octets) ∙ ap (λ (xs : List ℕ). xs ++ octets) c.octets ∙ ap (λ (xs : List ℕ). octets_of c.units ++ xs) sent.octets_are ∙ sym (flat_map-append (λ (u : Spelled SessionMessage). u.octets) c.units sent.units);
-  messages = ap (λ (ms : List SessionMessage). ms ++ messages) c.messages ∙ ap (λ (ms : List SessionMessage). messages_of c.units ++ ms) sent.messages_are ∙ sym (flat_map-append (λ (u : Spelled SessionMessage). u.messages) c.units sent.units);
+  octets = sym (append_assoc stream.held transit octets) ∙ ap (λ (xs : List ℕ). xs ++ octets) c.octets
+      ∙ ap (λ (xs : List ℕ). octets_of c.units ++ xs) sent.octets_are
+      ∙ sym (flat_map-append (λ (u : Spelled SessionMessage). u.octets) c.units sent.units);
+  messages =
+      ap (λ (ms : List SessionMessage). ms ++ messages) c.messages ∙ ap (λ (ms : List SessionMessage). messages_of c.units ++ ms) sent.messages_are
+      ∙ sym (flat_map-append (λ (u : Spelled SessionMessage). u.messages) c.units sent.units);
   partial = c.partial;
   taken = c.taken;
   sound = c.sound;
 }
 
-pub line_sent : (kind : Kind) (joined : Bool) (stream : Stream) (transit : List ℕ) (pending : List SessionMessage) (octets : List ℕ) (messages : List SessionMessage) → Sent kind octets messages → IsLine kind joined stream transit pending
+pub line_sent : (kind : Kind) (joined : Bool) (stream : Stream) (transit : List ℕ) (pending : List SessionMessage) (octets : List ℕ)
+    (messages : List SessionMessage) → Sent kind octets messages → IsLine kind joined stream transit pending
     → IsLine kind joined stream (cond joined (transit ++ octets) transit) (cond joined (pending ++ messages) pending)
 line_sent kind true stream transit pending octets messages sent line = put_behind kind stream transit pending octets messages sent line
 line_sent kind false stream transit pending octets messages sent line = line
 
-pub line_lost : (kind : Kind) (hit joined : Bool) (stream : Stream) (transit : List ℕ) (pending : List SessionMessage) → IsLine kind joined stream transit pending → IsLine kind (joined && not hit) stream (cond hit [] transit) (cond hit [] pending)
+pub line_lost : (kind : Kind) (hit joined : Bool) (stream : Stream) (transit : List ℕ) (pending : List SessionMessage)
+    → IsLine kind joined stream transit pending → IsLine kind (joined && not hit) stream (cond hit [] transit) (cond hit [] pending)
 line_lost kind true true stream transit pending line = (refl, refl)
 line_lost kind true false stream transit pending line = (refl, refl)
 line_lost kind false true stream transit pending line = line
 line_lost kind false false stream transit pending line = line
 
-pub line_forgotten : (kind : Kind) (hit joined : Bool) (stream : Stream) (transit : List ℕ) (pending : List SessionMessage) → IsLine kind joined stream transit pending → IsLine kind joined (cond (hit && not joined) unfed stream) transit pending
+pub line_forgotten : (kind : Kind) (hit joined : Bool) (stream : Stream) (transit : List ℕ) (pending : List SessionMessage)
+    → IsLine kind joined stream transit pending → IsLine kind joined (cond (hit && not joined) unfed stream) transit pending
 line_forgotten kind true true stream transit pending line = line
 line_forgotten kind true false stream transit pending line = line
 line_forgotten kind false joined stream transit pending line = line
 
-pub line_joined : (kind : Kind) (hit joined : Bool) (stream : Stream) (transit : List ℕ) (pending : List SessionMessage) → IsLine kind joined stream transit pending → IsLine kind (joined || hit) (cond hit unfed stream) (cond hit [] transit) (cond hit [] pending)
-line_joined kind true true stream transit pending line = record { units = []; each = tt; octets = refl; messages = refl; partial = (stream_of kind).framing.empty; taken = refl; sound = refl }
-line_joined kind true false stream transit pending line = record { units = []; each = tt; octets = refl; messages = refl; partial = (stream_of kind).framing.empty; taken = refl; sound = refl }
+pub line_joined : (kind : Kind) (hit joined : Bool) (stream : Stream) (transit : List ℕ) (pending : List SessionMessage)
+    → IsLine kind joined stream transit pending → IsLine kind (joined || hit) (cond hit unfed stream) (cond hit [] transit) (cond hit [] pending)
+line_joined kind true true stream transit pending line =
+    record { units = []; each = tt; octets = refl; messages = refl; partial = (stream_of kind).framing.empty; taken = refl; sound = refl }
+line_joined kind true false stream transit pending line =
+    record { units = []; each = tt; octets = refl; messages = refl; partial = (stream_of kind).framing.empty; taken = refl; sound = refl }
 line_joined kind false true stream transit pending line = line
 line_joined kind false false stream transit pending line = line
 
 -- another line in the place of one
-pub line_moved : (kind : Kind) (here joined : Bool) (stream new : Stream) (transit left : List ℕ) (pending rest : List SessionMessage) → (here ≡ true → IsLine kind joined new left rest) → IsLine kind joined stream transit pending
+pub line_moved : (kind : Kind) (here joined : Bool) (stream new : Stream) (transit left : List ℕ) (pending rest : List SessionMessage)
+    → (here ≡ true → IsLine kind joined new left rest) → IsLine kind joined stream transit pending
     → IsLine kind joined (cond here new stream) (cond here left transit) (cond here rest pending)
 line_moved kind true joined stream new transit left pending rest moved line = moved refl
 line_moved kind false joined stream new transit left pending rest moved line = line

@@ -27,7 +27,9 @@ pub came_of : (kind : Kind) (stream : Stream) (transit : List ℕ) (pending : Li
     → Came (front_of kind) (Spells kind) (stream.held ++ take count transit) (drop count transit) c.units
 came_of kind stream transit pending count c =
     let here : List ℕ = stream.held ++ take count transit in
-    let split : here ++ drop count transit ≡ octets_of c.units = append_assoc stream.held (take count transit) (drop count transit) ∙ ap (λ (xs : List ℕ). stream.held ++ xs) (take-append-drop count transit) ∙ c.octets in
+    let split : here ++ drop count transit ≡ octets_of c.units =
+    append_assoc stream.held (take count transit) (drop count transit) ∙ ap (λ (xs : List ℕ). stream.held ++ xs) (take-append-drop count transit)
+    ∙ c.octets in
     let fits : IsOctets here = IsOctets-before here (drop count transit) (subst IsOctets (sym split) (are_octets kind c.units c.each)) in
     came (front_of kind) (Spells kind) (stream_of kind) here (drop count transit) c.units (are_spelled kind c.units c.each) fits split
 
@@ -35,16 +37,21 @@ came_of kind stream transit pending count c =
 abbrev rests : Stream → List ℕ → List ℕ → Stream
 rests stream here rest = record { waiting = []; held = rest; before = further stream.before (length here - length rest); fault = None }
 
-fed_is : (kind : Kind) (stream : Stream) (transit : List ℕ) (pending : List SessionMessage) (count : ℕ) (c : Carried kind stream transit pending) (some : Came (front_of kind) (Spells kind) (stream.held ++ take count transit) (drop count transit) c.units)
-    → fed (front_of kind) stream (take count transit) ≡ record (rests stream (stream.held ++ take count transit) some.rest) { waiting = messages_of some.done }
+fed_is : (kind : Kind) (stream : Stream) (transit : List ℕ) (pending : List SessionMessage) (count : ℕ) (c : Carried kind stream transit pending)
+    (some : Came (front_of kind) (Spells kind) (stream.held ++ take count transit) (drop count transit) c.units)
+    → fed (front_of kind) stream (take count transit)
+    ≡ record (rests stream (stream.held ++ take count transit) some.rest) { waiting = messages_of some.done }
 fed_is kind stream transit pending count c some =
     let here : List ℕ = stream.held ++ take count transit in
     ap (λ (o : Option _). fed_unless (front_of kind) o stream (take count transit)) c.sound
-    ∙ ap (λ (k : Cut SessionMessage SessionFault). fed_by stream (length here) k) (came_cut (front_of kind) (Spells kind) (stream_of kind) here (drop count transit) c.units some)
+    ∙ ap (λ (k : Cut SessionMessage SessionFault). fed_by stream (length here) k)
+    (came_cut (front_of kind) (Spells kind) (stream_of kind) here (drop count transit) c.units some)
     ∙ ap (λ (ms : List SessionMessage). record (rests stream here some.rest) { waiting = ms ++ messages_of some.done }) c.taken
 
 -- what is left carries the messages of the units that did not come whole
-left_carried : (kind : Kind) (stream : Stream) (transit : List ℕ) (pending : List SessionMessage) (count : ℕ) (c : Carried kind stream transit pending) (some : Came (front_of kind) (Spells kind) (stream.held ++ take count transit) (drop count transit) c.units)
+left_carried : (kind : Kind) (stream : Stream) (transit : List ℕ) (pending : List SessionMessage) (count : ℕ)
+    (c : Carried kind stream transit pending) (some : Came (front_of kind) (Spells kind) (stream.held ++ take count transit) (drop count transit)
+    c.units)
     → Carried kind (rests stream (stream.held ++ take count transit) some.rest) (drop count transit) (messages_of some.left)
 left_carried kind stream transit pending count c some = record {
   units = some.left;
@@ -56,29 +63,42 @@ left_carried kind stream transit pending count c some = record {
   sound = refl;
 }
 
-none_left : (kind : Kind) (stream : Stream) (transit : List ℕ) (pending : List SessionMessage) (count : ℕ) (c : Carried kind stream transit pending) (some : Came (front_of kind) (Spells kind) (stream.held ++ take count transit) (drop count transit) c.units)
+none_left : (kind : Kind) (stream : Stream) (transit : List ℕ) (pending : List SessionMessage) (count : ℕ) (c : Carried kind stream transit pending)
+    (some : Came (front_of kind) (Spells kind) (stream.held ++ take count transit) (drop count transit) c.units)
     → length transit ≤ count → messages_of some.left ≡ []
 none_left kind stream transit pending count c some le =
     let all : some.rest ++ [] ≡ octets_of some.left = ap (λ (xs : List ℕ). some.rest ++ xs) (sym (drop_all count transit le)) ∙ some.comes in
     ap messages_of (came_all (front_of kind) (Spells kind) (stream_of kind) some.rest some.left some.left_are all some.partial)
 
-parts_of : (kind : Kind) (stream : Stream) (transit : List ℕ) (pending : List SessionMessage) (count : ℕ) (c : Carried kind stream transit pending) (some : Came (front_of kind) (Spells kind) (stream.held ++ take count transit) (drop count transit) c.units)
+parts_of : (kind : Kind) (stream : Stream) (transit : List ℕ) (pending : List SessionMessage) (count : ℕ) (c : Carried kind stream transit pending)
+    (some : Came (front_of kind) (Spells kind) (stream.held ++ take count transit) (drop count transit) c.units)
     → pending ≡ messages_of some.done ++ messages_of some.left
-parts_of kind stream transit pending count c some = c.messages ∙ ap messages_of some.both ∙ flat_map-append (λ (u : Spelled SessionMessage). u.messages) some.done some.left
+parts_of kind stream transit pending count c some =
+    c.messages ∙ ap messages_of some.both ∙ flat_map-append (λ (u : Spelled SessionMessage). u.messages) some.done some.left
 
 -- each message that came whole is one that a spelled unit carries
-all_carried : (kind : Kind) (text : List ℕ) (before messages : List SessionMessage) → IsPut kind (before ++ messages) text → AllByRecursion (λ (message : SessionMessage). IsCarried kind message) messages
+all_carried : (kind : Kind) (text : List ℕ) (before messages : List SessionMessage) → IsPut kind (before ++ messages) text
+    → AllByRecursion (λ (message : SessionMessage). IsCarried kind message) messages
 all_carried kind text before [] put = tt
-all_carried kind text before (message ∷ messages) put =
-    (record { before = before; behind = messages; text = text; put = put }, all_carried kind text (before ++ message ∷ []) messages (subst (λ (ms : List SessionMessage). IsPut kind ms text) (sym (append_assoc before (message ∷ []) messages)) put))
+all_carried kind text before (message ∷ messages) put = (
+  record { before = before; behind = messages; text = text; put = put },
+  all_carried kind text (before ++ message ∷ []) messages
+      (subst (λ (ms : List SessionMessage). IsPut kind ms text) (sym (append_assoc before (message ∷ []) messages)) put),
+)
 
-units_carried : (kind : Kind) (units : List (Spelled SessionMessage)) → AreUnits (IsPut kind) units → AllByRecursion (λ (message : SessionMessage). IsCarried kind message) (messages_of units)
+units_carried : (kind : Kind) (units : List (Spelled SessionMessage)) → AreUnits (IsPut kind) units
+    → AllByRecursion (λ (message : SessionMessage). IsCarried kind message) (messages_of units)
 units_carried kind [] are = tt
-units_carried kind (unit ∷ units) are = all_both (λ (message : SessionMessage). IsCarried kind message) unit.messages (messages_of units) (all_carried kind unit.octets [] unit.messages are.0) (units_carried kind units are.1)
+units_carried kind (unit ∷ units) are =
+    all_both (λ (message : SessionMessage). IsCarried kind message) unit.messages (messages_of units)
+    (all_carried kind unit.octets [] unit.messages are.0) (units_carried kind units are.1)
 
-done_carried : (kind : Kind) (stream : Stream) (transit : List ℕ) (pending : List SessionMessage) (count : ℕ) (c : Carried kind stream transit pending) (some : Came (front_of kind) (Spells kind) (stream.held ++ take count transit) (drop count transit) c.units)
+done_carried : (kind : Kind) (stream : Stream) (transit : List ℕ) (pending : List SessionMessage) (count : ℕ)
+    (c : Carried kind stream transit pending) (some : Came (front_of kind) (Spells kind) (stream.held ++ take count transit) (drop count transit)
+    c.units)
     → AllByRecursion (λ (message : SessionMessage). IsCarried kind message) (messages_of some.done)
-done_carried kind stream transit pending count c some = units_carried kind some.done (are_before (IsPut kind) some.done some.left (subst (AreUnits (IsPut kind)) some.both c.each))
+done_carried kind stream transit pending count c some =
+    units_carried kind some.done (are_before (IsPut kind) some.done some.left (subst (AreUnits (IsPut kind)) some.both c.each))
 
 -- ---- the network
 
@@ -92,29 +112,37 @@ placed network direction transit stream = record network {
 abbrev pending_there : Direction → List SessionMessage → (Direction → List SessionMessage) → Direction → List SessionMessage
 pending_there direction left pending other = cond (same_direction other direction) left (pending other)
 
-placed_lines : {S : Type 0} (network : OctetNetwork S) (pending : Direction → List SessionMessage) (direction : Direction) (transit : List ℕ) (stream : Stream) (left : List SessionMessage) → AreLines network pending → network.joined direction ≡ true → Carried direction.kind stream transit left
+placed_lines : {S : Type 0} (network : OctetNetwork S) (pending : Direction → List SessionMessage) (direction : Direction) (transit : List ℕ)
+    (stream : Stream) (left : List SessionMessage) → AreLines network pending → network.joined direction ≡ true
+    → Carried direction.kind stream transit left
     → AreLines (placed network direction transit stream) (pending_there direction left pending)
 placed_lines network pending direction transit stream left lines joined carried other =
-    line_moved other.kind (same_direction other direction) (network.joined other) (network.stream other) stream (network.transit other) transit (pending other) left (λ e.
-    let line : IsLine direction.kind (network.joined direction) stream transit left = subst (λ (b : Bool). IsLine direction.kind b stream transit left) (sym joined) carried in
+    line_moved other.kind (same_direction other direction) (network.joined other) (network.stream other) stream (network.transit other) transit
+    (pending other) left (λ e.
+    let line : IsLine direction.kind (network.joined direction) stream transit left =
+    subst (λ (b : Bool). IsLine direction.kind b stream transit left) (sym joined) carried in
     subst (λ (d : Direction). IsLine d.kind (network.joined d) stream transit left) (sym (direction_is other direction e)) line) (lines other)
 
-front_back : (here : Bool) (pending first left : List SessionMessage) → (here ≡ true → pending ≡ first ++ left) → pending ≡ cond here (first ++ cond here left pending) (cond here left pending)
+front_back : (here : Bool) (pending first left : List SessionMessage) → (here ≡ true → pending ≡ first ++ left)
+    → pending ≡ cond here (first ++ cond here left pending) (cond here left pending)
 front_back true pending first left e = e refl
 front_back false pending first left e = refl
 
-fronted : {S : Type 0} (network : OctetNetwork S) (pending : Direction → List SessionMessage) (direction : Direction) (transit : List ℕ) (stream : Stream) (first left : List SessionMessage) → pending direction ≡ first ++ left
+fronted : {S : Type 0} (network : OctetNetwork S) (pending : Direction → List SessionMessage) (direction : Direction) (transit : List ℕ)
+    (stream : Stream) (first left : List SessionMessage) → pending direction ≡ first ++ left
     → seen network pending ≡ seen (placed network direction transit stream) (in_front direction first (pending_there direction left pending))
 fronted network pending direction transit stream first left parts = λ i. record {
   state = network.state;
   joined = network.joined;
-  transit = λ other. front_back (same_direction other direction) (pending other) first left (λ e. ap pending (direction_is other direction e) ∙ parts) i;
+  transit =
+      λ other. front_back (same_direction other direction) (pending other) first left (λ e. ap pending (direction_is other direction e) ∙ parts) i;
 }
 
 -- ---- a move
 
 -- some first messages that are pending, all where all octets are moved, and what comes of their deliveries
-pub record Moved {S X : Type 0} (system : System S X) (Good : S → Type 0) (old : OctetNetwork S) (pending : Direction → List SessionMessage) (direction : Direction) (count : ℕ) : Type 0 where
+pub record Moved {S X : Type 0} (system : System S X) (Good : S → Type 0) (old : OctetNetwork S) (pending : Direction → List SessionMessage)
+    (direction : Direction) (count : ℕ) : Type 0 where
   pub first : List SessionMessage
   pub rest : List SessionMessage
   pub parts : pending direction ≡ first ++ rest
@@ -123,9 +151,12 @@ pub record Moved {S X : Type 0} (system : System S X) (Good : S → Type 0) (old
 
 -- what the messages that a fed stream hands out do
 abbrev takes : {S X : Type 0} → System S X → OctetNetwork S → Direction → ℕ → Stream → Option (Behind (OctetNetwork S))
-takes system old direction count new = all_taken system (placed old direction (drop count (old.transit direction)) (record new { waiting = [] })) direction new.waiting
+takes system old direction count new =
+    all_taken system (placed old direction (drop count (old.transit direction)) (record new { waiting = [] })) direction new.waiting
 
-pub moved_seen : {S X : Type 0} (system : System S X) (Good : S → Type 0) → IsHonestWhile system Good → (old : OctetNetwork S) (pending : Direction → List SessionMessage) (direction : Direction) (count : ℕ) → AreLines old pending → Good old.state → old.joined direction ≡ true
+pub moved_seen : {S X : Type 0} (system : System S X) (Good : S → Type 0) → IsHonestWhile system Good
+    → (old : OctetNetwork S) (pending : Direction → List SessionMessage) (direction : Direction) (count : ℕ) → AreLines old pending → Good old.state
+    → old.joined direction ≡ true
     → Carried direction.kind (old.stream direction) (old.transit direction) (pending direction) → Moved system Good old pending direction count
 moved_seen {S} {X} system Good honest old pending direction count lines good joined c =
     let kind : Kind = direction.kind in
@@ -138,28 +169,45 @@ moved_seen {S} {X} system Good honest old pending direction count lines good joi
     let parts = parts_of kind stream transit (pending direction) count c some in
     let next : OctetNetwork S = placed old direction (drop count transit) new in
     let waiting : Direction → List SessionMessage = pending_there direction left pending in
-    let next_lines : AreLines next waiting = placed_lines old pending direction (drop count transit) new left lines joined (left_carried kind stream transit (pending direction) count c some) in
-    let delivered : IsSeen Good (all_taken system next direction first) (message_run system (seen next (in_front direction first waiting)) (deliveries direction first)) = taken_seen system Good honest direction first (done_carried kind stream transit (pending direction) count c some) next waiting next_lines good in
+    let next_lines : AreLines next waiting =
+    placed_lines old pending direction (drop count transit) new left lines joined
+    (left_carried kind stream transit (pending direction) count c some) in
+    let delivered : IsSeen Good (all_taken system next direction first)
+    (message_run system (seen next (in_front direction first waiting)) (deliveries direction first)) =
+    taken_seen system Good honest direction first (done_carried kind stream transit (pending direction) count c some) next waiting next_lines good
+    in
     let same : IsSeen Good (all_taken system next direction first) (message_run system (seen old pending) (deliveries direction first)) =
-    subst (λ (n : MessageNetwork S). IsSeen Good (all_taken system next direction first) (message_run system n (deliveries direction first))) (sym (fronted old pending direction (drop count transit) new first left parts)) delivered in
+    subst (λ (n : MessageNetwork S). IsSeen Good (all_taken system next direction first) (message_run system n (deliveries direction first)))
+    (sym (fronted old pending direction (drop count transit) new first left parts)) delivered in
     record {
       first = first;
       rest = left;
       parts = parts;
       all = none_left kind stream transit (pending direction) count c some;
-      outcome = subst (λ (d : Stream). IsSeen Good (takes system old direction count d) (message_run system (seen old pending) (deliveries direction first))) (sym (fed_is kind stream transit (pending direction) count c some)) same;
+      outcome =
+          subst (λ (d : Stream). IsSeen Good (takes system old direction count d)
+          (message_run system (seen old pending) (deliveries direction first))) (sym (fed_is kind stream transit (pending direction) count c some))
+          same;
     }
 
-carried_there : {S : Type 0} (old : OctetNetwork S) (pending : Direction → List SessionMessage) (direction : Direction) → AreLines old pending → old.joined direction ≡ true → Carried direction.kind (old.stream direction) (old.transit direction) (pending direction)
-carried_there old pending direction lines joined = subst (λ (b : Bool). IsLine direction.kind b (old.stream direction) (old.transit direction) (pending direction)) joined (lines direction)
+carried_there : {S : Type 0} (old : OctetNetwork S) (pending : Direction → List SessionMessage) (direction : Direction) → AreLines old pending
+    → old.joined direction ≡ true → Carried direction.kind (old.stream direction) (old.transit direction) (pending direction)
+carried_there old pending direction lines joined =
+    subst (λ (b : Bool). IsLine direction.kind b (old.stream direction) (old.transit direction) (pending direction)) joined (lines direction)
 
-pub moves_first_while : {S X : Type 0} (system : System S X) (Good : S → Type 0) (old : OctetNetwork S) (pending : Direction → List SessionMessage) (direction : Direction) (count : ℕ) (new : Behind (OctetNetwork S)) → IsHonestWhile system Good → AreLines old pending
-    → Good old.state → old.joined direction ≡ true → moved system old direction count ≡ Some new → MovesFirst system old pending direction count new × Good new.network.state
+pub moves_first_while : {S X : Type 0} (system : System S X) (Good : S → Type 0) (old : OctetNetwork S) (pending : Direction → List SessionMessage)
+    (direction : Direction) (count : ℕ) (new : Behind (OctetNetwork S)) → IsHonestWhile system Good → AreLines old pending
+    → Good old.state → old.joined direction ≡ true → moved system old direction count ≡ Some new
+    → MovesFirst system old pending direction count new × Good new.network.state
 moves_first_while {S} {X} system Good old pending direction count new honest lines good joined e =
     let m = moved_seen system Good honest old pending direction count lines good joined (carried_there old pending direction lines joined) in
-    let is : IsSeen Good (Some new) (message_run system (seen old pending) (deliveries direction m.first)) = subst (λ (o : Option (Behind (OctetNetwork S))). IsSeen Good o (message_run system (seen old pending) (deliveries direction m.first))) e m.outcome in
+    let is : IsSeen Good (Some new) (message_run system (seen old pending) (deliveries direction m.first)) =
+    subst (λ (o : Option (Behind (OctetNetwork S))). IsSeen Good o (message_run system (seen old pending) (deliveries direction m.first))) e
+    m.outcome in
     (record { first = m.first; rest = m.rest; parts = m.parts; all = m.all; left = is.0; lines = is.1; same = is.2 }, is.3)
 
-pub moves_first : {S X : Type 0} (system : System S X) (old : OctetNetwork S) (pending : Direction → List SessionMessage) (direction : Direction) (count : ℕ) (new : Behind (OctetNetwork S)) → IsHonest system → AreLines old pending → old.joined direction ≡ true
+pub moves_first : {S X : Type 0} (system : System S X) (old : OctetNetwork S) (pending : Direction → List SessionMessage) (direction : Direction)
+    (count : ℕ) (new : Behind (OctetNetwork S)) → IsHonest system → AreLines old pending → old.joined direction ≡ true
     → moved system old direction count ≡ Some new → MovesFirst system old pending direction count new
-moves_first system old pending direction count new honest lines joined e = (moves_first_while system (λ state. ⊤) old pending direction count new (honest_while system honest) lines tt joined e).0
+moves_first system old pending direction count new honest lines joined e =
+    (moves_first_while system (λ state. ⊤) old pending direction count new (honest_while system honest) lines tt joined e).0

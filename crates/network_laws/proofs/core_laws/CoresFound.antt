@@ -92,7 +92,9 @@ record Found (scenario : Scenario) (links : List Link) : Type 0 where
 found : (scenario : Scenario) → Rules scenario → (links : List Link) → Found scenario links
 found scenario rules links = elim (repriced_or_not scenario.links links) [
   | inl same ↦
-      let some = some_core (length scenario.nodes) links (repriced_topology scenario.links links same (length scenario.nodes) rules.core.topology) (repriced_connected scenario.links links same (length scenario.nodes) rules.connected) in
+      let some =
+      some_core (length scenario.nodes) links (repriced_topology scenario.links links same (length scenario.nodes) rules.core.topology)
+      (repriced_connected scenario.links links same (length scenario.nodes) rules.connected) in
       record { core = some.0; is = λ h. some.1; other = λ none. absurd (none same) }
   | inr none ↦ record { core = no_core; is = λ h. absurd (none h); other = λ h. refl }
 ]

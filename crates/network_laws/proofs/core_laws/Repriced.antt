@@ -37,7 +37,8 @@ repriced_or_not [] (other ∷ others) = inr (λ h. h)
 repriced_or_not (link ∷ more) [] = inr (λ h. h)
 repriced_or_not (link ∷ more) (other ∷ others) =
     same_or_not (λ h. (h.0, h.1.0, h.1.1.0, h.1.1.1)) (λ h. (h.0, (h.1, (h.2, h.3))))
-    (both_or_not (end_or_not other.a link.a) (both_or_not (end_or_not other.b link.b) (both_or_not (cost_or_not other) (repriced_or_not more others))))
+    (both_or_not (end_or_not other.a link.a) (both_or_not (end_or_not other.b link.b)
+    (both_or_not (cost_or_not other) (repriced_or_not more others))))
 
 -- ---- place by place
 
@@ -59,7 +60,8 @@ ends_at (link ∷ more) [] h k d = absurd h
 ends_at (link ∷ more) (other ∷ others) h zero d = record { a = ap (λ (n : NodeId). n.0) h.0; b = ap (λ (n : NodeId). n.0) h.1 }
 ends_at (link ∷ more) (other ∷ others) h (suc k) d = ends_at more others h.3 k d
 
-pair_kept : (own other own_now other_now : Link) → HasSameEnds own own_now → HasSameEnds other other_now → JoinsSamePair own_now other_now → JoinsSamePair own other
+pair_kept : (own other own_now other_now : Link) → HasSameEnds own own_now → HasSameEnds other other_now → JoinsSamePair own_now other_now
+    → JoinsSamePair own other
 pair_kept own other own_now other_now e f (inl h) = inl (sym e.a ∙ h.0 ∙ f.a, sym e.b ∙ h.1 ∙ f.b)
 pair_kept own other own_now other_now e f (inr h) = inr (sym e.a ∙ h.0 ∙ f.b, sym e.b ∙ h.1 ∙ f.a)
 
@@ -71,7 +73,8 @@ module _ (links others : List Link) (h : AreRepriced links others) where
     ends = All-from_recursion (HasEnds nodes) others (repriced_ends nodes links others (recursion_from_All (HasEnds nodes) links t.ends) h);
     costs = All-from_recursion HasCost others (repriced_costs links others h);
     once = λ i j d before within same. t.once i j d before (omega (arith, within, length_repriced links others h))
-        (pair_kept (get_or links i d) (get_or links j d) (get_or others i d) (get_or others j d) (ends_at links others h i d) (ends_at links others h j d) same);
+        (pair_kept (get_or links i d) (get_or links j d) (get_or others i d) (get_or others j d) (ends_at links others h i d)
+        (ends_at links others h j d) same);
   }
 
   -- ---- a walk stays one, at another cost
@@ -80,7 +83,8 @@ module _ (links others : List Link) (h : AreRepriced links others) where
   linked_kept x y cost linked =
       let place = linked.listed in
       let other : Link = get_or others place.0 linked.link in
-      let same : HasSameEnds linked.link other = subst (λ (link : Link). HasSameEnds link other) place.2 (ends_at links others h place.0 linked.link) in (
+      let same : HasSameEnds linked.link other =
+      subst (λ (link : Link). HasSameEnds link other) place.2 (ends_at links others h place.0 linked.link) in (
         other.cost,
         record {
           link = other;

@@ -20,7 +20,8 @@ module _ (nodes : ℕ) (links : List Link) (topology : IsTopology nodes links) (
   settled zero row sound below = absurd (omega (arith, below))
   settled (suc bound) row sound below = elim (cases_Bool (list_all (is_tight row) links)) [
     | inl tight ↦ (row, cost_row links nodes root row topology sound tight)
-    | inr loose ↦ settled bound (relaxed_all row links) (relaxed_all_sound links nodes root row topology sound) (omega (arith, below, falls row sound loose))
+    | inr loose ↦ settled bound (relaxed_all row links) (relaxed_all_sound links nodes root row topology sound)
+        (omega (arith, below, falls row sound loose))
   ]
 
   -- the row in which the root alone is known
@@ -48,7 +49,11 @@ module _ (nodes : ℕ) (links : List Link) (topology : IsTopology nodes links) (
 
       top : (k : ℕ) → get_or first_row k 0 ≤ far
       top k = elim (cases_lt k nodes) [
-        | inr past ↦ omega (arith, get_or_past first_row k 0 (omega (arith, past, length-set (replicate nodes far) root 0, length-replicate nodes far)))
+        | inr past ↦ omega (
+          arith,
+          get_or_past first_row k 0
+              (omega (arith, past, length-set (replicate nodes far) root 0, length-replicate nodes far)),
+        )
         | inl l ↦ elim (cases_eq k root) [
           | inl e ↦ subst (λ (j : ℕ). get_or first_row j 0 ≤ far) (sym e) (omega (arith, here))
           | inr ne ↦ omega (arith, beside k l ne)
@@ -60,7 +65,8 @@ module _ (nodes : ℕ) (links : List Link) (topology : IsTopology nodes links) (
 
   -- ---- first steps
 
-  pub some_steps : (row : List ℕ) → IsCostRow links nodes root row → ((k : ℕ) → k < nodes → get_or row k 0 < far) → (nexts : List ℕ) × IsStepRow links nodes root nexts
+  pub some_steps : (row : List ℕ) → IsCostRow links nodes root row → ((k : ℕ) → k < nodes → get_or row k 0 < far)
+      → (nexts : List ℕ) × IsStepRow links nodes root nexts
   some_steps row costs near =
       let first : List ℕ = replicate nodes 65535 in
       (_, steps_written links nodes root row first (noted_all row first links) (length first) topology costs near refl refl refl)

@@ -46,9 +46,12 @@ of_one_edge a (b ∷ later) session (inr h) = of_one_edge a later session h
 
 of_edges : (all : List NodeId) (session : Session) → IsIn session (bgp_sessions all) → session.kind ≡ kinds.Bgp
 of_edges [] session h = absurd h
-of_edges (a ∷ later) session h = elim (in_either session (map (bgp_session a) later) (bgp_sessions later) h) [ inl x ↦ of_one_edge a later session x | inr x ↦ of_edges later session x ]
+of_edges (a ∷ later) session h =
+    elim (in_either session (map (bgp_session a) later) (bgp_sessions later) h)
+    [ inl x ↦ of_one_edge a later session x | inr x ↦ of_edges later session x ]
 
-of_links : (nodes : ℕ) (links : List Link) → AllByRecursion (HasEnds nodes) links → (session : Session) → IsIn session (map ldp_session links) → (session.a.0 < nodes) × (session.b.0 < nodes)
+of_links : (nodes : ℕ) (links : List Link) → AllByRecursion (HasEnds nodes) links → (session : Session) → IsIn session (map ldp_session links)
+    → (session.a.0 < nodes) × (session.b.0 < nodes)
 of_links nodes [] ends session h = absurd h
 of_links nodes (link ∷ more) ends session (inl e) = subst (λ (x : Session). (x.a.0 < nodes) × (x.b.0 < nodes)) (sym e) (ends.0.a, ends.0.b)
 of_links nodes (link ∷ more) ends session (inr h) = of_links nodes more ends.1 session h
@@ -57,7 +60,8 @@ of_links nodes (link ∷ more) ends session (inr h) = of_links nodes more ends.1
 has_nodes : (scenario : Scenario) → Rules scenario → HasNodes scenario
 has_nodes scenario rules session is k = elim (in_either session (bgp_sessions (edges scenario)) (map ldp_session scenario.links) is) [
   | inl x ↦ (let e = of_edges (edges scenario) session x in absurd cc)
-  | inr x ↦ of_links (length scenario.nodes) scenario.links (recursion_from_All (HasEnds (length scenario.nodes)) scenario.links rules.core.topology.ends) session x
+  | inr x ↦ of_links (length scenario.nodes) scenario.links
+      (recursion_from_All (HasEnds (length scenario.nodes)) scenario.links rules.core.topology.ends) session x
 ]
 
 -- ---- one session
@@ -66,7 +70,8 @@ held_is : (o : Option End) → elim o [ None ↦ false | Some end ↦ end.held ]
 held_is None = refl
 held_is (Some end) = refl
 
-ready_alike : (scenario : Scenario) (told : SessionsStand) (world : World) → Tells scenario told world → (session : Session) → IsIn session (sessions scenario) → is_ready world session ≡ is_ready_in told session
+ready_alike : (scenario : Scenario) (told : SessionsStand) (world : World) → Tells scenario told world → (session : Session)
+    → IsIn session (sessions scenario) → is_ready world session ≡ is_ready_in told session
 ready_alike scenario told world t session is = by session.kind refl
   where
     joined : is_joined world session ≡ told.joined session.kind session.a session.b
@@ -80,7 +85,8 @@ ready_alike scenario told world t session is = by session.kind refl
 
     by : (kind : Kind) → session.kind ≡ kind
         → (is_joined world session && elim kind [ kinds.Bgp ↦ true | kinds.Ldp ↦ are_held world session ])
-        ≡ (told.joined session.kind session.a session.b && (same_kind kind kinds.Bgp || (is_held (told.end kind session.a session.b) && is_held (told.end kind session.b session.a))))
+        ≡ (told.joined session.kind session.a session.b
+        && (same_kind kind kinds.Bgp || (is_held (told.end kind session.a session.b) && is_held (told.end kind session.b session.a))))
     by kinds.Bgp k = ap (λ b. b && true) joined
     by kinds.Ldp k =
         let first = held_is (maps.get (part_of (world.network.state.node session.a)).ends session.b) ∙ ap is_held (near k) in
@@ -97,13 +103,17 @@ start_tells scenario cores = record {
   alike = record { clock = refl; each = λ session is. record { joined = refl; near = λ k. refl; far = λ k. refl } };
 }
 
-pub told_unready : (cores : Cores) (script : Script) (events : List Timed) (trace : List Traced) (new : World) → Rules script.scenario → Rises 0 events → Run cores script events trace new
+pub told_unready : (cores : Cores) (script : Script) (events : List Timed) (trace : List Traced) (new : World) → Rules script.scenario
+    → Rises 0 events → Run cores script events trace new
     → unready new ≡ unready_behind (record { scenario = script.scenario; events = events; refused = refused_lines (report_of trace) })
 told_unready cores script events trace new rules rises run =
     let scenario = script.scenario in
     let refused = refused_lines (report_of trace) in
     let past : Past = record { scenario = scenario; events = events; refused = refused } in
     let told = sessions_stand past in
-    let t : Tells scenario told new = runs_tell scenario (has_nodes scenario rules) events (start scenario cores) 0 trace new none_joined 0 [] refused rises (λ line lt. refl) refl (start_tells scenario cores) run in
+    let t : Tells scenario told new =
+    runs_tell scenario (has_nodes scenario rules) events (start scenario cores) 0 trace new none_joined 0 [] refused rises (λ line lt. refl) refl
+    (start_tells scenario cores) run in
     ap (λ (x : Scenario). count_by (λ session. not (is_ready new session)) (sessions x)) t.stands.nodes.place
-    ∙ count_alike (λ session. not (is_ready new session)) (λ session. not (is_ready_in told session)) (sessions scenario) (λ session is. ap not (ready_alike scenario told new t session is))
+    ∙ count_alike (λ session. not (is_ready new session)) (λ session. not (is_ready_in told session)) (sessions scenario)
+    (λ session is. ap not (ready_alike scenario told new t session is))

@@ -41,7 +41,8 @@ pub holds_from : {A : Type 0} (P : A → Type 0) (o : Option A) → ((x : A) →
 holds_from P None h = tt
 holds_from P (Some x) h = h x refl
 
-pub holds_then : {A B : Type 0} (P : A → Type 0) (Q : B → Type 0) (o : Option A) (next : A → Option B) → Holds P o → ((x : A) → P x → Holds Q (next x)) → Holds Q (o >>? next)
+pub holds_then : {A B : Type 0} (P : A → Type 0) (Q : B → Type 0) (o : Option A) (next : A → Option B) → Holds P o
+    → ((x : A) → P x → Holds Q (next x)) → Holds Q (o >>? next)
 holds_then P Q None next p h = tt
 holds_then P Q (Some x) next p h = h x p
 
@@ -84,14 +85,18 @@ either_ends part next false e = refl
 release_ends : (part : LabelData) (from : NodeId) (fec : Fec) (label until : ℕ) → (with_release part from fec label until).ends ≡ part.ends
 release_ends part from fec label until = by (use_of part label)
   where
-    by : (o : Option LabelUse) → (let next : LabelData = elim o [ None ↦ part | Some usage ↦ with_use part label (released from fec until usage) ] in next.ends) ≡ part.ends
+    by : (o : Option LabelUse) → (let next : LabelData = elim o [ None ↦ part | Some usage ↦ with_use part label (released from fec until usage) ] in
+        next.ends) ≡ part.ends
     by None = refl
     by (Some usage) = refl
 
-effect_end : (place : Place) (now : ℕ) (part : LabelData) (call : Call) (peer : NodeId) → up_in (effect place now part call).0.part.ends peer ≡ end_by place.life now call peer (up_in part.ends peer)
-effect_end place now part (Taken from (messages.Mapping fec label)) peer = ap (λ (ends : FinMap node_cmp End). up_in ends peer) (either_ends part _ (place.is_tree fec) refl)
+effect_end : (place : Place) (now : ℕ) (part : LabelData) (call : Call) (peer : NodeId)
+    → up_in (effect place now part call).0.part.ends peer ≡ end_by place.life now call peer (up_in part.ends peer)
+effect_end place now part (Taken from (messages.Mapping fec label)) peer =
+    ap (λ (ends : FinMap node_cmp End). up_in ends peer) (either_ends part _ (place.is_tree fec) refl)
 effect_end place now part (Taken from (messages.Withdraw fec label)) peer = refl
-effect_end place now part (Taken from (messages.Release fec label)) peer = ap (λ (ends : FinMap node_cmp End). up_in ends peer) (release_ends part from fec label (now + place.life + 1))
+effect_end place now part (Taken from (messages.Release fec label)) peer =
+    ap (λ (ends : FinMap node_cmp End). up_in ends peer) (release_ends part from fec label (now + place.life + 1))
 effect_end place now part (Taken from (messages.Ignored kind)) peer = refl
 effect_end place now part (Want fec) peer = refl
 effect_end place now part (Unwant fec) peer = refl
@@ -112,7 +117,8 @@ effect_end place now part Timers peer = ap (option_map up_end) (timed_end place 
 effect_end place now part Rerouted peer = refl
 
 -- A message that is put changes the next id of its end alone.
-told_up : (ends : FinMap node_cmp End) (to : NodeId) (end : End) → maps.get ends to ≡ Some end → (peer : NodeId) → up_in (maps.insert ends to (told end)) peer ≡ up_in ends peer
+told_up : (ends : FinMap node_cmp End) (to : NodeId) (end : End) → maps.get ends to ≡ Some end → (peer : NodeId)
+    → up_in (maps.insert ends to (told end)) peer ≡ up_in ends peer
 told_up ends to end e peer = elim (node_cases peer to) [
   | inl same ↦ ap (up_in (maps.insert ends to (told end))) same
       ∙ ap (option_map up_end) (put_here node_cmp_total node_cmp_exact ends to (told end) ∙ sym (ap (option_map told) e))
@@ -135,11 +141,15 @@ ends_up (put ∷ more) ends peer = by (maps.get ends put.to) refl (λ all. ends_
     by (Some end) e h = h (maps.insert ends put.to (told end)) ∙ told_up ends put.to end e peer
 
 -- The trees that settle change no end, but for the ids of what they put.
-pub step_end : (place : Place) (now : ℕ) (part : LabelData) (call : Call) → Holds (λ (new : Stepped). (peer : NodeId) → up_in new.part.ends peer ≡ end_by place.life now call peer (up_in part.ends peer)) (label_step place now part call)
+pub step_end : (place : Place) (now : ℕ) (part : LabelData) (call : Call)
+    → Holds (λ (new : Stepped). (peer : NodeId) → up_in new.part.ends peer ≡ end_by place.life now call peer (up_in part.ends peer))
+    (label_step place now part call)
 step_end place now part call =
-    holds_from (λ (new : Stepped). (peer : NodeId) → up_in new.part.ends peer ≡ end_by place.life now call peer (up_in part.ends peer)) (label_step place now part call) (λ new e peer.
+    holds_from (λ (new : Stepped). (peer : NodeId) → up_in new.part.ends peer ≡ end_by place.life now call peer (up_in part.ends peer))
+    (label_step place now part call) (λ new e peer.
     step_keeps place now part call new (λ p puts. up_in p.ends peer ≡ up_in (effect place now part call).0.part.ends peer)
-    (λ old puts fec next more t x. ap (λ (ends : FinMap node_cmp End). up_in ends peer) t.rest.ends ∙ x) (λ old x. ends_up old.puts old.part.ends peer ∙ x) refl e
+    (λ old puts fec next more t x. ap (λ (ends : FinMap node_cmp End). up_in ends peer) t.rest.ends ∙ x)
+    (λ old x. ends_up old.puts old.part.ends peer ∙ x) refl e
     ∙ effect_end place now part call peer)
 
 -- ---- the row of label steps of an edge
@@ -155,7 +165,8 @@ leaf_end life now (Want fec) peer old h = refl
 leaf_end life now (Unwant fec) peer old h = refl
 leaf_end life now other peer old h = absurd h
 
-each_leaf : (new : FinSet fec_cmp) (fecs : List Fec) → AllByRecursion IsOfLeaf (map (λ fec. if sets.contains new fec then Want fec else Unwant fec) fecs)
+each_leaf : (new : FinSet fec_cmp) (fecs : List Fec)
+    → AllByRecursion IsOfLeaf (map (λ fec. if sets.contains new fec then Want fec else Unwant fec) fecs)
 each_leaf new [] = tt
 each_leaf new (fec ∷ more) = (by (sets.contains new fec), each_leaf new more)
   where
@@ -170,14 +181,19 @@ leaves_are old new = each_leaf new (filter (λ fec. not (sets.contains old fec &
 abbrev SameBehind : LabelData → List LabelStep → Type 0
 SameBehind part row = (peer : NodeId) → up_in (part_after part row).ends peer ≡ up_in part.ends peer
 
-leaves_end : (place : EdgePlace) (now : ℕ) (part : LabelData) (calls : List Call) → AllByRecursion IsOfLeaf calls → Holds (SameBehind part) (label_row place now part calls)
+leaves_end : (place : EdgePlace) (now : ℕ) (part : LabelData) (calls : List Call) → AllByRecursion IsOfLeaf calls
+    → Holds (SameBehind part) (label_row place now part calls)
 leaves_end place now part [] h = λ peer. refl
 leaves_end place now part (call ∷ more) h =
-    holds_then (λ (new : Stepped). (peer : NodeId) → up_in new.part.ends peer ≡ end_by place.scenario.life now call peer (up_in part.ends peer)) (SameBehind part)
-    (label_step (label_place place.scenario place.core place.me) now part call) (λ new. label_row place now new.part more >>? λ behind. Some (record { old = part; call = call; new = new } ∷ behind))
+    holds_then (λ (new : Stepped). (peer : NodeId) → up_in new.part.ends peer ≡ end_by place.scenario.life now call peer (up_in part.ends peer))
+    (SameBehind part)
+    (label_step (label_place place.scenario place.core place.me) now part call)
+    (λ new. label_row place now new.part more >>? λ behind. Some (record { old = part; call = call; new = new } ∷ behind))
     (step_end (label_place place.scenario place.core place.me) now part call) (λ new p.
-    holds_then (SameBehind new.part) (SameBehind part) (label_row place now new.part more) (λ behind. Some (record { old = part; call = call; new = new } ∷ behind))
-    (leaves_end place now new.part more h.1) (λ behind q peer. q peer ∙ p peer ∙ leaf_end place.scenario.life now call peer (up_in part.ends peer) h.0))
+    holds_then (SameBehind new.part) (SameBehind part) (label_row place now new.part more)
+    (λ behind. Some (record { old = part; call = call; new = new } ∷ behind))
+    (leaves_end place now new.part more h.1) (λ behind q peer. q peer ∙ p peer
+    ∙ leaf_end place.scenario.life now call peer (up_in part.ends peer) h.0))
 
 -- the end of the session with a peer behind the call that a step makes, if it makes one
 abbrev pub end_with : ℕ → ℕ → Option Call → NodeId → Option UpEnd → Option UpEnd
@@ -192,8 +208,11 @@ pub row_end : (place : EdgePlace) (now : ℕ) (part : LabelData) (own : Option C
     → Holds (λ row. EndsBehind place.scenario.life now own part (part_after part row)) (label_row place now part (one_call own ++ calls))
 row_end place now part None calls h = leaves_end place now part calls h
 row_end place now part (Some call) calls h =
-    holds_then (λ (new : Stepped). (peer : NodeId) → up_in new.part.ends peer ≡ end_by place.scenario.life now call peer (up_in part.ends peer)) (λ row. EndsBehind place.scenario.life now (Some call) part (part_after part row))
-    (label_step (label_place place.scenario place.core place.me) now part call) (λ new. label_row place now new.part calls >>? λ behind. Some (record { old = part; call = call; new = new } ∷ behind))
+    holds_then (λ (new : Stepped). (peer : NodeId) → up_in new.part.ends peer ≡ end_by place.scenario.life now call peer (up_in part.ends peer))
+    (λ row. EndsBehind place.scenario.life now (Some call) part (part_after part row))
+    (label_step (label_place place.scenario place.core place.me) now part call)
+    (λ new. label_row place now new.part calls >>? λ behind. Some (record { old = part; call = call; new = new } ∷ behind))
     (step_end (label_place place.scenario place.core place.me) now part call) (λ new p.
-    holds_then (SameBehind new.part) (λ row. EndsBehind place.scenario.life now (Some call) part (part_after part row)) (label_row place now new.part calls) (λ behind. Some (record { old = part; call = call; new = new } ∷ behind))
+    holds_then (SameBehind new.part) (λ row. EndsBehind place.scenario.life now (Some call) part (part_after part row))
+    (label_row place now new.part calls) (λ behind. Some (record { old = part; call = call; new = new } ∷ behind))
     (leaves_end place now new.part calls h) (λ behind q peer. q peer ∙ p peer))

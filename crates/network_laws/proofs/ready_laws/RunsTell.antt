@@ -36,33 +36,52 @@ record Turned (scenario : Scenario) (told : SessionsStand) (timed : Timed) (acts
   lines : refused_in (lines_in acts) ≡ line_if refused timed.line
   tells : Tells scenario (if refused then told else behind scenario told timed.event) next
 
-events_of : (scenario : Scenario) → HasNodes scenario → (told : SessionsStand) (world : World) → Tells scenario told world → (event : Event) → Comes (Tells scenario (behind scenario told event)) (done world event)
+events_of : (scenario : Scenario) → HasNodes scenario → (told : SessionsStand) (world : World) → Tells scenario told world → (event : Event)
+    → Comes (Tells scenario (behind scenario told event)) (done world event)
 events_of scenario has told world t event =
-    subst (λ (x : Scenario). HasNodes x → Tells x told world → Comes (Tells x (behind x told event)) (done world event)) t.stands.nodes.place (λ own tells. event_tells told world own tells event) has t
+    subst (λ (x : Scenario). HasNodes x → Tells x told world → Comes (Tells x (behind x told event)) (done world event)) t.stands.nodes.place
+    (λ own tells. event_tells told world own tells event) has t
 
-done_turned : (scenario : Scenario) (told : SessionsStand) (timed : Timed) (acts : List Happened) (next : World) → Comes (Tells scenario (behind scenario told timed.event)) (Done acts next) → Turned scenario told timed acts next
+done_turned : (scenario : Scenario) (told : SessionsStand) (timed : Timed) (acts : List Happened) (next : World)
+    → Comes (Tells scenario (behind scenario told timed.event)) (Done acts next) → Turned scenario told timed acts next
 done_turned scenario told timed acts next c = record { refused = false; lines = c.0; tells = c.1 }
 
-turned : (scenario : Scenario) → HasNodes scenario → (told : SessionsStand) (old : World) → Tells scenario told old → (timed : Timed) (acts : List Happened) (next : World) → outcome old timed ≡ Done acts next → Turned scenario told timed acts next
+turned : (scenario : Scenario) → HasNodes scenario → (told : SessionsStand) (old : World) → Tells scenario told old
+    → (timed : Timed) (acts : List Happened) (next : World) → outcome old timed ≡ Done acts next → Turned scenario told timed acts next
 turned scenario has told old t timed acts next e = by (refusal old timed.event) e
   where
-    by : (o : Option Refusal) → (elim o [ None ↦ done old timed.event | Some reason ↦ Done (record { act = None; lines = lines.Refused timed.line reason ∷ [] } ∷ []) old ]) ≡ Done acts next → Turned scenario told timed acts next
-    by None is = done_turned scenario told timed acts next (subst (Comes (Tells scenario (behind scenario told timed.event))) is (events_of scenario has told old t timed.event))
+    by : (o : Option Refusal) → (elim o [
+      | None ↦ done old timed.event
+      | Some reason ↦
+          Done (record { act = None; lines = lines.Refused timed.line reason ∷ [] } ∷ []) old
+    ]) ≡ Done acts next → Turned scenario told timed acts next
+    by None is =
+        done_turned scenario told timed acts next (subst (Comes (Tells scenario (behind scenario told timed.event))) is
+        (events_of scenario has told old t timed.event))
     by (Some reason) is =
         let first : List Happened = record { act = None; lines = lines.Refused timed.line reason ∷ [] } ∷ [] in
         let same : first ≡ acts = cc in
         let world : old ≡ next = cc in
-        record { refused = true; lines = ap (λ (all : List Happened). refused_in (lines_in all)) (sym same); tells = subst (Tells scenario told) world t }
+        record {
+          refused = true;
+          lines = ap (λ (all : List Happened). refused_in (lines_in all)) (sym same);
+          tells =
+              subst (Tells scenario told) world t;
+        }
 
 -- ---- the lines that a run refuses
 
-pub first_lines : (number : ℕ) (acts : List Happened) (rest : List Traced) → lines_of (report_of (traced number acts ++ rest)) ≡ lines_in acts ++ lines_of (report_of rest)
+pub first_lines : (number : ℕ) (acts : List Happened) (rest : List Traced)
+    → lines_of (report_of (traced number acts ++ rest)) ≡ lines_in acts ++ lines_of (report_of rest)
 first_lines number [] rest = refl
-first_lines number (happened ∷ more) rest = ap (λ l. happened.lines ++ l) (first_lines number more rest) ∙ sym (append_assoc happened.lines (lines_in more) (lines_of (report_of rest)))
+first_lines number (happened ∷ more) rest =
+    ap (λ l. happened.lines ++ l) (first_lines number more rest) ∙ sym (append_assoc happened.lines (lines_in more) (lines_of (report_of rest)))
 
-refused_first : (number : ℕ) (acts : List Happened) (rest : List Traced) (own : List ℕ) → refused_in (lines_in acts) ≡ own → refused_lines (report_of (traced number acts ++ rest)) ≡ own ++ refused_lines (report_of rest)
+refused_first : (number : ℕ) (acts : List Happened) (rest : List Traced) (own : List ℕ) → refused_in (lines_in acts) ≡ own
+    → refused_lines (report_of (traced number acts ++ rest)) ≡ own ++ refused_lines (report_of rest)
 refused_first number acts rest own e =
-    ap (flat_map refused_line) (first_lines number acts rest) ∙ flat_map-append refused_line (lines_in acts) (lines_of (report_of rest)) ∙ ap (λ l. l ++ refused_lines (report_of rest)) e
+    ap (flat_map refused_line) (first_lines number acts rest) ∙ flat_map-append refused_line (lines_in acts) (lines_of (report_of rest))
+    ∙ ap (λ l. l ++ refused_lines (report_of rest)) e
 
 -- whether the line is one of those
 abbrev is_among : List ℕ → ℕ → Bool
@@ -77,9 +96,12 @@ own_itself true own = rw (eq-eqb own own refl) refl
 own_itself false own = refl
 
 -- No line up to that number is refused by later events.
-refused_above : (scenario : Scenario) → HasNodes scenario → (events : List Timed) (old : World) (number : ℕ) (trace : List Traced) (new : World) (told : SessionsStand) (above line : ℕ) → Rises above events → line ≤ above → Tells scenario told old → Runs old number events trace new
+refused_above : (scenario : Scenario) → HasNodes scenario
+    → (events : List Timed) (old : World) (number : ℕ) (trace : List Traced) (new : World) (told : SessionsStand) (above line : ℕ)
+    → Rises above events → line ≤ above → Tells scenario told old → Runs old number events trace new
     → is_among (refused_lines (report_of trace)) line ≡ false
-refused_above scenario has [] old number trace new told above line h le t run = ap (λ (all : List Traced). is_among (refused_lines (report_of all)) line) run.0
+refused_above scenario has [] old number trace new told above line h le t run =
+    ap (λ (all : List Traced). is_among (refused_lines (report_of all)) line) run.0
 refused_above scenario has (timed ∷ more) old number trace new told above line h le t run =
     let x = turned scenario has told old t timed run.0 run.1 run.3 in
     let own = line_if x.refused timed.line in
@@ -98,30 +120,40 @@ any_middle a b c false d e f = rw (d, e, f) refl
 -- ---- runs
 
 one_more : (scenario : Scenario) (told : SessionsStand) (timed : Timed) (more : List Timed) (accepted refused : Bool) → accepted ≡ not refused
-    → fold (behind scenario) told (map (λ (x : Timed). x.event) (if accepted then timed ∷ more else more)) ≡ fold (behind scenario) (if refused then told else behind scenario told timed.event) (map (λ (x : Timed). x.event) more)
+    → fold (behind scenario) told (map (λ (x : Timed). x.event) (if accepted then timed ∷ more else more))
+    ≡ fold (behind scenario) (if refused then told else behind scenario told timed.event) (map (λ (x : Timed). x.event) more)
 one_more scenario told timed more true false e = refl
 one_more scenario told timed more false true e = refl
 one_more scenario told timed more true true e = absurd cc
 one_more scenario told timed more false false e = absurd cc
 
 -- Where earlier events refused the front of the lines, the sessions stand behind the later ones as those tell.
-pub runs_tell : (scenario : Scenario) → HasNodes scenario → (events : List Timed) (old : World) (number : ℕ) (trace : List Traced) (new : World) (told : SessionsStand) (above : ℕ) (front refused : List ℕ) → Rises above events
-    → ((line : ℕ) → above < line → is_among front line ≡ false) → refused ≡ front ++ refused_lines (report_of trace) → Tells scenario told old → Runs old number events trace new
+pub runs_tell : (scenario : Scenario) → HasNodes scenario
+    → (events : List Timed) (old : World) (number : ℕ) (trace : List Traced) (new : World) (told : SessionsStand) (above : ℕ) (front refused : List ℕ)
+    → Rises above events
+    → ((line : ℕ) → above < line → is_among front line ≡ false) → refused ≡ front ++ refused_lines (report_of trace) → Tells scenario told old
+    → Runs old number events trace new
     → Tells scenario (fold (behind scenario) told (map (λ (timed : Timed). timed.event) (filter (is_accepted refused) events))) new
 runs_tell scenario has [] old number trace new told above front refused h k e t run = subst (Tells scenario told) (sym run.1) t
 runs_tell scenario has (timed ∷ more) old number trace new told above front refused h k e t run =
     let x = turned scenario has told old t timed run.0 run.1 run.3 in
     let own = line_if x.refused timed.line in
     let rest = refused_lines (report_of run.2) in
-    let all : refused ≡ front ++ (own ++ rest) = e ∙ ap (λ (steps : List Traced). front ++ refused_lines (report_of steps)) run.4 ∙ ap (λ l. front ++ l) (refused_first number run.0 run.2 own x.lines) in
+    let all : refused ≡ front ++ (own ++ rest) =
+    e ∙ ap (λ (steps : List Traced). front ++ refused_lines (report_of steps)) run.4
+    ∙ ap (λ l. front ++ l) (refused_first number run.0 run.2 own x.lines) in
     let here : is_among refused timed.line ≡ x.refused =
     ap (λ l. is_among l timed.line) all
     ∙ list_any-append (λ l. l == timed.line) front (own ++ rest)
     ∙ ap (λ b. is_among front timed.line || b) (list_any-append (λ l. l == timed.line) own rest)
-    ∙ any_middle (is_among front timed.line) (is_among own timed.line) (is_among rest timed.line) x.refused (k timed.line h.0) (own_itself x.refused timed.line)
+    ∙ any_middle (is_among front timed.line) (is_among own timed.line) (is_among rest timed.line) x.refused (k timed.line h.0)
+    (own_itself x.refused timed.line)
     (refused_above scenario has more run.1 (number + 1) run.2 new _ timed.line timed.line h.1 (omega arith) x.tells run.5) in
     let before : (line : ℕ) → timed.line < line → is_among (front ++ own) line ≡ false = λ line lt.
     list_any-append (λ l. l == line) front own
-    ∙ or_from (is_among front line) (is_among own line) (k line (let low = h.0 in omega (arith, lt, low))) (own_other x.refused timed.line line (λ q. omega (arith, q, lt))) in
-    subst (λ (standing : SessionsStand). Tells scenario standing new) (sym (one_more scenario told timed (filter (is_accepted refused) more) (is_accepted refused timed) x.refused (ap not here)))
-    (runs_tell scenario has more run.1 (number + 1) run.2 new _ timed.line (front ++ own) refused h.1 before (all ∙ sym (append_assoc front own rest)) x.tells run.5)
+    ∙ or_from (is_among front line) (is_among own line) (k line (let low = h.0 in omega (arith, lt, low)))
+    (own_other x.refused timed.line line (λ q. omega (arith, q, lt))) in
+    subst (λ (standing : SessionsStand). Tells scenario standing new)
+    (sym (one_more scenario told timed (filter (is_accepted refused) more) (is_accepted refused timed) x.refused (ap not here)))
+    (runs_tell scenario has more run.1 (number + 1) run.2 new _ timed.line (front ++ own) refused h.1 before (all ∙ sym (append_assoc front own rest))
+    x.tells run.5)

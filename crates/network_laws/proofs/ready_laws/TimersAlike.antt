@@ -20,13 +20,15 @@ use Rattle.network_laws.proofs.ready_laws.Outcomes.{acts_stand}
 use Rattle.network_defs.proofs.mvpn_model.SessionLemmas.{IsIn}
 use Rattle.network_laws.proofs.ready_laws.Alike.{Alike}
 
-run_told : (life now : ℕ) (t : Bool) (o : Option UpEnd) → elim o [ None ↦ None | Some end ↦ Some (if t then hold_run life now end else end) ] ≡ cond t (end_run life now o) o
+run_told : (life now : ℕ) (t : Bool) (o : Option UpEnd)
+    → elim o [ None ↦ None | Some end ↦ Some (if t then hold_run life now end else end) ] ≡ cond t (end_run life now o) o
 run_told life now true None = refl
 run_told life now false None = refl
 run_told life now true (Some end) = refl
 run_told life now false (Some end) = refl
 
-pub timers_alike : (scenario : Scenario) (told standing : SessionsStand) (node : NodeId) → Alike scenario told standing → Alike scenario (timed scenario (λ n. n.0 == node.0) told) (act_stand scenario (Timers node) standing)
+pub timers_alike : (scenario : Scenario) (told standing : SessionsStand) (node : NodeId) → Alike scenario told standing
+    → Alike scenario (timed scenario (λ n. n.0 == node.0) told) (act_stand scenario (Timers node) standing)
 timers_alike scenario told standing node h =
     record {
       clock = h.clock;
@@ -50,7 +52,8 @@ pub record AllRun (scenario : Scenario) (number count : ℕ) (old new : Sessions
   pub clock : new.clock ≡ old.clock
   pub joined : (kind : Kind) (a b : NodeId) → new.joined kind a b ≡ old.joined kind a b
   pub below : (n peer : NodeId) → n.0 < number → new.end kinds.Ldp n peer ≡ old.end kinds.Ldp n peer
-  pub within : (n peer : NodeId) → number ≤ n.0 → n.0 < number + count → new.end kinds.Ldp n peer ≡ end_run scenario.life old.clock (old.end kinds.Ldp n peer)
+  pub within : (n peer : NodeId) → number ≤ n.0 → n.0 < number + count
+      → new.end kinds.Ldp n peer ≡ end_run scenario.life old.clock (old.end kinds.Ldp n peer)
 
 abbrev pub timers_from : ℕ → ℕ → List Act
 timers_from number count = map (λ n. Timers n) (node_ids number count)
@@ -62,8 +65,10 @@ ran_here false old run e = absurd cc
 behind_it : (n number : ℕ) → number ≤ n → (n ≡ number → ⊥) → number + 1 ≤ n
 behind_it n number le ne = let lt = lt_of_le_of_ne le (λ e. ne (sym e)) in omega (arith, lt)
 
-pub all_run : (scenario : Scenario) (number count : ℕ) (old : SessionsStand) → AllRun scenario number count old (acts_stand scenario (timers_from number count) old)
-all_run scenario number zero old = record { clock = refl; joined = λ kind a b. refl; below = λ n peer lt. refl; within = λ n peer le lt. absurd (omega (arith, le, lt)) }
+pub all_run : (scenario : Scenario) (number count : ℕ) (old : SessionsStand)
+    → AllRun scenario number count old (acts_stand scenario (timers_from number count) old)
+all_run scenario number zero old =
+    record { clock = refl; joined = λ kind a b. refl; below = λ n peer lt. refl; within = λ n peer le lt. absurd (omega (arith, le, lt)) }
 all_run scenario number (suc count) old =
     let first : NodeId = record { 0 = number } in
     let next = act_stand scenario (Timers first) old in
@@ -73,11 +78,14 @@ all_run scenario number (suc count) old =
       joined = x.joined;
       below = λ n peer lt.
           x.below n peer (omega (arith, lt))
-          ∙ cond-false (n.0 == number) (end_run scenario.life old.clock (old.end kinds.Ldp n peer)) (old.end kinds.Ldp n peer) (ne_eqb n.0 number (λ e. omega (arith, e, lt)));
+          ∙ cond-false (n.0 == number) (end_run scenario.life old.clock (old.end kinds.Ldp n peer)) (old.end kinds.Ldp n peer)
+          (ne_eqb n.0 number (λ e. omega (arith, e, lt)));
       within = λ n peer le lt. elim (cases_eq n.0 number) [
-        | inl e ↦ x.below n peer (omega (arith, e)) ∙ ran_here (n.0 == number) (old.end kinds.Ldp n peer) (end_run scenario.life old.clock (old.end kinds.Ldp n peer)) (eq-eqb n.0 number e)
+        | inl e ↦ x.below n peer (omega (arith, e))
+            ∙ ran_here (n.0 == number) (old.end kinds.Ldp n peer) (end_run scenario.life old.clock (old.end kinds.Ldp n peer)) (eq-eqb n.0 number e)
         | inr ne ↦ x.within n peer (behind_it n.0 number le ne) (omega (arith, lt))
-            ∙ ap (end_run scenario.life old.clock) (cond-false (n.0 == number) (end_run scenario.life old.clock (old.end kinds.Ldp n peer)) (old.end kinds.Ldp n peer) (ne_eqb n.0 number ne))
+            ∙ ap (end_run scenario.life old.clock) (cond-false (n.0 == number) (end_run scenario.life old.clock (old.end kinds.Ldp n peer))
+            (old.end kinds.Ldp n peer) (ne_eqb n.0 number ne))
       ];
     }
 
@@ -85,9 +93,12 @@ all_run scenario number (suc count) old =
 
 -- The ends of sessions over LDP are of nodes of the scenario.
 abbrev pub HasNodes : Scenario → Type 0
-HasNodes scenario = (session : Session) → IsIn session (sessions scenario) → session.kind ≡ kinds.Ldp → (session.a.0 < length scenario.nodes) × (session.b.0 < length scenario.nodes)
+HasNodes scenario =
+    (session : Session) → IsIn session (sessions scenario) → session.kind ≡ kinds.Ldp
+    → (session.a.0 < length scenario.nodes) × (session.b.0 < length scenario.nodes)
 
-pub settle_alike : (scenario : Scenario) (told standing : SessionsStand) → HasNodes scenario → Alike scenario told standing → Alike scenario (timed scenario (λ n. true) told) (acts_stand scenario (timers_from 0 (length scenario.nodes)) standing)
+pub settle_alike : (scenario : Scenario) (told standing : SessionsStand) → HasNodes scenario → Alike scenario told standing
+    → Alike scenario (timed scenario (λ n. true) told) (acts_stand scenario (timers_from 0 (length scenario.nodes)) standing)
 settle_alike scenario told standing has h =
     let x = all_run scenario 0 (length scenario.nodes) standing in
     record {

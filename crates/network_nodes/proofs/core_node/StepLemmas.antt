@@ -51,13 +51,15 @@ label_lacking : (fault : NodeFault) → fault_of (cause fault) ≡ faults.NoLabe
 label_lacking node_faults.NoLabel e = refl
 label_lacking node_faults.NoMemory e = absurd cc
 
-module _ (core : Topology) (now : ℕ) (call : Call) (old : Parts) (node : NodeData) (streams : FinMap peer_cmp Stream) (live : IsLive old.node old.streams)
+module _ (core : Topology) (now : ℕ) (call : Call) (old : Parts) (node : NodeData) (streams : FinMap peer_cmp Stream)
+    (live : IsLive old.node old.streams)
     (are : streams ≡ streams_behind call old.streams) where
   abbrev new : Parts
   new = record old { node = node; streams = streams }
 
   -- the label part of the view is that of the parts, since it goes on
-  node_goes : (own : Core) → called old.node.place own now old.node.node call ≡ called old.node.place own now (record old.node.node { spent = None }) call
+  node_goes : (own : Core) → called old.node.place own now old.node.node call
+      ≡ called old.node.place own now (record old.node.node { spent = None }) call
   node_goes own = λ i. called old.node.place own now (record old.node.node { spent = live.unspent i }) call
 
   live_made : (some : (own : Core) × IsCoreOf core.nodes core.links own) → labels.Answers core now call old.node node (Ok tt) → IsLive node streams
@@ -77,11 +79,14 @@ module _ (core : Topology) (now : ℕ) (call : Call) (old : Parts) (node : NodeD
           ap (λ (n : LabelNode). is_some (maps.get n.part.ends peer)) node_made
           ∙ ends_up old.node.place some.0 now old.node.node call peer live.unspent (ap (λ (n : LabelNode). n.spent) (sym node_made) ∙ row.goes_on)
 
-  state_made : (own : Core) → IsCoreOf core.nodes core.links own → labels.Answers core now call old.node node (Ok tt) → state_of (going new) ≡ core_called old.node.place own now (state_of (going old)) call
-  state_made own is row = λ i. record { node = ((λ j. record node.node { spent = sym row.goes_on j }) ∙ (row.made own is ∙ node_goes own)) i; streams = are i }
+  state_made : (own : Core) → IsCoreOf core.nodes core.links own → labels.Answers core now call old.node node (Ok tt)
+      → state_of (going new) ≡ core_called old.node.place own now (state_of (going old)) call
+  state_made own is row =
+      λ i. record { node = ((λ j. record node.node { spent = sym row.goes_on j }) ∙ (row.made own is ∙ node_goes own)) i; streams = are i }
 
   -- what the label part answers is what the node answers
-  pub settled : (result : Result (Unit {0}) NodeFault) (answer : Result (Unit {0}) CoreFault) → answer ≡ told_as result → (some : (own : Core) × IsCoreOf core.nodes core.links own)
+  pub settled : (result : Result (Unit {0}) NodeFault) (answer : Result (Unit {0}) CoreFault) → answer ≡ told_as result
+      → (some : (own : Core) × IsCoreOf core.nodes core.links own)
       → labels.Answers core now call old.node node result → SettlesCall core now call (going old) new answer
   settled (Ok done) answer is some row = subst (λ (a : Result (Unit {0}) CoreFault). SettlesCall core now call (going old) new a) (sym is) (record {
     answers = record {
@@ -107,15 +112,18 @@ module _ (core : Topology) (now : ℕ) (call : Call) (old : Parts) (node : NodeD
       toward = λ none. absurd (spends_some fault none);
       lacks = λ e none own told_so.
           ap (λ (n : LabelNode). n.spent) (sym (node_goes own))
-          ∙ row.lacks (ap (λ (f : NodeFault). Err f) (label_lacking fault (one_fault (fault_of (cause fault)) faults.NoLabel e))) live.unspent own told_so;
+          ∙ row.lacks (ap (λ (f : NodeFault). Err f) (label_lacking fault (one_fault (fault_of (cause fault)) faults.NoLabel e))) live.unspent own
+          told_so;
       spends = λ other e none. ap spent_after e;
     };
     live = λ e. absurd (spends_some fault e);
   })
 
 -- where costs of links changed, each tree that waits does so towards its root by the new ones
-pub rerouted_waits : (core : Topology) (now : ℕ) (old new : NodeData) (result : Result (Unit {0}) NodeFault) (answer : Result (Unit {0}) CoreFault) → answer ≡ told_as result
+pub rerouted_waits : (core : Topology) (now : ℕ) (old new : NodeData) (result : Result (Unit {0}) NodeFault) (answer : Result (Unit {0}) CoreFault)
+    → answer ≡ told_as result
     → labels.Answers core now Rerouted old new result → OnOk answer (WaitsTowardRootsOf core new)
 rerouted_waits core now old new (Ok done) answer is row = subst (λ (a : Result (Unit {0}) CoreFault). OnOk a (WaitsTowardRootsOf core new)) (sym is)
     (λ own told_so. subst (λ (p : NodePlace). WaitTowardRoots p own new.awaited) (sym row.place) (row.toward own told_so tt))
-rerouted_waits core now old new (Err fault) answer is row = subst (λ (a : Result (Unit {0}) CoreFault). OnOk a (WaitsTowardRootsOf core new)) (sym is) tt
+rerouted_waits core now old new (Err fault) answer is row =
+    subst (λ (a : Result (Unit {0}) CoreFault). OnOk a (WaitsTowardRootsOf core new)) (sym is) tt

@@ -47,13 +47,15 @@ give_ok : {P : Type 0} (result : Result (Unit {0}) CoreFault) → P → OnOk res
 give_ok (Ok done) h = h
 give_ok (Err fault) h = tt
 
-pub all_left : (core : Topology) (now : ℕ) (peer : NodeId) (all : List SessionMessage) (parts : Parts) → IsLive parts.node parts.streams → AreLeft core now peer all all parts parts
+pub all_left : (core : Topology) (now : ℕ) (peer : NodeId) (all : List SessionMessage) (parts : Parts) → IsLive parts.node parts.streams
+    → AreLeft core now peer all all parts parts
 all_left core now peer all parts live = record { place = refl; live = live; whole = λ new result h. h }
 
 module _ (core : Topology) (now : ℕ) (peer : NodeId) (message : LabelMessage) (more : List SessionMessage) (parts : Parts) where
   -- the first message was taken, and then the others
   pub then_taken : (mid new : Parts) (result : Result (Unit {0}) CoreFault) → SettlesCall core now (Taken peer message) (going parts) mid (Ok tt)
-      → Settles core (taken_by (going mid) now peer more) (going mid) new result → Settles core (taken_by (going parts) now peer (Label message ∷ more)) (going parts) new result
+      → Settles core (taken_by (going mid) now peer more) (going mid) new result
+      → Settles core (taken_by (going parts) now peer (Label message ∷ more)) (going parts) new result
   then_taken mid new result h k = record {
     answers = record {
       place = k.answers.place ∙ h.answers.place;
@@ -84,7 +86,8 @@ module _ (core : Topology) (now : ℕ) (peer : NodeId) (message : LabelMessage) 
       toward = h.answers.toward;
       lacks = λ e none own is.
           let lacking = h.answers.lacks e none own is in
-          ap (λ (s : CoreState). s.node.spent) (spent_takes parts.node.place own now peer more (core_called parts.node.place own now (state_of (going parts)) (Taken peer message)) LacksLabel lacking)
+          ap (λ (s : CoreState). s.node.spent) (spent_takes parts.node.place own now peer more
+          (core_called parts.node.place own now (state_of (going parts)) (Taken peer message)) LacksLabel lacking)
           ∙ lacking;
       spends = h.answers.spends;
     };
@@ -103,10 +106,12 @@ module _ (core : Topology) (now : ℕ) (peer : NodeId) (message : LabelMessage) 
         → Settles core (taken_by (going first) now peer all) (going first) new (Err fault)
     stopped_at new fault h = are.whole new (Err fault) (stopped new fault h)
 
-pub none_left : (core : Topology) (now : ℕ) (peer : NodeId) (all left : List SessionMessage) (first parts : Parts) → left ≡ [] → AreLeft core now peer all left first parts
+pub none_left : (core : Topology) (now : ℕ) (peer : NodeId) (all left : List SessionMessage) (first parts : Parts) → left ≡ []
+    → AreLeft core now peer all left first parts
     → Settles core (taken_by (going first) now peer all) (going first) parts (Ok tt)
 none_left core now peer all left first parts e are =
-    are.whole parts (Ok tt) (subst (λ (ms : List SessionMessage). Settles core (taken_by (going parts) now peer ms) (going parts) parts (Ok tt)) (sym e) (record {
+    are.whole parts (Ok tt) (subst (λ (ms : List SessionMessage). Settles core (taken_by (going parts) now peer ms) (going parts) parts (Ok tt))
+    (sym e) (record {
       answers = record {
         place = refl;
         before = λ spent s. absurd (none-some spent s);
@@ -127,12 +132,14 @@ map_none f (x ∷ xs) e = absurd (omega (arith, e))
 -- ---- octets
 
 -- a session whose end is up has a stream
-pub up_there : (peer : NodeId) (parts : Parts) → IsLive parts.node parts.streams → is_up (going parts) peer ≡ true → is_some (maps.get parts.streams (ldp_with peer)) ≡ true
+pub up_there : (peer : NodeId) (parts : Parts) → IsLive parts.node parts.streams → is_up (going parts) peer ≡ true
+    → is_some (maps.get parts.streams (ldp_with peer)) ≡ true
 up_there peer parts live up = live.up peer ∙ up
 
 -- the answer where the octets were fed, and all messages that wait then are taken
 module _ (core : Topology) (now : ℕ) (peer : NodeId) (octets : List ℕ) (old new : Parts) (streams drained : FinMap peer_cmp Stream)
-    (live : IsLive old.node old.streams) (up : is_some (maps.get old.streams (ldp_with peer)) ≡ true) (fed_so : streams ≡ with_octets (ldp_with peer) octets old.streams)
+    (live : IsLive old.node old.streams) (up : is_some (maps.get old.streams (ldp_with peer)) ≡ true)
+    (fed_so : streams ≡ with_octets (ldp_with peer) octets old.streams)
     (drained_so : drained ≡ maps.insert streams (ldp_with peer) (record (stream_at streams (ldp_with peer)) { waiting = [] })) where
   abbrev own : PeerSession
   own = ldp_with peer
@@ -154,22 +161,28 @@ module _ (core : Topology) (now : ℕ) (peer : NodeId) (octets : List ℕ) (old 
     unspent = live.unspent;
     up = λ other. ap (λ (s : FinMap peer_cmp Stream). is_some (maps.get s (ldp_with other))) are_drained
         ∙ (put_up old.streams own rest up (ldp_with other) ∙ live.up other);
-    quiet = λ other. ap (λ (s : FinMap peer_cmp Stream). (stream_at s other).waiting) are_drained ∙ put_quiet old.streams own rest refl live.quiet other;
+    quiet = λ other. ap (λ (s : FinMap peer_cmp Stream). (stream_at s other).waiting) are_drained
+        ∙ put_quiet old.streams own rest refl live.quiet other;
   }
 
   -- the core node of the definitions takes them so
-  took_is : (place : NodePlace) (is : Core) → core_all_taken place is now peer whole.waiting (state_of (going mid)) ≡ core_took place is now peer octets (state_of (going old))
+  took_is : (place : NodePlace) (is : Core) → core_all_taken place is now peer whole.waiting (state_of (going mid))
+      ≡ core_took place is now peer octets (state_of (going old))
   took_is place is =
-      (λ i. core_all_taken place is now peer whole.waiting (record (state_of (going old)) { streams = are_drained i })) ∙ by (fault_at old.streams own) refl
+      (λ i. core_all_taken place is now peer whole.waiting (record (state_of (going old)) { streams = are_drained i }))
+      ∙ by (fault_at old.streams own) refl
     where
       by : (fault : Option (ℕ × SessionFault)) → fault_at old.streams own ≡ fault
-          → core_all_taken place is now peer whole.waiting (record (state_of (going old)) { streams = maps.insert old.streams own rest }) ≡ core_took place is now peer octets (state_of (going old))
+          → core_all_taken place is now peer whole.waiting (record (state_of (going old)) { streams = maps.insert old.streams own rest })
+          ≡ core_took place is now peer octets (state_of (going old))
       by None e = sym (λ i. core_took_unless None (e i) place is now peer octets (state_of (going old)))
       by (Some fault) e =
           let d = stream_at old.streams own in
           let same : whole ≡ d = λ i. fed_unless (front_of kinds.Ldp) (e i) d octets in
-          (λ i. core_all_taken place is now peer (same i).waiting (record (state_of (going old)) { streams = maps.insert old.streams own (record (same i) { waiting = [] }) }))
-          ∙ ((λ i. core_all_taken place is now peer (live.quiet own i) (record (state_of (going old)) { streams = maps.insert old.streams own (record d { waiting = sym (live.quiet own) i }) }))
+          (λ i. core_all_taken place is now peer (same i).waiting
+          (record (state_of (going old)) { streams = maps.insert old.streams own (record (same i) { waiting = [] }) }))
+          ∙ ((λ i. core_all_taken place is now peer (live.quiet own i)
+          (record (state_of (going old)) { streams = maps.insert old.streams own (record d { waiting = sym (live.quiet own) i }) }))
           ∙ ((λ i. record (state_of (going old)) { streams = put_same old.streams own up i })
           ∙ sym (λ i. core_took_unless None (e i) place is now peer octets (state_of (going old)))))
 
@@ -177,10 +190,12 @@ module _ (core : Topology) (now : ℕ) (peer : NodeId) (octets : List ℕ) (old 
     whole_is : messages ≡ whole.waiting
     whole_is = are ∙ ap (λ (s : Stream). s.waiting) (stream_fed own octets old.streams streams up fed_so)
 
-    took_so : (is : Core) → taken_by (going mid) now peer messages is (state_of (going mid)) ≡ took_by (going old) now peer octets is (state_of (going old))
+    took_so : (is : Core) → taken_by (going mid) now peer messages is (state_of (going mid))
+        ≡ took_by (going old) now peer octets is (state_of (going old))
     took_so is = (λ i. core_all_taken old.node.place is now peer (whole_is i) (state_of (going mid))) ∙ took_is old.node.place is
 
-    octets_made : (view : CoreView) → Makes core (taken_by (going mid) now peer messages) (going mid) view → Makes core (took_by (going old) now peer octets) (going old) view
+    octets_made : (view : CoreView) → Makes core (taken_by (going mid) now peer messages) (going mid) view
+        → Makes core (took_by (going old) now peer octets) (going old) view
     octets_made view made is told_so = made is told_so ∙ took_so is
 
     spends_some : (fault : CoreFault) → Among fault (faults.NoLabel ∷ faults.NoMemory ∷ []) → spent_after (Err fault) ≡ None → ⊥
@@ -189,7 +204,8 @@ module _ (core : Topology) (now : ℕ) (peer : NodeId) (octets : List ℕ) (old 
     spends_some fault (inr (inr a)) none = a
 
     -- a message made the node spent
-    pub octets_stopped : (fault : CoreFault) → Among fault (faults.NoLabel ∷ faults.NoMemory ∷ []) → Settles core (taken_by (going mid) now peer messages) (going mid) new (Err fault)
+    pub octets_stopped : (fault : CoreFault) → Among fault (faults.NoLabel ∷ faults.NoMemory ∷ [])
+        → Settles core (taken_by (going mid) now peer messages) (going mid) new (Err fault)
         → AnswersOctets core now peer octets (going old) (behind new (Err fault)) (Err fault)
     octets_stopped fault one h = record {
       answers = record {
@@ -208,8 +224,10 @@ module _ (core : Topology) (now : ℕ) (peer : NodeId) (octets : List ℕ) (old 
     }
 
     -- all messages were taken; then the stream's fault is answered, if it has had one
-    pub octets_taken : (result : Result (Unit {0}) CoreFault) → OnOk result (fault_at new.streams own ≡ None) → ((fault : CoreFault) → result ≡ Err fault → IsSessionFault peer (going new) fault)
-        → Settles core (taken_by (going mid) now peer messages) (going mid) new (Ok tt) → AnswersOctets core now peer octets (going old) (behind new result) result
+    pub octets_taken : (result : Result (Unit {0}) CoreFault) → OnOk result (fault_at new.streams own ≡ None)
+        → ((fault : CoreFault) → result ≡ Err fault → IsSessionFault peer (going new) fault)
+        → Settles core (taken_by (going mid) now peer messages) (going mid) new (Ok tt)
+        → AnswersOctets core now peer octets (going old) (behind new result) result
     octets_taken (Ok done) sound faulty h = record {
       answers = record {
         place = h.answers.place;
@@ -239,7 +257,8 @@ module _ (core : Topology) (now : ℕ) (peer : NodeId) (octets : List ℕ) (old 
             spends = λ other e none. ap spent_after e;
           };
           sound = tt;
-          taken = λ other e none goes. subst (Makes core (took_by (going old) now peer octets) (going old)) (λ i. record { labels = record new.node { node = record new.node.node { spent = sym goes i } }; streams = new.streams })
+          taken = λ other e none goes. subst (Makes core (took_by (going old) now peer octets) (going old))
+              (λ i. record { labels = record new.node { node = record new.node.node { spent = sym goes i } }; streams = new.streams })
               (octets_made (going new) h.answers.made);
           only = λ other e. inr (told_fault_is fault other (one_fault fault other e) is);
         }

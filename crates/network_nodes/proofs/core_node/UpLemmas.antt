@@ -47,7 +47,8 @@ kept_some f (Some x) = refl
 session_tie : (q peer : NodeId) → eq_by_cmp peer_cmp (ldp_with q) (ldp_with peer) ≡ eq_by_cmp node_cmp q peer
 session_tie q peer = then_equal (nat_cmp q.0 peer.0)
 
-pub streams_up : (call : Call) (streams : FinMap peer_cmp Stream) (q : NodeId) → is_some (maps.get (streams_behind call streams) (ldp_with q)) ≡ up_by call q (is_some (maps.get streams (ldp_with q)))
+pub streams_up : (call : Call) (streams : FinMap peer_cmp Stream) (q : NodeId)
+    → is_some (maps.get (streams_behind call streams) (ldp_with q)) ≡ up_by call q (is_some (maps.get streams (ldp_with q)))
 streams_up (Raised peer) streams q =
     ap (λ (o : Option Stream). is_some o) (maps.get-insert peer_cmp_total streams (ldp_with peer) unfed (ldp_with q))
     ∙ (some_either (eq_by_cmp peer_cmp (ldp_with q) (ldp_with peer)) unfed (maps.get streams (ldp_with q))
@@ -63,10 +64,12 @@ streams_up Timers streams q = refl
 streams_up Rerouted streams q = refl
 
 -- a session that comes up or is lost has nothing that waits in its stream
-pub still_quiet : (call : Call) (streams : FinMap peer_cmp Stream) → ((own : PeerSession) → (stream_at streams own).waiting ≡ []) → (own : PeerSession) → (stream_at (streams_behind call streams) own).waiting ≡ []
+pub still_quiet : (call : Call) (streams : FinMap peer_cmp Stream) → ((own : PeerSession) → (stream_at streams own).waiting ≡ [])
+    → (own : PeerSession) → (stream_at (streams_behind call streams) own).waiting ≡ []
 still_quiet (Raised peer) streams quiet own = put_quiet streams (ldp_with peer) unfed refl quiet own
 still_quiet (Noticed peer) streams quiet own =
-    ap (λ (o : Option Stream). (stream_or o).waiting) (maps.get-remove peer_cmp_total streams (ldp_with peer) own) ∙ by (eq_by_cmp peer_cmp own (ldp_with peer))
+    ap (λ (o : Option Stream). (stream_or o).waiting) (maps.get-remove peer_cmp_total streams (ldp_with peer) own)
+    ∙ by (eq_by_cmp peer_cmp own (ldp_with peer))
   where
     by : (b : Bool) → (stream_or (cond b None (maps.get streams own))).waiting ≡ []
     by true = refl
@@ -79,28 +82,36 @@ still_quiet Rerouted streams quiet own = quiet own
 
 -- ---- ends
 
-effect_up : (place : Place) (now : ℕ) (part : LabelData) (call : Call) (q : NodeId) → is_some (maps.get (effect place now part call).0.part.ends q) ≡ up_by call q (is_some (maps.get part.ends q))
-effect_up place now part (Taken from message) q = ap (λ (ends : FinMap node_cmp End). is_some (maps.get ends q)) (effect_ends place now part from message)
+effect_up : (place : Place) (now : ℕ) (part : LabelData) (call : Call) (q : NodeId)
+    → is_some (maps.get (effect place now part call).0.part.ends q) ≡ up_by call q (is_some (maps.get part.ends q))
+effect_up place now part (Taken from message) q =
+    ap (λ (ends : FinMap node_cmp End). is_some (maps.get ends q)) (effect_ends place now part from message)
 effect_up place now part (Want fec) q = refl
 effect_up place now part (Unwant fec) q = refl
 effect_up place now part (Raised peer) q =
-    ap (λ (o : Option End). is_some o) (maps.get-insert node_cmp_total part.ends peer (raised_end now) q) ∙ some_either (eq_by_cmp node_cmp q peer) (raised_end now) (maps.get part.ends q)
+    ap (λ (o : Option End). is_some o) (maps.get-insert node_cmp_total part.ends peer (raised_end now) q)
+    ∙ some_either (eq_by_cmp node_cmp q peer) (raised_end now) (maps.get part.ends q)
 effect_up place now part (Noticed peer) q =
-    ap (λ (o : Option End). is_some o) (maps.get-remove node_cmp_total part.ends peer q) ∙ none_either (eq_by_cmp node_cmp q peer) (maps.get part.ends q)
-effect_up place now part Timers q = ap (λ (o : Option End). is_some o) (timed_end place now part q) ∙ kept_some (hold_run place.life now) (maps.get part.ends q)
+    ap (λ (o : Option End). is_some o) (maps.get-remove node_cmp_total part.ends peer q)
+    ∙ none_either (eq_by_cmp node_cmp q peer) (maps.get part.ends q)
+effect_up place now part Timers q =
+    ap (λ (o : Option End). is_some o) (timed_end place now part q) ∙ kept_some (hold_run place.life now) (maps.get part.ends q)
 effect_up place now part Rerouted q = refl
 
 -- the ends of a label node behind a call that it made
-pub ends_up : (at : NodePlace) (core : Core) (now : ℕ) (node : LabelNode) (call : Call) (q : NodeId) → node.spent ≡ None → (called at core now node call).spent ≡ None
+pub ends_up : (at : NodePlace) (core : Core) (now : ℕ) (node : LabelNode) (call : Call) (q : NodeId) → node.spent ≡ None
+    → (called at core now node call).spent ≡ None
     → is_some (maps.get (called at core now node call).part.ends q) ≡ up_by call q (is_some (maps.get node.part.ends q))
 ends_up at core now node call q unspent goes = by (label_step (place_in at core) now node.part call) refl
   where
-    called_is : (o : Option Stepped) → label_step (place_in at core) now node.part call ≡ o → called at core now node call ≡ behind (addr_in at) (place_in at core) now (prepared call node) call o
+    called_is : (o : Option Stepped) → label_step (place_in at core) now node.part call ≡ o
+        → called at core now node call ≡ behind (addr_in at) (place_in at core) now (prepared call node) call o
     called_is o e =
         (λ i. called_unless (unspent i) (addr_in at) (place_in at core) now node call)
         ∙ ap (λ (x : Option Stepped). behind (addr_in at) (place_in at core) now (prepared call node) call x) e
 
-    by : (o : Option Stepped) → label_step (place_in at core) now node.part call ≡ o → is_some (maps.get (called at core now node call).part.ends q) ≡ up_by call q (is_some (maps.get node.part.ends q))
+    by : (o : Option Stepped) → label_step (place_in at core) now node.part call ≡ o
+        → is_some (maps.get (called at core now node call).part.ends q) ≡ up_by call q (is_some (maps.get node.part.ends q))
     by None e = absurd (none-some LacksLabel (sym goes ∙ ap (λ (n : LabelNode). n.spent) (called_is None e)))
     by (Some new) e =
         ap (λ (n : LabelNode). is_some (maps.get n.part.ends q)) (called_is (Some new) e)

@@ -24,7 +24,8 @@ addrs_of nodes = map (λ node. node.addr) nodes
 
 -- where it stands at a place, and at none before
 place_is : (root : Addr) (nodes : List Node) (k : ℕ) (node : Node) → slice_get nodes k ≡ Some node → same_addr node.addr root ≡ true
-    → ((j : ℕ) (other : Node) → j < k → slice_get nodes j ≡ Some other → same_addr other.addr root ≡ false) → position_or_len (λ own. same_addr own root) (addrs_of nodes) ≡ k
+    → ((j : ℕ) (other : Node) → j < k → slice_get nodes j ≡ Some other → same_addr other.addr root ≡ false)
+    → position_or_len (λ own. same_addr own root) (addrs_of nodes) ≡ k
 place_is root [] k node at is before = absurd (none-some node at)
 place_is root (first ∷ more) zero node at is before =
     let here : same_addr first.addr root ≡ true = ap (λ (n : Node). same_addr n.addr root) (same_Some first node at) ∙ is in
@@ -37,7 +38,8 @@ place_is root (first ∷ more) (suc k) node at is before =
 abbrev numbered : ℕ → NodeId
 numbered number = record { 0 = number }
 
-found_at : (index count : ℕ) (node : NodeId) → index ≡ node.0 → node.0 < count → option_map numbered (cond (nat_lt index count) (Some index) None) ≡ Some node
+found_at : (index count : ℕ) (node : NodeId) → index ≡ node.0 → node.0 < count
+    → option_map numbered (cond (nat_lt index count) (Some index) None) ≡ Some node
 found_at index count node is below =
     ap (λ (b : Bool). option_map numbered (cond b (Some index) None)) (lt-ltb index count (omega (arith, is, below)))
     ∙ (λ i. Some (record { 0 = is i }))
@@ -50,7 +52,8 @@ module _ (scenario : Scenario) (rules : Rules scenario) (number : NodeId) (below
       let found = some_place scenario.nodes number.0 below in
       let addr = addr_at scenario number found.0 found.1 in
       let place = place_is found.0.addr scenario.nodes number.0 found.0 found.1 (same_addr_equiv.refl found.0.addr)
-      (λ j other before at. pair_at (λ (x : Node) (y : Node). same_addr x.addr y.addr ≡ false) scenario.nodes rules.core.addresses j number.0 other found.0 before at found.1) in
+      (λ j other before at. pair_at (λ (x : Node) (y : Node). same_addr x.addr y.addr ≡ false) scenario.nodes rules.core.addresses j number.0 other
+      found.0 before at found.1) in
       ap (node_at (addrs_of scenario.nodes)) addr
       ∙ found_at (position_or_len (λ own. same_addr own found.0.addr) (addrs_of scenario.nodes)) (length (addrs_of scenario.nodes)) number place
       (subst (λ (n : ℕ). number.0 < n) (sym (length-map scenario.nodes (λ (node : Node). node.addr))) below)
@@ -58,7 +61,8 @@ module _ (scenario : Scenario) (rules : Rules scenario) (number : NodeId) (below
   pub addressed : IsAddr (addr_of scenario number)
   addressed =
       let found = some_place scenario.nodes number.0 below in
-      subst IsAddr (sym (addr_at scenario number found.0 found.1)) (ipv4 found.0.addr (all_at (λ (node : Node). IsIpv4 node.addr) scenario.nodes rules.core.ipv4 number.0 found.0 found.1))
+      subst IsAddr (sym (addr_at scenario number found.0 found.1))
+      (ipv4 found.0.addr (all_at (λ (node : Node). IsIpv4 node.addr) scenario.nodes rules.core.ipv4 number.0 found.0 found.1))
     where
       ipv4 : (addr : Addr) → IsIpv4 addr → IsAddr addr
       ipv4 (V4 octets) h = h

@@ -40,7 +40,8 @@ lsp_is (Some pmsi) fec e = by pmsi.tunnel e
     ] ≡ Some fec → (is_p2mp fec.kind ≡ true) × (is_lsp_opaque fec.opaque ≡ true)
     by (tunnels.Mldp own) e =
         let x = if_some (is_p2mp own.kind && is_lsp_opaque own.opaque) own fec e in
-        subst (λ (f : Fec). (is_p2mp f.kind ≡ true) × (is_lsp_opaque f.opaque ≡ true)) x.1 (and_parts (is_p2mp own.kind) (is_lsp_opaque own.opaque) x.0)
+        subst (λ (f : Fec). (is_p2mp f.kind ≡ true) × (is_lsp_opaque f.opaque ≡ true)) x.1
+        (and_parts (is_p2mp own.kind) (is_lsp_opaque own.opaque) x.0)
     by tunnels.None e = absurd (none-some fec e)
     by (tunnels.Ingress addr) e = absurd (none-some fec e)
     by (tunnels.Other kind ident) e = absurd (none-some fec e)
@@ -53,7 +54,8 @@ used_by peer originator value fec e =
     record {
       kind = lsp.0;
       lsp = lsp.1;
-      root = ap (λ (f : Fec). f.root) (sym y.1) ∙ same_addr_equal x.0.root peer (and_parts (same_addr x.0.root peer) (same_addr originator peer) y.0).0;
+      root = ap (λ (f : Fec). f.root) (sym y.1) ∙ same_addr_equal x.0.root peer
+          (and_parts (same_addr x.0.root peer) (same_addr originator peer) y.0).0;
     }
 
 -- ---- its opaque value
@@ -64,8 +66,12 @@ one_element octets value parts four =
     let element : Tlv = plain 1 value in
     let other : ◌≢◌ {A = ℕ} 1 255 = λ e. omega (arith, e) in
     let fits : length value < 2 ^ 16 = omega (arith, four) in
-    let header : to_be_bytes w16 (length value) ≡ 0 ∷ 4 ∷ [] = ap (to_be_bytes w16) four in
-    (element ∷ [], ((other, fits, λ _. four), tt), parts ∙ ap (λ (front : List ℕ). (1 ∷ front) ++ value) (sym header) ∙ sym (append-nil ((1 ∷ to_be_bytes w16 (length value)) ++ value)))
+    let header : to_be_bytes w16 (length value) ≡ 0 ∷ 4 ∷ [] = ap (to_be_bytes w16) four in (
+      element ∷ [],
+      ((other, fits, λ _. four), tt),
+      parts ∙ ap (λ (front : List ℕ). (1 ∷ front) ++ value) (sym header)
+          ∙ sym (append-nil ((1 ∷ to_be_bytes w16 (length value)) ++ value)),
+    )
 
 pub whole : (octets : List ℕ) → is_lsp_opaque octets ≡ true → (length octets ≤ 64) × IsOpaque octets
 whole octets h =

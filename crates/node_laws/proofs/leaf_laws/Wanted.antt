@@ -31,29 +31,37 @@ use Rattle.node_laws.proofs.leaf_laws.Rooted.{rooted, addressed}
 
 -- ---- a route that a VRF imports
 
-inclusive_used : (vrf : Vrf) (peer : Addr) (key : Key) (route : TakenRoute) (fec : Fec) → imported_inclusive vrf peer (key, route) ≡ Some fec → IsUsed peer fec
+inclusive_used : (vrf : Vrf) (peer : Addr) (key : Key) (route : TakenRoute) (fec : Fec) → imported_inclusive vrf peer (key, route) ≡ Some fec
+    → IsUsed peer fec
 inclusive_used vrf peer key route fec e =
     let value : Value = route.value in
-    let x = bind_some (inclusive_of key) (λ originator. only_if (is_admitted vrf value.comms) value >>? λ found. tunnel_by peer originator found) fec e in
+    let x = bind_some (inclusive_of key) (λ originator. only_if (is_admitted vrf value.comms) value >>? λ found. tunnel_by peer originator found) fec
+    e in
     let y = bind_some (only_if (is_admitted vrf value.comms) value) (λ found. tunnel_by peer x.0 found) fec x.2 in
     used_by peer x.0 y.0 fec y.2
 
-imported_used : (peer : Addr) (route : SelectiveRoute) (fec : Fec) (imported : ImportedSelective) → ◌≡◌ {A = Option ImportedSelective} (Some (record { route = route; fec = fec })) (Some imported) → IsUsed peer fec
+imported_used : (peer : Addr) (route : SelectiveRoute) (fec : Fec) (imported : ImportedSelective)
+    → ◌≡◌ {A = Option ImportedSelective} (Some (record { route = route; fec = fec })) (Some imported) → IsUsed peer fec
     → IsUsed peer imported.fec
-imported_used peer route fec imported e used = subst (λ (i : ImportedSelective). IsUsed peer i.fec) (same_Some (record { route = route; fec = fec }) imported e) used
+imported_used peer route fec imported e used =
+    subst (λ (i : ImportedSelective). IsUsed peer i.fec) (same_Some (record { route = route; fec = fec }) imported e) used
 
-selective_used : (vrf : Vrf) (peer : Addr) (key : Key) (route : TakenRoute) (imported : ImportedSelective) → imported_selective vrf peer (key, route) ≡ Some imported → IsUsed peer imported.fec
+selective_used : (vrf : Vrf) (peer : Addr) (key : Key) (route : TakenRoute) (imported : ImportedSelective)
+    → imported_selective vrf peer (key, route) ≡ Some imported → IsUsed peer imported.fec
 selective_used vrf peer key route imported e =
     let value : Value = route.value in
-    let x = bind_some (selective_of key) (λ own. only_if (is_admitted vrf value.comms) value >>? λ found. tunnel_by peer own.originator found >>? λ fec. Some (record { route = own; fec = fec })) imported e in
-    let y = bind_some (only_if (is_admitted vrf value.comms) value) (λ found. tunnel_by peer x.0.originator found >>? λ fec. Some (record { route = x.0; fec = fec })) imported x.2 in
+    let x = bind_some (selective_of key) (λ own. only_if (is_admitted vrf value.comms) value >>? λ found. tunnel_by peer own.originator found >>?
+    λ fec. Some (record { route = own; fec = fec })) imported e in
+    let y = bind_some (only_if (is_admitted vrf value.comms) value)
+    (λ found. tunnel_by peer x.0.originator found >>? λ fec. Some (record { route = x.0; fec = fec })) imported x.2 in
     let z = bind_some (tunnel_by peer x.0.originator y.0) (λ fec. Some (record { route = x.0; fec = fec })) imported y.2 in
     imported_used peer x.0 z.0 imported z.2 (used_by peer x.0.originator y.0 z.0 z.1)
 
 -- ---- trees
 
 module _ (place : EdgePlace) (control : Control) (rules : Rules place.scenario) (peers : ArePeers place control) where
-  peer_up : (peer : NodeId) (key : Key) (route : TakenRoute) → maps.get (taken_from control peer) key ≡ Some route → is_some (maps.get control.peers peer) ≡ true
+  peer_up : (peer : NodeId) (key : Key) (route : TakenRoute) → maps.get (taken_from control peer) key ≡ Some route
+      → is_some (maps.get control.peers peer) ≡ true
   peer_up peer key route taken =
       let t = table_of control peer key route taken in
       ap (λ (o : Option Taken). is_some o) (entry_get node_cmp_total control.peers peer t.table t.of_peer)
@@ -79,7 +87,8 @@ module _ (place : EdgePlace) (control : Control) (rules : Rules place.scenario) 
   selective_wanted fec is =
       let learned = (learned_is place control is.own is.edge is.route).0 is.wanted.among in
       let used = selective_used is.own.vrf (addr_of place.scenario is.edge) learned.key learned.route learned.imported learned.is in
-      used_wanted is.edge learned.key learned.route fec learned.taken (subst (IsUsed (addr_of place.scenario is.edge)) (sym learned.of_tunnel ∙ is.of_tunnel) used)
+      used_wanted is.edge learned.key learned.route fec learned.taken
+      (subst (IsUsed (addr_of place.scenario is.edge)) (sym learned.of_tunnel ∙ is.of_tunnel) used)
 
   pub leaf_wanted : (fec : Fec) → sets.contains (leaves place control) fec ≡ true → MayWant (node_place place.scenario place.me) fec
   leaf_wanted fec h = elim ((leaf_is place control fec).0 h) [ inl is ↦ inclusive_wanted fec is | inr is ↦ selective_wanted fec is ]

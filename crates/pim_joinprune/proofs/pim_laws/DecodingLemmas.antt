@@ -13,7 +13,8 @@ use Rattle.pim_joinprune.proofs.Calls.{is_spelled, is_only, is_first, is_only_fi
 pub read_spelled : (octets : List ℕ) (message : JoinPrune) → IsOctets octets → decoded octets ≡ Ok message → Spells message octets
 read_spelled octets message fits h = is_spelled (Ok message) octets fits h
 
-pub read_first : (octets : List ℕ) (place : ℕ) (fault : PimFault) → IsOctets octets → decoded octets ≡ Err (place, fault) → FirstFault octets place fault
+pub read_first : (octets : List ℕ) (place : ℕ) (fault : PimFault) → IsOctets octets → decoded octets ≡ Err (place, fault)
+    → FirstFault octets place fault
 read_first octets place fault fits h = is_first (Err (Bad place fault)) octets fits h
 
 -- One of two that are not.
@@ -28,7 +29,8 @@ spelled_read octets message s = by (decoded octets) refl
     by (Ok other) h = neither (is_only (Ok other) octets message h s) (λ e. cc) (λ e. absurd cc)
     by (Err (place, fault)) h = neither (is_only (Err (Bad place fault)) octets message h s) (λ e. absurd cc) (λ e. absurd cc)
 
-pub first_read : (octets : List ℕ) (place : ℕ) (fault : PimFault) → IsOctets octets → FirstFault octets place fault → decoded octets ≡ Err (place, fault)
+pub first_read : (octets : List ℕ) (place : ℕ) (fault : PimFault) → IsOctets octets → FirstFault octets place fault
+    → decoded octets ≡ Err (place, fault)
 first_read octets place fault fits first = by (decoded octets) refl
   where
     by : (read : Result JoinPrune (ℕ × PimFault)) → decoded octets ≡ read → read ≡ Err (place, fault)

@@ -31,13 +31,15 @@ space_place front rest h =
     let within : length front < length (front ++ 32 ∷ rest) = rw length-append (omega arith) in
     rw (position, position_or_len, before_space front rest h, lt-ltb _ _ within) refl
 
-cut_there : (text : List ℕ) (place : ℕ) → position (λ octet. octet == 32) text ≡ Some place → cut_of 32 text ≡ Some (take place text, drop (place + 1) text)
+cut_there : (text : List ℕ) (place : ℕ) → position (λ octet. octet == 32) text ≡ Some place
+    → cut_of 32 text ≡ Some (take place text, drop (place + 1) text)
 cut_there text place found = rw (cut_of, found) refl
 
 -- A word without a space is cut at the space behind it.
 pub cut_word : (front rest : List ℕ) → has_no_space front ≡ true → cut_of 32 (front ++ 32 ∷ rest) ≡ Some (front, rest)
 cut_word front rest h =
-    let behind : drop (length front + 1) (front ++ 32 ∷ rest) ≡ rest = rw (← append_assoc front (32 ∷ []) rest) (drop_at (front ++ 32 ∷ []) rest (length front + 1) (length-append front (32 ∷ []))) in
+    let behind : drop (length front + 1) (front ++ 32 ∷ rest) ≡ rest =
+    rw (← append_assoc front (32 ∷ []) rest) (drop_at (front ++ 32 ∷ []) rest (length front + 1) (length-append front (32 ∷ []))) in
     let before : take (length front) (front ++ 32 ∷ rest) ≡ front = take_at front (32 ∷ rest) (length front) refl in
     cut_there (front ++ 32 ∷ rest) (length front) (space_place front rest h) ∙ ap₂ (λ (a b : List ℕ). Some (a, b)) before behind
 
@@ -58,13 +60,15 @@ pub ttl_read : (n : ℕ) (rest : List ℕ) → n < 2 ^ 8 → ttl_field (decimal 
 unfolding ttl_field
 ttl_read n rest small = goes _ (cut_number n rest (omega arith)) (goes _ (ttl_back n small) refl)
 
-pub node_read : (scenario : Scenario) → Rules scenario → (node : NodeId) (rest : List ℕ) → node.0 < length scenario.nodes → node_field scenario (node_name scenario node ++ 32 ∷ rest) ≡ Some (node, rest)
+pub node_read : (scenario : Scenario) → Rules scenario → (node : NodeId) (rest : List ℕ) → node.0 < length scenario.nodes
+    → node_field scenario (node_name scenario node ++ 32 ∷ rest) ≡ Some (node, rest)
 unfolding node_field
 node_read scenario rules node rest within =
     let known = node_back scenario rules node within in
     goes _ (cut_word (node_name scenario node) rest known.no_space) (goes _ known.names refl)
 
-pub iface_read : (scenario : Scenario) → Rules scenario → (iface : IfaceId) (rest : List ℕ) → iface.0 < length scenario.ifaces → iface_field scenario (iface_name scenario iface ++ 32 ∷ rest) ≡ Some (iface, rest)
+pub iface_read : (scenario : Scenario) → Rules scenario → (iface : IfaceId) (rest : List ℕ) → iface.0 < length scenario.ifaces
+    → iface_field scenario (iface_name scenario iface ++ 32 ∷ rest) ≡ Some (iface, rest)
 unfolding iface_field
 iface_read scenario rules iface rest within =
     let known = iface_back scenario rules iface within in

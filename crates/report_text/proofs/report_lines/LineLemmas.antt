@@ -51,7 +51,8 @@ text_behind scenario (lines.Hop from to label ttl number) =
 text_behind scenario (lines.Land from to label number) =
     node_name scenario from ++ 32 ∷ (node_name scenario to ++ 32 ∷ (decimal label ++ 32 ∷ decimal number))
 
-transit_ended : (kind from to hex : List ℕ) → kind ++ codes " " ++ (from ++ codes " " ++ to) ++ codes " " ++ hex ++ codes "\n" ≡ (kind ++ 32 ∷ (from ++ 32 ∷ (to ++ 32 ∷ hex))) ++ 10 ∷ []
+transit_ended : (kind from to hex : List ℕ) → kind ++ codes " " ++ (from ++ codes " " ++ to) ++ codes " " ++ hex ++ codes "\n"
+    ≡ (kind ++ 32 ∷ (from ++ 32 ∷ (to ++ 32 ∷ hex))) ++ 10 ∷ []
 transit_ended kind from to hex = simp append_assoc
 
 ended : (scenario : Scenario) (line : ReportLine) → line_text scenario line ≡ (first_word line ++ 32 ∷ text_behind scenario line) ++ 10 ∷ []
@@ -84,11 +85,14 @@ refusal_back refusals.Full h = refl
 refusal_back refusals.Ours h = refl
 refusal_back (refusals.Bytes place word) h =
     ap refusal_of (bytes_regrouped (decimal place) (fault_word word))
-    ∙ refusal_cut (codes "bytes" ++ 32 ∷ (decimal place ++ 32 ∷ fault_word word)) _ (cut_word (codes "bytes") (decimal place ++ 32 ∷ fault_word word) refl)
+    ∙ refusal_cut (codes "bytes" ++ 32 ∷ (decimal place ++ 32 ∷ fault_word word)) _
+    (cut_word (codes "bytes") (decimal place ++ 32 ∷ fault_word word) refl)
     ∙ (goes _ (short_read place (fault_word word) h) (goes _ (fault_word_back word) refl))
 
-direction_read : (scenario : Scenario) → Rules scenario → (kind : Kind) (from to : NodeId) (rest : List ℕ) → from.0 < length scenario.nodes → to.0 < length scenario.nodes
-    → direction_field scenario (kind_word kind ++ 32 ∷ (node_name scenario from ++ 32 ∷ (node_name scenario to ++ 32 ∷ rest))) ≡ Some (record { kind = kind; from = from; to = to }, rest)
+direction_read : (scenario : Scenario) → Rules scenario → (kind : Kind) (from to : NodeId) (rest : List ℕ) → from.0 < length scenario.nodes
+    → to.0 < length scenario.nodes
+    → direction_field scenario (kind_word kind ++ 32 ∷ (node_name scenario from ++ 32 ∷ (node_name scenario to ++ 32 ∷ rest)))
+    ≡ Some (record { kind = kind; from = from; to = to }, rest)
 unfolding direction_field
 direction_read scenario rules kind from to rest in_from in_to =
     goes _ (kind_read kind _) (goes _ (node_read scenario rules from _ in_from) (goes _ (node_read scenario rules to rest in_to) refl))
@@ -103,7 +107,8 @@ word_of (lines.Take kind from to bytes) = begins.Take
 word_of (lines.Hop from to label ttl number) = begins.Hop
 word_of (lines.Land from to label number) = begins.Land
 
-behind_back : (scenario : Scenario) → Rules scenario → (line : ReportLine) → IsLineOf scenario line → HasTypeBounds line → line_behind scenario (word_of line) (text_behind scenario line) ≡ Some line
+behind_back : (scenario : Scenario) → Rules scenario → (line : ReportLine) → IsLineOf scenario line → HasTypeBounds line
+    → line_behind scenario (word_of line) (text_behind scenario line) ≡ Some line
 unfolding out_line refused_line state_line halt_line put_line take_line hop_line land_line
 behind_back scenario rules (lines.Out number iface bytes) is bounds =
     goes _ (number_read number _ bounds.0) (goes _ (iface_read scenario rules iface _ is) (goes _ (octets_back bytes bounds.1) refl))
@@ -114,7 +119,8 @@ behind_back scenario rules (lines.State bytes copies buffers due unready) is bou
     (goes _ (number_read due _ bounds.3) (goes _ (number_back unready bounds.4) refl))))
 behind_back scenario rules (lines.Halt line node) is bounds =
     goes _ (short_read line _ bounds) (goes (λ cut. node_named scenario cut.1 >>? λ found. Some (lines.Halt line found))
-    (cut_word (codes "label") (node_name scenario node) refl) (goes (λ found. Some (lines.Halt line found)) (node_back scenario rules node is).names refl))
+    (cut_word (codes "label") (node_name scenario node) refl)
+    (goes (λ found. Some (lines.Halt line found)) (node_back scenario rules node is).names refl))
 behind_back scenario rules (lines.Put kind from to bytes) is bounds =
     goes _ (direction_read scenario rules kind from to _ is.0 is.1) (goes _ (octets_back bytes bounds) refl)
 behind_back scenario rules (lines.Take kind from to bytes) is bounds =
@@ -143,14 +149,17 @@ begins_back (lines.Take kind from to bytes) = record { no_space = refl; word = r
 begins_back (lines.Hop from to label ttl number) = record { no_space = refl; word = refl }
 begins_back (lines.Land from to label number) = record { no_space = refl; word = refl }
 
-text_back : (scenario : Scenario) → Rules scenario → (line : ReportLine) → IsLineOf scenario line → HasTypeBounds line → named_line scenario (first_word line ++ 32 ∷ text_behind scenario line) ≡ Some line
+text_back : (scenario : Scenario) → Rules scenario → (line : ReportLine) → IsLineOf scenario line → HasTypeBounds line
+    → named_line scenario (first_word line ++ 32 ∷ text_behind scenario line) ≡ Some line
 unfolding named_line
 text_back scenario rules line is bounds =
     let first = begins_back line in
     goes _ (cut_word (first_word line) (text_behind scenario line) first.no_space) (goes _ first.word (behind_back scenario rules line is bounds))
 
 -- A text that is written of a line names it.
-pub line_back : (scenario : Scenario) → Rules scenario → (text : List ℕ) (line : ReportLine) → IsLineOf scenario line → HasTypeBounds line → line_text scenario line ≡ text ++ 10 ∷ [] → named_line scenario text ≡ Some line
+pub line_back : (scenario : Scenario) → Rules scenario → (text : List ℕ) (line : ReportLine) → IsLineOf scenario line → HasTypeBounds line
+    → line_text scenario line ≡ text ++ 10 ∷ [] → named_line scenario text ≡ Some line
 line_back scenario rules text line is bounds written =
-    let same : first_word line ++ 32 ∷ text_behind scenario line ≡ text = append_cancel_right _ text (10 ∷ []) (sym (ended scenario line) ∙ written) in
+    let same : first_word line ++ 32 ∷ text_behind scenario line ≡ text =
+    append_cancel_right _ text (10 ∷ []) (sym (ended scenario line) ∙ written) in
     ap (named_line scenario) (sym same) ∙ text_back scenario rules line is bounds

@@ -22,15 +22,19 @@ use Rattle.report_text.proofs.report_lines.NumberLemmas.{goes, both_parts}
 
 -- ---- the one place that passes a test
 
-at_no_place : {X : Type 0} (p : X → Bool) (xs : List X) (i : ℕ) (y : X) (passes : Bool) → p y ≡ passes → ((j : ℕ) (z : X) → slice_get xs j ≡ Some z → p z ≡ true → j ≡ i) → (k : ℕ) → k < i → slice_get xs k ≡ Some y → p y ≡ false
+at_no_place : {X : Type 0} (p : X → Bool) (xs : List X) (i : ℕ) (y : X) (passes : Bool) → p y ≡ passes
+    → ((j : ℕ) (z : X) → slice_get xs j ≡ Some z → p z ≡ true → j ≡ i) → (k : ℕ) → k < i → slice_get xs k ≡ Some y → p y ≡ false
 at_no_place p xs i y true e only k below at = absurd (omega (arith, only k y at e))
 at_no_place p xs i y false e only k below at = e
 
 -- The only place that passes is the first one.
-pub position_only : {X : Type 0} (p : X → Bool) (xs : List X) (i : ℕ) (x : X) → slice_get xs i ≡ Some x → p x ≡ true → ((j : ℕ) (y : X) → slice_get xs j ≡ Some y → p y ≡ true → j ≡ i) → position p xs ≡ Some i
+pub position_only : {X : Type 0} (p : X → Bool) (xs : List X) (i : ℕ) (x : X) → slice_get xs i ≡ Some x → p x ≡ true
+    → ((j : ℕ) (y : X) → slice_get xs j ≡ Some y → p y ≡ true → j ≡ i) → position p xs ≡ Some i
 position_only p xs i x at passes only =
     let within : i < length xs = slice_get_within xs i x at in
-    let place : position_or_len p xs ≡ i = position_or_len_is p xs i x (omega arith) (λ k below. at_no_place p xs i (get_or xs k x) _ refl only k below (slice_get-get_or xs k x (omega arith))) (λ _. subst (λ y. p y ≡ true) (sym (get_or_from_slice_get xs i x x at)) passes) in
+    let place : position_or_len p xs ≡ i =
+    position_or_len_is p xs i x (omega arith) (λ k below. at_no_place p xs i (get_or xs k x) _ refl only k below
+    (slice_get-get_or xs k x (omega arith))) (λ _. subst (λ y. p y ≡ true) (sym (get_or_from_slice_get xs i x x at)) passes) in
     rw (place, lt-ltb i (length xs) within) refl
 
 -- The place that is found is one of the list.
@@ -51,13 +55,15 @@ node_id a b e = let same : a ≡ b = cc in ap (λ (id : NodeId). id.0) same
 iface_id : (a b : IfaceId) → things.Iface a ≡ things.Iface b → a.0 ≡ b.0
 iface_id a b e = let same : a ≡ b = cc in ap (λ (id : IfaceId). id.0) same
 
-node_place : (scenario : Scenario) → Rules scenario → (node : NodeId) (found : Node) → slice_get scenario.nodes node.0 ≡ Some found → position (is_node_named found.name) scenario.nodes ≡ Some node.0
+node_place : (scenario : Scenario) → Rules scenario → (node : NodeId) (found : Node) → slice_get scenario.nodes node.0 ≡ Some found
+    → position (is_node_named found.name) scenario.nodes ≡ Some node.0
 node_place scenario rules node found at =
     position_only (is_node_named found.name) scenario.nodes node.0 found at (name_same found.name)
     (λ j other there same. node_id (record { 0 = j }) node (rules.names.distinct (things.Node (record { 0 = j })) (things.Node node) found.name
     (rw there (ap (λ (name : List ℕ). Some name) (name_is other.name found.name same))) (rw at refl)))
 
-iface_place : (scenario : Scenario) → Rules scenario → (iface : IfaceId) (found : Iface) → slice_get scenario.ifaces iface.0 ≡ Some found → position (is_iface_named found.name) scenario.ifaces ≡ Some iface.0
+iface_place : (scenario : Scenario) → Rules scenario → (iface : IfaceId) (found : Iface) → slice_get scenario.ifaces iface.0 ≡ Some found
+    → position (is_iface_named found.name) scenario.ifaces ≡ Some iface.0
 iface_place scenario rules iface found at =
     position_only (is_iface_named found.name) scenario.ifaces iface.0 found at (name_same found.name)
     (λ j other there same. iface_id (record { 0 = j }) iface (rules.names.distinct (things.Iface (record { 0 = j })) (things.Iface iface) found.name
@@ -90,7 +96,8 @@ pub record IsNameOf {A : Type 0} (named : List ℕ → Option A) (name : List �
   pub names : named name ≡ Some id
   pub no_space : has_no_space name ≡ true
 
-node_found : (scenario : Scenario) → Rules scenario → (node : NodeId) (o : Option Node) → slice_get scenario.nodes node.0 ≡ o → node.0 < length scenario.nodes → IsNameOf (node_named scenario) (elim o [ None ↦ [] | Some found ↦ found.name ]) node
+node_found : (scenario : Scenario) → Rules scenario → (node : NodeId) (o : Option Node) → slice_get scenario.nodes node.0 ≡ o
+    → node.0 < length scenario.nodes → IsNameOf (node_named scenario) (elim o [ None ↦ [] | Some found ↦ found.name ]) node
 unfolding node_named
 node_found scenario rules node None at within = absurd (no_element scenario.nodes node.0 at within)
 node_found scenario rules node (Some found) at within = record {
@@ -98,10 +105,12 @@ node_found scenario rules node (Some found) at within = record {
   no_space = name_no_space found.name (rules.names.formed (things.Node node) found.name (rw at refl));
 }
 
-pub node_back : (scenario : Scenario) → Rules scenario → (node : NodeId) → node.0 < length scenario.nodes → IsNameOf (node_named scenario) (node_name scenario node) node
+pub node_back : (scenario : Scenario) → Rules scenario → (node : NodeId) → node.0 < length scenario.nodes
+    → IsNameOf (node_named scenario) (node_name scenario node) node
 node_back scenario rules node within = node_found scenario rules node (slice_get scenario.nodes node.0) refl within
 
-iface_found : (scenario : Scenario) → Rules scenario → (iface : IfaceId) (o : Option Iface) → slice_get scenario.ifaces iface.0 ≡ o → iface.0 < length scenario.ifaces → IsNameOf (iface_named scenario) (elim o [ None ↦ [] | Some found ↦ found.name ]) iface
+iface_found : (scenario : Scenario) → Rules scenario → (iface : IfaceId) (o : Option Iface) → slice_get scenario.ifaces iface.0 ≡ o
+    → iface.0 < length scenario.ifaces → IsNameOf (iface_named scenario) (elim o [ None ↦ [] | Some found ↦ found.name ]) iface
 unfolding iface_named
 iface_found scenario rules iface None at within = absurd (no_element scenario.ifaces iface.0 at within)
 iface_found scenario rules iface (Some found) at within = record {
@@ -109,5 +118,6 @@ iface_found scenario rules iface (Some found) at within = record {
   no_space = name_no_space found.name (rules.names.formed (things.Iface iface) found.name (rw at refl));
 }
 
-pub iface_back : (scenario : Scenario) → Rules scenario → (iface : IfaceId) → iface.0 < length scenario.ifaces → IsNameOf (iface_named scenario) (iface_name scenario iface) iface
+pub iface_back : (scenario : Scenario) → Rules scenario → (iface : IfaceId) → iface.0 < length scenario.ifaces
+    → IsNameOf (iface_named scenario) (iface_name scenario iface) iface
 iface_back scenario rules iface within = iface_found scenario rules iface (slice_get scenario.ifaces iface.0) refl within

@@ -31,48 +31,59 @@ iface_is scenario text iface e = next_some _ (position (is_iface_named text) sce
     let p = if_some (nat_le place 65535) _ iface f in
     subst (λ (id : IfaceId). id.0 < length scenario.ifaces) p.1 (position_within _ scenario.ifaces place found))
 
-node_read_is : (scenario : Scenario) (text : List ℕ) (field : NodeId × List ℕ) → node_field scenario text ≡ Some field → field.0.0 < length scenario.nodes
+node_read_is : (scenario : Scenario) (text : List ℕ) (field : NodeId × List ℕ) → node_field scenario text ≡ Some field
+    → field.0.0 < length scenario.nodes
 unfolding node_field
 node_read_is scenario text field e = next_some _ (cut_of 32 text) field e (λ cut c f. next_some _ (node_named scenario cut.0) field f (λ node named g.
     subst (λ (x : NodeId × List ℕ). x.0.0 < length scenario.nodes) (same_Some _ _ g) (node_is scenario cut.0 node named)))
 
-iface_read_is : (scenario : Scenario) (text : List ℕ) (field : IfaceId × List ℕ) → iface_field scenario text ≡ Some field → field.0.0 < length scenario.ifaces
+iface_read_is : (scenario : Scenario) (text : List ℕ) (field : IfaceId × List ℕ) → iface_field scenario text ≡ Some field
+    → field.0.0 < length scenario.ifaces
 unfolding iface_field
-iface_read_is scenario text field e = next_some _ (cut_of 32 text) field e (λ cut c f. next_some _ (iface_named scenario cut.0) field f (λ iface named g.
+iface_read_is scenario text field e =
+    next_some _ (cut_of 32 text) field e (λ cut c f. next_some _ (iface_named scenario cut.0) field f (λ iface named g.
     subst (λ (x : IfaceId × List ℕ). x.0.0 < length scenario.ifaces) (same_Some _ _ g) (iface_is scenario cut.0 iface named)))
 
 abbrev AreOf : Scenario → Direction → Type 0
 AreOf scenario direction = (direction.from.0 < length scenario.nodes) × (direction.to.0 < length scenario.nodes)
 
-direction_is : (scenario : Scenario) (text : List ℕ) (field : Direction × List ℕ) → direction_field scenario text ≡ Some field → AreOf scenario field.0
+direction_is : (scenario : Scenario) (text : List ℕ) (field : Direction × List ℕ) → direction_field scenario text ≡ Some field
+    → AreOf scenario field.0
 unfolding direction_field
 direction_is scenario text field e =
-    next_some _ (kind_field text) field e (λ kind k f. next_some _ (node_field scenario kind.1) field f (λ from u g. next_some _ (node_field scenario from.1) field g (λ to v h.
-    subst (λ (x : Direction × List ℕ). AreOf scenario x.0) (same_Some _ _ h) (node_read_is scenario kind.1 from u, node_read_is scenario from.1 to v))))
+    next_some _ (kind_field text) field e (λ kind k f. next_some _ (node_field scenario kind.1) field f
+    (λ from u g. next_some _ (node_field scenario from.1) field g (λ to v h.
+    subst (λ (x : Direction × List ℕ). AreOf scenario x.0) (same_Some _ _ h)
+    (node_read_is scenario kind.1 from u, node_read_is scenario from.1 to v))))
 
 -- ---- lines
 
 out_is : (scenario : Scenario) (text : List ℕ) (line : ReportLine) → out_line scenario text ≡ Some line → IsLineOf scenario line
 unfolding out_line
 out_is scenario text line e =
-    next_some _ (number_field text) line e (λ number n f. next_some _ (iface_field scenario number.1) line f (λ iface i g. next_some _ (octets_of iface.1) line g (λ bytes b h.
+    next_some _ (number_field text) line e (λ number n f. next_some _ (iface_field scenario number.1) line f
+    (λ iface i g. next_some _ (octets_of iface.1) line g (λ bytes b h.
     subst (IsLineOf scenario) (same_Some _ _ h) (iface_read_is scenario number.1 iface i))))
 
 refused_is : (scenario : Scenario) (text : List ℕ) (line : ReportLine) → refused_line text ≡ Some line → IsLineOf scenario line
 unfolding refused_line
 refused_is scenario text line e =
-    next_some _ (short_field text) line e (λ number n f. next_some _ (refusal_of number.1) line f (λ reason r g. subst (IsLineOf scenario) (same_Some _ _ g) tt))
+    next_some _ (short_field text) line e (λ number n f. next_some _ (refusal_of number.1) line f
+    (λ reason r g. subst (IsLineOf scenario) (same_Some _ _ g) tt))
 
 state_is : (scenario : Scenario) (text : List ℕ) (line : ReportLine) → state_line text ≡ Some line → IsLineOf scenario line
 unfolding state_line
 state_is scenario text line e =
-    next_some _ (number_field text) line e (λ bytes a f. next_some _ (number_field bytes.1) line f (λ copies b g. next_some _ (number_field copies.1) line g (λ buffers c h.
-    next_some _ (number_field buffers.1) line h (λ due d i. next_some _ (number_of due.1) line i (λ unready u j. subst (IsLineOf scenario) (same_Some _ _ j) tt)))))
+    next_some _ (number_field text) line e (λ bytes a f. next_some _ (number_field bytes.1) line f
+    (λ copies b g. next_some _ (number_field copies.1) line g (λ buffers c h.
+    next_some _ (number_field buffers.1) line h (λ due d i. next_some _ (number_of due.1) line i
+    (λ unready u j. subst (IsLineOf scenario) (same_Some _ _ j) tt)))))
 
 halt_is : (scenario : Scenario) (text : List ℕ) (line : ReportLine) → halt_line scenario text ≡ Some line → IsLineOf scenario line
 unfolding halt_line
 halt_is scenario text line e =
-    next_some _ (short_field text) line e (λ number n f. next_some _ (cut_of 32 number.1) line f (λ cut c g. next_some _ (node_named scenario cut.1) line g (λ node u h.
+    next_some _ (short_field text) line e (λ number n f. next_some _ (cut_of 32 number.1) line f
+    (λ cut c g. next_some _ (node_named scenario cut.1) line g (λ node u h.
     subst (IsLineOf scenario) (same_Some _ _ h) (node_is scenario cut.1 node u))))
 
 put_is : (scenario : Scenario) (text : List ℕ) (line : ReportLine) → put_line scenario text ≡ Some line → IsLineOf scenario line
@@ -90,18 +101,21 @@ take_is scenario text line e =
 hop_is : (scenario : Scenario) (text : List ℕ) (line : ReportLine) → hop_line scenario text ≡ Some line → IsLineOf scenario line
 unfolding hop_line
 hop_is scenario text line e =
-    next_some _ (node_field scenario text) line e (λ from u f. next_some _ (node_field scenario from.1) line f (λ to v g. next_some _ (short_field to.1) line g (λ label l h.
+    next_some _ (node_field scenario text) line e
+    (λ from u f. next_some _ (node_field scenario from.1) line f (λ to v g. next_some _ (short_field to.1) line g (λ label l h.
     next_some _ (ttl_field label.1) line h (λ ttl t i. next_some _ (number_of ttl.1) line i (λ number n j.
     subst (IsLineOf scenario) (same_Some _ _ j) (node_read_is scenario text from u, node_read_is scenario from.1 to v))))))
 
 land_is : (scenario : Scenario) (text : List ℕ) (line : ReportLine) → land_line scenario text ≡ Some line → IsLineOf scenario line
 unfolding land_line
 land_is scenario text line e =
-    next_some _ (node_field scenario text) line e (λ from u f. next_some _ (node_field scenario from.1) line f (λ to v g. next_some _ (short_field to.1) line g (λ label l h.
+    next_some _ (node_field scenario text) line e
+    (λ from u f. next_some _ (node_field scenario from.1) line f (λ to v g. next_some _ (short_field to.1) line g (λ label l h.
     next_some _ (number_of label.1) line h (λ number n i.
     subst (IsLineOf scenario) (same_Some _ _ i) (node_read_is scenario text from u, node_read_is scenario from.1 to v)))))
 
-behind_is : (scenario : Scenario) (word : LineWord) (text : List ℕ) (line : ReportLine) → line_behind scenario word text ≡ Some line → IsLineOf scenario line
+behind_is : (scenario : Scenario) (word : LineWord) (text : List ℕ) (line : ReportLine) → line_behind scenario word text ≡ Some line
+    → IsLineOf scenario line
 behind_is scenario begins.Out text line e = out_is scenario text line e
 behind_is scenario begins.Refused text line e = refused_is scenario text line e
 behind_is scenario begins.State text line e = state_is scenario text line e

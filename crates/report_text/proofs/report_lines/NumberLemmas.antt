@@ -20,7 +20,8 @@ numerals = numerals_by_value _ (search rules)
 pub goes : {A B : Type 0} (f : A → Option B) {o : Option A} {x : A} {r : Option B} → o ≡ Some x → f x ≡ r → (o >>? f) ≡ r
 goes f e h = rw e h
 
-fits : (text : List ℕ) → list_all is_ascii_digit text ≡ true → 0 < length text → digits_value 10 text < 2 ^ 64 → number_of text ≡ Some (digits_value 10 text)
+fits : (text : List ℕ) → list_all is_ascii_digit text ≡ true → 0 < length text → digits_value 10 text < 2 ^ 64
+    → number_of text ≡ Some (digits_value 10 text)
 unfolding number_of
 fits text digits some small = rw (digits, lt-ltb 0 (length text) some, lt-ltb (digits_value 10 text) (2 ^ 64) small) refl
 
@@ -28,7 +29,8 @@ pub both_parts : (a b : Bool) → (a && b) ≡ true → (a ≡ true) × (b ≡ t
 both_parts true b h = (refl, h)
 both_parts false b h = absurd cc
 
-no_fit : (text : List ℕ) (passes : Bool) → (nat_lt 0 (length text) && nat_lt (digits_value 10 text) (2 ^ 64)) ≡ passes → ((0 < length text) → digits_value 10 text < 2 ^ 64 → ⊥) → only_if passes (digits_value 10 text) ≡ None
+no_fit : (text : List ℕ) (passes : Bool) → (nat_lt 0 (length text) && nat_lt (digits_value 10 text) (2 ^ 64)) ≡ passes
+    → ((0 < length text) → digits_value 10 text < 2 ^ 64 → ⊥) → only_if passes (digits_value 10 text) ≡ None
 no_fit text true e misses = let p = both_parts _ _ e in absurd (misses (ltb-true _ _ p.0) (ltb-true _ _ p.1))
 no_fit text false e misses = refl
 
@@ -44,7 +46,8 @@ no_plus : (text : List ℕ) → list_all is_ascii_digit text ≡ true → withou
 no_plus text digits = without_leading_plus_none text (first_is_no_plus text (numerals.to text digits))
 
 -- What `parse` gives of digits.
-pub parsed : {E : Type 0} (text : List ℕ) (r : Result ℕ E) → list_all is_ascii_digit text ≡ true → ParsesUnsigned 64 10 text r → result_ok r ≡ number_of text
+pub parsed : {E : Type 0} (text : List ℕ) (r : Result ℕ E) → list_all is_ascii_digit text ≡ true → ParsesUnsigned 64 10 text r
+    → result_ok r ≡ number_of text
 parsed text (Ok x) digits h =
     let e = no_plus text digits in
     let some : 0 < length text = subst (λ (l : List ℕ). 0 < length l) e h.0.0.0 in
@@ -52,7 +55,8 @@ parsed text (Ok x) digits h =
     ap Some (h.1 ∙ ap (digits_value 10) e) ∙ sym (fits text digits some small)
 parsed text (Err error) digits h =
     let e = sym (no_plus text digits) in
-    sym (unfit text digits (λ some small. h (subst (λ (l : List ℕ). IsNumeral 10 l × (digits_value 10 l < 2 ^ 64)) e ((some, numerals.to text digits), small))))
+    sym (unfit text digits (λ some small. h (subst (λ (l : List ℕ). IsNumeral 10 l × (digits_value 10 l < 2 ^ 64)) e
+    ((some, numerals.to text digits), small))))
 
 -- Digits are a text.
 pub digits_are_text : (text : List ℕ) → list_all is_ascii_digit text ≡ true → IsUtf8 text

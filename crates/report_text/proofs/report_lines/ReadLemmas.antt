@@ -14,7 +14,8 @@ pub only_written : (written start text : List ℕ) → start ≡ [] → written 
 only_written written start text empty e = e ∙ ap (λ (l : List ℕ). l ++ text) empty
 
 -- A line that is named is the only one that the text can be.
-pub only_line : (scenario : Scenario) → Rules scenario → (text : List ℕ) (named : Option ReportLine) (found : ReportLine) → named ≡ named_line scenario text → named ≡ Some found
+pub only_line : (scenario : Scenario) → Rules scenario → (text : List ℕ) (named : Option ReportLine) (found : ReportLine)
+    → named ≡ named_line scenario text → named ≡ Some found
     → (line : ReportLine) → IsLineOf scenario line → HasTypeBounds line → line_text scenario line ≡ text ++ 10 ∷ [] → found ≡ line
 only_line scenario rules text named found read is line of_scenario bounds written =
     same_Some found line (sym is ∙ read ∙ line_back scenario rules text line of_scenario bounds written)
@@ -26,7 +27,8 @@ unnamed scenario rules text named read is line of_scenario bounds written =
     none-some line (sym is ∙ read ∙ line_back scenario rules text line of_scenario bounds written)
 
 -- One that names a line of another text is written of none.
-pub unwritten : (scenario : Scenario) → Rules scenario → (text : List ℕ) (named : Option ReportLine) (found : ReportLine) → named ≡ named_line scenario text → named ≡ Some found
+pub unwritten : (scenario : Scenario) → Rules scenario → (text : List ℕ) (named : Option ReportLine) (found : ReportLine)
+    → named ≡ named_line scenario text → named ≡ Some found
     → (line_text scenario found ≡ text ++ 10 ∷ [] → ⊥)
     → (line : ReportLine) → IsLineOf scenario line → HasTypeBounds line → line_text scenario line ≡ text ++ 10 ∷ [] → ⊥
 unwritten scenario rules text named found read is differs line of_scenario bounds written =

@@ -46,13 +46,20 @@ module _ (scenario : Scenario) (sound : SoundScenario scenario) where
       by (octet ∷ more) = (h, tt)
 
   puts_named : (puts : List Put) → AreNamed scenario (put_lines scenario puts)
-  puts_named puts = each_flat (IsLineOf scenario) (put_line puts) (directions scenario) (each_weaker (IsOver scenario) (λ over. AreNamed scenario (put_line puts over)) (put_named puts) (directions scenario) (directions_within scenario sound))
+  puts_named puts =
+      each_flat (IsLineOf scenario) (put_line puts) (directions scenario)
+      (each_weaker (IsOver scenario) (λ over. AreNamed scenario (put_line puts over)) (put_named puts) (directions scenario)
+      (directions_within scenario sound))
 
   -- lines, and behind them those of what is put
-  made_named : (world : World) → scenario_of world ≡ scenario → (before : List ReportLine) → AreNamed scenario before → (puts : List Put) → AreNamed scenario (before ++ put_lines (scenario_of world) puts)
-  made_named world same before b puts = each_append (IsLineOf scenario) before (put_lines (scenario_of world) puts) b (subst (λ (own : Scenario). AreNamed scenario (put_lines own puts)) (sym same) (puts_named puts))
+  made_named : (world : World) → scenario_of world ≡ scenario → (before : List ReportLine) → AreNamed scenario before → (puts : List Put)
+      → AreNamed scenario (before ++ put_lines (scenario_of world) puts)
+  made_named world same before b puts =
+      each_append (IsLineOf scenario) before (put_lines (scenario_of world) puts) b
+      (subst (λ (own : Scenario). AreNamed scenario (put_lines own puts)) (sym same) (puts_named puts))
 
-  node_says : (world : World) → scenario_of world ≡ scenario → (node : NodeId) → IsNode scenario node → (before : List ReportLine) → AreNamed scenario before → (acts : List (OctetAct NodeCall)) → Says scenario (at_node world node before acts)
+  node_says : (world : World) → scenario_of world ≡ scenario → (node : NodeId) → IsNode scenario node → (before : List ReportLine)
+      → AreNamed scenario before → (acts : List (OctetAct NodeCall)) → Says scenario (at_node world node before acts)
   node_says world same node n before b acts = by (octet_run system world.network acts)
     where
       by : (o : Option (Behind (OctetNetwork Nodes))) → Says scenario (with_network world before o node)
@@ -66,10 +73,13 @@ module _ (scenario : Scenario) (sound : SoundScenario scenario) where
   control_says (Tick ticks) fit world same = made_named world same [] tt []
   control_says (Timers n) fit world same = node_says world same n fit [] tt (octets.Call (Own n steps.Timers) ∷ [])
   control_says (Move kind from to count) fit world same =
-      node_says world same to fit.1 (lines.Take kind from to (take count (world.network.transit (direction kind from to))) ∷ []) (fit, tt) (octets.Move (direction kind from to) count ∷ [])
+      node_says world same to fit.1 (lines.Take kind from to (take count (world.network.transit (direction kind from to))) ∷ []) (fit, tt)
+      (octets.Move (direction kind from to) count ∷ [])
   control_says (Lose kind a b) fit world same = made_named world same [] tt []
-  control_says (Notice kind a b) fit world same = node_says world same a fit [] tt (octets.Forget (is_from_peer kind a b) ∷ octets.Call (Own a (steps.Noticed kind b)) ∷ [])
-  control_says (RaiseFirst kind a b) fit world same = node_says world same a fit [] tt (octets.Join (is_of_session kind a b) ∷ octets.Call (Own a (steps.Raised kind b)) ∷ [])
+  control_says (Notice kind a b) fit world same =
+      node_says world same a fit [] tt (octets.Forget (is_from_peer kind a b) ∷ octets.Call (Own a (steps.Noticed kind b)) ∷ [])
+  control_says (RaiseFirst kind a b) fit world same =
+      node_says world same a fit [] tt (octets.Join (is_of_session kind a b) ∷ octets.Call (Own a (steps.Raised kind b)) ∷ [])
   control_says (RaiseSecond kind a b) fit world same = node_says world same b fit [] tt (octets.Call (Own b (steps.Raised kind a)) ∷ [])
   control_says (Restart n) fit world same = made_named world same [] tt []
   control_says (At n call) fit world same = node_says world same n fit.0 [] tt (octets.Call (Own n call) ∷ [])

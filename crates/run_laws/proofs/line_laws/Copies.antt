@@ -44,26 +44,34 @@ module _ (scenario : Scenario) (sound : SoundScenario scenario) where
   abbrev IsIface : IfaceId → Type 0
   IsIface iface = iface.0 < length scenario.ifaces
 
-  asking_within : (place : EdgePlace) → place.scenario ≡ scenario → (now : ℕ) (control : Control) (own : OwnVrf) (source group : Addr) → AllByRecursion IsIface (asking_ifaces place now control own source group)
+  asking_within : (place : EdgePlace) → place.scenario ≡ scenario → (now : ℕ) (control : Control) (own : OwnVrf) (source group : Addr)
+      → AllByRecursion IsIface (asking_ifaces place now control own source group)
   asking_within place same now control own source group =
-      each_weaker (IsIfaceOf place.scenario own.id) IsIface (λ iface is. subst (λ (s : Scenario). iface.0 < length s.ifaces) same (slice_get_within place.scenario.ifaces iface.0 is.0 is.1)) (asking_ifaces place now control own source group)
+      each_weaker (IsIfaceOf place.scenario own.id) IsIface
+      (λ iface is. subst (λ (s : Scenario). iface.0 < length s.ifaces) same (slice_get_within place.scenario.ifaces iface.0 is.0 is.1))
+      (asking_ifaces place now control own source group)
       (asking_are place now control own source group)
 
-  outs_within : (place : EdgePlace) → place.scenario ≡ scenario → (now : ℕ) (edge : EdgeData) (fec : Fec) (source group : Addr) → AllByRecursion IsIface (outs_of place now edge fec source group)
+  outs_within : (place : EdgePlace) → place.scenario ≡ scenario → (now : ℕ) (edge : EdgeData) (fec : Fec) (source group : Addr)
+      → AllByRecursion IsIface (outs_of place now edge fec source group)
   outs_within place same now edge fec source group =
-      cond_both (sets.contains edge.part.leaves fec) (flat_map (outs_at place now edge.control fec source group) (own_vrfs place)) [] (AllByRecursion IsIface)
-      (λ t. each_flat IsIface (outs_at place now edge.control fec source group) (own_vrfs place) (each_of (λ own. AllByRecursion IsIface (outs_at place now edge.control fec source group own)) at (own_vrfs place)))
+      cond_both (sets.contains edge.part.leaves fec) (flat_map (outs_at place now edge.control fec source group) (own_vrfs place)) []
+      (AllByRecursion IsIface)
+      (λ t. each_flat IsIface (outs_at place now edge.control fec source group) (own_vrfs place)
+      (each_of (λ own. AllByRecursion IsIface (outs_at place now edge.control fec source group own)) at (own_vrfs place)))
       (λ f. tt)
     where
       from : (own : OwnVrf) (peer : NodeId × Taken) → AllByRecursion IsIface (outs_from place now edge.control own fec source group peer)
       from own peer =
-          cond_both (is_imported_from place own fec peer && is_from_edge peer.0 (upstream_for place edge.control own source group)) (asking_ifaces place now edge.control own source group) [] (AllByRecursion IsIface)
+          cond_both (is_imported_from place own fec peer && is_from_edge peer.0 (upstream_for place edge.control own source group))
+          (asking_ifaces place now edge.control own source group) [] (AllByRecursion IsIface)
           (λ t. asking_within place same now edge.control own source group) (λ f. tt)
 
       at : (own : OwnVrf) → AllByRecursion IsIface (outs_at place now edge.control fec source group own)
       at own =
           each_flat IsIface (outs_from place now edge.control own fec source group) (maps.entries edge.control.peers)
-          (each_of (λ peer. AllByRecursion IsIface (outs_from place now edge.control own fec source group peer)) (from own) (maps.entries edge.control.peers))
+          (each_of (λ peer. AllByRecursion IsIface (outs_from place now edge.control own fec source group peer)) (from own)
+          (maps.entries edge.control.peers))
 
   -- ---- fates
 
@@ -77,7 +85,8 @@ module _ (scenario : Scenario) (sound : SoundScenario scenario) where
   tree_within : (n : NodeId) (part : LabelData) → HasLinks scenario n part → (fec : Fec) → AllByRecursion LeadsToNode (branches_of part fec)
   tree_within n part linked fec = each_of_tree LeadsToNode part (λ branch is. (link_within scenario sound n branch.node (linked branch is)).1) fec
 
-  arriving_within : (n : NodeId) (part : LabelData) → HasLinks scenario n part → (outs : Fec → List IfaceId) → ((fec : Fec) → AllByRecursion IsIface (outs fec))
+  arriving_within : (n : NodeId) (part : LabelData) → HasLinks scenario n part → (outs : Fec → List IfaceId)
+      → ((fec : Fec) → AllByRecursion IsIface (outs fec))
       → (o : Option Fec) → IsThere (elim o [ None ↦ discarded | Some fec ↦ record { outs = outs fec; branches = branches_of part fec } ])
   arriving_within n part linked outs h None = (tt, tt)
   arriving_within n part linked outs h (Some fec) = (h fec, tree_within n part linked fec)
@@ -85,34 +94,43 @@ module _ (scenario : Scenario) (sound : SoundScenario scenario) where
   ttl_within : (ttl : ℕ) (fate : Fate) → IsThere fate → IsThere (with_ttl ttl fate)
   ttl_within ttl fate h = cond_both (nat_le ttl 1) (record fate { branches = [] }) fate IsThere (λ t. (h.0, tt)) (λ f. h)
 
-  entering_within : (place : EdgePlace) → place.scenario ≡ scenario → (now : ℕ) (edge : EdgeData) (own : OwnVrf) → HasLinks scenario own.vrf.edge edge.part → (site : SiteId) (source group : Addr) → IsThere (entering_fate place now edge own site source group)
+  entering_within : (place : EdgePlace) → place.scenario ≡ scenario → (now : ℕ) (edge : EdgeData) (own : OwnVrf)
+      → HasLinks scenario own.vrf.edge edge.part → (site : SiteId) (source group : Addr)
+      → IsThere (entering_fate place now edge own site source group)
   entering_within place same now edge own linked site source group =
       let outs = filter (is_outside place.scenario site) (asking_ifaces place now edge.control own source group) in
       let branches = branches_of edge.part (transmit_tunnel place edge.control own source group) in
       let joined = is_joined_in place edge.control own source group in
-      cond_both (is_from_site site (upstream_for place edge.control own source group)) (record { outs = outs; branches = cond joined branches [] }) discarded IsThere
+      cond_both (is_from_site site (upstream_for place edge.control own source group)) (record { outs = outs; branches = cond joined branches [] })
+      discarded IsThere
       (λ t. (
-        each_filter IsIface (is_outside place.scenario site) (asking_ifaces place now edge.control own source group) (asking_within place same now edge.control own source group),
-        cond_both joined branches [] (AllByRecursion LeadsToNode) (λ j. tree_within own.vrf.edge edge.part linked (transmit_tunnel place edge.control own source group)) (λ j. tt),
+        each_filter IsIface (is_outside place.scenario site) (asking_ifaces place now edge.control own source group)
+            (asking_within place same now edge.control own source group),
+        cond_both joined branches [] (AllByRecursion LeadsToNode)
+            (λ j. tree_within own.vrf.edge edge.part linked (transmit_tunnel place edge.control own source group)) (λ j. tt),
       ))
       (λ f. (tt, tt))
 
   -- ---- lines
 
-  fated_named : (world : World) (node : NodeId) → IsNode scenario node → (ttl number : ℕ) (octets : List ℕ) (before : List ReportLine) → AreNamed scenario before → (fate : Fate) → IsThere fate → AreNamed scenario (fated world node ttl number octets before fate).lines
+  fated_named : (world : World) (node : NodeId) → IsNode scenario node → (ttl number : ℕ) (octets : List ℕ) (before : List ReportLine)
+      → AreNamed scenario before → (fate : Fate) → IsThere fate → AreNamed scenario (fated world node ttl number octets before fate).lines
   fated_named world node n ttl number octets before b fate h =
       let outs = map (λ iface. lines.Out number iface octets) fate.outs in
       let hops = map (hop_line node ttl number) fate.branches in
       each_append (IsLineOf scenario) before (outs ++ hops) b
       (each_append (IsLineOf scenario) outs hops (each_map (IsLineOf scenario) (λ iface. lines.Out number iface octets) fate.outs h.0)
-      (each_map (IsLineOf scenario) (hop_line node ttl number) fate.branches (each_weaker LeadsToNode (λ branch. IsLineOf scenario (hop_line node ttl number branch)) (λ branch leads. (n, leads)) fate.branches h.1)))
+      (each_map (IsLineOf scenario) (hop_line node ttl number) fate.branches
+      (each_weaker LeadsToNode (λ branch. IsLineOf scenario (hop_line node ttl number branch)) (λ branch leads. (n, leads)) fate.branches h.1)))
 
   module _ (world : World) (linked : NodesLinked scenario world.network.state) where
-    fate_within : (old : World) → scenario_of old ≡ scenario → (n : NodeId) (state : NodeState) → HasLinks scenario n (part_of state) → (from : NodeId) (label : ℕ) (datagram : Datagram) → IsThere (fate_at old n state from label datagram)
+    fate_within : (old : World) → scenario_of old ≡ scenario → (n : NodeId) (state : NodeState) → HasLinks scenario n (part_of state)
+        → (from : NodeId) (label : ℕ) (datagram : Datagram) → IsThere (fate_at old n state from label datagram)
     fate_within old same n (CoreNode part) h from label datagram = arriving_within n part h (λ fec. []) (λ fec. tt) (tree_of from (use_of part label))
     fate_within old same n (Edge edge) h from label datagram =
         let outs = λ (fec : Fec). outs_of (place_of old.network.state n) (clock_of old) edge fec datagram.source datagram.group in
-        arriving_within n edge.part h outs (λ fec. outs_within (place_of old.network.state n) same (clock_of old) edge fec datagram.source datagram.group) (tree_of from (use_of edge.part label))
+        arriving_within n edge.part h outs (λ fec. outs_within (place_of old.network.state n) same (clock_of old) edge fec datagram.source
+        datagram.group) (tree_of from (use_of edge.part label))
 
     pub land_says : (from to : NodeId) → IsNode scenario from → IsNode scenario to → (place : ℕ) → Says scenario (act world (Land from to place))
     land_says from to f t place = by (slice_get (world.copies from to) (place - 1))
@@ -124,7 +142,8 @@ module _ (scenario : Scenario) (sound : SoundScenario scenario) where
         found copy None = tt
         found copy (Some datagram) =
             let fate = fate_at gone to (world.network.state.node to) from copy.label datagram in
-            fated_named gone to t (copy.ttl - 1) copy.number datagram.octets (lines.Land from to copy.label copy.number ∷ []) ((f, t), tt) (with_ttl copy.ttl fate)
+            fated_named gone to t (copy.ttl - 1) copy.number datagram.octets (lines.Land from to copy.label copy.number ∷ []) ((f, t), tt)
+            (with_ttl copy.ttl fate)
             (ttl_within copy.ttl fate (fate_within gone linked.place to (world.network.state.node to) (linked.links to) from copy.label datagram))
 
         by : (o : Option LinkCopy) → AreNamed scenario (landing world from to place o).lines
@@ -136,15 +155,18 @@ module _ (scenario : Scenario) (sound : SoundScenario scenario) where
       where
         within : (vrf : Vrf) → slice_get (scenario_of world).vrfs id.0 ≡ Some vrf → IsNode scenario vrf.edge
         within vrf at =
-            let edge = (vrf_rules_at scenario sound.rules id.0 vrf (subst (λ (own : Scenario). slice_get own.vrfs id.0 ≡ Some vrf) linked.place at)).edge in
+            let edge =
+            (vrf_rules_at scenario sound.rules id.0 vrf (subst (λ (own : Scenario). slice_get own.vrfs id.0 ≡ Some vrf) linked.place at)).edge in
             slice_get_within scenario.nodes vrf.edge.0 edge.node edge.at
 
-        enters : (vrf : Vrf) → IsNode scenario vrf.edge → (state : NodeState) → HasLinks scenario vrf.edge (part_of state) → (datagram : Datagram) → AreNamed scenario (enters_at world (record { id = id; vrf = vrf }) state datagram).lines
+        enters : (vrf : Vrf) → IsNode scenario vrf.edge → (state : NodeState) → HasLinks scenario vrf.edge (part_of state) → (datagram : Datagram)
+            → AreNamed scenario (enters_at world (record { id = id; vrf = vrf }) state datagram).lines
         enters vrf n (CoreNode part) h datagram = tt
         enters vrf n (Edge edge) h datagram =
             let own : OwnVrf = record { id = id; vrf = vrf } in
             let place : EdgePlace = place_of world.network.state vrf.edge in
-            fated_named world vrf.edge n 255 (length world.datagrams) datagram.octets [] tt (entering_fate place (clock_of world) edge own datagram.site datagram.source datagram.group)
+            fated_named world vrf.edge n 255 (length world.datagrams) datagram.octets [] tt
+            (entering_fate place (clock_of world) edge own datagram.site datagram.source datagram.group)
             (entering_within place linked.place (clock_of world) edge own h datagram.site datagram.source datagram.group)
 
         by : (v : Option Vrf) → slice_get (scenario_of world).vrfs id.0 ≡ v → (o : Option Datagram) → AreNamed scenario (entering world id v o).lines

@@ -80,7 +80,9 @@ module _ (scenario : Scenario) (sound : SoundScenario scenario) where
   raises_fit : (all : List Session) → AllByRecursion (HasNodes scenario) all → (kind : Kind) (a b : NodeId) → Fit (raises all kind a b)
   raises_fit [] h kind a b = tt
   raises_fit (session ∷ more) h kind a b =
-      cond_both (is_session_of kind a b session) (Some session) (find (is_session_of kind a b) more) (λ (o : Option Session). Fit (elim o [ None ↦ [] | Some found ↦ raise_acts found ])) (λ t. raise_fits session h.0) (λ f. raises_fit more h.1 kind a b)
+      cond_both (is_session_of kind a b session) (Some session) (find (is_session_of kind a b) more)
+      (λ (o : Option Session). Fit (elim o [ None ↦ [] | Some found ↦ raise_acts found ])) (λ t. raise_fits session h.0)
+      (λ f. raises_fit more h.1 kind a b)
 
   notices_fit : (world : World) (session : Session) (n peer : NodeId) → IsNode scenario n → Fit (notices world session n peer)
   notices_fit world session n peer h = cond_both (is_up world session.kind n peer) (Notice session.kind n peer ∷ []) [] Fit (λ t. (h, tt)) (λ f. tt)
@@ -99,25 +101,32 @@ module _ (scenario : Scenario) (sound : SoundScenario scenario) where
   turn_tells : (over : Direction) → IsOver scenario over → (world : World) → Stays world → Tells scenario Stays (turn over world)
   turn_tells over h world s = by (world.network.transit over)
     where
-      by : (octets : List ℕ) → Tells scenario Stays (elim octets [ [] ↦ Done [] world | octet ∷ more ↦ row (Move over.kind over.from over.to (length (octet ∷ more)) ∷ []) world ])
+      by : (octets : List ℕ) → Tells scenario Stays
+          (elim octets [ [] ↦ Done [] world | octet ∷ more ↦ row (Move over.kind over.from over.to (length (octet ∷ more)) ∷ []) world ])
       by [] = (tt, s)
       by (octet ∷ more) = rows (Move over.kind over.from over.to (length (octet ∷ more)) ∷ []) (h, tt) world s
 
   -- ---- calls
 
-  edge_tells : (o : Option NodeId) (call : steps.Call) → IsFoundNode scenario o → IsSoundCall call → (world : World) → Stays world → Tells scenario Stays (at_edge o call world)
+  edge_tells : (o : Option NodeId) (call : steps.Call) → IsFoundNode scenario o → IsSoundCall call → (world : World) → Stays world
+      → Tells scenario Stays (at_edge o call world)
   edge_tells None call within is world s = (tt, s)
   edge_tells (Some n) call within is world s = rows (At n call ∷ []) ((within, is), tt) world s
 
   -- ---- copies: they change no node
 
   land_does : (from to : NodeId) → AreNodes scenario from to → (place : ℕ) → DoesWell scenario (Linked scenario) (Land from to place)
-  land_does from to h place world linked = (land_says scenario sound world linked from to h.0 h.1 place, land_keeps (λ network. NodesLinked scenario network.state) world from to place linked)
+  land_does from to h place world linked = (
+    land_says scenario sound world linked from to h.0 h.1 place,
+    land_keeps (λ network. NodesLinked scenario network.state) world from to place linked,
+  )
 
   enter_does : (id : VrfId) → DoesWell scenario (Linked scenario) (Enter id)
-  enter_does id world linked = (enter_says scenario sound world linked id, enter_keeps (λ network. NodesLinked scenario network.state) world id linked)
+  enter_does id world linked =
+      (enter_says scenario sound world linked id, enter_keeps (λ network. NodesLinked scenario network.state) world id linked)
 
-  landings_do : (world : World) (way : NodeId × NodeId) → IsWay scenario way → AllByRecursion (DoesWell scenario (Linked scenario)) (landings world way)
+  landings_do : (world : World) (way : NodeId × NodeId) → IsWay scenario way
+      → AllByRecursion (DoesWell scenario (Linked scenario)) (landings world way)
   landings_do world way h = by (length (world.copies way.0 way.1))
     where
       by : (count : ℕ) → AllByRecursion (DoesWell scenario (Linked scenario)) (replicate count (Land way.0 way.1 1))
@@ -128,12 +137,17 @@ module _ (scenario : Scenario) (sound : SoundScenario scenario) where
   round_tells world linked =
       let ways = subst (λ (own : Scenario). AllByRecursion (IsWay scenario) (link_ways own)) (sym linked.place) (ways_within scenario sound) in
       row_tells scenario (Linked scenario) (flat_map (landings world) (link_ways (scenario_of world)))
-      (each_flat (DoesWell scenario (Linked scenario)) (landings world) (link_ways (scenario_of world)) (each_weaker (IsWay scenario) (λ way. AllByRecursion (DoesWell scenario (Linked scenario)) (landings world way)) (landings_do world) (link_ways (scenario_of world)) ways)) world linked
+      (each_flat (DoesWell scenario (Linked scenario)) (landings world) (link_ways (scenario_of world))
+      (each_weaker (IsWay scenario) (λ way. AllByRecursion (DoesWell scenario (Linked scenario)) (landings world way)) (landings_do world)
+      (link_ways (scenario_of world)) ways)) world linked
 
-  sent_tells : (site : SiteId) (source group : Addr) (octets : List ℕ) (world : World) → Linked scenario world → Tells scenario (Linked scenario) (sent site source group octets world)
+  sent_tells : (site : SiteId) (source group : Addr) (octets : List ℕ) (world : World) → Linked scenario world
+      → Tells scenario (Linked scenario) (sent site source group octets world)
   sent_tells site source group octets world linked =
       let ids = entered (scenario_of world) site in
-      row_tells scenario (Linked scenario) (map (λ id. Enter id) ids) (each_map (DoesWell scenario (Linked scenario)) (λ id. Enter id) ids (each_of (λ (id : VrfId). DoesWell scenario (Linked scenario) (Enter id)) enter_does ids))
+      row_tells scenario (Linked scenario) (map (λ id. Enter id) ids)
+      (each_map (DoesWell scenario (Linked scenario)) (λ id. Enter id) ids
+      (each_of (λ (id : VrfId). DoesWell scenario (Linked scenario) (Enter id)) enter_does ids))
       (record world { datagrams = world.datagrams ++ record { site = site; source = source; group = group; octets = octets } ∷ [] }) linked
 
 -- ---- events, in the words of the world's own scenario
@@ -169,9 +183,11 @@ module _ (world : World) (b : Before (scenario_of world) world) where
   message_told None is = (tt, tt)
   message_told (Some given) is = call_told (edge_of own given.iface) (steps.Pim given.iface given.message) (edge_within own b.sound given.iface) is
 
-  move_told : (kind : Kind) (from to : NodeId) (count : ℕ) → refusal world (events.Move kind from to count) ≡ None → Told (row (Move kind from to count ∷ []) world)
+  move_told : (kind : Kind) (from to : NodeId) (count : ℕ) → refusal world (events.Move kind from to count) ≡ None
+      → Told (row (Move kind from to count ∷ []) world)
   move_told kind from to count free =
-      let x = or_parts (no_octets world kind from to) (not (is_session_joined world kind from to)) (not_refused (no_octets world kind from to || not (is_session_joined world kind from to)) refusals.Empty free) in
+      let x = or_parts (no_octets world kind from to) (not (is_session_joined world kind from to))
+      (not_refused (no_octets world kind from to || not (is_session_joined world kind from to)) refusals.Empty free) in
       acts (Move kind from to count ∷ []) (b.joined kind from to (not-false (is_session_joined world kind from to) x.1), tt)
 
   sent_told : (site : SiteId) (source group : Addr) (octets : List ℕ) → Told (sent site source group octets world)
@@ -180,7 +196,8 @@ module _ (world : World) (b : Before (scenario_of world) world) where
   hop_told : (from to : NodeId) (place : ℕ) → IsLinkPlace own from to place → Told (row (Land from to place ∷ []) world)
   hop_told from to place is =
       let ends = good (length own.nodes) own.links from.0 to.0 is.cost b.sound.rules.core.topology is.linked in
-      still (row (Land from to place ∷ []) world) (row_tells own (Linked own) (Land from to place ∷ []) (land_does own b.sound from to (ends.a_within, ends.b_within) place, tt) world b.linked)
+      still (row (Land from to place ∷ []) world) (row_tells own (Linked own) (Land from to place ∷ [])
+      (land_does own b.sound from to (ends.a_within, ends.b_within) place, tt) world b.linked)
 
   all_within : AllByRecursion (IsNode own) (all_nodes own)
   all_within = nodes_within 0 (length own.nodes) (length own.nodes) (omega arith)
@@ -191,15 +208,21 @@ module _ (world : World) (b : Before (scenario_of world) world) where
   heal_told : Told (each healed (sessions own) world)
   heal_told =
       stayed (each healed (sessions own) world)
-      (each_tells own (WorldStays own) healed (sessions own) (each_weaker (HasNodes own) (λ session. (old : World) → WorldStays own old → Tells own (WorldStays own) (healed session old)) (healed_tells own b.sound) (sessions own) (sessions_within own b.sound)) world b.stays)
+      (each_tells own (WorldStays own) healed (sessions own)
+      (each_weaker (HasNodes own) (λ session. (old : World) → WorldStays own old → Tells own (WorldStays own) (healed session old))
+      (healed_tells own b.sound) (sessions own) (sessions_within own b.sound)) world b.stays)
 
   settle_told : Told (settled world)
   settle_told =
       let timers = map (λ n. Timers n) (all_nodes own) in
-      let turns = each_weaker (IsOver own) (λ over. (old : World) → WorldStays own old → Tells own (WorldStays own) (turn over old)) (turn_tells own b.sound) (directions own) (directions_within own b.sound) in
+      let turns =
+      each_weaker (IsOver own) (λ over. (old : World) → WorldStays own old → Tells own (WorldStays own) (turn over old)) (turn_tells own b.sound)
+      (directions own) (directions_within own b.sound) in
       stayed (settled world)
-      (then_tells own (WorldStays own) (WorldStays own) (row timers world) (times (each turn (directions own)) (length own.nodes + 3)) (rows own b.sound timers (each_map (IsControl own) (λ n. Timers n) (all_nodes own) all_within) world b.stays)
-      (λ next s. times_tells own (WorldStays own) (each turn (directions own)) (λ one t. each_tells own (WorldStays own) turn (directions own) turns one t) (length own.nodes + 3) next s))
+      (then_tells own (WorldStays own) (WorldStays own) (row timers world) (times (each turn (directions own)) (length own.nodes + 3))
+      (rows own b.sound timers (each_map (IsControl own) (λ n. Timers n) (all_nodes own) all_within) world b.stays)
+      (λ next s. times_tells own (WorldStays own) (each turn (directions own))
+      (λ one t. each_tells own (WorldStays own) turn (directions own) turns one t) (length own.nodes + 3) next s))
 
   done_told : (event : Event) → refusal world event ≡ None → IsSoundEvent own event → Told (done world event)
   done_told (events.Tick count) free is = acts (Tick count ∷ []) (tt, tt)
@@ -208,12 +231,15 @@ module _ (world : World) (b : Before (scenario_of world) world) where
   done_told (events.Move kind from to count) free is = move_told kind from to count free
   done_told (events.Lose kind a c) free is = acts (Lose kind a c ∷ []) (tt, tt)
   done_told (events.Notice kind a c) free is = acts (Notice kind a c ∷ []) (is, tt)
-  done_told (events.Raise kind a c) free is = acts (raises (sessions own) kind a c) (raises_fit own b.sound (sessions own) (sessions_within own b.sound) kind a c)
+  done_told (events.Raise kind a c) free is =
+      acts (raises (sessions own) kind a c) (raises_fit own b.sound (sessions own) (sessions_within own b.sound) kind a c)
   done_told (events.Join iface entry) free is = message_told (message_of own (events.Join iface entry)) (join_is_sound own iface entry is.1)
   done_told (events.Prune iface entry) free is = message_told (message_of own (events.Prune iface entry)) (prune_is_sound own iface entry is.1)
   done_told (events.Pim iface octets) free is = message_told (message_of own (events.Pim iface octets)) (read_is_sound iface octets is)
-  done_told (events.Active iface source group) free is = call_told (edge_of own iface) (steps.Active iface source group) (edge_within own b.sound iface) is
-  done_told (events.Idle iface source group) free is = call_told (edge_of own iface) (steps.Idle iface source group) (edge_within own b.sound iface) tt
+  done_told (events.Active iface source group) free is =
+      call_told (edge_of own iface) (steps.Active iface source group) (edge_within own b.sound iface) is
+  done_told (events.Idle iface source group) free is =
+      call_told (edge_of own iface) (steps.Idle iface source group) (edge_within own b.sound iface) tt
   done_told (events.Send site source group payload) free is = sent_told site source group (packet source group payload)
   done_told (events.Packet site octets) free is = sent_told site (source_in octets) (group_in octets) octets
   done_told (events.Select vrf pattern) free is = call_told (edge_of_vrf own vrf) (steps.Select vrf pattern) (vrf_within own b.sound vrf) is
@@ -223,39 +249,57 @@ module _ (world : World) (b : Before (scenario_of world) world) where
   done_told (events.Cost a c cost) free is = cost_told a c cost is
   done_told events.Heal free is = heal_told
   done_told events.Settle free is = settle_told
-  done_told events.Drain free is = still (done world events.Drain) (times_tells own (Linked own) drain_round (round_tells own b.sound) 255 world b.linked)
+  done_told events.Drain free is =
+      still (done world events.Drain) (times_tells own (Linked own) drain_round (round_tells own b.sound) 255 world b.linked)
   done_told events.State free is = acts (Tell ∷ []) (tt, tt)
 
   outcome_told : (timed : Timed) → IsSoundEvent own timed.event → Told (outcome world timed)
   outcome_told timed is = by (refusal world timed.event) refl
     where
-      by : (o : Option Refusal) → refusal world timed.event ≡ o → Told (elim o [ None ↦ done world timed.event | Some reason ↦ Done (record { act = None; lines = lines.Refused timed.line reason ∷ [] } ∷ []) world ])
+      by : (o : Option Refusal) → refusal world timed.event ≡ o
+          → Told (elim o [
+            | None ↦ done world timed.event
+            | Some reason ↦
+                Done (record { act = None; lines = lines.Refused timed.line reason ∷ [] } ∷ []) world
+          ])
       by None free = done_told timed.event free is
       by (Some reason) refused = (((tt, tt), tt), tt)
 
 -- ---- behind a run
 
-module _ (cores : Cores) (script : Script) (events : List Timed) (trace : List Traced) (world : World) (run : SoundRun cores script events trace world) where
+module _ (cores : Cores) (script : Script) (events : List Timed) (trace : List Traced) (world : World)
+    (run : SoundRun cores script events trace world) where
   before : Before script.scenario world
   before =
       let stays = run_stays script.scenario cores events trace world run.scenario run.sound_events run.run in
       let linked = run_is_linked cores script events trace world (links_once script.scenario run.scenario.rules) run.run in
       let step = run_in_step script.scenario cores events trace world run.scenario run.sound_events run.run in
-      record { sound = run.scenario; stays = stays; linked = linked.network.nodes; joined = joined_within script.scenario run.scenario world linked.network step }
+      record {
+        sound = run.scenario;
+        stays = stays;
+        linked = linked.network.nodes;
+        joined =
+            joined_within script.scenario run.scenario world linked.network step;
+      }
 
   tells : (timed : Timed) → IsSoundEvent script.scenario timed.event → Tells script.scenario Any (outcome world timed)
   tells timed is =
-      subst (λ (s : Scenario). Before s world → IsSoundEvent s timed.event → Tells s Any (outcome world timed)) before.stays.0.same (λ b sound. outcome_told world b timed sound) before is
+      subst (λ (s : Scenario). Before s world → IsSoundEvent s timed.event → Tells s Any (outcome world timed)) before.stays.0.same
+      (λ b sound. outcome_told world b timed sound) before is
 
-  all_named : (acts : List Happened) → AllByRecursion (λ (happened : Happened). AreNamed script.scenario happened.lines) acts → AreNamed script.scenario (lines_in acts)
+  all_named : (acts : List Happened) → AllByRecursion (λ (happened : Happened). AreNamed script.scenario happened.lines) acts
+      → AreNamed script.scenario (lines_in acts)
   all_named acts h = each_flat (IsLineOf script.scenario) (λ happened. happened.lines) acts h
 
-  pub done_names : (timed : Timed) → IsSoundEvent script.scenario timed.event → (acts : List Happened) (new : World) → outcome world timed ≡ Done acts new → All (IsLineOf script.scenario) (lines_in acts)
+  pub done_names : (timed : Timed) → IsSoundEvent script.scenario timed.event → (acts : List Happened) (new : World)
+      → outcome world timed ≡ Done acts new → All (IsLineOf script.scenario) (lines_in acts)
   done_names timed is acts new e =
       let t = subst (Tells script.scenario Any) e (tells timed is) in
       All-from_recursion (IsLineOf script.scenario) (lines_in acts) (all_named acts t.0)
 
-  pub halted_names : (timed : Timed) → IsSoundEvent script.scenario timed.event → (acts : List Happened) (node : NodeId) → outcome world timed ≡ Halted acts node → All (IsLineOf script.scenario) (lines_in acts ++ lines.Halt timed.line node ∷ [])
+  pub halted_names : (timed : Timed) → IsSoundEvent script.scenario timed.event → (acts : List Happened) (node : NodeId)
+      → outcome world timed ≡ Halted acts node → All (IsLineOf script.scenario) (lines_in acts ++ lines.Halt timed.line node ∷ [])
   halted_names timed is acts node e =
       let t = subst (Tells script.scenario Any) e (tells timed is) in
-      All-from_recursion (IsLineOf script.scenario) (lines_in acts ++ lines.Halt timed.line node ∷ []) (each_append (IsLineOf script.scenario) (lines_in acts) (lines.Halt timed.line node ∷ []) (all_named acts t.0) (t.1, tt))
+      All-from_recursion (IsLineOf script.scenario) (lines_in acts ++ lines.Halt timed.line node ∷ [])
+      (each_append (IsLineOf script.scenario) (lines_in acts) (lines.Halt timed.line node ∷ []) (all_named acts t.0) (t.1, tt))

@@ -34,11 +34,13 @@ module _ (scenario : Scenario) where
   tells_as P Q h (Halted acts node) t = t
   tells_as P Q h (Done acts new) t = (t.0, h new t.1)
 
-  pub then_tells : (P Q : World → Type 0) (first : Outcome) (next : World → Outcome) → Tells P first → ((world : World) → P world → Tells Q (next world)) → Tells Q (and_then first next)
+  pub then_tells : (P Q : World → Type 0) (first : Outcome) (next : World → Outcome) → Tells P first
+      → ((world : World) → P world → Tells Q (next world)) → Tells Q (and_then first next)
   then_tells P Q (Halted acts node) next t h = t
   then_tells P Q (Done acts world) next t h = by (next world) (h world t.1)
     where
-      by : (o : Outcome) → Tells Q o → Tells Q (elim o [ Done behind new ↦ Done (acts ++ behind) new | Halted behind node ↦ Halted (acts ++ behind) node ])
+      by : (o : Outcome) → Tells Q o → Tells Q (elim o
+          [ Done behind new ↦ Done (acts ++ behind) new | Halted behind node ↦ Halted (acts ++ behind) node ])
       by (Halted behind node) u = (each_append HasNamed acts behind t.0 u.0, u.1)
       by (Done behind new) u = (each_append HasNamed acts behind t.0 u.0, u.1)
 
@@ -46,7 +48,8 @@ module _ (scenario : Scenario) where
     one_tells : (world : World) (one : Act) → Says (act world one) → Gives W (act world one) → Tells W (one_act world one)
     one_tells world one s g = by (act world one) s g
       where
-        by : (o : Result Acted NodeId) → Says o → Gives W o → Tells W (elim o [ Ok new ↦ Done (record { act = Some one; lines = new.lines } ∷ []) new.world | Err node ↦ Halted [] node ])
+        by : (o : Result Acted NodeId) → Says o → Gives W o
+            → Tells W (elim o [ Ok new ↦ Done (record { act = Some one; lines = new.lines } ∷ []) new.world | Err node ↦ Halted [] node ])
         by (Err node) s g = (tt, s)
         by (Ok new) s g = ((s, tt), g)
 
@@ -56,12 +59,16 @@ module _ (scenario : Scenario) where
 
     pub row_tells : (acts : List Act) → AllByRecursion DoesWell acts → (world : World) → W world → Tells W (row acts world)
     row_tells [] k world w = (tt, w)
-    row_tells (one ∷ more) k world w = (let g = k.0 world w in then_tells W W (one_act world one) (row more) (one_tells world one g.0 g.1) (λ next v. row_tells more k.1 next v))
+    row_tells (one ∷ more) k world w =
+        (let g = k.0 world w in then_tells W W (one_act world one) (row more) (one_tells world one g.0 g.1) (λ next v. row_tells more k.1 next v))
 
-    pub each_tells : {A : Type 0} (turn : A → World → Outcome) (all : List A) → AllByRecursion (λ x. (world : World) → W world → Tells W (turn x world)) all → (world : World) → W world → Tells W (each turn all world)
+    pub each_tells : {A : Type 0} (turn : A → World → Outcome) (all : List A)
+        → AllByRecursion (λ x. (world : World) → W world → Tells W (turn x world)) all → (world : World) → W world → Tells W (each turn all world)
     each_tells turn [] k world w = (tt, w)
     each_tells turn (x ∷ more) k world w = then_tells W W (turn x world) (each turn more) (k.0 world w) (λ next v. each_tells turn more k.1 next v)
 
-    pub times_tells : (round : World → Outcome) → ((world : World) → W world → Tells W (round world)) → (count : ℕ) (world : World) → W world → Tells W (times round count world)
+    pub times_tells : (round : World → Outcome) → ((world : World) → W world → Tells W (round world)) → (count : ℕ) (world : World) → W world
+        → Tells W (times round count world)
     times_tells round k zero world w = (tt, w)
-    times_tells round k (suc count) world w = then_tells W W (round world) (times round count) (k world w) (λ next v. times_tells round k count next v)
+    times_tells round k (suc count) world w =
+        then_tells W W (round world) (times round count) (k world w) (λ next v. times_tells round k count next v)

@@ -40,25 +40,32 @@ module _ (scenario : Scenario) (sound : SoundScenario scenario) where
   -- ---- sessions
 
   pub directions_within : AllByRecursion (IsOver scenario) (directions scenario)
-  directions_within = each_flat (IsOver scenario) directions_of (sessions scenario) (each_weaker (HasNodes scenario) (λ session. AllByRecursion (IsOver scenario) (directions_of session)) (λ session h. (h, ((h.1, h.0), tt))) (sessions scenario) (sessions_within scenario sound))
+  directions_within =
+      each_flat (IsOver scenario) directions_of (sessions scenario)
+      (each_weaker (HasNodes scenario) (λ session. AllByRecursion (IsOver scenario) (directions_of session)) (λ session h. (h, ((h.1, h.0), tt)))
+      (sessions scenario) (sessions_within scenario sound))
 
   -- ---- links
 
   pub ways_within : AllByRecursion (IsWay scenario) (link_ways scenario)
   ways_within =
       each_flat (IsWay scenario) (λ link. (link.a, link.b) ∷ (link.b, link.a) ∷ []) scenario.links
-      (each_weaker (HasEnds (length scenario.nodes)) (λ (link : Link). AllByRecursion (IsWay scenario) ((link.a, link.b) ∷ (link.b, link.a) ∷ [])) (λ link ends. ((ends.a, ends.b), ((ends.b, ends.a), tt))) scenario.links
+      (each_weaker (HasEnds (length scenario.nodes)) (λ (link : Link). AllByRecursion (IsWay scenario) ((link.a, link.b) ∷ (link.b, link.a) ∷ []))
+      (λ link ends. ((ends.a, ends.b), ((ends.b, ends.a), tt))) scenario.links
       (recursion_from_All (HasEnds (length scenario.nodes)) scenario.links sound.rules.core.topology.ends))
 
   pub link_within : (a b : NodeId) → IsLink scenario a b → AreNodes scenario a b
   link_within a b link =
-      by (filter (is_way a b) (link_ways scenario)) (length-filter (is_way a b) (link_ways scenario) ∙ link) (each_filtered (IsWay scenario) (is_way a b) (link_ways scenario) ways_within)
+      by (filter (is_way a b) (link_ways scenario)) (length-filter (is_way a b) (link_ways scenario) ∙ link)
+      (each_filtered (IsWay scenario) (is_way a b) (link_ways scenario) ways_within)
     where
-      by : (ways : List (NodeId × NodeId)) → length ways ≡ 1 → AllByRecursion (λ way. IsWay scenario way × (is_way a b way ≡ true)) ways → AreNodes scenario a b
+      by : (ways : List (NodeId × NodeId)) → length ways ≡ 1 → AllByRecursion (λ way. IsWay scenario way × (is_way a b way ≡ true)) ways
+          → AreNodes scenario a b
       by [] e h = absurd (omega (arith, e))
       by (way ∷ more) e h =
           let same = and_parts (way.0.0 == a.0) (way.1.0 == b.0) h.0.1 in
-          subst (λ (n : NodeId). AreNodes scenario n b) (node_equal way.0 a same.0) (subst (λ (n : NodeId). AreNodes scenario way.0 n) (node_equal way.1 b same.1) h.0.0)
+          subst (λ (n : NodeId). AreNodes scenario n b) (node_equal way.0 a same.0)
+          (subst (λ (n : NodeId). AreNodes scenario way.0 n) (node_equal way.1 b same.1) h.0.0)
 
   -- ---- sessions that are joined
 
@@ -69,9 +76,14 @@ module _ (scenario : Scenario) (sound : SoundScenario scenario) where
       by None at is = absurd (true≢false (sym is))
       by (Some node) at is = slice_get_within scenario.nodes n.0 node at
 
-  joined_peers : (world : World) → InStep scenario world → (from to : NodeId) → world.network.joined (direction kinds.Bgp from to) ≡ true → IsNode scenario to
-  joined_peers world (pending, are, good) from to joined = edge_within to (subst (λ (own : Scenario). is_edge own to ≡ true) good.base.sound.same (good.base.peers from to joined).0)
+  joined_peers : (world : World) → InStep scenario world → (from to : NodeId) → world.network.joined (direction kinds.Bgp from to) ≡ true
+      → IsNode scenario to
+  joined_peers world (pending, are, good) from to joined =
+      edge_within to (subst (λ (own : Scenario). is_edge own to ≡ true) good.base.sound.same (good.base.peers from to joined).0)
 
-  pub joined_within : (world : World) → NetworkLinked scenario world.network → InStep scenario world → (kind : Kind) (from to : NodeId) → world.network.joined (direction kind from to) ≡ true → AreNodes scenario from to
-  joined_within world linked step kinds.Ldp from to joined = (let ends = link_within to from (linked.joined (direction kinds.Ldp from to) joined) in (ends.1, ends.0))
-  joined_within world linked step kinds.Bgp from to joined = (joined_peers world step to from (sym (step.2.edges.2.rule.alike from to) ∙ joined), joined_peers world step from to joined)
+  pub joined_within : (world : World) → NetworkLinked scenario world.network → InStep scenario world → (kind : Kind) (from to : NodeId)
+      → world.network.joined (direction kind from to) ≡ true → AreNodes scenario from to
+  joined_within world linked step kinds.Ldp from to joined =
+      (let ends = link_within to from (linked.joined (direction kinds.Ldp from to) joined) in (ends.1, ends.0))
+  joined_within world linked step kinds.Bgp from to joined =
+      (joined_peers world step to from (sym (step.2.edges.2.rule.alike from to) ∙ joined), joined_peers world step from to joined)

@@ -44,9 +44,24 @@ kept_else draft other k = record { settings = k.settings; core = k.core; vrfs = 
 
 pub kept_empty : Kept empty_draft
 kept_empty = record {
-  settings = record { life = (omega arith, omega arith); delay = (omega arith, omega arith); labels = (omega arith, omega arith); system = (omega arith, omega arith) };
+  settings =
+      record {
+        life = (omega arith, omega arith);
+        delay = (omega arith, omega arith);
+        labels = (omega arith, omega arith);
+        system =
+            (omega arith, omega arith);
+      };
   core = record {
-    topology = record { few_nodes = omega arith; few_links = omega arith; ends = All-nil _; costs = All-nil _; once = λ i j d lt within. absurd (omega arith) };
+    topology =
+        record {
+          few_nodes = omega arith;
+          few_links = omega arith;
+          ends = All-nil _;
+          costs = All-nil _;
+          once =
+              λ i j d lt within. absurd (omega arith);
+        };
     few_edges = omega arith;
     ipv4 = All-nil _;
     unicast = All-nil _;
@@ -58,27 +73,48 @@ kept_empty = record {
   names = no_names;
 }
 
-kept_values : (draft : Drafted) (given : Given) (life delay labels system : ℕ) → SettingRules (record draft.scenario { life = life; delay = delay; labels = labels; system = system }) → Kept draft → Kept (record draft { scenario = record draft.scenario { life = life; delay = delay; labels = labels; system = system }; given = given })
+kept_values : (draft : Drafted) (given : Given) (life delay labels system : ℕ)
+    → SettingRules (record draft.scenario { life = life; delay = delay; labels = labels; system = system }) → Kept draft
+    → Kept (record draft { scenario = record draft.scenario { life = life; delay = delay; labels = labels; system = system }; given = given })
 kept_values draft given life delay labels system new k =
     let s : Scenario = draft.scenario in
     let t : Scenario = record s { life = life; delay = delay; labels = labels; system = system } in
-    record { settings = new; core = core_else s t k.core; vrfs = vrfs_else s t k.vrfs; sites = sites_else s t k.sites; ifaces = ifaces_else s t k.ifaces; names = names_else s t draft.names k.names }
+    record {
+      settings = new;
+      core = core_else s t k.core;
+      vrfs = vrfs_else s t k.vrfs;
+      sites = sites_else s t k.sites;
+      ifaces =
+          ifaces_else s t k.ifaces;
+      names = names_else s t draft.names k.names;
+    }
 
-kept_setting : (draft : Drafted) (setting : Setting) (value : ℕ) → (1 ≤ value) × (value ≤ highest setting) → Kept draft → Kept (record draft { scenario = with_setting draft.scenario setting value; given = with_given draft.given setting })
+kept_setting : (draft : Drafted) (setting : Setting) (value : ℕ) → (1 ≤ value) × (value ≤ highest setting) → Kept draft
+    → Kept (record draft { scenario = with_setting draft.scenario setting value; given = with_given draft.given setting })
 kept_setting draft settings.Life value within k =
     let s : Scenario = draft.scenario in
-    kept_values draft _ value s.delay s.labels s.system (record { life = within; delay = k.settings.delay; labels = k.settings.labels; system = k.settings.system }) k
+    kept_values draft _ value s.delay s.labels s.system
+    (record { life = within; delay = k.settings.delay; labels = k.settings.labels; system = k.settings.system }) k
 kept_setting draft settings.Delay value within k =
     let s : Scenario = draft.scenario in
-    kept_values draft _ s.life value s.labels s.system (record { life = k.settings.life; delay = within; labels = k.settings.labels; system = k.settings.system }) k
+    kept_values draft _ s.life value s.labels s.system
+    (record { life = k.settings.life; delay = within; labels = k.settings.labels; system = k.settings.system }) k
 kept_setting draft settings.Labels value within k =
     let s : Scenario = draft.scenario in
-    kept_values draft _ s.life s.delay value s.system (record { life = k.settings.life; delay = k.settings.delay; labels = within; system = k.settings.system }) k
+    kept_values draft _ s.life s.delay value s.system
+    (record { life = k.settings.life; delay = k.settings.delay; labels = within; system = k.settings.system }) k
 kept_setting draft settings.System value within k =
     let s : Scenario = draft.scenario in
-    kept_values draft _ s.life s.delay s.labels value (record { life = k.settings.life; delay = k.settings.delay; labels = k.settings.labels; system = within }) k
+    kept_values draft _ s.life s.delay s.labels value
+    (record { life = k.settings.life; delay = k.settings.delay; labels = k.settings.labels; system = within }) k
 
-kept_node : (draft : Drafted) (id : NodeId) (node : Node) → id.0 ≡ length draft.scenario.nodes → IsNewName draft node.name → MayBeNode draft.scenario node → Kept draft → Kept (record draft { scenario = record draft.scenario { nodes = draft.scenario.nodes ++ node ∷ [] }; names = draft.names ++ (node.name, (things.Node id)) ∷ [] })
+kept_node : (draft : Drafted) (id : NodeId) (node : Node) → id.0 ≡ length draft.scenario.nodes → IsNewName draft node.name
+    → MayBeNode draft.scenario node → Kept draft
+    → Kept (record draft {
+      scenario = record draft.scenario { nodes = draft.scenario.nodes ++ node ∷ [] };
+      names =
+          draft.names ++ (node.name, (things.Node id)) ∷ [];
+    })
 kept_node draft id node next new may k =
     let s : Scenario = draft.scenario in
     let t : Scenario = record s { nodes = s.nodes ++ node ∷ [] } in
@@ -91,13 +127,27 @@ kept_node draft id node next new may k =
       names = one_more_name draft t node.name (things.Node id) new (names_with_node s id node next) k.names;
     }
 
-kept_link : (draft : Drafted) (link : Link) → MayBeLink draft.scenario link → Kept draft → Kept (record draft { scenario = record draft.scenario { links = draft.scenario.links ++ link ∷ [] } })
+kept_link : (draft : Drafted) (link : Link) → MayBeLink draft.scenario link → Kept draft
+    → Kept (record draft { scenario = record draft.scenario { links = draft.scenario.links ++ link ∷ [] } })
 kept_link draft link may k =
     let s : Scenario = draft.scenario in
     let t : Scenario = record s { links = s.links ++ link ∷ [] } in
-    record { settings = settings_else s t k.settings; core = link_core s link may k.core; vrfs = vrfs_else s t k.vrfs; sites = sites_else s t k.sites; ifaces = ifaces_else s t k.ifaces; names = names_else s t draft.names k.names }
+    record {
+      settings = settings_else s t k.settings;
+      core = link_core s link may k.core;
+      vrfs = vrfs_else s t k.vrfs;
+      sites =
+          sites_else s t k.sites;
+      ifaces = ifaces_else s t k.ifaces;
+      names = names_else s t draft.names k.names;
+    }
 
-kept_vrf : (draft : Drafted) (id : VrfId) (vrf : Vrf) → id.0 ≡ length draft.scenario.vrfs → IsNewName draft vrf.name → MayBeVrf draft.scenario vrf → Kept draft → Kept (record draft { scenario = record draft.scenario { vrfs = draft.scenario.vrfs ++ vrf ∷ [] }; names = draft.names ++ (vrf.name, (things.Vrf id)) ∷ [] })
+kept_vrf : (draft : Drafted) (id : VrfId) (vrf : Vrf) → id.0 ≡ length draft.scenario.vrfs → IsNewName draft vrf.name → MayBeVrf draft.scenario vrf
+    → Kept draft → Kept (record draft {
+      scenario = record draft.scenario { vrfs = draft.scenario.vrfs ++ vrf ∷ [] };
+      names =
+          draft.names ++ (vrf.name, (things.Vrf id)) ∷ [];
+    })
 kept_vrf draft id vrf next new may k =
     let s : Scenario = draft.scenario in
     let t : Scenario = record s { vrfs = s.vrfs ++ vrf ∷ [] } in
@@ -110,7 +160,13 @@ kept_vrf draft id vrf next new may k =
       names = one_more_name draft t vrf.name (things.Vrf id) new (names_with_vrf s id vrf next) k.names;
     }
 
-kept_site : (draft : Drafted) (id : SiteId) (site : Site) → id.0 ≡ length draft.scenario.sites → IsNewName draft site.name → MayBeSite draft.scenario site → Kept draft → Kept (record draft { scenario = record draft.scenario { sites = draft.scenario.sites ++ site ∷ [] }; names = draft.names ++ (site.name, (things.Site id)) ∷ [] })
+kept_site : (draft : Drafted) (id : SiteId) (site : Site) → id.0 ≡ length draft.scenario.sites → IsNewName draft site.name
+    → MayBeSite draft.scenario site → Kept draft
+    → Kept (record draft {
+      scenario = record draft.scenario { sites = draft.scenario.sites ++ site ∷ [] };
+      names =
+          draft.names ++ (site.name, (things.Site id)) ∷ [];
+    })
 kept_site draft id site next new may k =
     let s : Scenario = draft.scenario in
     let t : Scenario = record s { sites = s.sites ++ site ∷ [] } in
@@ -123,7 +179,13 @@ kept_site draft id site next new may k =
       names = one_more_name draft t site.name (things.Site id) new (names_with_site s id site next) k.names;
     }
 
-kept_iface : (draft : Drafted) (id : IfaceId) (iface : Iface) → id.0 ≡ length draft.scenario.ifaces → IsNewName draft iface.name → MayBeIface draft.scenario iface → Kept draft → Kept (record draft { scenario = record draft.scenario { ifaces = draft.scenario.ifaces ++ iface ∷ [] }; names = draft.names ++ (iface.name, (things.Iface id)) ∷ [] })
+kept_iface : (draft : Drafted) (id : IfaceId) (iface : Iface) → id.0 ≡ length draft.scenario.ifaces → IsNewName draft iface.name
+    → MayBeIface draft.scenario iface → Kept draft
+    → Kept (record draft {
+      scenario = record draft.scenario { ifaces = draft.scenario.ifaces ++ iface ∷ [] };
+      names =
+          draft.names ++ (iface.name, (things.Iface id)) ∷ [];
+    })
 kept_iface draft id iface next new may k =
     let s : Scenario = draft.scenario in
     let t : Scenario = record s { ifaces = s.ifaces ++ iface ∷ [] } in

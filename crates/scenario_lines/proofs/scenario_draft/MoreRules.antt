@@ -14,13 +14,15 @@ use Rattle.scenario_lines.specs.scenario_draft.Declaring.{MayBeNode, MayBeLink, 
 use Rattle.scenario_lines.proofs.scenario_draft.OneMore.{longer, kept_get, one_more_pair, pairs_with, one_more_counted}
 use Rattle.scenario_lines.proofs.scenario_draft.OtherRules.{vrf_still, AreKnown, iface_known}
 
-node_topology : (s : Scenario) (node : Node) → MayBeNode s node → IsTopology (length s.nodes) s.links → IsTopology (length (s.nodes ++ node ∷ [])) s.links
+node_topology : (s : Scenario) (node : Node) → MayBeNode s node → IsTopology (length s.nodes) s.links
+    → IsTopology (length (s.nodes ++ node ∷ [])) s.links
 node_topology s node may r =
     let more : length (s.nodes ++ node ∷ []) ≡ length s.nodes + 1 = longer s.nodes node in
     record {
       few_nodes = omega (arith, may.few);
       few_links = r.few_links;
-      ends = All-weaker (HasEnds (length s.nodes)) (HasEnds (length (s.nodes ++ node ∷ []))) (λ link h. record { a = omega (arith, h.a); b = omega (arith, h.b); two = h.two }) s.links r.ends;
+      ends = All-weaker (HasEnds (length s.nodes)) (HasEnds (length (s.nodes ++ node ∷ [])))
+          (λ link h. record { a = omega (arith, h.a); b = omega (arith, h.b); two = h.two }) s.links r.ends;
       costs = r.costs;
       once = r.once;
     }
@@ -87,5 +89,7 @@ iface_more s iface may r =
     record {
       few = omega (arith, longer s.ifaces iface, may.few);
       each = All-push (IsIface more) s.ifaces iface (All-weaker (IsIface s) (IsIface more) still s.ifaces r.each) (still iface may.own);
-      vpns = one_more_pair (AreOfVpns more) s.ifaces iface (pairs_with (IsIface s) (AreOfVpns s) (AreOfVpns more) s.ifaces (λ x y _ _ h. pair x y h) r.each r.vpns) (All-weaker _ _ (λ other h. pair other iface h) s.ifaces may.vpns);
+      vpns = one_more_pair (AreOfVpns more) s.ifaces iface
+          (pairs_with (IsIface s) (AreOfVpns s) (AreOfVpns more) s.ifaces (λ x y _ _ h. pair x y h) r.each r.vpns)
+          (All-weaker _ _ (λ other h. pair other iface h) s.ifaces may.vpns);
     }

@@ -36,7 +36,19 @@ use Rattle.line_words.specs.declared.fault.Reason.TheVariants as reasons
 use Rattle.line_words.specs.declared.words.Row.{Row}
 use Rattle.line_words.specs.Words.{Placed}
 use Rattle.line_words.specs.Forms.{◌>>=◌, or_fault, ipv4_of, ipv4_at, addr_at, source_at, group_at, payload_at, is_unicast_front, is_unicast, is_group, same_family, number_to, vrf_number_of, numbered_of, addressed_of, rd_of, target_of, targets_at, is_prefix, prefix_of, prefixes_at}
-pub use Rattle.line_words.proofs.MeetLemmas.{Meets, Finds, ok_meets, err_meets, bind_meets, if_meets, then_meets, either_meets, bind_finds, only_finds, or_fault_meets}
+pub use Rattle.line_words.proofs.MeetLemmas.{
+  Meets,
+  Finds,
+  ok_meets,
+  err_meets,
+  bind_meets,
+  if_meets,
+  then_meets,
+  either_meets,
+  bind_finds,
+  only_finds,
+  or_fault_meets,
+}
 use Rattle.line_words.proofs.MeetLemmas.{map_finds, some_finds}
 use Rattle.line_words.proofs.ListFacts.{none_any, distinct_pairs, each_holds, list_is}
 use Rattle.scenario_defs.specs.declared.scenario.Thing.{Thing}
@@ -48,25 +60,38 @@ use Rattle.scenario_lines.specs.scenario_draft.Declaring.{IsNewName}
 -- The words that name things name things that are declared.
 node_finds : (draft : Drafted) (text : List ℕ) → Finds (λ id. id.0 < length draft.scenario.nodes) (node_named draft text)
 unfolding node_named
-node_finds draft text = bind_finds _ (named draft text) _ (λ thing _. bind_finds _ (node_of thing) _ (λ id _. bind_finds _ (slice_get draft.scenario.nodes id.0) _ (λ found e. some_finds _ id (slice_get_within draft.scenario.nodes id.0 found e))))
+node_finds draft text =
+    bind_finds _ (named draft text) _ (λ thing _. bind_finds _ (node_of thing) _
+    (λ id _. bind_finds _ (slice_get draft.scenario.nodes id.0) _ (λ found e. some_finds _ id (slice_get_within draft.scenario.nodes id.0 found e))))
 
 edge_finds : (draft : Drafted) (text : List ℕ) → Finds (IsEdge draft.scenario) (edge_named draft text)
 unfolding edge_named
-edge_finds draft text = bind_finds _ (named draft text) _ (λ thing _. bind_finds _ (node_of thing) _ (λ id _. bind_finds _ (slice_get draft.scenario.nodes id.0) _ (λ node e. only_finds _ node.edge id (λ edge. record { node = node; at = e; edge = edge }))))
+edge_finds draft text =
+    bind_finds _ (named draft text) _ (λ thing _. bind_finds _ (node_of thing) _
+    (λ id _. bind_finds _ (slice_get draft.scenario.nodes id.0) _
+    (λ node e. only_finds _ node.edge id (λ edge. record { node = node; at = e; edge = edge }))))
 
 vrf_finds : (draft : Drafted) (text : List ℕ) → Finds (λ id. id.0 < length draft.scenario.vrfs) (vrf_named draft text)
 unfolding vrf_named
-vrf_finds draft text = bind_finds _ (named draft text) _ (λ thing _. bind_finds _ (vrf_of thing) _ (λ id _. bind_finds _ (slice_get draft.scenario.vrfs id.0) _ (λ found e. some_finds _ id (slice_get_within draft.scenario.vrfs id.0 found e))))
+vrf_finds draft text =
+    bind_finds _ (named draft text) _ (λ thing _. bind_finds _ (vrf_of thing) _
+    (λ id _. bind_finds _ (slice_get draft.scenario.vrfs id.0) _ (λ found e. some_finds _ id (slice_get_within draft.scenario.vrfs id.0 found e))))
 
 site_finds : (draft : Drafted) (text : List ℕ) → Finds (λ id. id.0 < length draft.scenario.sites) (site_named draft text)
 unfolding site_named
-site_finds draft text = bind_finds _ (named draft text) _ (λ thing _. bind_finds _ (site_of thing) _ (λ id _. bind_finds _ (slice_get draft.scenario.sites id.0) _ (λ found e. some_finds _ id (slice_get_within draft.scenario.sites id.0 found e))))
+site_finds draft text =
+    bind_finds _ (named draft text) _ (λ thing _. bind_finds _ (site_of thing) _
+    (λ id _. bind_finds _ (slice_get draft.scenario.sites id.0) _ (λ found e. some_finds _ id (slice_get_within draft.scenario.sites id.0 found e))))
 
 iface_finds : (draft : Drafted) (text : List ℕ) → Finds (λ id. id.0 < length draft.scenario.ifaces) (iface_named draft text)
 unfolding iface_named
-iface_finds draft text = bind_finds _ (named draft text) _ (λ thing _. bind_finds _ (iface_of thing) _ (λ id _. bind_finds _ (slice_get draft.scenario.ifaces id.0) _ (λ found e. some_finds _ id (slice_get_within draft.scenario.ifaces id.0 found e))))
+iface_finds draft text =
+    bind_finds _ (named draft text) _ (λ thing _. bind_finds _ (iface_of thing) _
+    (λ id _. bind_finds _ (slice_get draft.scenario.ifaces id.0) _
+    (λ found e. some_finds _ id (slice_get_within draft.scenario.ifaces id.0 found e))))
 
-free_name : (draft : Drafted) (text : List ℕ) (e : TextFault) (o : Option Thing) → is_name text ≡ true → lookup (pointwise nat_eq text) draft.names ≡ o → Meets (IsNewName draft) (elim o [ None ↦ Ok text | Some thing ↦ Err e ])
+free_name : (draft : Drafted) (text : List ℕ) (e : TextFault) (o : Option Thing) → is_name text ≡ true
+    → lookup (pointwise nat_eq text) draft.names ≡ o → Meets (IsNewName draft) (elim o [ None ↦ Ok text | Some thing ↦ Err e ])
 free_name draft text e None n h = ok_meets _ text (n, h)
 free_name draft text e (Some thing) n h = err_meets _ e
 
@@ -97,7 +122,9 @@ iface_meets draft row word = or_fault_meets _ _ row word _ (iface_finds draft wo
 -- An address of dotted text has four octets.
 dotted_finds : (text : List ℕ) → Finds (λ octets. length octets ≡ 4) (dotted_of text)
 unfolding dotted_of
-dotted_finds text = bind_finds _ (octet_front_of text) _ (λ a _. bind_finds _ (octet_front_of a.1) _ (λ b _. bind_finds _ (octet_front_of b.1) _ (λ c _. bind_finds _ (octet_of c.1) _ (λ d _. some_finds _ _ refl))))
+dotted_finds text =
+    bind_finds _ (octet_front_of text) _ (λ a _. bind_finds _ (octet_front_of a.1) _
+    (λ b _. bind_finds _ (octet_front_of b.1) _ (λ c _. bind_finds _ (octet_of c.1) _ (λ d _. some_finds _ _ refl))))
 
 ipv4_finds : (text : List ℕ) → Finds IsIpv4 (ipv4_of text)
 ipv4_finds text = map_finds IsIpv4 (λ octets. V4 octets) (dotted_of text) (dotted_finds text)
@@ -110,10 +137,13 @@ ipv4_meets row word = or_fault_meets _ _ row word _ (ipv4_finds word.text)
 groups_finds : (text : List ℕ) → Finds (λ octets. length octets ≡ 16) (groups_of text)
 unfolding groups_of
 groups_finds text =
-    bind_finds _ (group_front_of text) _ (λ a _. bind_finds _ (group_front_of a.1) _ (λ b _. bind_finds _ (group_front_of b.1) _ (λ c _. bind_finds _ (group_front_of c.1) _ (λ d _.
-    bind_finds _ (group_front_of d.1) _ (λ e _. bind_finds _ (group_front_of e.1) _ (λ f _. bind_finds _ (group_front_of f.1) _ (λ g _. bind_finds _ (groups_last g.1) _ (λ h _. some_finds _ _ refl))))))))
+    bind_finds _ (group_front_of text) _ (λ a _. bind_finds _ (group_front_of a.1) _
+    (λ b _. bind_finds _ (group_front_of b.1) _ (λ c _. bind_finds _ (group_front_of c.1) _ (λ d _.
+    bind_finds _ (group_front_of d.1) _ (λ e _. bind_finds _ (group_front_of e.1) _
+    (λ f _. bind_finds _ (group_front_of f.1) _ (λ g _. bind_finds _ (groups_last g.1) _ (λ h _. some_finds _ _ refl))))))))
 
-either_finds : (o p : Option (List ℕ)) → Finds (λ octets. length octets ≡ 4) o → Finds (λ octets. length octets ≡ 16) p → Finds IsAddr (elim o [ Some octets ↦ Some (V4 octets) | None ↦ p >>? λ octets. Some (V6 octets) ])
+either_finds : (o p : Option (List ℕ)) → Finds (λ octets. length octets ≡ 4) o → Finds (λ octets. length octets ≡ 16) p
+    → Finds IsAddr (elim o [ Some octets ↦ Some (V4 octets) | None ↦ p >>? λ octets. Some (V6 octets) ])
 either_finds (Some octets) p h k = some_finds IsAddr (V4 octets) (h.holds octets refl)
 either_finds None p h k = bind_finds IsAddr p _ (λ octets e. some_finds IsAddr (V6 octets) (k.holds octets e))
 
@@ -158,7 +188,8 @@ is_scoped x y h = grind (arith, nat_tests)
 
 is_group_addr : (addr : Addr) → IsAddr addr → is_group addr ≡ true → IsGroup addr
 is_group_addr (V4 octets) four h =
-    let p = group_parts (nat_le 224 (slice_index octets 0)) (nat_le (slice_index octets 0) 239) (slice_index octets 0 == 224 && slice_index octets 1 == 0 && slice_index octets 2 == 0) h in
+    let p = group_parts (nat_le 224 (slice_index octets 0)) (nat_le (slice_index octets 0) 239)
+    (slice_index octets 0 == 224 && slice_index octets 1 == 0 && slice_index octets 2 == 0) h in
     let w = within (slice_index octets 0) 224 239 p.0 in
     (four, w.0, w.1, not_local (slice_index octets 0) (slice_index octets 1) (slice_index octets 2) p.1)
 is_group_addr (V6 octets) sixteen h = let p = is_scoped (slice_index octets 0) (slice_index octets 1 % 16) h in (sixteen, p.0, p.1)
@@ -166,12 +197,14 @@ is_group_addr (V6 octets) sixteen h = let p = is_scoped (slice_index octets 0) (
 pub source_meets : (row : Row) (word : Placed) → Meets IsUnicast (source_at row word)
 unfolding source_at
 source_meets row word =
-    bind_meets _ (addr_at row word) _ (λ addr a. then_meets _ _ _ _ (λ b. ok_meets IsUnicast addr (is_source addr ((addr_meets row word).holds addr a) b)))
+    bind_meets _ (addr_at row word) _ (λ addr a. then_meets _ _ _ _
+    (λ b. ok_meets IsUnicast addr (is_source addr ((addr_meets row word).holds addr a) b)))
 
 pub group_meets : (row : Row) (word : Placed) → Meets IsGroup (group_at row word)
 unfolding group_at
 group_meets row word =
-    bind_meets _ (addr_at row word) _ (λ addr a. then_meets _ _ _ _ (λ b. ok_meets IsGroup addr (is_group_addr addr ((addr_meets row word).holds addr a) b)))
+    bind_meets _ (addr_at row word) _ (λ addr a. then_meets _ _ _ _
+    (λ b. ok_meets IsGroup addr (is_group_addr addr ((addr_meets row word).holds addr a) b)))
 
 -- What the rule of families asks for.
 pub one_family : (a b : Addr) → same_family a b ≡ true → AreOfOneFamily a b
@@ -180,7 +213,8 @@ one_family (V6 a) (V6 b) h = tt
 one_family (V4 a) (V6 b) h = absurd cc
 one_family (V6 a) (V4 b) h = absurd cc
 
-of_found : (found : Option Iface) (group : Addr) → elim found [ None ↦ false | Some own ↦ same_family own.addr group ] ≡ true → IfSome found (λ own. AreOfOneFamily own.addr group)
+of_found : (found : Option Iface) (group : Addr) → elim found [ None ↦ false | Some own ↦ same_family own.addr group ] ≡ true
+    → IfSome found (λ own. AreOfOneFamily own.addr group)
 of_found (Some own) group h = one_family own.addr group h
 of_found None group h = absurd cc
 
@@ -188,18 +222,21 @@ pub of_iface : (draft : Drafted) (iface : IfaceId) (group : Addr) → is_of_ifac
 of_iface draft iface group h = of_found (slice_get draft.scenario.ifaces iface.0) group h
 
 -- The two words name a flow.
-pub names_flow : (row : Row) (b c : Placed) (source group : Addr) → source_at row b ≡ Ok source → group_at row c ≡ Ok group → same_family source group ≡ true → NamesFlow source group
+pub names_flow : (row : Row) (b c : Placed) (source group : Addr) → source_at row b ≡ Ok source → group_at row c ≡ Ok group
+    → same_family source group ≡ true → NamesFlow source group
 names_flow row b c source group s g family = record {
   unicast = (source_meets row b).holds source s;
   multicast = (group_meets row c).holds group g;
   family = one_family source group family;
 }
 
-decoded : (text : List ℕ) (e : TextFault) (r : Result (List ℕ) FromHexError) → length text ≤ 4096 → decode_of text ≡ r → Meets (λ payload. length payload ≤ 2048) (elim r [ Ok octets ↦ Ok octets | Err error ↦ Err e ])
+decoded : (text : List ℕ) (e : TextFault) (r : Result (List ℕ) FromHexError) → length text ≤ 4096 → decode_of text ≡ r
+    → Meets (λ payload. length payload ≤ 2048) (elim r [ Ok octets ↦ Ok octets | Err error ↦ Err e ])
 decoded text e (Ok octets) l h = ok_meets _ octets (omega (arith, (decode_of-ok text octets h).2))
 decoded text e (Err error) l h = err_meets _ e
 
-payload_if : (b : Bool) (r : Result (List ℕ) TextFault) → Meets (λ payload. length payload ≤ 2048) r → Meets (λ payload. length payload ≤ 2048) (cond b (Ok []) r)
+payload_if : (b : Bool) (r : Result (List ℕ) TextFault) → Meets (λ payload. length payload ≤ 2048) r
+    → Meets (λ payload. length payload ≤ 2048) (cond b (Ok []) r)
 payload_if true r h = ok_meets _ [] (omega arith)
 payload_if false r h = h
 
@@ -219,7 +256,9 @@ ipv4_addr : (addr : Addr) → IsIpv4 addr → IsAddr addr
 ipv4_addr (V4 octets) four = four
 ipv4_addr (V6 octets) four = absurd four
 
-pub node_addr_meets : (draft : Drafted) (row : Row) (word : Placed) → Meets (λ addr. IsIpv4 addr × IsUnicast addr × All (λ other. same_addr other.addr addr ≡ false) draft.scenario.nodes) (node_addr_at draft row word)
+pub node_addr_meets : (draft : Drafted) (row : Row) (word : Placed)
+    → Meets (λ addr. IsIpv4 addr × IsUnicast addr × All (λ other. same_addr other.addr addr ≡ false) draft.scenario.nodes)
+    (node_addr_at draft row word)
 unfolding node_addr_at
 node_addr_meets draft row word =
     bind_meets _ (ipv4_at row word) _ (λ addr a. then_meets _ _ _ _ (λ b. if_meets _ (list_any (is_at addr) draft.scenario.nodes) _ _ (λ new.
@@ -228,7 +267,8 @@ node_addr_meets draft row word =
 
 pub to_limit : (limit : ℕ) (text : List ℕ) → Finds (λ number. (1 ≤ number) × (number ≤ limit)) (number_to limit text)
 unfolding number_to
-to_limit limit text = bind_finds _ (number_of text) _ (λ number _. only_finds _ (nat_le 1 number && nat_le number limit) number (within number 1 limit))
+to_limit limit text =
+    bind_finds _ (number_of text) _ (λ number _. only_finds _ (nat_le 1 number && nat_le number limit) number (within number 1 limit))
 
 number_finds : (text : List ℕ) → Finds (λ number. (1 ≤ number) × (number ≤ 4095)) (vrf_number_of text)
 unfolding vrf_number_of
@@ -237,13 +277,18 @@ number_finds text = bind_finds _ (number_of text) _ (λ number _. only_finds _ _
 differs : (x y m n : ℕ) → (x == y && m == n) ≡ false → x ≡ y → m ≢ n
 differs x y m n h e d = grind (arith, nat_tests)
 
-other_number : (edge : NodeId) (number : ℕ) (vrfs : List Vrf) → list_any (has_number edge number) vrfs ≡ false → All (λ other. other.edge.0 ≡ edge.0 → other.number ≢ number) vrfs
-other_number edge number vrfs h = all_weaker _ _ vrfs (λ vrf k. differs vrf.edge.0 edge.0 vrf.number number k) (none_any (has_number edge number) vrfs h)
+other_number : (edge : NodeId) (number : ℕ) (vrfs : List Vrf) → list_any (has_number edge number) vrfs ≡ false
+    → All (λ other. other.edge.0 ≡ edge.0 → other.number ≢ number) vrfs
+other_number edge number vrfs h =
+    all_weaker _ _ vrfs (λ vrf k. differs vrf.edge.0 edge.0 vrf.number number k) (none_any (has_number edge number) vrfs h)
 
-pub vrf_number_meets : (draft : Drafted) (row : Row) (edge : NodeId) (word : Placed) → Meets (λ number. (1 ≤ number) × (number ≤ 4095) × All (λ other. other.edge.0 ≡ edge.0 → other.number ≢ number) draft.scenario.vrfs) (vrf_number_at draft row edge word)
+pub vrf_number_meets : (draft : Drafted) (row : Row) (edge : NodeId) (word : Placed)
+    → Meets (λ number. (1 ≤ number) × (number ≤ 4095) × All (λ other. other.edge.0 ≡ edge.0 → other.number ≢ number) draft.scenario.vrfs)
+    (vrf_number_at draft row edge word)
 unfolding vrf_number_at
 vrf_number_meets draft row edge word =
-    bind_meets _ (or_fault (vrf_number_of word.text) row word reasons.Number) _ (λ number n. if_meets _ (list_any (has_number edge number) draft.scenario.vrfs) _ _ (λ new.
+    bind_meets _ (or_fault (vrf_number_of word.text) row word reasons.Number) _
+    (λ number n. if_meets _ (list_any (has_number edge number) draft.scenario.vrfs) _ _ (λ new.
     let bounds = (or_fault_meets _ (vrf_number_of word.text) row word reasons.Number (number_finds word.text)).holds number n in
     ok_meets _ number (bounds.0, bounds.1, other_number edge number draft.scenario.vrfs new)))
 
@@ -258,18 +303,23 @@ or_finds P (Some x) p h k = h
 or_finds P None p h k = k
 
 -- Octets of a kind are eight, of which the first two are those of the kind.
-numbered_finds : (first second : ℕ) (text : List ℕ) → Finds (λ octets. (length octets ≡ 8) × (take 2 octets ≡ first ∷ second ∷ [])) (numbered_of first second text)
+numbered_finds : (first second : ℕ) (text : List ℕ)
+    → Finds (λ octets. (length octets ≡ 8) × (take 2 octets ≡ first ∷ second ∷ [])) (numbered_of first second text)
 unfolding numbered_of
 numbered_finds first second text =
-    bind_finds _ (cut_of 58 text) _ (λ cut _. bind_finds _ (number_of cut.0) _ (λ n _. bind_finds _ (number_of cut.1) _ (λ m _. only_finds _ _ _ (λ _. (refl, refl)))))
+    bind_finds _ (cut_of 58 text) _ (λ cut _. bind_finds _ (number_of cut.0) _
+    (λ n _. bind_finds _ (number_of cut.1) _ (λ m _. only_finds _ _ _ (λ _. (refl, refl)))))
 
 with_address : (first second : ℕ) (octets : List ℕ) (m : ℕ) → length octets ≡ 4 → length (first ∷ second ∷ (octets ++ to_be_bytes w16 m)) ≡ 8
 with_address first second octets m h = omega (arith, h, length-append octets (to_be_bytes w16 m))
 
-addressed_finds : (first second : ℕ) (text : List ℕ) → Finds (λ octets. (length octets ≡ 8) × (take 2 octets ≡ first ∷ second ∷ [])) (addressed_of first second text)
+addressed_finds : (first second : ℕ) (text : List ℕ)
+    → Finds (λ octets. (length octets ≡ 8) × (take 2 octets ≡ first ∷ second ∷ [])) (addressed_of first second text)
 unfolding addressed_of
 addressed_finds first second text =
-    bind_finds _ (cut_of 58 text) _ (λ cut _. bind_finds _ (dotted_of cut.0) _ (λ addr a. bind_finds _ (number_of cut.1) _ (λ m _. only_finds _ _ _ (λ _. (with_address first second addr m ((dotted_finds cut.0).holds addr a), refl)))))
+    bind_finds _ (cut_of 58 text) _ (λ cut _. bind_finds _ (dotted_of cut.0) _
+    (λ addr a. bind_finds _ (number_of cut.1) _
+    (λ m _. only_finds _ _ _ (λ _. (with_address first second addr m ((dotted_finds cut.0).holds addr a), refl)))))
 
 finds_weaker : {A : Type 0} (P Q : A → Type 0) (o : Option A) → ((x : A) → P x → Q x) → Finds P o → Finds Q o
 finds_weaker P Q o weaker h = record { holds = λ x e. weaker x (h.holds x e) }
@@ -296,7 +346,8 @@ rd_formed draft row edge word =
     bind_meets _ (or_fault (rd_of word.text) row word reasons.Rd) _ (λ rd r. if_meets _ (list_any (has_rd edge rd) draft.scenario.vrfs) _ _ (λ _.
     ok_meets _ rd ((or_fault_meets IsRd (rd_of word.text) row word reasons.Rd (rd_finds word.text)).holds rd r)))
 
-pub rd_meets : (draft : Drafted) (row : Row) (edge : NodeId) (word : Placed) → Meets (λ rd. All (λ other. other.edge.0 ≡ edge.0 → other.rd ≢ rd) draft.scenario.vrfs) (rd_at draft row edge word)
+pub rd_meets : (draft : Drafted) (row : Row) (edge : NodeId) (word : Placed)
+    → Meets (λ rd. All (λ other. other.edge.0 ≡ edge.0 → other.rd ≢ rd) draft.scenario.vrfs) (rd_at draft row edge word)
 unfolding rd_at
 rd_meets draft row edge word =
     bind_meets _ (or_fault (rd_of word.text) row word reasons.Rd) _ (λ rd _. if_meets _ (list_any (has_rd edge rd) draft.scenario.vrfs) _ _ (λ new.
@@ -307,11 +358,14 @@ no_pair x y a b h (inl p) = grind (arith, nat_tests)
 no_pair x y a b h (inr p) = grind (arith, nat_tests)
 
 -- No link joins the nodes that a new link joins.
-pub not_joined : (a b : NodeId) (cost : ℕ) (links : List Link) → list_any (joins a b) links ≡ false → All (λ other. ¬ (JoinsSamePair other (record { a = a; b = b; cost = cost }))) links
+pub not_joined : (a b : NodeId) (cost : ℕ) (links : List Link) → list_any (joins a b) links ≡ false
+    → All (λ other. ¬ (JoinsSamePair other (record { a = a; b = b; cost = cost }))) links
 not_joined a b cost links h = all_weaker _ _ links (λ other k. no_pair other.a.0 other.b.0 a.0 b.0 k) (none_any (joins a b) links h)
 
 pub other_end_meets : (draft : Drafted) (row : Row) (a : NodeId) (word : Placed)
-    → Meets (λ b. (b.0 < length draft.scenario.nodes) × ((cost : ℕ) → All (λ other. ¬ (JoinsSamePair other (record { a = a; b = b; cost = cost }))) draft.scenario.links)) (other_end_at draft row a word)
+    → Meets (λ b. (b.0 < length draft.scenario.nodes)
+    × ((cost : ℕ) → All (λ other. ¬ (JoinsSamePair other (record { a = a; b = b; cost = cost }))) draft.scenario.links))
+    (other_end_at draft row a word)
 unfolding other_end_at
 other_end_meets draft row a word =
     bind_meets _ (node_at draft row word) _ (λ b n. if_meets _ (list_any (joins a b) draft.scenario.links) _ _ (λ new.
@@ -319,9 +373,15 @@ other_end_meets draft row a word =
 
 -- ---- lists
 
-pub targets_meets : (row : Row) (word : Placed) → Meets (λ targets. (0 < length targets) × (length targets ≤ 8) × AllPairs (λ target other. same_target target other ≡ false) targets) (targets_at row word)
+pub targets_meets : (row : Row) (word : Placed)
+    → Meets (λ targets. (0 < length targets) × (length targets ≤ 8) × AllPairs (λ target other. same_target target other ≡ false) targets)
+    (targets_at row word)
 unfolding targets_at
-targets_meets row word = or_fault_meets _ _ row word _ (record { holds = λ targets h. let list = list_is same_target target_of word.text targets h in (list.some, list.few, distinct_pairs same_target targets list.distinct) })
+targets_meets row word =
+    or_fault_meets _ _ row word _ (record {
+      holds = λ targets h. let list = list_is same_target target_of word.text targets h in
+          (list.some, list.few, distinct_pairs same_target targets list.distinct);
+    })
 
 pub targets_formed : (row : Row) (word : Placed) → Meets (All IsTarget) (targets_at row word)
 unfolding targets_at
@@ -341,7 +401,8 @@ has_bits (V6 octets) bits h = no_rest 128 bits (from_be_bytes w128 octets % 2 ^ 
 prefix_finds : (text : List ℕ) → Finds IsSitePrefix (prefix_of text)
 unfolding prefix_of
 prefix_finds text =
-    bind_finds _ (cut_of 47 text) _ (λ cut _. bind_finds _ (addr_of cut.0) _ (λ addr a. bind_finds _ (number_of cut.1) _ (λ bits _. only_finds _ (is_prefix addr bits) _ (λ p.
+    bind_finds _ (cut_of 47 text) _ (λ cut _. bind_finds _ (addr_of cut.0) _
+    (λ addr a. bind_finds _ (number_of cut.1) _ (λ bits _. only_finds _ (is_prefix addr bits) _ (λ p.
     record { addr = (addr_finds cut.0).holds addr a; bits = has_bits addr bits p }))))
 
 -- The prefixes are those of a site.

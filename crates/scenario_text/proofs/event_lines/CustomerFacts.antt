@@ -67,17 +67,21 @@ flow_is : (source group : Addr) → IsUnicast source → IsGroup group → same_
 flow_is source group s g h = record { unicast = s; multicast = g; family = one_family source group h }
 
 -- The entry is one, of the interface's family.
-entry_is : (draft : Drafted) (iface : IfaceId) (entry : JoinEntry) → AreOfEntry entry → is_entry_of draft iface entry ≡ true → IsEntry entry × IsOfIface draft.scenario iface (group_of entry)
+entry_is : (draft : Drafted) (iface : IfaceId) (entry : JoinEntry) → AreOfEntry entry → is_entry_of draft iface entry ≡ true
+    → IsEntry entry × IsOfIface draft.scenario iface (group_of entry)
 entry_is draft iface (entries.Star group) h kept = (h, of_iface draft iface group kept)
-entry_is draft iface (entries.Source source group) h kept = let own = flow_of draft iface source group kept in (flow_is source group h.0 h.1 own.0, own.1)
-entry_is draft iface (entries.Rpt source group) h kept = let own = flow_of draft iface source group kept in (flow_is source group h.0 h.1 own.0, own.1)
+entry_is draft iface (entries.Source source group) h kept = let own = flow_of draft iface source group kept in
+    (flow_is source group h.0 h.1 own.0, own.1)
+entry_is draft iface (entries.Rpt source group) h kept = let own = flow_of draft iface source group kept in
+    (flow_is source group h.0 h.1 own.0, own.1)
 
 -- The interface is one of the scenario, and the entry is of its family.
 abbrev IsNamed : Drafted → IfaceEntry → Type 0
 IsNamed draft named =
     (named.iface.0 < length draft.scenario.ifaces) × IsEntry named.entry × IsOfIface draft.scenario named.iface (group_of named.entry)
 
-at_iface_meets : (draft : Drafted) (row : Row) (c : Placed) (iface : IfaceId) (entry : JoinEntry) → iface.0 < length draft.scenario.ifaces → AreOfEntry entry → Meets (IsNamed draft) (at_iface draft row c iface entry)
+at_iface_meets : (draft : Drafted) (row : Row) (c : Placed) (iface : IfaceId) (entry : JoinEntry) → iface.0 < length draft.scenario.ifaces
+    → AreOfEntry entry → Meets (IsNamed draft) (at_iface draft row c iface entry)
 at_iface_meets draft row c iface entry i e =
     unless_meets (IsNamed draft) (family_fault (is_entry_of draft iface entry)) row c (record { iface = iface; entry = entry }) (λ kept.
     let own = entry_is draft iface entry e (kept_family (is_entry_of draft iface entry) kept) in
@@ -110,11 +114,15 @@ entry_event_is draft entry_kinds.Prune named h = h
 
 pub entry_line_meets : (draft : Drafted) (row : Row) (word : EntryWord) (words : List Placed) → Meets (IsTold draft) (entry_line draft row word words)
 unfolding entry_line
-entry_line_meets draft row word words = bind_meets _ (iface_entry draft row words) _ (λ named n. ok_meets _ _ (entry_event_is draft word named ((iface_entry_meets draft row words).holds named n)))
+entry_line_meets draft row word words =
+    bind_meets _ (iface_entry draft row words) _
+    (λ named n. ok_meets _ _ (entry_event_is draft word named ((iface_entry_meets draft row words).holds named n)))
 
 -- ---- sources
 
-flow_event_is : (scenario : Scenario) (word : FlowWord) (iface : IfaceId) (source group : Addr) → (iface.0 < length scenario.ifaces) × NamesFlow source group × IsOfIface scenario iface group → IsEventOf scenario (flow_event word iface source group)
+flow_event_is : (scenario : Scenario) (word : FlowWord) (iface : IfaceId) (source group : Addr)
+    → (iface.0 < length scenario.ifaces) × NamesFlow source group × IsOfIface scenario iface group
+    → IsEventOf scenario (flow_event word iface source group)
 flow_event_is scenario flow_kinds.Active iface source group h = h
 flow_event_is scenario flow_kinds.Idle iface source group h = h
 
@@ -124,7 +132,8 @@ flow_words_meets draft row word a b c =
     bind_meets _ (iface_at draft row a) _ (λ iface i. bind_meets _ (source_at row b) _ (λ source s. bind_meets _ (group_at row c) _ (λ group g.
     unless_meets _ (family_fault (is_flow_of draft iface source group)) row c _ (λ kept.
     let own = flow_of draft iface source group (kept_family (is_flow_of draft iface source group) kept) in
-    flow_event_is draft.scenario word iface source group ((iface_meets draft row a).holds iface i, names_flow row b c source group s g own.0, own.1)))))
+    flow_event_is draft.scenario word iface source group
+    ((iface_meets draft row a).holds iface i, names_flow row b c source group s g own.0, own.1)))))
 
 pub flow_line_meets : (draft : Drafted) (row : Row) (word : FlowWord) (words : List Placed) → Meets (IsTold draft) (flow_line draft row word words)
 unfolding flow_line
@@ -156,14 +165,17 @@ pattern_meets : (row : Row) (b c : Placed) → Meets AreOfPattern (pattern_at ro
 unfolding pattern_at
 pattern_meets row b c =
     bind_meets _ (any_source_at row b) _ (λ source s. bind_meets _ (any_group_at row c) _ (λ group g.
-    ok_meets AreOfPattern (record { source = source; group = group }) ((any_source_meets row b).holds source s, (any_group_meets row c).holds group g)))
+    ok_meets AreOfPattern (record { source = source; group = group })
+    ((any_source_meets row b).holds source s, (any_group_meets row c).holds group g)))
 
-families : (source group : Option Addr) → is_of_family (record { source = source; group = group }) ≡ true → IfSome source (λ s. IfSome group (λ g. AreOfOneFamily s g))
+families : (source group : Option Addr) → is_of_family (record { source = source; group = group }) ≡ true
+    → IfSome source (λ s. IfSome group (λ g. AreOfOneFamily s g))
 families (Some source) (Some group) h = one_family source group h
 families (Some source) None h = tt
 families None group h = tt
 
-select_event_is : (scenario : Scenario) (word : SelectWord) (vrf : VrfId) (pattern : Pattern) → (vrf.0 < length scenario.vrfs) × IsPattern pattern → IsEventOf scenario (select_event word vrf pattern)
+select_event_is : (scenario : Scenario) (word : SelectWord) (vrf : VrfId) (pattern : Pattern) → (vrf.0 < length scenario.vrfs) × IsPattern pattern
+    → IsEventOf scenario (select_event word vrf pattern)
 select_event_is scenario select_kinds.Select vrf pattern h = h
 select_event_is scenario select_kinds.Unselect vrf pattern h = h
 
@@ -174,9 +186,11 @@ select_words_meets draft row word a b c =
     unless_meets _ (family_fault (is_of_family pattern)) row c _ (λ kept.
     let own = (pattern_meets row b c).holds pattern p in
     let family = families pattern.source pattern.group (kept_family (is_of_family pattern) kept) in
-    select_event_is draft.scenario word vrf pattern ((vrf_meets draft row a).holds vrf v, record { source = own.0; group = own.1; family = family }))))
+    select_event_is draft.scenario word vrf pattern
+    ((vrf_meets draft row a).holds vrf v, record { source = own.0; group = own.1; family = family }))))
 
-pub select_line_meets : (draft : Drafted) (row : Row) (word : SelectWord) (words : List Placed) → Meets (IsTold draft) (select_line draft row word words)
+pub select_line_meets : (draft : Drafted) (row : Row) (word : SelectWord) (words : List Placed)
+    → Meets (IsTold draft) (select_line draft row word words)
 unfolding select_line
 select_line_meets draft row word [] = err_meets _ _
 select_line_meets draft row word (a ∷ []) = err_meets _ _
@@ -216,7 +230,8 @@ packet_line_meets draft row (a ∷ []) h = err_meets _ _
 packet_line_meets draft row (a ∷ b ∷ []) h = packet_words_meets draft row a b (h.1.0)
 packet_line_meets draft row (a ∷ b ∷ c ∷ more) h = err_meets _ _
 
-send_head_meets : (draft : Drafted) (row : Row) (a b c : Placed) → Meets (λ head. (head.site.0 < length draft.scenario.sites) × IsUnicast head.source × IsGroup head.group) (send_head draft row a b c)
+send_head_meets : (draft : Drafted) (row : Row) (a b c : Placed)
+    → Meets (λ head. (head.site.0 < length draft.scenario.sites) × IsUnicast head.source × IsGroup head.group) (send_head draft row a b c)
 unfolding send_head
 send_head_meets draft row a b c =
     bind_meets _ (site_at draft row a) _ (λ site i. bind_meets _ (source_at row b) _ (λ source s. bind_meets _ (group_at row c) _ (λ group g.

@@ -30,7 +30,8 @@ unfolding bare_line
 bare_line_meets draft row word [] = ok_meets _ _ (bare_event_is draft.scenario word)
 bare_line_meets draft row word (a ∷ more) = err_meets _ _
 
-event_words_meets : (draft : Drafted) (row : Row) (kind : EventWord) (rest : List Placed) → AreShort rest → Meets (IsTold draft) (event_words draft row kind rest)
+event_words_meets : (draft : Drafted) (row : Row) (kind : EventWord) (rest : List Placed) → AreShort rest
+    → Meets (IsTold draft) (event_words draft row kind rest)
 unfolding event_words
 event_words_meets draft row word_kinds.Tick rest h = tick_line_meets draft row rest
 event_words_meets draft row word_kinds.Move rest h = move_line_meets draft row rest
@@ -51,10 +52,16 @@ IsToldBelow draft said = (length draft.events < 200000) × IsTold draft said
 
 -- a line where there is room for one more event
 limited_meets : (draft : Drafted) (row : Row) (first : Placed) (rest : List Placed) (kind : EventWord) → AreShort rest
-    → Meets (IsToldBelow draft) (if nat_le 200000 (length draft.events) then fault row.number first.column reasons.Limit else event_words draft row kind rest)
-limited_meets draft row first rest kind h = if_meets _ _ _ _ (λ few. record { holds = λ said e. (below 200000 (length draft.events) few, (event_words_meets draft row kind rest h).holds said e) })
+    → Meets (IsToldBelow draft) (if nat_le 200000 (length draft.events) then fault row.number first.column reasons.Limit else event_words draft row
+    kind rest)
+limited_meets draft row first rest kind h =
+    if_meets _ _ _ _ (λ few. record {
+      holds = λ said e.
+          (below 200000 (length draft.events) few, (event_words_meets draft row kind rest h).holds said e);
+    })
 
-pub event_line_meets : (draft : Drafted) (row : Row) (first : Placed) (rest : List Placed) → AreShort rest → Meets (IsToldBelow draft) (event_line draft row first rest)
+pub event_line_meets : (draft : Drafted) (row : Row) (first : Placed) (rest : List Placed) → AreShort rest
+    → Meets (IsToldBelow draft) (event_line draft row first rest)
 unfolding event_line
 event_line_meets draft row first rest h =
     bind_meets _ (or_fault (event_word first.text) row first reasons.Word) _ (λ kind _. limited_meets draft row first rest kind h)

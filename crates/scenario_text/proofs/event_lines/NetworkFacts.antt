@@ -26,14 +26,16 @@ use Rattle.scenario_text.specs.event_lines.LinkGrammar.{highest, link_event, lin
 use Rattle.scenario_text.specs.event_lines.Rules.{session_fault, link_fault}
 use Rattle.scenario_text.proofs.event_lines.RuleFacts.{IsTold, unless_meets, AreEnds, in_session, linked}
 
-number_meets : (row : Row) (limit : ℕ) (word : Placed) → Meets (λ number. (1 ≤ number) × (number ≤ limit)) (or_fault (number_to limit word.text) row word reasons.Number)
+number_meets : (row : Row) (limit : ℕ) (word : Placed)
+    → Meets (λ number. (1 ≤ number) × (number ≤ limit)) (or_fault (number_to limit word.text) row word reasons.Number)
 number_meets row limit word = or_fault_meets _ (number_to limit word.text) row word reasons.Number (to_limit limit word.text)
 
 -- ---- the clock and nodes
 
 tick_words_meets : (draft : Drafted) (row : Row) (a : Placed) → Meets (IsTold draft) (tick_words row a)
 unfolding tick_words
-tick_words_meets draft row a = bind_meets _ (or_fault (number_to 1000000 a.text) row a reasons.Number) _ (λ count c. ok_meets _ _ ((number_meets row 1000000 a).holds count c))
+tick_words_meets draft row a =
+    bind_meets _ (or_fault (number_to 1000000 a.text) row a reasons.Number) _ (λ count c. ok_meets _ _ ((number_meets row 1000000 a).holds count c))
 
 pub tick_line_meets : (draft : Drafted) (row : Row) (words : List Placed) → Meets (IsTold draft) (tick_line row words)
 unfolding tick_line
@@ -47,7 +49,8 @@ node_event_is scenario node_kinds.Restart node h = h
 
 node_words_meets : (draft : Drafted) (row : Row) (word : NodeWord) (a : Placed) → Meets (IsTold draft) (node_words draft row word a)
 unfolding node_words
-node_words_meets draft row word a = bind_meets _ (node_at draft row a) _ (λ node n. ok_meets _ _ (node_event_is draft.scenario word node ((node_meets draft row a).holds node n)))
+node_words_meets draft row word a =
+    bind_meets _ (node_at draft row a) _ (λ node n. ok_meets _ _ (node_event_is draft.scenario word node ((node_meets draft row a).holds node n)))
 
 pub node_line_meets : (draft : Drafted) (row : Row) (word : NodeWord) (words : List Placed) → Meets (IsTold draft) (node_line draft row word words)
 unfolding node_line
@@ -60,7 +63,8 @@ node_line_meets draft row word (a ∷ b ∷ more) = err_meets _ _
 abbrev AreNamed : Drafted → Session → Type 0
 AreNamed draft named = AreEnds draft.scenario named.kind named.a named.b
 
-ends_meet : (draft : Drafted) (row : Row) (kind : Kind) (a b : Placed) (from to : NodeId) → end_at draft row kind a ≡ Ok from → end_at draft row kind b ≡ Ok to → AreEnds draft.scenario kind from to
+ends_meet : (draft : Drafted) (row : Row) (kind : Kind) (a b : Placed) (from to : NodeId) → end_at draft row kind a ≡ Ok from
+    → end_at draft row kind b ≡ Ok to → AreEnds draft.scenario kind from to
 ends_meet draft row kinds.Bgp a b from to f t = ((edge_meets draft row a).holds from f, (edge_meets draft row b).holds to t)
 ends_meet draft row kinds.Ldp a b from to f t = tt
 
@@ -70,7 +74,8 @@ session_at_meets draft row k a b =
     bind_meets _ (kind_at row k) _ (λ kind _. bind_meets _ (end_at draft row kind a) _ (λ from f. bind_meets _ (end_at draft row kind b) _ (λ to t.
     ok_meets (AreNamed draft) (record { kind = kind; a = from; b = to }) (ends_meet draft row kind a b from to f t))))
 
-session_event_is : (scenario : Scenario) (word : SessionWord) (named : Session) → HaveSession scenario named.kind named.a named.b → IsEventOf scenario (session_event word named)
+session_event_is : (scenario : Scenario) (word : SessionWord) (named : Session) → HaveSession scenario named.kind named.a named.b
+    → IsEventOf scenario (session_event word named)
 session_event_is scenario session_kinds.Lose named h = h
 session_event_is scenario session_kinds.Notice named h = h
 session_event_is scenario session_kinds.Raise named h = h
@@ -78,10 +83,13 @@ session_event_is scenario session_kinds.Raise named h = h
 session_words_meets : (draft : Drafted) (row : Row) (word : SessionWord) (k a b : Placed) → Meets (IsTold draft) (session_words draft row word k a b)
 unfolding session_words
 session_words_meets draft row word k a b =
-    bind_meets _ (session_at draft row k a b) _ (λ named n. unless_meets _ (session_fault draft.scenario.links named.kind named.a named.b) row b _ (λ kept.
-    session_event_is draft.scenario word named (in_session draft.scenario named.kind named.a named.b ((session_at_meets draft row k a b).holds named n) kept)))
+    bind_meets _ (session_at draft row k a b) _ (λ named n. unless_meets _ (session_fault draft.scenario.links named.kind named.a named.b) row b _
+    (λ kept.
+    session_event_is draft.scenario word named (in_session draft.scenario named.kind named.a named.b
+    ((session_at_meets draft row k a b).holds named n) kept)))
 
-pub session_line_meets : (draft : Drafted) (row : Row) (word : SessionWord) (words : List Placed) → Meets (IsTold draft) (session_line draft row word words)
+pub session_line_meets : (draft : Drafted) (row : Row) (word : SessionWord) (words : List Placed)
+    → Meets (IsTold draft) (session_line draft row word words)
 unfolding session_line
 session_line_meets draft row word [] = err_meets _ _
 session_line_meets draft row word (k ∷ []) = err_meets _ _
@@ -109,7 +117,8 @@ move_line_meets draft row (k ∷ a ∷ b ∷ c ∷ d ∷ more) = err_meets _ _
 
 -- ---- links
 
-link_event_is : (scenario : Scenario) (word : LinkWord) (from to : NodeId) (number : ℕ) → AreLinked scenario from to → 1 ≤ number → number ≤ highest word → IsEventOf scenario (link_event word from to number)
+link_event_is : (scenario : Scenario) (word : LinkWord) (from to : NodeId) (number : ℕ) → AreLinked scenario from to → 1 ≤ number
+    → number ≤ highest word → IsEventOf scenario (link_event word from to number)
 link_event_is scenario link_kinds.Hop from to number h low high = (h, low, high)
 link_event_is scenario link_kinds.Drop from to number h low high = (h, low, high)
 link_event_is scenario link_kinds.Cost from to number h low high = (h, low, high)
@@ -117,7 +126,8 @@ link_event_is scenario link_kinds.Cost from to number h low high = (h, low, high
 link_words_meets : (draft : Drafted) (row : Row) (word : LinkWord) (a b c : Placed) → Meets (IsTold draft) (link_words draft row word a b c)
 unfolding link_words
 link_words_meets draft row word a b c =
-    bind_meets _ (node_at draft row a) _ (λ from _. bind_meets _ (node_at draft row b) _ (λ to _. bind_meets _ (or_fault (number_to (highest word) c.text) row c reasons.Number) _ (λ number n.
+    bind_meets _ (node_at draft row a) _ (λ from _. bind_meets _ (node_at draft row b) _
+    (λ to _. bind_meets _ (or_fault (number_to (highest word) c.text) row c reasons.Number) _ (λ number n.
     unless_meets _ (link_fault draft.scenario.links from to) row b _ (λ kept.
     let bounds = (number_meets row (highest word) c).holds number n in
     link_event_is draft.scenario word from to number (linked draft.scenario from to kept) bounds.0 bounds.1))))

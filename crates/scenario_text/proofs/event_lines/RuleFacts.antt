@@ -32,7 +32,8 @@ IsTold draft (says.Event event) = IsEventOf draft.scenario event
 IsTold draft other = ⊥
 
 -- A value that is told keeps to what the rule shows.
-pub unless_meets : {A : Type 0} (P : A → Type 0) (broken : Option Reason) (row : Row) (word : Placed) (x : A) → (broken ≡ None → P x) → Meets P (unless_broken broken row word x)
+pub unless_meets : {A : Type 0} (P : A → Type 0) (broken : Option Reason) (row : Row) (word : Placed) (x : A) → (broken ≡ None → P x)
+    → Meets P (unless_broken broken row word x)
 unless_meets P None row word x h = ok_meets P x (h refl)
 unless_meets P (Some reason) row word x h = err_meets P _
 
@@ -73,7 +74,8 @@ AreEnds scenario kinds.Bgp a b = IsEdge scenario a × IsEdge scenario b
 AreEnds scenario kinds.Ldp a b = Unit {0}
 
 -- Two such ends without a fault have a session.
-pub in_session : (scenario : Scenario) (kind : Kind) (a b : NodeId) → AreEnds scenario kind a b → session_fault scenario.links kind a b ≡ None → HaveSession scenario kind a b
+pub in_session : (scenario : Scenario) (kind : Kind) (a b : NodeId) → AreEnds scenario kind a b → session_fault scenario.links kind a b ≡ None
+    → HaveSession scenario kind a b
 in_session scenario kinds.Bgp a b h kept = (h.0, h.1, differ a.0 b.0 (is_other (a.0 == b.0) kept))
 in_session scenario kinds.Ldp a b h kept = linked scenario a b kept
 
@@ -84,7 +86,8 @@ kept_family true h = refl
 kept_family false h = absurd cc
 
 -- Source, group and interface are of one family.
-pub flow_of : (draft : Drafted) (iface : IfaceId) (source group : Addr) → is_flow_of draft iface source group ≡ true → (same_family source group ≡ true) × IsOfIface draft.scenario iface group
+pub flow_of : (draft : Drafted) (iface : IfaceId) (source group : Addr) → is_flow_of draft iface source group ≡ true
+    → (same_family source group ≡ true) × IsOfIface draft.scenario iface group
 flow_of draft iface source group h =
     let p = and_parts (same_family source group) (is_of_iface draft iface group) h in
     (p.0, of_iface draft iface group p.1)

@@ -186,7 +186,8 @@ same_upstream_itself (Some own) =
     let edge : (own.edge.0 == own.edge.0) ≡ true = grind (arith, nat_tests) in
     let number : (own.import.1 == own.import.1) ≡ true = grind (arith, nat_tests) in
     let source_as : (own.source_as == own.source_as) ≡ true = grind (arith, nat_tests) in
-    and_from _ _ edge (and_from _ _ ((bytes_decides own.rd.0 own.rd.0).1 refl) (and_from _ _ (and_from _ _ (same_addr_equiv.refl own.import.0) number) source_as))
+    and_from _ _ edge (and_from _ _ ((bytes_decides own.rd.0 own.rd.0).1 refl)
+    (and_from _ _ (and_from _ _ (same_addr_equiv.refl own.import.0) number) source_as))
 
 pub same_upstream_equal : (own other : Upstream) → same_upstream (Some own) (Some other) ≡ true → own ≡ other
 same_upstream_equal own other h =

@@ -62,7 +62,8 @@ none_active route h = absurd cc
 one_route : (a b : FlowRoute) → Some a ≡ Some b → a ≡ b
 one_route a b h = cc
 
-active_key : (key : Key) (route : FlowRoute) → active_of key ≡ Some route → (afi : Afi) × (rd : Rd) × (key ≡ Mcast afi (routes.Active rd route.source route.group))
+active_key : (key : Key) (route : FlowRoute) → active_of key ≡ Some route
+    → (afi : Afi) × (rd : Rd) × (key ≡ Mcast afi (routes.Active rd route.source route.group))
 active_key (Mcast afi (routes.Active rd source group)) route h =
     let one = one_route (record { source = source; group = group }) route h in
     (afi, rd, λ i. Mcast afi (routes.Active rd (one i).source (one i).group))
@@ -94,7 +95,8 @@ module _ (place : EdgePlace) (control : Control) (own : OwnVrf) (tree : TreeData
   noted_here noted =
       let note : Note = record { iface = noted.iface; flow = flow } in
       any_from (λ (n : Note). same_flow n.flow flow) note (sets.items tree.vrf.notes)
-      (contained_item note_total note_exact tree.vrf.notes note (is.notes note ∙ and_from _ _ (of_iface place.scenario own.id noted.iface noted.of_vrf) noted.noted))
+      (contained_item note_total note_exact tree.vrf.notes note
+      (is.notes note ∙ and_from _ _ (of_iface place.scenario own.id noted.iface noted.of_vrf) noted.noted))
       (same_flow_itself flow)
 
   told_by : (route : ActiveRoute) → route.flow ≡ flow → IsActiveTaken control own route → IsTold control own flow.source flow.group
@@ -146,7 +148,8 @@ module _ (place : EdgePlace) (control : Control) (own : OwnVrf) (tree : TreeData
   -- ---- what an interface asks for
 
   module _ (now : ℕ) where
-    one_expiry : (iface : IfaceId) (entry : JoinEntry) → is_iface_of place.scenario own.id iface ≡ true → expiry_at tree.vrf.entries iface entry ≡ expiry_at control.entries iface entry
+    one_expiry : (iface : IfaceId) (entry : JoinEntry) → is_iface_of place.scenario own.id iface ≡ true
+        → expiry_at tree.vrf.entries iface entry ≡ expiry_at control.entries iface entry
     one_expiry iface entry h =
         is.entries (record { iface = iface; entry = entry }) ∙ ap (λ (b : Bool). cond b (expiry_at control.entries iface entry) None) h
 
@@ -154,14 +157,16 @@ module _ (place : EdgePlace) (control : Control) (own : OwnVrf) (tree : TreeData
         → trees.is_asking tree.vrf now flow site ≡ is_asking place now control own flow.source flow.group iface
     one_asks iface h site e =
         ap (λ (at : IfaceId). trees.is_asking tree.vrf now flow (record { iface = at; site = site.site })) e
-        ∙ (λ i. asks_by now (one_active i) (one_expiry iface (entries.Source flow.source flow.group) h i) (one_expiry iface (entries.Star flow.group) h i) (one_expiry iface (entries.Rpt flow.source flow.group) h i))
+        ∙ (λ i. asks_by now (one_active i) (one_expiry iface (entries.Source flow.source flow.group) h i)
+        (one_expiry iface (entries.Star flow.group) h i) (one_expiry iface (entries.Rpt flow.source flow.group) h i))
 
     of_vrf : (site : SiteIface) → Among site tree.vrf.ifaces → is_iface_of place.scenario own.id site.iface ≡ true
     of_vrf site a =
         let found = site_at own.id place.scenario.ifaces site (subst (λ (all : List SiteIface). Among site all) is.ifaces a) in
         ap (λ (o : Option Iface). elim o [ None ↦ false | Some iface ↦ is_of_vrf own.id iface ]) found.1 ∙ found.2
 
-    pub one_asking : (site : SiteIface) → Among site tree.vrf.ifaces → trees.is_asking tree.vrf now flow site ≡ is_asking place now control own flow.source flow.group site.iface
+    pub one_asking : (site : SiteIface) → Among site tree.vrf.ifaces
+        → trees.is_asking tree.vrf now flow site ≡ is_asking place now control own flow.source flow.group site.iface
     one_asking site a = one_asks site.iface (of_vrf site a) site refl
 
     pub ids : map iface_id tree.vrf.ifaces ≡ ifaces_of place own
@@ -172,9 +177,11 @@ module _ (place : EdgePlace) (control : Control) (own : OwnVrf) (tree : TreeData
         mapped_filter iface_id (trees.is_asking tree.vrf now flow) (is_asking place now control own flow.source flow.group) tree.vrf.ifaces one_asking
         ∙ ap (filter (is_asking place now control own flow.source flow.group)) ids
 
-    any_mapped : (p : SiteIface → Bool) (q : IfaceId → Bool) (xs : List SiteIface) → ((x : SiteIface) → Among x xs → p x ≡ q (iface_id x)) → list_any p xs ≡ list_any q (map iface_id xs)
+    any_mapped : (p : SiteIface → Bool) (q : IfaceId → Bool) (xs : List SiteIface) → ((x : SiteIface) → Among x xs → p x ≡ q (iface_id x))
+        → list_any p xs ≡ list_any q (map iface_id xs)
     any_mapped p q xs h = either (list_any p xs) (list_any q (map iface_id xs))
-        (λ t. let found = any_among p xs t in any_from q (iface_id found.0) (map iface_id xs) (among_map iface_id found.0 xs found.1) (sym (h found.0 found.1) ∙ found.2))
+        (λ t. let found = any_among p xs t in
+        any_from q (iface_id found.0) (map iface_id xs) (among_map iface_id found.0 xs found.1) (sym (h found.0 found.1) ∙ found.2))
         (λ t. let found = any_among q (map iface_id xs) t in let by = map_among iface_id found.0 xs found.1 in
         any_from p by.0 xs by.1 (h by.0 by.1 ∙ (ap q (sym by.2) ∙ found.2)))
 

@@ -74,7 +74,8 @@ join_exact a b e = by (slice_cmp-IsAntisymmetric (slice_cmp-IsAntisymmetric nat_
 -- ---- selections
 
 -- the selection by which a flow is transmitted is one of the same selections in any order
-pub one_transmitted : (xs ys : List Selection) (source group : Addr) → ((s : Selection) → Among s xs ↔ Among s ys) → AreDistinct ys → transmitted xs source group ≡ transmitted ys source group
+pub one_transmitted : (xs ys : List Selection) (source group : Addr) → ((s : Selection) → Among s xs ↔ Among s ys) → AreDistinct ys
+    → transmitted xs source group ≡ transmitted ys source group
 one_transmitted xs ys source group same distinct = by (transmitted xs source group) refl
   where
     xs_distinct : AreDistinct xs
@@ -97,7 +98,9 @@ selections_distinct place control own one other a b e =
     let numbers = eqb-true x.0.0.vrf.0 own.id.0 p.1 ∙ sym (eqb-true y.0.0.vrf.0 own.id.0 q.1) in
     let patterns : x.0.0.pattern ≡ y.0.0.pattern = ap (λ (s : Selection). s.pattern) (sym x.2) ∙ e ∙ ap (λ (s : Selection). s.pattern) y.2 in
     let keys : x.0.0 ≡ y.0.0 = λ i. record { vrf = record { 0 = numbers i }; pattern = patterns i } in
-    let values = same_Some x.0.1 y.0.1 (sym (entry_get pattern_total control.selections x.0.0 x.0.1 p.0) ∙ ap (maps.get control.selections) keys ∙ entry_get pattern_total control.selections y.0.0 y.0.1 q.0) in
+    let values =
+    same_Some x.0.1 y.0.1 (sym (entry_get pattern_total control.selections x.0.0 x.0.1 p.0) ∙ ap (maps.get control.selections) keys
+    ∙ entry_get pattern_total control.selections y.0.0 y.0.1 q.0) in
     x.2 ∙ (λ i. selection_of (keys i, values i)) ∙ sym y.2
 
 added_number : (o : Option Selection) → number_by o ≡ added o
@@ -134,31 +137,37 @@ module _ (place : EdgePlace) (control : Control) (own : OwnVrf) (tree : TreeData
   tree_joined : has_join tree flow ≡ true → IsJoined place control own flow.source flow.group
   tree_joined h =
       let found = any_among (λ (join : TakenJoin). same_flow join.flow flow) (sets.items tree.joined) h in
-      join_there found.0 (same_flow_equal found.0.flow flow found.2) ((is.joined found.0).0 (item_contained join_total join_exact tree.joined found.0 found.1))
+      join_there found.0 (same_flow_equal found.0.flow flow found.2)
+      ((is.joined found.0).0 (item_contained join_total join_exact tree.joined found.0 found.1))
 
   joined_tree : IsJoined place control own flow.source flow.group → has_join tree flow ≡ true
   joined_tree j =
       let join : TakenJoin = record { peer = j.peer; flow = flow } in
       any_from (λ (x : TakenJoin). same_flow x.flow flow) join (sets.items tree.joined)
-      (contained_item join_total join_exact tree.joined join ((is.joined join).1 (record { key = j.key; taken = j.route; at = j.taken; used = j.joins })))
+      (contained_item join_total join_exact tree.joined join
+      ((is.joined join).1 (record { key = j.key; taken = j.route; at = j.taken; used = j.joins })))
       (same_flow_itself flow)
 
   pub one_join : is_joined_in place control own flow.source flow.group ≡ has_join tree flow
   one_join = either (is_joined_in place control own flow.source flow.group) (has_join tree flow)
-      (λ h. joined_tree (joined_from place 0 control own flow.source flow.group h)) (λ h. joined_to place 0 control own flow.source flow.group (tree_joined h))
+      (λ h. joined_tree (joined_from place 0 control own flow.source flow.group h))
+      (λ h. joined_to place 0 control own flow.source flow.group (tree_joined h))
 
   pub one_tunnel : transmit_tunnel place control own flow.source flow.group ≡ tunnel_for place tree flow
   one_tunnel =
       let edge_choice = transmitted (selections_of control own.id) flow.source flow.group in
       let tree_choice = transmitted tree.root.selections flow.source flow.group in
-      let same : edge_choice ≡ tree_choice = sym (one_transmitted tree.root.selections (selections_of control own.id) flow.source flow.group is.selections (selections_distinct place control own)) in
+      let same : edge_choice ≡ tree_choice =
+      sym (one_transmitted tree.root.selections (selections_of control own.id) flow.source flow.group is.selections
+      (selections_distinct place control own)) in
       ap (λ (n : ℕ). lsp (own_addr place) (tunnel_number own.vrf n)) (added_number edge_choice ∙ ap added same)
       ∙ ap (λ (n : ℕ). lsp (own_addr place) (lsp_number n (added tree_choice))) (sym is.number)
 
   -- ---- interfaces outside a site
 
   module _ (now : ℕ) (site : SiteId) where
-    one_outside : (x : SiteIface) → Among x (trees.asking tree.vrf now flow) → trees.is_outside (places.Site site) x ≡ is_outside place.scenario site x.iface
+    one_outside : (x : SiteIface) → Among x (trees.asking tree.vrf now flow)
+        → trees.is_outside (places.Site site) x ≡ is_outside place.scenario site x.iface
     one_outside x a =
         let inside = (filter_among (trees.is_asking tree.vrf now flow) x tree.vrf.ifaces a).0 in
         let at = site_at own.id place.scenario.ifaces x (subst_ifaces x inside) in
@@ -172,7 +181,8 @@ module _ (place : EdgePlace) (control : Control) (own : OwnVrf) (tree : TreeData
         ≡ map iface_id (filter (trees.is_outside (places.Site site)) (trees.asking tree.vrf now flow))
     outside_ids =
         ap (filter (is_outside place.scenario site)) (sym (all_asking place control own tree is flow now))
-        ∙ sym (mapped_filter iface_id (trees.is_outside (places.Site site)) (is_outside place.scenario site) (trees.asking tree.vrf now flow) one_outside)
+        ∙ sym (mapped_filter iface_id (trees.is_outside (places.Site site)) (is_outside place.scenario site) (trees.asking tree.vrf now flow)
+        one_outside)
 
     module _ (rules : Rules place.scenario) (nodes : AreNodes place control) (whole : AreWhole (known_routes place control own)) where
       abbrev up : Option Upstream
@@ -188,13 +198,16 @@ module _ (place : EdgePlace) (control : Control) (own : OwnVrf) (tree : TreeData
         abbrev fate : Fate
         fate = record {
           outs = filter (is_outside place.scenario site) (asking_ifaces place now control own flow.source flow.group);
-          branches = cond (is_joined_in place control own flow.source flow.group) (branches_of edge.part (transmit_tunnel place control own flow.source flow.group)) [];
+          branches =
+              cond (is_joined_in place control own flow.source flow.group)
+              (branches_of edge.part (transmit_tunnel place control own flow.source flow.group)) [];
         }
 
         fate_is : entering_fate place now edge own site flow.source flow.group ≡ cond (is_from_site site up) fate discarded
         fate_is = ap (λ (c : Control). entering_fate place now (record edge { control = c }) own site flow.source flow.group) same
 
-        pub entering_outs : (entering_fate place now edge own site flow.source flow.group).outs ≡ trees.outgoing tree.vrf (place.core.cost place.me) now flow (places.Site site)
+        pub entering_outs : (entering_fate place now edge own site flow.source flow.group).outs
+            ≡ trees.outgoing tree.vrf (place.core.cost place.me) now flow (places.Site site)
         entering_outs =
             ap (λ (f : Fate). f.outs) fate_is ∙ outs_where (is_from_site site up) fate ∙ (λ i. cond (one_source i) (outside_ids i) [])
 

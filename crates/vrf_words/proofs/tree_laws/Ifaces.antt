@@ -9,11 +9,13 @@ use Rattle.vrf_words.specs.declared.tree_defs.flow.SiteIface.{SiteIface}
 use Rattle.vrf_words.specs.tree_laws.TreeOf.{site_ifaces, iface_id}
 
 -- those that pass a test of what they are changed to
-pub mapped_filter : {X Y : Type 0} (f : X → Y) (p : X → Bool) (q : Y → Bool) (xs : List X) → ((x : X) → Among x xs → p x ≡ q (f x)) → map f (filter p xs) ≡ filter q (map f xs)
+pub mapped_filter : {X Y : Type 0} (f : X → Y) (p : X → Bool) (q : Y → Bool) (xs : List X) → ((x : X) → Among x xs → p x ≡ q (f x))
+    → map f (filter p xs) ≡ filter q (map f xs)
 mapped_filter f p q [] h = refl
 mapped_filter f p q (x ∷ xs) h = by (p x) (q (f x)) (h x (inl refl)) (mapped_filter f p q xs (λ y a. h y (inr a)))
   where
-    by : (b c : Bool) → b ≡ c → map f (filter p xs) ≡ filter q (map f xs) → map f (cond b (x ∷ filter p xs) (filter p xs)) ≡ cond c (f x ∷ filter q (map f xs)) (filter q (map f xs))
+    by : (b c : Bool) → b ≡ c → map f (filter p xs) ≡ filter q (map f xs)
+        → map f (cond b (x ∷ filter p xs) (filter p xs)) ≡ cond c (f x ∷ filter q (map f xs)) (filter q (map f xs))
     by true true e rest = ap (λ ys. f x ∷ ys) rest
     by false false e rest = rest
     by true false e rest = absurd cc
@@ -22,12 +24,14 @@ mapped_filter f p q (x ∷ xs) h = by (p x) (q (f x)) (h x (inl refl)) (mapped_f
 abbrev vrf_test : VrfId → IfaceId → Iface → Bool
 vrf_test vrf number iface = is_of_vrf vrf iface
 
-pub ids_of : (vrf : VrfId) (number : ℕ) (ifaces : List Iface) → map iface_id (site_ifaces vrf number ifaces) ≡ ifaces_where (vrf_test vrf) number ifaces
+pub ids_of : (vrf : VrfId) (number : ℕ) (ifaces : List Iface)
+    → map iface_id (site_ifaces vrf number ifaces) ≡ ifaces_where (vrf_test vrf) number ifaces
 ids_of vrf number [] = refl
 ids_of vrf number (iface ∷ more) = by (is_of_vrf vrf iface) (ids_of vrf (number + 1) more)
   where
     by : (b : Bool) → map iface_id (site_ifaces vrf (number + 1) more) ≡ ifaces_where (vrf_test vrf) (number + 1) more
-        → map iface_id (cond b (record { iface = record { 0 = number }; site = iface.site } ∷ site_ifaces vrf (number + 1) more) (site_ifaces vrf (number + 1) more))
+        → map iface_id (cond b (record { iface = record { 0 = number }; site = iface.site } ∷ site_ifaces vrf (number + 1) more)
+        (site_ifaces vrf (number + 1) more))
         ≡ cond b (record { 0 = number } ∷ ifaces_where (vrf_test vrf) (number + 1) more) (ifaces_where (vrf_test vrf) (number + 1) more)
     by true rest = ap (λ (ids : List IfaceId). record { 0 = number } ∷ ids) rest
     by false rest = rest
@@ -41,15 +45,18 @@ pub record SiteAt (vrf : VrfId) (number : ℕ) (ifaces : List Iface) (own : Site
   pub of_vrf : is_of_vrf vrf found ≡ true
   pub of_site : own.site ≡ found.site
 
-site_placed : (vrf : VrfId) (number : ℕ) (ifaces : List Iface) (own : SiteIface) → Among own (site_ifaces vrf number ifaces) → SiteAt vrf number ifaces own
+site_placed : (vrf : VrfId) (number : ℕ) (ifaces : List Iface) (own : SiteIface) → Among own (site_ifaces vrf number ifaces)
+    → SiteAt vrf number ifaces own
 site_placed vrf number [] own a = absurd a
 site_placed vrf number (iface ∷ more) own a = by (is_of_vrf vrf iface) refl a (site_placed vrf (number + 1) more own)
   where
     further : SiteAt vrf (number + 1) more own → SiteAt vrf number (iface ∷ more) own
-    further s = let same = s.is in record { place = suc s.place; found = s.found; at = s.at; is = omega (arith, same); of_vrf = s.of_vrf; of_site = s.of_site }
+    further s = let same = s.is in
+        record { place = suc s.place; found = s.found; at = s.at; is = omega (arith, same); of_vrf = s.of_vrf; of_site = s.of_site }
 
     by : (b : Bool) → is_of_vrf vrf iface ≡ b
-        → Among own (cond b (record { iface = record { 0 = number }; site = iface.site } ∷ site_ifaces vrf (number + 1) more) (site_ifaces vrf (number + 1) more))
+        → Among own (cond b (record { iface = record { 0 = number }; site = iface.site } ∷ site_ifaces vrf (number + 1) more)
+        (site_ifaces vrf (number + 1) more))
         → (Among own (site_ifaces vrf (number + 1) more) → SiteAt vrf (number + 1) more own) → SiteAt vrf number (iface ∷ more) own
     by true h (inl e) rest = record {
       place = zero;

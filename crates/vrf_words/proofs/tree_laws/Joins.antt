@@ -68,7 +68,8 @@ module _ {X Y : Type 0} (tell : X → Option Y) where
   none_tells [] h x a = absurd a
   none_tells (z ∷ xs) h x a = by (tell z) refl h (λ k b. none_tells xs k x b) a
     where
-      by : (o : Option Y) → tell z ≡ o → ◌≡◌ {A = Option Y} (elim o [ None ↦ first_told tell xs | Some y ↦ Some y ]) None → (first_told tell xs ≡ None → Among x xs → tell x ≡ None) → Among x (z ∷ xs) → tell x ≡ None
+      by : (o : Option Y) → tell z ≡ o → ◌≡◌ {A = Option Y} (elim o [ None ↦ first_told tell xs | Some y ↦ Some y ]) None
+          → (first_told tell xs ≡ None → Among x xs → tell x ≡ None) → Among x (z ∷ xs) → tell x ≡ None
       by None e g rest (inl same) = ap tell same ∙ e
       by None e g rest (inr b) = rest g b
       by (Some y) e g rest b = none_some y (sym g)
@@ -77,7 +78,8 @@ module _ {X Y : Type 0} (tell : X → Option Y) where
   first_is Before [] y o h = none_some y h
   first_is Before (z ∷ xs) y o h = by (tell z) refl h (first_is Before xs y o.1)
     where
-      by : (t : Option Y) → tell z ≡ t → elim t [ None ↦ first_told tell xs | Some w ↦ Some w ] ≡ Some y → (first_told tell xs ≡ Some y → IsFirst tell Before xs y) → IsFirst tell Before (z ∷ xs) y
+      by : (t : Option Y) → tell z ≡ t → elim t [ None ↦ first_told tell xs | Some w ↦ Some w ] ≡ Some y
+          → (first_told tell xs ≡ Some y → IsFirst tell Before xs y) → IsFirst tell Before (z ∷ xs) y
       by (Some w) e g rest = record { x = z; among = inl refl; is = e ∙ g; earlier = λ v a b. absurd (o.0 v a b) }
       by None e g rest = later (rest g)
         where
@@ -100,7 +102,8 @@ module _ {K V : Type 0} (R : K → K → Ordering) (key : K) where
   find_behind [] ys h = refl
   find_behind (x ∷ xs) ys h = by (eq_by_cmp R key x.0) h (find_behind xs ys)
     where
-      by : (b : Bool) → cond b (Some x.1) (find R key xs) ≡ None → (find R key xs ≡ None → find R key (xs ++ ys) ≡ find R key ys) → cond b (Some x.1) (find R key (xs ++ ys)) ≡ find R key ys
+      by : (b : Bool) → cond b (Some x.1) (find R key xs) ≡ None → (find R key xs ≡ None → find R key (xs ++ ys) ≡ find R key ys)
+          → cond b (Some x.1) (find R key (xs ++ ys)) ≡ find R key ys
       by true e rest = none_some x.1 (sym e)
       by false e rest = rest e
 
@@ -116,22 +119,26 @@ module _ {K V : Type 0} (R : K → K → Ordering) (key : K) where
       passed true entry rest = refl
       passed false entry rest = rest
 
-      by : (o : Option (K × V)) → g x ≡ o → find R key (found_in g xs) ≡ first_told (value_at g) xs → find R key (found_in g (x ∷ xs)) ≡ first_told (value_at g) (x ∷ xs)
+      by : (o : Option (K × V)) → g x ≡ o → find R key (found_in g xs) ≡ first_told (value_at g) xs
+          → find R key (found_in g (x ∷ xs)) ≡ first_told (value_at g) (x ∷ xs)
       by None e rest =
           ap (find R key) (found_step g x xs None e) ∙ rest
-          ∙ sym (ap (λ (o : Option (K × V)). elim (o >>? λ entry. only_if (eq_by_cmp R key entry.0) entry.1) [ None ↦ first_told (value_at g) xs | Some y ↦ Some y ]) e)
+          ∙ sym (ap (λ (o : Option (K × V)). elim (o >>? λ entry. only_if (eq_by_cmp R key entry.0) entry.1)
+          [ None ↦ first_told (value_at g) xs | Some y ↦ Some y ]) e)
       by (Some entry) e rest =
           ap (find R key) (found_step g x xs (Some entry) e) ∙ passed (eq_by_cmp R key entry.0) entry rest
-          ∙ sym (ap (λ (o : Option (K × V)). elim (o >>? λ own. only_if (eq_by_cmp R key own.0) own.1) [ None ↦ first_told (value_at g) xs | Some y ↦ Some y ]) e)
+          ∙ sym (ap (λ (o : Option (K × V)). elim (o >>? λ own. only_if (eq_by_cmp R key own.0) own.1)
+          [ None ↦ first_told (value_at g) xs | Some y ↦ Some y ]) e)
 
 -- ---- keys of joins
 
-pub record OneJoin (afi other_afi : Afi) (rd other_rd : Rd) (source_as other_source_as : ℕ) (source other_source group other_group : Addr) : Type 0 where
-  pub family : afi ≡ other_afi
-  pub distinguisher : rd ≡ other_rd
-  pub system : source_as ≡ other_source_as
-  pub from : source ≡ other_source
-  pub to : group ≡ other_group
+pub record OneJoin (afi other_afi : Afi) (rd other_rd : Rd) (source_as other_source_as : ℕ) (source other_source group other_group : Addr) : Type 0
+  where
+    pub family : afi ≡ other_afi
+    pub distinguisher : rd ≡ other_rd
+    pub system : source_as ≡ other_source_as
+    pub from : source ≡ other_source
+    pub to : group ≡ other_group
 
 one_join : (afi other_afi : Afi) (rd other_rd : Rd) (source_as other_source_as : ℕ) (source other_source group other_group : Addr)
     → Mcast afi (routes.SourceJoin rd source_as source group) ≡ Mcast other_afi (routes.SourceJoin other_rd other_source_as other_source other_group)
@@ -143,21 +150,31 @@ one_rd : (a b : Rd) → a.0 ≡ b.0 → a ≡ b
 one_rd a b h = λ i. record { 0 = h i }
 
 -- keys of joins of one flow tie where RD and Source AS are the same
-key_ties : (afi : Afi) (rd own_rd : Rd) (source_as own_as : ℕ) (flow : Flow) → eq_by_cmp key_cmp (join_key afi rd source_as flow) (join_key afi own_rd own_as flow) ≡ (pointwise nat_eq own_rd.0 rd.0 && (own_as == source_as))
-key_ties afi rd own_rd source_as own_as flow = either (eq_by_cmp key_cmp (join_key afi rd source_as flow) (join_key afi own_rd own_as flow)) (pointwise nat_eq own_rd.0 rd.0 && (own_as == source_as)) there back
+key_ties : (afi : Afi) (rd own_rd : Rd) (source_as own_as : ℕ) (flow : Flow)
+    → eq_by_cmp key_cmp (join_key afi rd source_as flow) (join_key afi own_rd own_as flow) ≡ (pointwise nat_eq own_rd.0 rd.0 && (own_as == source_as))
+key_ties afi rd own_rd source_as own_as flow =
+    either (eq_by_cmp key_cmp (join_key afi rd source_as flow) (join_key afi own_rd own_as flow))
+    (pointwise nat_eq own_rd.0 rd.0 && (own_as == source_as)) there back
   where
-    there : eq_by_cmp key_cmp (join_key afi rd source_as flow) (join_key afi own_rd own_as flow) ≡ true → (pointwise nat_eq own_rd.0 rd.0 && (own_as == source_as)) ≡ true
+    there : eq_by_cmp key_cmp (join_key afi rd source_as flow) (join_key afi own_rd own_as flow) ≡ true
+        → (pointwise nat_eq own_rd.0 rd.0 && (own_as == source_as)) ≡ true
     there h =
-        let one = one_join afi afi rd own_rd source_as own_as flow.source flow.source flow.group flow.group (key_exact (join_key afi rd source_as flow) (join_key afi own_rd own_as flow) ((Equal-is (key_cmp (join_key afi rd source_as flow) (join_key afi own_rd own_as flow))).0 h)) in
-        and_from (pointwise nat_eq own_rd.0 rd.0) (own_as == source_as) ((bytes_decides own_rd.0 rd.0).1 (ap (λ (r : Rd). r.0) (sym one.distinguisher))) (eq-eqb own_as source_as (sym one.system))
+        let one =
+        one_join afi afi rd own_rd source_as own_as flow.source flow.source flow.group flow.group
+        (key_exact (join_key afi rd source_as flow) (join_key afi own_rd own_as flow)
+        ((Equal-is (key_cmp (join_key afi rd source_as flow) (join_key afi own_rd own_as flow))).0 h)) in
+        and_from (pointwise nat_eq own_rd.0 rd.0) (own_as == source_as)
+        ((bytes_decides own_rd.0 rd.0).1 (ap (λ (r : Rd). r.0) (sym one.distinguisher))) (eq-eqb own_as source_as (sym one.system))
 
-    back : (pointwise nat_eq own_rd.0 rd.0 && (own_as == source_as)) ≡ true → eq_by_cmp key_cmp (join_key afi rd source_as flow) (join_key afi own_rd own_as flow) ≡ true
+    back : (pointwise nat_eq own_rd.0 rd.0 && (own_as == source_as)) ≡ true
+        → eq_by_cmp key_cmp (join_key afi rd source_as flow) (join_key afi own_rd own_as flow) ≡ true
     back h =
         let both = and_parts (pointwise nat_eq own_rd.0 rd.0) (own_as == source_as) h in
         let rds : rd ≡ own_rd = one_rd rd own_rd (sym ((bytes_decides own_rd.0 rd.0).0 both.0)) in
         let numbers : source_as ≡ own_as = sym (eqb-true own_as source_as both.1) in
         let same : join_key afi rd source_as flow ≡ join_key afi own_rd own_as flow = λ i. join_key afi (rds i) (numbers i) flow in
-        ap (λ (k : Key). is_eq (key_cmp (join_key afi rd source_as flow) k)) (sym same) ∙ ap is_eq (tied_itself key_total (join_key afi rd source_as flow))
+        ap (λ (k : Key). is_eq (key_cmp (join_key afi rd source_as flow) k)) (sym same)
+        ∙ ap is_eq (tied_itself key_total (join_key afi rd source_as flow))
 
 -- ---- the order of flows and of VRFs
 
@@ -171,13 +188,15 @@ entries_in_order {V = V} (e ∷ es) s = (first, entries_in_order es (back_of (be
 
 vrf_less : (a b : VrfId) (flow : Flow) → a.0 < b.0 → flow_cmp (flow_in a flow) (flow_in b flow) ≡ Less
 vrf_less a b flow h =
-    ap (λ (o : Ordering). ordering_then (ordering_then o Equal) (slice_cmp (slice_cmp nat_cmp) (flow_parts flow) (flow_parts flow))) (sym (nat_cmp_is a.0 b.0 Less h))
+    ap (λ (o : Ordering). ordering_then (ordering_then o Equal) (slice_cmp (slice_cmp nat_cmp) (flow_parts flow) (flow_parts flow)))
+    (sym (nat_cmp_is a.0 b.0 Less h))
 
 not_below : (me : NodeId) (number : ℕ) (vrfs : List Vrf) (own : OwnVrf) → Among own (vrfs_from me number vrfs) → number ≤ own.id.0
 not_below me number [] own a = absurd a
 not_below me number (vrf ∷ vrfs) own a = by (vrf.edge.0 == me.0) a (not_below me (number + 1) vrfs own)
   where
-    by : (b : Bool) → Among own (cond b (record { id = record { 0 = number }; vrf = vrf } ∷ vrfs_from me (number + 1) vrfs) (vrfs_from me (number + 1) vrfs)) → (Among own (vrfs_from me (number + 1) vrfs) → number + 1 ≤ own.id.0) → number ≤ own.id.0
+    by : (b : Bool) → Among own (cond b (record { id = record { 0 = number }; vrf = vrf } ∷ vrfs_from me (number + 1) vrfs)
+        (vrfs_from me (number + 1) vrfs)) → (Among own (vrfs_from me (number + 1) vrfs) → number + 1 ≤ own.id.0) → number ≤ own.id.0
     by true (inl e) rest = (let same : own.id.0 ≡ number = ap (λ (o : OwnVrf). o.id.0) e in omega (arith, same))
     by true (inr b) rest = (let above = rest b in omega (arith, above))
     by false b rest = (let above = rest b in omega (arith, above))
@@ -240,22 +259,27 @@ module _ (place : EdgePlace) (control : Control) (peer : NodeId) (rd : Rd) (sour
       let first = chained (join_route place peer entry) (λ (own : Key × Value). only_if (eq_by_cmp key_cmp key own.0) own.1) value h in
       let passed = cond_some (eq_by_cmp key_cmp key first.0.0) first.0.1 value first.2 in
       let join = is_join place peer entry.0 entry.1 first.0 first.1 in
-      let one = one_join (afi_of flow.source) (afi_of entry.0.source) rd join.rd source_as join.source_as flow.source entry.0.source flow.group entry.0.group
+      let one =
+      one_join (afi_of flow.source) (afi_of entry.0.source) rd join.rd source_as join.source_as flow.source entry.0.source flow.group
+      entry.0.group
       (key_exact key first.0.0 ((Equal-is (key_cmp key first.0.0)).0 passed.0) ∙ join.key) in
       λ i. record { vrf = entry.0.vrf; source = sym one.from i; group = sym one.to i }
 
   abbrev all : List (VrfFlow × Option Upstream)
   all = maps.entries control.flows
 
-  entry_told : (own : OwnVrf) (value : Value) → vrf_tells own ≡ Some value → (up : Option Upstream) × Among (flow_in own.id flow, up) all × (tell (flow_in own.id flow, up) ≡ Some value)
+  entry_told : (own : OwnVrf) (value : Value) → vrf_tells own ≡ Some value
+      → (up : Option Upstream) × Among (flow_in own.id flow, up) all × (tell (flow_in own.id flow, up) ≡ Some value)
   entry_told own value h =
       let by = chained (maps.get control.flows (flow_in own.id flow)) (λ (up : Option Upstream). tell (flow_in own.id flow, up)) value h in
       (by.0, get_entry flow_exact control.flows (flow_in own.id flow) by.0 by.1, by.2)
 
-  told_vrf : (own : OwnVrf) (entry : VrfFlow × Option Upstream) (value : Value) → own.id ≡ entry.0.vrf → Among entry all → tell entry ≡ Some value → vrf_tells own ≡ Some value
+  told_vrf : (own : OwnVrf) (entry : VrfFlow × Option Upstream) (value : Value) → own.id ≡ entry.0.vrf → Among entry all → tell entry ≡ Some value
+      → vrf_tells own ≡ Some value
   told_vrf own entry value e a h =
       let same : flow_in own.id flow ≡ entry.0 = ap (λ (v : VrfId). flow_in v flow) e ∙ sym (of_flow entry value h) in
-      let at : maps.get control.flows (flow_in own.id flow) ≡ Some entry.1 = ap (maps.get control.flows) same ∙ entry_get flow_total control.flows entry.0 entry.1 a in
+      let at : maps.get control.flows (flow_in own.id flow) ≡ Some entry.1 =
+      ap (maps.get control.flows) same ∙ entry_get flow_total control.flows entry.0 entry.1 a in
       ap (λ (o : Option (Option Upstream)). o >>? λ up. tell (flow_in own.id flow, up)) at ∙ ap (λ (f : VrfFlow). tell (f, entry.1)) same ∙ h
 
   module _ (of_vrfs : AreOfVrfs place control) where
@@ -273,7 +297,8 @@ module _ (place : EdgePlace) (control : Control) (peer : NodeId) (rd : Rd) (sour
         elim (cases_lt g.x.id.0 own.0.id.0) [
           | inl less ↦
               (let before : flow_cmp (flow_in g.x.id flow) f.x.0 ≡ Less =
-              ap (flow_cmp (flow_in g.x.id flow)) (of_flow f.x v f.is ∙ ap (λ (i : VrfId). flow_in i flow) (sym own.2)) ∙ vrf_less g.x.id own.0.id flow less in
+              ap (flow_cmp (flow_in g.x.id flow)) (of_flow f.x v f.is ∙ ap (λ (i : VrfId). flow_in i flow) (sym own.2))
+              ∙ vrf_less g.x.id own.0.id flow less in
               none_some w (sym (f.earlier (flow_in g.x.id flow, there.0) there.1 before) ∙ there.2))
           | inr rest ↦ elim (cases_lt own.0.id.0 g.x.id.0) [
             | inl less ↦ none_some v (sym (g.earlier own.0 own.1 less) ∙ here)
@@ -307,7 +332,9 @@ module _ (place : EdgePlace) (control : Control) (peer : NodeId) (rd : Rd) (sour
 
   -- ---- what a tree tells
 
-  flow_tells : (vrf : VrfId) (o : Option (Option Upstream)) → (o >>? λ up. tell (flow_in vrf flow, up)) ≡ (upstream_of (option_map choice_of o) >>? λ up. only_if (is_join_to peer rd source_as up) (join_value place up))
+  flow_tells : (vrf : VrfId) (o : Option (Option Upstream))
+      → (o >>? λ up. tell (flow_in vrf flow, up)) ≡
+      (upstream_of (option_map choice_of o) >>? λ up. only_if (is_join_to peer rd source_as up) (join_value place up))
   flow_tells vrf None = refl
   flow_tells vrf (Some None) = refl
   flow_tells vrf (Some (Some (Site site))) = refl
@@ -316,17 +343,20 @@ module _ (place : EdgePlace) (control : Control) (peer : NodeId) (rd : Rd) (sour
       value : Value
       value = record { next_hop = own_addr place; comms = import_target import ∷ []; pmsi = None }
 
-      by : (b : Bool) → (cond b (Some (join_key (afi_of flow.source) own_rd own_as flow, value)) None >>? λ (own : Key × Value). only_if (eq_by_cmp key_cmp key own.0) own.1)
+      by : (b : Bool) → (cond b (Some (join_key (afi_of flow.source) own_rd own_as flow, value)) None >>? λ (own : Key × Value). only_if
+          (eq_by_cmp key_cmp key own.0) own.1)
           ≡ only_if (b && (pointwise nat_eq own_rd.0 rd.0 && (own_as == source_as))) value
       by true = ap (λ (b : Bool). only_if b value) (key_ties (afi_of flow.source) rd own_rd source_as own_as flow)
       by false = refl
 
   -- the join is that of the first VRF which has it for its upstream of the flow
   pub joins_by_vrfs : AreOfVrfs place control → maps.get (held_for place control peer) key
-      ≡ first_told (λ own. upstream_of (option_map choice_of (maps.get control.flows (flow_in own.id flow))) >>? λ up. only_if (is_join_to peer rd source_as up) (join_value place up)) (own_vrfs place)
+      ≡ first_told (λ own. upstream_of (option_map choice_of (maps.get control.flows (flow_in own.id flow))) >>? λ up. only_if
+      (is_join_to peer rd source_as up) (join_value place up)) (own_vrfs place)
   joins_by_vrfs of_vrfs =
       held_told of_vrfs
-      ∙ told_alike vrf_tells (λ own. upstream_of (option_map choice_of (maps.get control.flows (flow_in own.id flow))) >>? λ up. only_if (is_join_to peer rd source_as up) (join_value place up))
+      ∙ told_alike vrf_tells (λ own. upstream_of (option_map choice_of (maps.get control.flows (flow_in own.id flow))) >>? λ up. only_if
+      (is_join_to peer rd source_as up) (join_value place up))
       (λ own. flow_tells own.id (maps.get control.flows (flow_in own.id flow))) (own_vrfs place)
 
   tree_tells : (own : OwnVrf) (tree : TreeData) → IsTreeOf place control own tree → vrf_tells own ≡ join_of place peer rd source_as flow tree
@@ -334,7 +364,8 @@ module _ (place : EdgePlace) (control : Control) (peer : NodeId) (rd : Rd) (sour
       flow_tells own.id (maps.get control.flows (flow_in own.id flow))
       ∙ ap (λ (o : Option _). upstream_of o >>? λ up. only_if (is_join_to peer rd source_as up) (join_value place up)) (sym (is.flows flow))
 
-  trees_tell : (vrfs : List OwnVrf) (trees : List TreeData) → AreTreesOf place control vrfs trees → first_told vrf_tells vrfs ≡ first_told (join_of place peer rd source_as flow) trees
+  trees_tell : (vrfs : List OwnVrf) (trees : List TreeData) → AreTreesOf place control vrfs trees
+      → first_told vrf_tells vrfs ≡ first_told (join_of place peer rd source_as flow) trees
   trees_tell [] [] h = refl
   trees_tell [] (tree ∷ trees) h = absurd h
   trees_tell (own ∷ vrfs) [] h = absurd h
@@ -346,7 +377,8 @@ module _ (place : EdgePlace) (control : Control) (peer : NodeId) (rd : Rd) (sour
   joins_are trees h of_vrfs = held_told of_vrfs ∙ trees_tell (own_vrfs place) trees h
 
 -- a join stands under the AFI of its source alone
-pub no_join : (place : EdgePlace) (control : Control) (peer : NodeId) (afi : Afi) (rd : Rd) (source_as : ℕ) (flow : Flow) → (afi ≡ afi_of flow.source → ⊥)
+pub no_join : (place : EdgePlace) (control : Control) (peer : NodeId) (afi : Afi) (rd : Rd) (source_as : ℕ) (flow : Flow)
+    → (afi ≡ afi_of flow.source → ⊥)
     → maps.get (held_for place control peer) (join_key afi rd source_as flow) ≡ None
 no_join place control peer afi rd source_as flow apart = by (maps.get (held_for place control peer) (join_key afi rd source_as flow)) refl
   where
@@ -354,5 +386,7 @@ no_join place control peer afi rd source_as flow apart = by (maps.get (held_for 
     by None e = refl
     by (Some value) e =
         let held = join_held place control peer afi rd source_as flow.source flow.group value e in
-        let one = one_join afi (afi_of held.flow.source) rd held.is.rd source_as held.is.source_as flow.source held.flow.source flow.group held.flow.group held.is.key in
+        let one =
+        one_join afi (afi_of held.flow.source) rd held.is.rd source_as held.is.source_as flow.source held.flow.source flow.group held.flow.group
+        held.is.key in
         absurd (apart (one.family ∙ ap afi_of (sym one.from)))

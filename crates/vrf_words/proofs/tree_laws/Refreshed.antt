@@ -45,7 +45,8 @@ module _ (place : EdgePlace) (control : Control) (own : OwnVrf) (flows : FinMap 
   join_back : (join : TakenJoin) → IsJoinTaken place (flowing control flows) own join → IsJoinTaken place control own join
   join_back join t = record { key = t.key; taken = t.taken; at = t.at; used = t.used }
 
-  selective_too : (key : RouteKey) (learned : Learned) → IsSelectiveAt place control own key learned → IsSelectiveAt place (flowing control flows) own key learned
+  selective_too : (key : RouteKey) (learned : Learned) → IsSelectiveAt place control own key learned
+      → IsSelectiveAt place (flowing control flows) own key learned
   selective_too key learned = by key.place
     where
       by : (spot : Place) → IsSelectiveAt place control own (record { peer = key.peer; pattern = key.pattern; place = spot }) learned
@@ -54,7 +55,8 @@ module _ (place : EdgePlace) (control : Control) (own : OwnVrf) (flows : FinMap 
       by Last h = h
       by (Of rd) t = record { key = t.key; taken = t.taken; imported = t.imported; at = t.at; is = t.is; of_rd = t.of_rd; learned_as = t.learned_as }
 
-  selective_back : (key : RouteKey) (learned : Learned) → IsSelectiveAt place (flowing control flows) own key learned → IsSelectiveAt place control own key learned
+  selective_back : (key : RouteKey) (learned : Learned) → IsSelectiveAt place (flowing control flows) own key learned
+      → IsSelectiveAt place control own key learned
   selective_back key learned = by key.place
     where
       by : (spot : Place) → IsSelectiveAt place (flowing control flows) own (record { peer = key.peer; pattern = key.pattern; place = spot }) learned
@@ -65,7 +67,8 @@ module _ (place : EdgePlace) (control : Control) (own : OwnVrf) (flows : FinMap 
 
   -- a tree of the VRF is one with other flows, where these are those of the edge
   flows_change : (tree : TreeData) (tree_flows : FinMap tree_keys.flow_cmp Choice) → IsTreeOf place control own tree
-      → ((flow : Flow) → maps.get tree_flows flow ≡ option_map choice_of (maps.get flows (flow_in own.id flow))) → IsTreeOf place (flowing control flows) own (with_flows tree tree_flows)
+      → ((flow : Flow) → maps.get tree_flows flow ≡ option_map choice_of (maps.get flows (flow_in own.id flow)))
+      → IsTreeOf place (flowing control flows) own (with_flows tree tree_flows)
   flows_change tree tree_flows is h = record {
     ifaces = is.ifaces;
     entries = is.entries;
@@ -80,15 +83,22 @@ module _ (place : EdgePlace) (control : Control) (own : OwnVrf) (flows : FinMap 
     delay = is.delay;
     selections = is.selections;
     leaf_delay = is.leaf_delay;
-    selective = λ key learned. (λ e. selective_too key learned ((is.selective key learned).0 e), λ t. (is.selective key learned).1 (selective_back key learned t));
+    selective =
+        λ key learned. (
+          λ e. selective_too key learned ((is.selective key learned).0 e),
+          λ t. (is.selective key learned).1 (selective_back key learned t),
+        );
     wants = refl;
   }
 
-pub refreshed_tree : (place : EdgePlace) (now : ℕ) (control : Control) (own : OwnVrf) (tree : TreeData) (flows : FinMap tree_keys.flow_cmp Choice) → Among own (own_vrfs place) → IsTreeOf place control own tree
-    → Rules place.scenario → AreNodes place control → AreWhole (known_routes place control own) → ((flow : Flow) → maps.get flows flow ≡ flow_of tree.vrf (place.core.cost place.me) now flow)
+pub refreshed_tree : (place : EdgePlace) (now : ℕ) (control : Control) (own : OwnVrf) (tree : TreeData) (flows : FinMap tree_keys.flow_cmp Choice)
+    → Among own (own_vrfs place) → IsTreeOf place control own tree
+    → Rules place.scenario → AreNodes place control → AreWhole (known_routes place control own)
+    → ((flow : Flow) → maps.get flows flow ≡ flow_of tree.vrf (place.core.cost place.me) now flow)
     → IsTreeOf place (refreshed place now control) own (with_flows tree flows)
 refreshed_tree place now control own tree flows among is rules nodes whole h =
-    flows_change place control own (flows_at place now control) tree flows is (λ flow. h flow ∙ looked_up place now control own tree flow among is rules nodes whole)
+    flows_change place control own (flows_at place now control) tree flows is
+    (λ flow. h flow ∙ looked_up place now control own tree flow among is rules nodes whole)
 
 pub flows_of_vrfs : (place : EdgePlace) (now : ℕ) (control : Control) → AreOfVrfs place (refreshed place now control)
 flows_of_vrfs place now control flow up h = let asked = is_asked place now control flow up h in (asked.own, asked.of_edge, asked.of_flow)

@@ -59,7 +59,8 @@ neither false = refl
 
 nothing_taken : (peer : NodeId) (key : Key) → maps.get (taken_from no_control peer) key ≡ None
 nothing_taken peer key =
-    ap (λ (o : Option Taken). maps.get {R = edge_keys.key_cmp} (elim o [ None ↦ maps.empty | Some taken ↦ taken ]) key) (get-empty node_cmp peer) ∙ get-empty edge_keys.key_cmp key
+    ap (λ (o : Option Taken). maps.get {R = edge_keys.key_cmp} (elim o [ None ↦ maps.empty | Some taken ↦ taken ]) key) (get-empty node_cmp peer)
+    ∙ get-empty edge_keys.key_cmp key
 
 was_taken : {A : Type 0} (peer : NodeId) (key : Key) (taken : TakenRoute) → maps.get (taken_from no_control peer) key ≡ Some taken → A
 was_taken peer key taken h = none_some taken (sym (nothing_taken peer key) ∙ h)
@@ -69,7 +70,8 @@ module _ (place : EdgePlace) (own : OwnVrf) where
   no_held prefix First = refl
   no_held prefix Here = refl
   no_held prefix Last = refl
-  no_held prefix (From peer rd) = ap (λ (o : Option TakenRoute). o >>? λ taken. held_from place own.vrf peer taken.value) (nothing_taken peer (Unicast rd prefix))
+  no_held prefix (From peer rd) =
+      ap (λ (o : Option TakenRoute). o >>? λ taken. held_from place own.vrf peer taken.value) (nothing_taken peer (Unicast rd prefix))
 
   no_active : {A : Type 0} (route : ActiveRoute) → IsActiveTaken no_control own route → A
   no_active route t = was_taken route.peer _ t.taken t.at
@@ -80,25 +82,32 @@ module _ (place : EdgePlace) (own : OwnVrf) where
   no_selective : (key : selective_keys.RouteKey) (learned : Learned) → IsSelectiveAt place no_control own key learned → ⊥
   no_selective key learned h = by key.place (subst_place h)
     where
-      subst_place : IsSelectiveAt place no_control own key learned → IsSelectiveAt place no_control own (record { peer = key.peer; pattern = key.pattern; place = key.place }) learned
+      subst_place : IsSelectiveAt place no_control own key learned
+          → IsSelectiveAt place no_control own (record { peer = key.peer; pattern = key.pattern; place = key.place }) learned
       subst_place g = g
 
-      by : (spot : selective_places.Place) → IsSelectiveAt place no_control own (record { peer = key.peer; pattern = key.pattern; place = spot }) learned → ⊥
+      by : (spot : selective_places.Place) → IsSelectiveAt place no_control own (record { peer = key.peer; pattern = key.pattern; place = spot })
+          learned → ⊥
       by selective_kinds.First g = g
       by selective_kinds.Last g = g
       by (selective_kinds.Of rd) g = was_taken key.peer g.key g.taken g.at
 
   no_selections : selections_of no_control own.id ≡ []
-  no_selections = ap (λ (es : List (VrfPattern × Selected)). map selection_of (filter (λ (entry : VrfPattern × Selected). entry.0.vrf.0 == own.id.0) es)) (empty_entries pattern_cmp)
+  no_selections =
+      ap (λ (es : List (VrfPattern × Selected)). map selection_of (filter (λ (entry : VrfPattern × Selected). entry.0.vrf.0 == own.id.0) es))
+      (empty_entries pattern_cmp)
 
-  pub started : (attached : FinMap key_cmp SiteId) → ((key : RouteKey) (site : SiteId) → (maps.get attached key ≡ Some site) ↔ IsAttachedAt place.scenario own key.prefix key.place site)
+  pub started : (attached : FinMap key_cmp SiteId)
+      → ((key : RouteKey) (site : SiteId) → (maps.get attached key ≡ Some site) ↔ IsAttachedAt place.scenario own key.prefix key.place site)
       → IsTreeOf place no_control own (start_tree place own attached)
   started attached h = record {
     ifaces = refl;
     entries = λ at. get-empty entry_cmp at
-        ∙ sym (ap (λ (o : Option _). cond (is_iface_of place.scenario own.id at.iface) o None) (get-empty entry_cmp at) ∙ either_none (is_iface_of place.scenario own.id at.iface));
+        ∙ sym (ap (λ (o : Option _). cond (is_iface_of place.scenario own.id at.iface) o None) (get-empty entry_cmp at)
+        ∙ either_none (is_iface_of place.scenario own.id at.iface));
     notes = λ note. sets.contains-empty note_cmp note
-        ∙ sym (ap (λ (b : Bool). is_iface_of place.scenario own.id note.iface && b) (sets.contains-empty edges.note_cmp (edge_note note)) ∙ neither (is_iface_of place.scenario own.id note.iface));
+        ∙ sym (ap (λ (b : Bool). is_iface_of place.scenario own.id note.iface && b) (sets.contains-empty edges.note_cmp (edge_note note))
+        ∙ neither (is_iface_of place.scenario own.id note.iface));
     actives = λ route. (λ e. not_true (sym (sets.contains-empty active_cmp route) ∙ e), no_active route);
     joined = λ join. (λ e. not_true (sym (sets.contains-empty join_cmp join) ∙ e), no_join join);
     rule = refl;
@@ -110,5 +119,7 @@ module _ (place : EdgePlace) (own : OwnVrf) where
     selections = λ selection. (λ a. absurd a, λ a. subst (λ (all : List Selection). Among selection all) no_selections a);
     leaf_delay = refl;
     selective = λ key learned. (λ e. none_some learned (sym (get-empty route_cmp key) ∙ e), λ is. absurd (no_selective key learned is));
-    wants = sym (ap (λ (es : List (Flow × Choice)). sets.from_list {R = fec_cmp} (flat_map (λ (entry : Flow × Choice). flow_wants (record { delay = place.scenario.delay; routes = maps.empty }) entry.0 entry.1) es)) (empty_entries tree_keys.flow_cmp));
+    wants = sym (ap (λ (es : List (Flow × Choice)). sets.from_list {R = fec_cmp}
+        (flat_map (λ (entry : Flow × Choice). flow_wants (record { delay = place.scenario.delay; routes = maps.empty }) entry.0 entry.1) es))
+        (empty_entries tree_keys.flow_cmp));
   }

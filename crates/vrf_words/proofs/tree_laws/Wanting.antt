@@ -51,14 +51,21 @@ same_peer : (a b : NodeId) → a.0 ≡ b.0 → a ≡ b
 same_peer a b h = λ i. record { 0 = h i }
 
 -- a route that was learned is one that is imported
-learned_from : (place : EdgePlace) (own : OwnVrf) (peer : NodeId) (key : Key) (taken : TakenRoute) (learned : LearnedRoute) → learned_route place own peer (key, taken) ≡ Some learned
+learned_from : (place : EdgePlace) (own : OwnVrf) (peer : NodeId) (key : Key) (taken : TakenRoute) (learned : LearnedRoute)
+    → learned_route place own peer (key, taken) ≡ Some learned
     → (imported : ImportedSelective) × (imported_selective own.vrf (addr_of place.scenario peer) (key, taken) ≡ Some imported)
 learned_from place own peer key taken learned h = by (imported_selective own.vrf (addr_of place.scenario peer) (key, taken)) refl h
   where
     by : (o : Option ImportedSelective) → imported_selective own.vrf (addr_of place.scenario peer) (key, taken) ≡ o
         → elim o [
           | None ↦ None
-          | Some imported ↦ Some (record { pattern = record { source = imported.route.source; group = imported.route.group }; fec = imported.fec; since = taken.since; run = taken.run })
+          | Some imported ↦ Some (record {
+            pattern = record { source = imported.route.source; group = imported.route.group };
+            fec =
+                imported.fec;
+            since = taken.since;
+            run = taken.run;
+          })
         ] ≡ Some learned
         → (imported : ImportedSelective) × (imported_selective own.vrf (addr_of place.scenario peer) (key, taken) ≡ Some imported)
     by None e g = none_some learned g
@@ -73,10 +80,12 @@ module _ (place : EdgePlace) (control : Control) (own : OwnVrf) (tree : TreeData
       among_found (learned_route place own peer) (t.key, t.taken) (leaf.learned_route (key, learned)) (maps.entries (taken_from control peer))
       (get_entry key_exact (taken_from control peer) t.key t.taken t.at) t.learned_as
 
-  entry_learned : (key : RouteKey) (learned : Learned) → IsSelectiveAt place control own key learned → Among (leaf.learned_route (key, learned)) (learned_routes place control own key.peer)
+  entry_learned : (key : RouteKey) (learned : Learned) → IsSelectiveAt place control own key learned
+      → Among (leaf.learned_route (key, learned)) (learned_routes place control own key.peer)
   entry_learned key learned h = by key.place refl
     where
-      at : (spot : Place) → key.place ≡ spot → IsSelectiveAt place control own key learned → IsSelectiveAt place control own (record { peer = key.peer; pattern = key.pattern; place = spot }) learned
+      at : (spot : Place) → key.place ≡ spot → IsSelectiveAt place control own key learned
+          → IsSelectiveAt place control own (record { peer = key.peer; pattern = key.pattern; place = spot }) learned
       at spot e g = subst (λ (p : Place). IsSelectiveAt place control own (record { peer = key.peer; pattern = key.pattern; place = p }) learned) e g
 
       by : (spot : Place) → key.place ≡ spot → Among (leaf.learned_route (key, learned)) (learned_routes place control own key.peer)
@@ -84,16 +93,19 @@ module _ (place : EdgePlace) (control : Control) (own : OwnVrf) (tree : TreeData
       by Last e = absurd (at Last e h)
       by (Of rd) e = taken_learned key.peer rd key learned (at (Of rd) e h)
 
-  pub kept_learned : (peer : NodeId) (route : LearnedRoute) → Among route (peer_routes peer tree.leaf.routes) → Among route (learned_routes place control own peer)
+  pub kept_learned : (peer : NodeId) (route : LearnedRoute) → Among route (peer_routes peer tree.leaf.routes)
+      → Among route (learned_routes place control own peer)
   kept_learned peer route a =
       let by = map_among leaf.learned_route route (leaf.peer_entries peer tree.leaf.routes) a in
       let test = filter_among (is_of_peer peer) by.0 (maps.entries tree.leaf.routes) by.1 in
       let at = entry_get route_total tree.leaf.routes by.0.0 by.0.1 test.0 in
       subst (λ (r : LearnedRoute). Among r (learned_routes place control own peer)) (sym by.2)
-      (subst (λ (n : NodeId). Among (leaf.learned_route by.0) (learned_routes place control own n)) (same_peer by.0.0.peer peer (eqb-true by.0.0.peer.0 peer.0 test.1))
+      (subst (λ (n : NodeId). Among (leaf.learned_route by.0) (learned_routes place control own n))
+      (same_peer by.0.0.peer peer (eqb-true by.0.0.peer.0 peer.0 test.1))
       (entry_learned by.0.0 by.0.1 ((is.selective by.0.0 by.0.1).0 at)))
 
-  pub learned_kept : (peer : NodeId) (route : LearnedRoute) → Among route (learned_routes place control own peer) → Among route (peer_routes peer tree.leaf.routes)
+  pub learned_kept : (peer : NodeId) (route : LearnedRoute) → Among route (learned_routes place control own peer)
+      → Among route (peer_routes peer tree.leaf.routes)
   learned_kept peer route a =
       let found = found_among (learned_route place own peer) route (maps.entries (taken_from control peer)) a in
       let from = learned_from place own peer found.0.0 found.0.1 route found.2 in
@@ -112,11 +124,15 @@ module _ (place : EdgePlace) (control : Control) (own : OwnVrf) (tree : TreeData
       (among_filter (is_of_peer peer) (key, learned) (maps.entries tree.leaf.routes) (eq-eqb peer.0 peer.0 refl)
       (get_entry route_exact tree.leaf.routes key learned ((is.selective key learned).1 taken)))
 
-  wanted_too : (peer : NodeId) (source group : Addr) (route : LearnedRoute) → IsWanted (peer_routes peer tree.leaf.routes) source group route → IsWanted (learned_routes place control own peer) source group route
-  wanted_too peer source group route w = record { among = kept_learned peer route w.among; matches = w.matches; kept = λ o a. w.kept o (learned_kept peer o a) }
+  wanted_too : (peer : NodeId) (source group : Addr) (route : LearnedRoute) → IsWanted (peer_routes peer tree.leaf.routes) source group route
+      → IsWanted (learned_routes place control own peer) source group route
+  wanted_too peer source group route w =
+      record { among = kept_learned peer route w.among; matches = w.matches; kept = λ o a. w.kept o (learned_kept peer o a) }
 
-  wanted_back : (peer : NodeId) (source group : Addr) (route : LearnedRoute) → IsWanted (learned_routes place control own peer) source group route → IsWanted (peer_routes peer tree.leaf.routes) source group route
-  wanted_back peer source group route w = record { among = learned_kept peer route w.among; matches = w.matches; kept = λ o a. w.kept o (kept_learned peer o a) }
+  wanted_back : (peer : NodeId) (source group : Addr) (route : LearnedRoute) → IsWanted (learned_routes place control own peer) source group route
+      → IsWanted (peer_routes peer tree.leaf.routes) source group route
+  wanted_back peer source group route w =
+      record { among = learned_kept peer route w.among; matches = w.matches; kept = λ o a. w.kept o (kept_learned peer o a) }
 
   -- ---- what the tree wants
 
@@ -157,11 +173,14 @@ module _ (place : EdgePlace) (control : Control) (own : OwnVrf) (tree : TreeData
   is_wants fec s e =
       let flow : Flow = record { source = s.flow.source; group = s.flow.group } in
       let up : Option Upstream = Some (Remote s.edge s.rd s.import s.source_as) in
-      let key : flow_in own.id flow ≡ s.flow = λ i. record { vrf = (ap (λ (o : OwnVrf). o.id) (sym e) ∙ s.of_vrf) i; source = s.flow.source; group = s.flow.group } in
-      let at : maps.get tree.vrf.flows flow ≡ Some (choice_of up) = is.flows flow ∙ ap (λ k. option_map choice_of (maps.get control.flows k)) key ∙ ap (option_map choice_of) s.upstream in
+      let key : flow_in own.id flow ≡ s.flow =
+      λ i. record { vrf = (ap (λ (o : OwnVrf). o.id) (sym e) ∙ s.of_vrf) i; source = s.flow.source; group = s.flow.group } in
+      let at : maps.get tree.vrf.flows flow ≡ Some (choice_of up) =
+      is.flows flow ∙ ap (λ k. option_map choice_of (maps.get control.flows k)) key ∙ ap (option_map choice_of) s.upstream in
       let kept = peer_routes s.edge tree.leaf.routes in
       let want = (wanted_when kept flow.source flow.group s.route).1
-      (wanted_back s.edge flow.source flow.group s.route (subst (λ (o : OwnVrf). IsWanted (learned_routes place control o s.edge) flow.source flow.group s.route) e s.wanted)) in
+      (wanted_back s.edge flow.source flow.group s.route
+      (subst (λ (o : OwnVrf). IsWanted (learned_routes place control o s.edge) flow.source flow.group s.route) e s.wanted)) in
       let there = among_map (λ (route : LearnedRoute). route.fec) s.route (wanted kept flow.source flow.group) want in
       ap (λ (t : _). sets.contains t fec) is.wants
       ∙ to_list fec_cmp_total fec_cmp_exact list fec
@@ -176,22 +195,28 @@ pub record TreeAmong (place : EdgePlace) (control : Control) (own : OwnVrf) (tre
   pub among : Among tree trees
   pub is : IsTreeOf place control own tree
 
-pub tree_of : (place : EdgePlace) (control : Control) (own : OwnVrf) (vrfs : List OwnVrf) (trees : List TreeData) → AreTreesOf place control vrfs trees → Among own vrfs → TreeAmong place control own trees
+pub tree_of : (place : EdgePlace) (control : Control) (own : OwnVrf) (vrfs : List OwnVrf) (trees : List TreeData)
+    → AreTreesOf place control vrfs trees → Among own vrfs → TreeAmong place control own trees
 tree_of place control own [] trees h a = absurd a
 tree_of place control own (vrf ∷ vrfs) [] h a = absurd h
-tree_of place control own (vrf ∷ vrfs) (tree ∷ trees) h (inl e) = record { tree = tree; among = inl refl; is = subst (λ (o : OwnVrf). IsTreeOf place control o tree) (sym e) h.0 }
-tree_of place control own (vrf ∷ vrfs) (tree ∷ trees) h (inr a) = let rest = tree_of place control own vrfs trees h.1 a in record { tree = rest.tree; among = inr rest.among; is = rest.is }
+tree_of place control own (vrf ∷ vrfs) (tree ∷ trees) h (inl e) =
+    record { tree = tree; among = inl refl; is = subst (λ (o : OwnVrf). IsTreeOf place control o tree) (sym e) h.0 }
+tree_of place control own (vrf ∷ vrfs) (tree ∷ trees) h (inr a) = let rest = tree_of place control own vrfs trees h.1 a in
+    record { tree = rest.tree; among = inr rest.among; is = rest.is }
 
 pub record VrfAmong (place : EdgePlace) (control : Control) (vrfs : List OwnVrf) (tree : TreeData) : Type 0 where
   pub own : OwnVrf
   pub among : Among own vrfs
   pub is : IsTreeOf place control own tree
 
-pub vrf_of : (place : EdgePlace) (control : Control) (tree : TreeData) (vrfs : List OwnVrf) (trees : List TreeData) → AreTreesOf place control vrfs trees → Among tree trees → VrfAmong place control vrfs tree
+pub vrf_of : (place : EdgePlace) (control : Control) (tree : TreeData) (vrfs : List OwnVrf) (trees : List TreeData)
+    → AreTreesOf place control vrfs trees → Among tree trees → VrfAmong place control vrfs tree
 vrf_of place control tree vrfs [] h a = absurd a
 vrf_of place control tree [] (other ∷ trees) h a = absurd h
-vrf_of place control tree (vrf ∷ vrfs) (other ∷ trees) h (inl e) = record { own = vrf; among = inl refl; is = subst (λ (t : TreeData). IsTreeOf place control vrf t) (sym e) h.0 }
-vrf_of place control tree (vrf ∷ vrfs) (other ∷ trees) h (inr a) = let rest = vrf_of place control tree vrfs trees h.1 a in record { own = rest.own; among = inr rest.among; is = rest.is }
+vrf_of place control tree (vrf ∷ vrfs) (other ∷ trees) h (inl e) =
+    record { own = vrf; among = inl refl; is = subst (λ (t : TreeData). IsTreeOf place control vrf t) (sym e) h.0 }
+vrf_of place control tree (vrf ∷ vrfs) (other ∷ trees) h (inr a) = let rest = vrf_of place control tree vrfs trees h.1 a in
+    record { own = rest.own; among = inr rest.among; is = rest.is }
 
 pub leaves_are : (place : EdgePlace) (control : Control) (trees : List TreeData) (fec : Fec) → AreTreesOf place control (own_vrfs place) trees
     → (sets.contains (leaves place control) fec ≡ true) ↔ (IsInclusive place control fec ⊎ IsWantedIn trees fec)

@@ -32,28 +32,36 @@ record IsWhole (prefix : Prefix) : Type 0 where
 
 one_whole : (a b : Prefix) (source : Addr) → IsWhole a → IsWhole b → a.bits ≡ b.bits → covers a source ≡ true → covers b source ≡ true → a ≡ b
 one_whole a b source x y e c d =
-    let addrs = covering_one a.addr b.addr source b.bits x.addr y.addr x.octets y.octets (subst (IsPrefixOf a.addr) e x.bits) y.bits (ap (same_front a.addr source) (sym e) ∙ c) d in
+    let addrs =
+    covering_one a.addr b.addr source b.bits x.addr y.addr x.octets y.octets (subst (IsPrefixOf a.addr) e x.bits) y.bits
+    (ap (same_front a.addr source) (sym e) ∙ c) d in
     λ i. record { addr = addrs i; bits = e i }
 
-local_whole : (scenario : Scenario) (vrf : VrfId) → Rules scenario → HasPrefixes scenario → (local : Route) → Among local (local_routes scenario vrf) → IsWhole local.prefix
+local_whole : (scenario : Scenario) (vrf : VrfId) → Rules scenario → HasPrefixes scenario → (local : Route) → Among local (local_routes scenario vrf)
+    → IsWhole local.prefix
 local_whole scenario vrf rules octets local a =
     let r = route_of (is_attached_at scenario vrf) 0 scenario.sites local a in
     let at = at_among local.prefix r.site.prefixes r.prefix in
-    let is : IsSitePrefix local.prefix = all_at IsSitePrefix r.site.prefixes (all_at IsSite scenario.sites rules.sites.each r.place r.site r.at).each at.0 local.prefix at.1 in
+    let is : IsSitePrefix local.prefix =
+    all_at IsSitePrefix r.site.prefixes (all_at IsSite scenario.sites rules.sites.each r.place r.site r.at).each at.0 local.prefix at.1 in
     record {
       addr = is.addr;
       bits = is.bits;
       octets = all_at (λ (p : Prefix). IsOctets (addr_octets p.addr)) r.site.prefixes
-          (all_at (λ (s : Site). All (λ (p : Prefix). IsOctets (addr_octets p.addr)) s.prefixes) scenario.sites octets r.place r.site r.at) at.0 local.prefix at.1;
+          (all_at (λ (s : Site). All (λ (p : Prefix). IsOctets (addr_octets p.addr)) s.prefixes) scenario.sites octets r.place r.site r.at) at.0
+          local.prefix at.1;
     }
 
-taken_whole : (place : EdgePlace) (control : Control) (own : OwnVrf) (route : KnownRoute) → HaveSpellings control → FromTaken place control own route → IsWhole route.prefix
+taken_whole : (place : EdgePlace) (control : Control) (own : OwnVrf) (route : KnownRoute) → HaveSpellings control → FromTaken place control own route
+    → IsWhole route.prefix
 taken_whole place control own route spelled f =
     let s = spelled f.peer (Unicast f.rd route.prefix) f.used.taken f.used.at in
     record { addr = s.0.is_prefix.0; bits = s.0.is_prefix.1; octets = s.1 }
 
-pub prefixes_whole : (place : EdgePlace) (control : Control) (own : OwnVrf) → Rules place.scenario → HasPrefixes place.scenario → HaveSpellings control → AreWhole (known_routes place control own)
-prefixes_whole place control own rules octets spelled route other source a b e c d = one_whole route.prefix other.prefix source (whole route a) (whole other b) e c d
+pub prefixes_whole : (place : EdgePlace) (control : Control) (own : OwnVrf) → Rules place.scenario → HasPrefixes place.scenario
+    → HaveSpellings control → AreWhole (known_routes place control own)
+prefixes_whole place control own rules octets spelled route other source a b e c d =
+    one_whole route.prefix other.prefix source (whole route a) (whole other b) e c d
   where
     whole : (known : KnownRoute) → Among known (known_routes place control own) → IsWhole known.prefix
     whole known among = elim (route_is place control own known among) [

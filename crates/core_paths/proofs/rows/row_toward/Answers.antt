@@ -10,14 +10,16 @@ loop-row-smaller c =
     let round : c.relax_all.new.row ≡ relaxed_all items c.args.links.now = cc in
     let loose : list_all (is_tight items) c.args.links.now ≡ false = cc in
     let len : c.loop-row.row.len ≡ length items = omega arith in
-    round_falls c.args.links.now c.args.nodes c.args.root items c.relax_all.new.row c.loop-row.row.len c.requires.topology c.loop-row.invariant round len loose
+    round_falls c.args.links.now c.args.nodes c.args.root items c.relax_all.new.row c.loop-row.row.len c.requires.topology c.loop-row.invariant round
+    len loose
 
 pub loop-row-preserved : goal.loop-row-preserved
 loop-row-preserved c =
     let items = c.loop-row.row.items in
     let round : c.relax_all.new.row ≡ relaxed_all items c.args.links.now = cc in
     let len : c.loop-row.row.len ≡ length items = omega arith in
-    round_sound c.args.links.now c.args.nodes c.args.root items c.relax_all.new.row c.loop-row.row.len c.requires.topology c.loop-row.invariant round len
+    round_sound c.args.links.now c.args.nodes c.args.root items c.relax_all.new.row c.loop-row.row.len c.requires.topology c.loop-row.invariant round
+    len
 
 pub returns : goal.returns
 returns c =

@@ -11,4 +11,5 @@ returns c =
     let written : c.note_all.new.nexts ≡ noted_all c.args.row.now items c.args.links.now =
     c.note_all.ensures ∙ ap (λ (nexts : List ℕ). noted_all c.args.row.now nexts c.args.links.now) c.deref_mut.ensures.value in
     let len : c.in_ok-nexts.nexts.len ≡ length items = omega arith in
-    steps_written c.args.links.now c.args.nodes c.args.root c.args.row.now items c.note_all.new.nexts c.in_ok-nexts.nexts.len c.requires.topology c.requires.row c.requires.near start written len
+    steps_written c.args.links.now c.args.nodes c.args.root c.args.row.now items c.note_all.new.nexts c.in_ok-nexts.nexts.len c.requires.topology
+    c.requires.row c.requires.near start written len

@@ -15,11 +15,14 @@ loop-place-preserved c =
     let fits : b < 256 = omega (arith, c.type_inv.text place) in
     elim c.match-values-from.branch [
       | in-Some+in_ok-high-in-Some w ↦
-          let is = value_at c.digit_values-values.result c.from.result b (Some w.in-Some.value) c.digit_values-values.ensures c.from.ensures fits w.in-Some.is in
-          rw (w.octets-is, w.high-is) (digit_taken text c.loop-place.octets c.loop-place.high place w.in-Some.value _ _ c.loop-place-test.true c.loop-place.invariant is w.in_ok-high-in-Some.ensures)
+          let is = value_at c.digit_values-values.result c.from.result b (Some w.in-Some.value) c.digit_values-values.ensures c.from.ensures fits
+          w.in-Some.is in
+          rw (w.octets-is, w.high-is) (digit_taken text c.loop-place.octets c.loop-place.high place w.in-Some.value _ _ c.loop-place-test.true
+          c.loop-place.invariant is w.in_ok-high-in-Some.ensures)
       | in-None+else-not-is_white w ↦
           let is = value_at c.digit_values-values.result c.from.result b None c.digit_values-values.ensures c.from.ensures fits w.in-None.is in
-          rw (w.octets-is, w.high-is) (white_taken text c.loop-place.octets c.loop-place.high place c.loop-place-test.true c.loop-place.invariant is (sym w.is_white.ensures ∙ w.if-not-is_white.false))
+          rw (w.octets-is, w.high-is) (white_taken text c.loop-place.octets c.loop-place.high place c.loop-place-test.true c.loop-place.invariant is
+          (sym w.is_white.ensures ∙ w.if-not-is_white.false))
     ]
 
 pub returns-then-not-is_white : goal.returns-then-not-is_white
@@ -29,7 +32,8 @@ returns-then-not-is_white c =
     let b = get_or text place 0 in
     let fits : b < 256 = omega (arith, c.type_inv.text place) in
     let is = value_at c.digit_values-values.result c.from.result b None c.digit_values-values.ensures c.from.ensures fits c.in-None.is in
-    other_met text c.loop-place.octets c.loop-place.high place c.requires c.loop-place-test.true c.loop-place.invariant is (sym c.is_white.ensures ∙ c.if-not-is_white.true)
+    other_met text c.loop-place.octets c.loop-place.high place c.requires c.loop-place-test.true c.loop-place.invariant is
+    (sym c.is_white.ensures ∙ c.if-not-is_white.true)
     ∙ ap (λ (f : TextFault). Err f) (sym c.fault_behind.ensures)
 
 pub returns-in-None-high : goal.returns-in-None-high

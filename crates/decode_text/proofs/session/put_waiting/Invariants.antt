@@ -5,7 +5,8 @@ use Rattle.decode_text.proofs.session.put_waiting.Given as goal
 -- the lines of the messages that wait are still to come, those of the others stand, and nothing else changes
 abbrev pub invariant-loop-message : goal.invariant-loop-message
 invariant-loop-message g l = record {
-  all : l.text ++ flat_map g.S.Message.Lined.lines (g.S.SessionStream.state l.stream).waiting ≡ l.initial.text ++ flat_map g.S.Message.Lined.lines (g.S.SessionStream.state l.initial.stream).waiting;
+  all : l.text ++ flat_map g.S.Message.Lined.lines (g.S.SessionStream.state l.stream).waiting ≡ l.initial.text
+      ++ flat_map g.S.Message.Lined.lines (g.S.SessionStream.state l.initial.stream).waiting;
   tellable : AllByRecursion g.S.Message.Lined.IsTellable (g.S.SessionStream.state l.stream).waiting;
   same : record (g.S.SessionStream.state l.stream) { waiting = [] } ≡ record (g.S.SessionStream.state l.initial.stream) { waiting = [] };
 }

@@ -9,12 +9,15 @@ pub loop-rest-init : goal.loop-rest-init
 loop-rest-init g c = record {
   front = [];
   parts = refl;
-  told = none_told (session_of g.S.SessionStream.spells g.S.SessionStream.faulty g.S.Message.Lined.lines g.S.Fault.Worded.word) g.S.Message.Lined.IsTellable c.requires.session (g.S.SessionStream.state c.args.stream) c.new-text.result c.requires.fresh c.new-text.ensures;
+  told = none_told (session_of g.S.SessionStream.spells g.S.SessionStream.faulty g.S.Message.Lined.lines g.S.Fault.Worded.word)
+      g.S.Message.Lined.IsTellable c.requires.session (g.S.SessionStream.state c.args.stream) c.new-text.result c.requires.fresh c.new-text.ensures;
 }
 
 pub put_waiting-requires : goal.put_waiting-requires
 put_waiting-requires g c =
-    waiting_meet g.S.Message.Lined.IsTellable g.S.SessionStream.spells g.S.SessionStream.faulty g.S.SessionStream.limit c.requires.session (g.S.SessionStream.state c.loop-rest.stream) c.split_at.result.0.now c.feed-fed.result (g.S.SessionStream.state c.feed-fed.new.self) c.loop-rest.invariant.told.none c.feed-fed.ensures
+    waiting_meet g.S.Message.Lined.IsTellable g.S.SessionStream.spells g.S.SessionStream.faulty g.S.SessionStream.limit c.requires.session
+    (g.S.SessionStream.state c.loop-rest.stream) c.split_at.result.0.now c.feed-fed.result (g.S.SessionStream.state c.feed-fed.new.self)
+    c.loop-rest.invariant.told.none c.feed-fed.ensures
 
 pub returns-in-Err : goal.returns-in-Err
 returns-in-Err g c =
@@ -25,8 +28,13 @@ returns-in-Err g c =
     let behind = c.split_at.result.1.now in
     let fits : length octets < 2 ^ 64 = search rules in
     let are : IsOctets octets = λ i. omega (arith, c.type_inv.octets i) in
-    let parts = cut_more octets front c.loop-rest.rest.now piece behind c.min.result c.loop-rest.invariant.parts c.split_at.ensures.front c.split_at.ensures.back in
-    IfOk-weaker c.tell_fault.result _ _ (λ told h. fault_told (Unit {0}) s g.S.Message.Lined.IsTellable c.requires.session g.S.SessionStream.limit octets front (g.S.SessionStream.state c.loop-rest.stream) c.loop-rest.text piece behind (g.S.SessionStream.state c.feed-fed.new.self) c.in-Err.fault c.put_waiting.new.text told.refused told.text fits are parts c.loop-rest.invariant.told c.in-Err.ensures c.in_ok-put_waiting.ensures.lines h) c.tell_fault.ensures
+    let parts =
+    cut_more octets front c.loop-rest.rest.now piece behind c.min.result c.loop-rest.invariant.parts c.split_at.ensures.front
+    c.split_at.ensures.back in
+    IfOk-weaker c.tell_fault.result _ _ (λ told h. fault_told (Unit {0}) s g.S.Message.Lined.IsTellable c.requires.session g.S.SessionStream.limit
+    octets front (g.S.SessionStream.state c.loop-rest.stream) c.loop-rest.text piece behind (g.S.SessionStream.state c.feed-fed.new.self)
+    c.in-Err.fault c.put_waiting.new.text told.refused told.text fits are parts c.loop-rest.invariant.told c.in-Err.ensures
+    c.in_ok-put_waiting.ensures.lines h) c.tell_fault.ensures
 
 pub loop-rest-preserved : goal.loop-rest-preserved
 loop-rest-preserved g c =
@@ -36,9 +44,14 @@ loop-rest-preserved g c =
     let piece = c.split_at.result.0.now in
     let behind = c.split_at.result.1.now in
     let fits : length octets < 2 ^ 64 = search rules in
-    let parts = cut_more octets front c.loop-rest.rest.now piece behind c.min.result c.loop-rest.invariant.parts c.split_at.ensures.front c.split_at.ensures.back in
+    let parts =
+    cut_more octets front c.loop-rest.rest.now piece behind c.min.result c.loop-rest.invariant.parts c.split_at.ensures.front
+    c.split_at.ensures.back in
     record {
       front = front ++ piece;
       parts = parts;
-      told = piece_told s g.S.SessionStream.limit front (g.S.SessionStream.state c.loop-rest.stream) c.loop-rest.text piece (g.S.SessionStream.state c.feed-fed.new.self) (g.S.SessionStream.state c.put_waiting.new.stream) c.put_waiting.new.text (front_fits octets (front ++ piece) behind parts fits) c.loop-rest.invariant.told c.in_default.ensures c.in_ok-put_waiting.ensures.taken c.in_ok-put_waiting.ensures.lines;
+      told = piece_told s g.S.SessionStream.limit front (g.S.SessionStream.state c.loop-rest.stream) c.loop-rest.text piece
+          (g.S.SessionStream.state c.feed-fed.new.self) (g.S.SessionStream.state c.put_waiting.new.stream) c.put_waiting.new.text
+          (front_fits octets (front ++ piece) behind parts fits) c.loop-rest.invariant.told c.in_default.ensures c.in_ok-put_waiting.ensures.taken
+          c.in_ok-put_waiting.ensures.lines;
     }

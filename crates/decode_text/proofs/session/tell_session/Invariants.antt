@@ -8,7 +8,8 @@ abbrev pub invariant-loop-rest : goal.invariant-loop-rest
 invariant-loop-rest g l = record {
   front : List ℕ;
   parts : l.fn.octets ≡ front ++ l.rest;
-  told : ToldSoFar (session_of g.S.SessionStream.spells g.S.SessionStream.faulty g.S.Message.Lined.lines g.S.Fault.Worded.word) front (g.S.SessionStream.state l.stream) l.text;
+  told : ToldSoFar (session_of g.S.SessionStream.spells g.S.SessionStream.faulty g.S.Message.Lined.lines g.S.Fault.Worded.word) front
+      (g.S.SessionStream.state l.stream) l.text;
 }
 
 abbrev pub decreases-loop-rest : goal.decreases-loop-rest

@@ -4,5 +4,9 @@ use Rattle.decode_text.proofs.telling.tell_pmsi.Goals as goal
 
 pub returns-in_ok-put_pmsi_fault-in-Err : goal.returns-in_ok-put_pmsi_fault-in-Err
 returns-in_ok-put_pmsi_fault-in-Err c =
-    let fault = c.in-Err.fault in
-    (fault, c.in-Err.ensures.first, subst (λ (xs : List ℕ). c.put_pmsi_fault.new.out ≡ xs ++ refused_line fault.place (pmsi_word fault.reason)) c.new-text.ensures c.in_ok-put_pmsi_fault-in-Err.ensures)
+    let fault = c.in-Err.fault in (
+      fault,
+      c.in-Err.ensures.first,
+      subst (λ (xs : List ℕ). c.put_pmsi_fault.new.out ≡ xs ++ refused_line fault.place (pmsi_word fault.reason))
+          c.new-text.ensures c.in_ok-put_pmsi_fault-in-Err.ensures,
+    )

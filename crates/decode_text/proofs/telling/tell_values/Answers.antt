@@ -23,7 +23,9 @@ returns-in-Err g c =
     let octets = c.args.octets.now in
     let place = c.loop-place.place in
     let first : telling.First (drop place octets) c.in-Err.fault = rw (← take_rest octets place) c.in-Err.ensures.first in
-    rw c.in_ok-put_fault-in-Err.ensures (fault_passed telling octets c.loop-place.text place c.in-Err.fault c.loop-place.invariant.passed c.loop-place-test.true first)
+    rw c.in_ok-put_fault-in-Err.ensures (fault_passed telling octets c.loop-place.text place c.in-Err.fault c.loop-place.invariant.passed
+    c.loop-place-test.true first)
 
 pub returns : goal.returns
-returns g c = all_passed g.V.Value.telling c.args.octets.now c.loop-place.text c.loop-place.place c.loop-place.invariant.passed c.loop-place-test.false
+returns g c =
+    all_passed g.V.Value.telling c.args.octets.now c.loop-place.text c.loop-place.place c.loop-place.invariant.passed c.loop-place-test.false

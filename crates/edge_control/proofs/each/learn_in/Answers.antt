@@ -25,16 +25,21 @@ loop-place-preserved c =
     record {
       long = length-set c.loop-place.trees.items c.loop-place.place c.learn_route.new.tree ∙ c.loop-place.invariant.long;
       each = λ core taken says.
-          turned_more (learning c.args.home.now core c.args.peer c.args.now c.args.key.now taken) c.loop-place.place (vrfs_from c.args.home.now.me 0 c.args.home.now.scenario.vrfs) c.args.trees.now.items c.loop-place.trees.items
-          (as_own c.own_at-own.result.now) c.index_mut.result.now c.learn_route.new.tree lt c.own_at-own.ensures.own (c.loop-place.invariant.each core taken says)
-          (c.in_ok-learn_route.ensures.learned (place_of c.args.home.now core) taken (record { of_edge = c.own_at-own.ensures.at core; address = c.requires.addr }) says
-          ∙ ap (learning c.args.home.now core c.args.peer c.args.now c.args.key.now taken (as_own c.own_at-own.result.now)) c.index_mut.ensures.value);
+          turned_more (learning c.args.home.now core c.args.peer c.args.now c.args.key.now taken) c.loop-place.place
+          (vrfs_from c.args.home.now.me 0 c.args.home.now.scenario.vrfs) c.args.trees.now.items c.loop-place.trees.items
+          (as_own c.own_at-own.result.now) c.index_mut.result.now c.learn_route.new.tree lt c.own_at-own.ensures.own
+          (c.loop-place.invariant.each core taken says)
+          (c.in_ok-learn_route.ensures.learned (place_of c.args.home.now core) taken
+          (record { of_edge = c.own_at-own.ensures.at core; address = c.requires.addr }) says
+          ∙ ap (learning c.args.home.now core c.args.peer c.args.now c.args.key.now taken (as_own c.own_at-own.result.now))
+          c.index_mut.ensures.value);
     }
 
 pub returns-clause-learned : goal.returns-clause-learned
 returns-clause-learned c = λ core taken says.
     c.loop-place.invariant.each core taken says
-    ∙ turned_end (learning c.args.home.now core c.args.peer c.args.now c.args.key.now taken) c.loop-place.place (vrfs_from c.args.home.now.me 0 c.args.home.now.scenario.vrfs) c.args.trees.now.items (omega arith) c.requires.each
+    ∙ turned_end (learning c.args.home.now core c.args.peer c.args.now c.args.key.now taken) c.loop-place.place
+    (vrfs_from c.args.home.now.me 0 c.args.home.now.scenario.vrfs) c.args.trees.now.items (omega arith) c.requires.each
 
 pub returns-in_err-learn_route-clause-long : goal.returns-in_err-learn_route-clause-long
 returns-in_err-learn_route-clause-long c = length-set c.loop-place.trees.items c.loop-place.place c.learn_route.new.tree ∙ c.loop-place.invariant.long

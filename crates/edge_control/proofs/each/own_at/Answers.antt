@@ -29,12 +29,15 @@ returns-clause-own c =
     let lt : c.args.place < length c.vrfs.result.now = omega (arith, same) in
     ap (λ xs. slice_get xs c.args.place) (sym (c.vrfs.ensures.vrfs.vrfs no_core))
     ∙ slice_get-map as_own c.vrfs.result.now c.args.place
-    ∙ ap (option_map as_own) (slice_get_read c.vrfs.result.now (length c.vrfs.result.now) c.args.place c.index-vrfs-place.result refl lt c.index-vrfs-place.is)
+    ∙ ap (option_map as_own) (slice_get_read c.vrfs.result.now (length c.vrfs.result.now) c.args.place c.index-vrfs-place.result refl lt
+    c.index-vrfs-place.is)
 
 pub returns-clause-at : goal.returns-clause-at
 returns-clause-at c = λ core.
     let same = count c.args.home.now c.vrfs.result.now c.vrfs.ensures.vrfs in
     let lt : c.args.place < length c.vrfs.result.now = omega (arith, same) in
     let there = slice_get_read c.vrfs.result.now (length c.vrfs.result.now) c.args.place c.index-vrfs-place.result refl lt c.index-vrfs-place.is in
-    let own = all_at (IsOf c.vrfs.ensures.vrfs.addr c.args.home.now.scenario.system) c.vrfs.result.now c.args.place c.index-vrfs-place.result c.vrfs.ensures.vrfs.say there in
+    let own =
+    all_at (IsOf c.vrfs.ensures.vrfs.addr c.args.home.now.scenario.system) c.vrfs.result.now c.args.place c.index-vrfs-place.result
+    c.vrfs.ensures.vrfs.say there in
     record { addr = c.vrfs.ensures.vrfs.own_addr ∙ ap V4 (sym own.addr); system = sym own.system }

@@ -7,4 +7,5 @@ use Rattle.edge_control.proofs.lost.forget_entries.Given as goal
 
 abbrev pub invariant-loop-key : goal.invariant-loop-key
 invariant-loop-key l = (place : EdgePlace) → IsAt place l.own.local
-    → fold (tree_without place (as_own l.own) l.peer) l.tree l.key-iterator ≡ fold (tree_without place (as_own l.own) l.peer) l.fn.tree l.initial.key-iterator
+    → fold (tree_without place (as_own l.own) l.peer) l.tree l.key-iterator
+    ≡ fold (tree_without place (as_own l.own) l.peer) l.fn.tree l.initial.key-iterator

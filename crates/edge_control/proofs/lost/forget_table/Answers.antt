@@ -6,9 +6,11 @@ use Rattle.edge_control.proofs.lost.forget_table.Goals as goal
 
 pub returns-in-None : goal.returns-in-None
 returns-in-None c = λ place at.
-    ap (fold (tree_without place (as_own c.args.own.now) c.args.peer) c.args.tree.now) (sym (no_table c.args.taken.now c.args.peer c.in-None.ensures.entries))
+    ap (fold (tree_without place (as_own c.args.own.now) c.args.peer) c.args.tree.now)
+    (sym (no_table c.args.taken.now c.args.peer c.in-None.ensures.entries))
 
 pub returns-in-Some : goal.returns-in-Some
 returns-in-Some c = λ place at.
     c.forget_entries.ensures place at
-    ∙ ap (fold (tree_without place (as_own c.args.own.now) c.args.peer) c.args.tree.now) (sym (some_table c.args.taken.now c.args.peer c.in-Some.entries c.in-Some.ensures.entries))
+    ∙ ap (fold (tree_without place (as_own c.args.own.now) c.args.peer) c.args.tree.now)
+    (sym (some_table c.args.taken.now c.args.peer c.in-Some.entries c.in-Some.ensures.entries))

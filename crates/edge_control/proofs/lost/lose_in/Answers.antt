@@ -15,12 +15,17 @@ loop-place-preserved c =
     record {
       long = length-set c.loop-place.trees.items c.loop-place.place c.forget_peer.new.tree ∙ c.loop-place.invariant.long;
       each = λ core.
-          turned_more (losing c.args.home.now core c.args.peer (table_of c.args.taken.now c.args.peer)) c.loop-place.place (vrfs_from c.args.home.now.me 0 c.args.home.now.scenario.vrfs) c.args.trees.now.items c.loop-place.trees.items
-          (as_own c.own_at-own.result.now) c.index_mut.result.now c.forget_peer.new.tree lt c.own_at-own.ensures.own (c.loop-place.invariant.each core)
-          (c.forget_peer.ensures (place_of c.args.home.now core) (c.own_at-own.ensures.at core) ∙ ap (losing c.args.home.now core c.args.peer (table_of c.args.taken.now c.args.peer) (as_own c.own_at-own.result.now)) c.index_mut.ensures.value);
+          turned_more (losing c.args.home.now core c.args.peer (table_of c.args.taken.now c.args.peer)) c.loop-place.place
+          (vrfs_from c.args.home.now.me 0 c.args.home.now.scenario.vrfs) c.args.trees.now.items c.loop-place.trees.items
+          (as_own c.own_at-own.result.now) c.index_mut.result.now c.forget_peer.new.tree lt c.own_at-own.ensures.own
+          (c.loop-place.invariant.each core)
+          (c.forget_peer.ensures (place_of c.args.home.now core) (c.own_at-own.ensures.at core)
+          ∙ ap (losing c.args.home.now core c.args.peer (table_of c.args.taken.now c.args.peer) (as_own c.own_at-own.result.now))
+          c.index_mut.ensures.value);
     }
 
 pub returns : goal.returns
 returns c = λ core.
     c.loop-place.invariant.each core
-    ∙ turned_end (losing c.args.home.now core c.args.peer (table_of c.args.taken.now c.args.peer)) c.loop-place.place (vrfs_from c.args.home.now.me 0 c.args.home.now.scenario.vrfs) c.args.trees.now.items (omega arith) c.requires
+    ∙ turned_end (losing c.args.home.now core c.args.peer (table_of c.args.taken.now c.args.peer)) c.loop-place.place
+    (vrfs_from c.args.home.now.me 0 c.args.home.now.scenario.vrfs) c.args.trees.now.items (omega arith) c.requires

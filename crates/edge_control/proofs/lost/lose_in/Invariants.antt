@@ -7,5 +7,6 @@ use Rattle.edge_control.proofs.lost.lose_in.Given as goal
 abbrev pub invariant-loop-place : goal.invariant-loop-place
 invariant-loop-place l = record {
   long : length l.trees.items ≡ length l.fn.trees.items;
-  each : (core : Core) → l.trees.items ≡ turned l.place (losing l.home core l.peer (table_of l.taken l.peer)) (vrfs_from l.home.me 0 l.home.scenario.vrfs) l.fn.trees.items;
+  each : (core : Core) → l.trees.items ≡ turned l.place (losing l.home core l.peer (table_of l.taken l.peer))
+      (vrfs_from l.home.me 0 l.home.scenario.vrfs) l.fn.trees.items;
 }

@@ -15,4 +15,5 @@ trees_of-requires-clause-each c = λ i own lt.
 
 pub returns : goal.returns
 returns c = IfOk-weaker c.trees_of.result _ _ (λ trees is.
-    trees_are c.args.home.now c.vrfs.result.now c.scenario.result.now trees.items c.vrfs.ensures.vrfs c.scenario.ensures.scenario is) c.trees_of.ensures
+    trees_are c.args.home.now c.vrfs.result.now c.scenario.result.now trees.items c.vrfs.ensures.vrfs c.scenario.ensures.scenario is)
+    c.trees_of.ensures

@@ -8,11 +8,14 @@ use Rattle.edge_control.proofs.taking.drop_in.Goals as goal
 
 pub returns-in-None : goal.returns-in-None
 returns-in-None c = λ core now.
-    sym (ap (λ route. turned_all (dropping c.args.home.now core c.args.peer now c.args.key.now route) (vrfs_from c.args.home.now.me 0 c.args.home.now.scenario.vrfs) c.args.trees.now.items) (sym c.in-None.ensures.route)
+    sym (ap (λ route. turned_all (dropping c.args.home.now core c.args.peer now c.args.key.now route)
+    (vrfs_from c.args.home.now.me 0 c.args.home.now.scenario.vrfs) c.args.trees.now.items) (sym c.in-None.ensures.route)
     ∙ none_turned (vrfs_from c.args.home.now.me 0 c.args.home.now.scenario.vrfs) c.args.trees.now.items c.requires.each)
 
 pub returns-in-Some : goal.returns-in-Some
 returns-in-Some c = λ core now.
     c.forget_in.ensures core now (Some c.in-Some.entry.now) (sym c.value.ensures)
-    ∙ ap (λ (key : Key). turned_all (forgetting c.args.home.now core c.args.peer now key (Some c.in-Some.entry.now)) (vrfs_from c.args.home.now.me 0 c.args.home.now.scenario.vrfs) c.args.trees.now.items) c.key.ensures.key
-    ∙ ap (λ (route : Option TakenRoute). turned_all (dropping c.args.home.now core c.args.peer now c.args.key.now route) (vrfs_from c.args.home.now.me 0 c.args.home.now.scenario.vrfs) c.args.trees.now.items) c.in-Some.ensures.route
+    ∙ ap (λ (key : Key). turned_all (forgetting c.args.home.now core c.args.peer now key (Some c.in-Some.entry.now))
+    (vrfs_from c.args.home.now.me 0 c.args.home.now.scenario.vrfs) c.args.trees.now.items) c.key.ensures.key
+    ∙ ap (λ (route : Option TakenRoute). turned_all (dropping c.args.home.now core c.args.peer now c.args.key.now route)
+    (vrfs_from c.args.home.now.me 0 c.args.home.now.scenario.vrfs) c.args.trees.now.items) c.in-Some.ensures.route

@@ -11,22 +11,28 @@ use Rattle.edge_control.proofs.taking.learn_said.Goals as goal
 
 pub returns-in-None-clause-learned : goal.returns-in-None-clause-learned
 returns-in-None-clause-learned c = λ core.
-    sym (ap (λ (route : Option TakenRoute). turned_all (coming c.args.home.now core c.args.peer c.args.now c.args.key.now route) (vrfs_from c.args.home.now.me 0 c.args.home.now.scenario.vrfs) c.args.trees.now.items) (sym c.in-None.ensures.route)
+    sym (ap (λ (route : Option TakenRoute). turned_all (coming c.args.home.now core c.args.peer c.args.now c.args.key.now route)
+    (vrfs_from c.args.home.now.me 0 c.args.home.now.scenario.vrfs) c.args.trees.now.items) (sym c.in-None.ensures.route)
     ∙ none_turned (vrfs_from c.args.home.now.me 0 c.args.home.now.scenario.vrfs) c.args.trees.now.items c.requires.each)
 
 pub returns-in-Some-clause-learned : goal.returns-in-Some-clause-learned
 returns-in-Some-clause-learned c =
     on_ok_weaker c.learn_or_forget.result (λ took core.
     took core (Some c.in-Some.entry.now) (sym c.value.ensures)
-    ∙ (λ i. turned_all (λ own tree. sym (with_split (place_of c.args.home.now core) own c.args.peer c.args.now c.key.result.now (Some c.in-Some.entry.now) tree) i) (vrfs_from c.args.home.now.me 0 c.args.home.now.scenario.vrfs) c.args.trees.now.items)
-    ∙ ap (λ (key : Key). turned_all (coming c.args.home.now core c.args.peer c.args.now key (Some c.in-Some.entry.now)) (vrfs_from c.args.home.now.me 0 c.args.home.now.scenario.vrfs) c.args.trees.now.items) c.key.ensures.key
-    ∙ ap (λ (route : Option TakenRoute). turned_all (coming c.args.home.now core c.args.peer c.args.now c.args.key.now route) (vrfs_from c.args.home.now.me 0 c.args.home.now.scenario.vrfs) c.args.trees.now.items) c.in-Some.ensures.route)
+    ∙ (λ i. turned_all (λ own tree. sym (with_split (place_of c.args.home.now core) own c.args.peer c.args.now c.key.result.now
+    (Some c.in-Some.entry.now) tree) i) (vrfs_from c.args.home.now.me 0 c.args.home.now.scenario.vrfs) c.args.trees.now.items)
+    ∙ ap (λ (key : Key). turned_all (coming c.args.home.now core c.args.peer c.args.now key (Some c.in-Some.entry.now))
+    (vrfs_from c.args.home.now.me 0 c.args.home.now.scenario.vrfs) c.args.trees.now.items) c.key.ensures.key
+    ∙ ap (λ (route : Option TakenRoute). turned_all (coming c.args.home.now core c.args.peer c.args.now c.args.key.now route)
+    (vrfs_from c.args.home.now.me 0 c.args.home.now.scenario.vrfs) c.args.trees.now.items) c.in-Some.ensures.route)
     c.learn_or_forget.ensures.learned
 
 pub returns-in-Some-clause-forgot : goal.returns-in-Some-clause-forgot
 returns-in-Some-clause-forgot c =
     on_err_weaker c.learn_or_forget.result (λ went core.
     went core c.args.now (Some c.in-Some.entry.now) (sym c.value.ensures)
-    ∙ ap (λ (key : Key). turned_all (dropping c.args.home.now core c.args.peer c.args.now key (Some c.in-Some.entry.now)) (vrfs_from c.args.home.now.me 0 c.args.home.now.scenario.vrfs) c.args.trees.now.items) c.key.ensures.key
-    ∙ ap (λ (route : Option TakenRoute). turned_all (dropping c.args.home.now core c.args.peer c.args.now c.args.key.now route) (vrfs_from c.args.home.now.me 0 c.args.home.now.scenario.vrfs) c.args.trees.now.items) c.in-Some.ensures.route)
+    ∙ ap (λ (key : Key). turned_all (dropping c.args.home.now core c.args.peer c.args.now key (Some c.in-Some.entry.now))
+    (vrfs_from c.args.home.now.me 0 c.args.home.now.scenario.vrfs) c.args.trees.now.items) c.key.ensures.key
+    ∙ ap (λ (route : Option TakenRoute). turned_all (dropping c.args.home.now core c.args.peer c.args.now c.args.key.now route)
+    (vrfs_from c.args.home.now.me 0 c.args.home.now.scenario.vrfs) c.args.trees.now.items) c.in-Some.ensures.route)
     c.learn_or_forget.ensures.forgot

@@ -14,11 +14,14 @@ returns-in-None c =
     sym (append-nil c.args.keys.now)
     ∙ ap (λ (routes : List (Key × TakenRoute)). c.args.keys.now ++ admitted_keys c.args.vrf.now routes)
     (ap routes_in (sym c.in-None.is) ∙ routes_taken c.args.control.now.peers c.args.peer c.entries.result
-    (c.entries.ensures.entries ∙ ap (λ (tables : FinMap node_cmp Taken). option_map (λ (taken : Taken). maps.entries taken) (maps.get tables c.args.peer)) c.taken.ensures))
+    (c.entries.ensures.entries ∙ ap (λ (tables : FinMap node_cmp Taken). option_map (λ (taken : Taken). maps.entries taken)
+    (maps.get tables c.args.peer)) c.taken.ensures))
 
 pub returns-in-Some : goal.returns-in-Some
 returns-in-Some c =
-    subst (λ (routes : List (Key × TakenRoute)). OnOk c.add_admitted.result (c.add_admitted.new.keys ≡ (c.args.keys.now ++ admitted_keys c.args.vrf.now routes)))
+    subst (λ (routes : List (Key × TakenRoute)). OnOk c.add_admitted.result
+    (c.add_admitted.new.keys ≡ (c.args.keys.now ++ admitted_keys c.args.vrf.now routes)))
     (ap routes_in (sym c.in-Some.is) ∙ routes_taken c.args.control.now.peers c.args.peer c.entries.result
-    (c.entries.ensures.entries ∙ ap (λ (tables : FinMap node_cmp Taken). option_map (λ (taken : Taken). maps.entries taken) (maps.get tables c.args.peer)) c.taken.ensures))
+    (c.entries.ensures.entries ∙ ap (λ (tables : FinMap node_cmp Taken). option_map (λ (taken : Taken). maps.entries taken)
+    (maps.get tables c.args.peer)) c.taken.ensures))
     c.add_admitted.ensures

@@ -14,7 +14,8 @@ use Rattle.edge_core.proofs.lists.keys_from.Goals as goal
 pub loop-peer-preserved : goal.loop-peer-preserved
 loop-peer-preserved c =
     let keys : NodeId → List Key = λ peer. admitted_keys c.args.vrf.now (maps.entries (taken_from (control_of c.args.control.now) peer)) in
-    keys_more keys c.as_slice-peer-items.result.now c.loop-peer.peer-index _ c.loop-peer.keys c.add_taken.new.keys (omega arith) c.loop-peer.invariant c.in_ok-add_taken.ensures
+    keys_more keys c.as_slice-peer-items.result.now c.loop-peer.peer-index _ c.loop-peer.keys c.add_taken.new.keys (omega arith) c.loop-peer.invariant
+    c.in_ok-add_taken.ensures
 
 pub returns : goal.returns
 returns c =

@@ -7,4 +7,5 @@ use Rattle.edge_core.specs.Listed.{admitted_keys}
 use Rattle.edge_core.proofs.lists.keys_from.Given as goal
 
 abbrev pub invariant-loop-peer : goal.invariant-loop-peer
-invariant-loop-peer l = l.keys ≡ flat_map (λ peer. admitted_keys l.vrf (maps.entries (taken_from (control_of l.control) peer))) (take l.peer-index l.peer-items)
+invariant-loop-peer l =
+    l.keys ≡ flat_map (λ peer. admitted_keys l.vrf (maps.entries (taken_from (control_of l.control) peer))) (take l.peer-index l.peer-items)

@@ -11,6 +11,10 @@ loop-line-init c = record { told = none_told c.args.core.now c.args.peer c.args.
 pub give-requires-clause-may : goal.give-requires-clause-may
 give-requires-clause-may c =
     let all = c.as_slice-all.result.now in
-    let at_start : AreLinesAt (home_of c.args.own.now) all = subst (AreLinesAt (home_of c.args.own.now)) (sym c.as_slice-all.ensures) c.requires.lines in
-    let here : AreLinesAt (home_of c.loop-line.own) all = subst (λ (home : Home). AreLinesAt home all) (sym c.loop-line.invariant.home) at_start in
-    (take c.loop-line.line-index all, c.loop-line.invariant.told, may_give all c.loop-line.own here c.loop-line.line-index c.line-item.result c.loop-line-test.true c.line-item.is)
+    let at_start : AreLinesAt (home_of c.args.own.now) all =
+    subst (AreLinesAt (home_of c.args.own.now)) (sym c.as_slice-all.ensures) c.requires.lines in
+    let here : AreLinesAt (home_of c.loop-line.own) all = subst (λ (home : Home). AreLinesAt home all) (sym c.loop-line.invariant.home) at_start in (
+      take c.loop-line.line-index all,
+      c.loop-line.invariant.told,
+      may_give all c.loop-line.own here c.loop-line.line-index c.line-item.result c.loop-line-test.true c.line-item.is,
+    )

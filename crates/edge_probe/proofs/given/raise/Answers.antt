@@ -10,8 +10,10 @@ raised-requires-clause-down c = λ _. first_down c.args.core.now c.args.peer c.a
 pub memory-requires : goal.memory-requires
 memory-requires c =
     memory_alone c.in-Err.fault (c.in-Err.ensures.only c.in-Err.fault refl) (λ e.
-    first_not_lacking c.args.core.now c.args.peer c.args.own.now c.requires.fresh (c.in-Err.ensures.answers.lacks (ap (λ (f : EdgeFault). Err f) e) c.requires.fresh.unspent))
+    first_not_lacking c.args.core.now c.args.peer c.args.own.now c.requires.fresh
+    (c.in-Err.ensures.answers.lacks (ap (λ (f : EdgeFault). Err f) e) c.requires.fresh.unspent))
 
 pub returns-in-Ok-clause-given : goal.returns-in-Ok-clause-given
 returns-in-Ok-clause-given c =
-    first_given c.args.core.now c.args.peer c.args.own.now c.raised.new.self c.requires.fresh c.in-Ok.ensures.answers.home c.in-Ok.ensures.answers.goes_on c.in-Ok.ensures.answers.made
+    first_given c.args.core.now c.args.peer c.args.own.now c.raised.new.self c.requires.fresh c.in-Ok.ensures.answers.home
+    c.in-Ok.ensures.answers.goes_on c.in-Ok.ensures.answers.made

@@ -23,4 +23,5 @@ pub returns : goal.returns
 returns c = λ core peer done given among.
     let table : Table = table_of (messages_in (octets_of done)) in
     c.loop-number.invariant core peer done given among
-    ∙ ap (λ (xs : List Vrf). taken_first c.args.me xs table) (take_all c.loop-number.number c.as_slice-vrfs.result.now c.loop-number-test.false ∙ c.as_slice-vrfs.ensures)
+    ∙ ap (λ (xs : List Vrf). taken_first c.args.me xs table)
+    (take_all c.loop-number.number c.as_slice-vrfs.result.now c.loop-number-test.false ∙ c.as_slice-vrfs.ensures)

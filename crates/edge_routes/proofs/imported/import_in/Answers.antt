@@ -10,4 +10,5 @@ returns-in-Some-V4-default c =
     let read = arm.ensures.read in
     let same : arm.addr ≡ read.0 = cc in
     let e : c.args.comm.0 ≡ import_octets arm.addr arm.number = cc in
-    ap (λ (import : Import). Some import) c.named.ensures.import ∙ sym (import_read c.args.comm arm.addr arm.number e c.named.ensures.octets c.named.ensures.fits)
+    ap (λ (import : Import). Some import) c.named.ensures.import
+    ∙ sym (import_read c.args.comm arm.addr arm.number e c.named.ensures.octets c.named.ensures.fits)

@@ -11,17 +11,24 @@ pub returns-then-is_some-2 : goal.returns-then-is_some-2
 returns-then-is_some-2 c =
     let one : is_some c.loop-comm.only ≡ true = cc in
     let other : is_some c.import_in-found.result ≡ true = cc in
-    found_both import_in c.args.comms.now c.loop-comm.comm-index _ (option_map as_import c.loop-comm.only) (option_map as_import c.import_in-found.result) c.loop-comm-test.true c.loop-comm.invariant
+    found_both import_in c.args.comms.now c.loop-comm.comm-index _ (option_map as_import c.loop-comm.only)
+    (option_map as_import c.import_in-found.result) c.loop-comm-test.true c.loop-comm.invariant
     c.import_in-found.ensures (some_mapped as_import c.loop-comm.only true one) (some_mapped as_import c.import_in-found.result true other)
 
 pub loop-comm-preserved : goal.loop-comm-preserved
 loop-comm-preserved c = elim c.if-is_some.branch [
   | then-is_some+else-is_some-2 w ↦
       (let none : is_some c.loop-comm.only ≡ false = cc in
-      subst (λ (o : Option Import). found_in import_in (take (c.loop-comm.comm-index + 1) c.args.comms.now) ≡ listed (option_map as_import o)) (sym w.only-is)
-      (found_new import_in c.args.comms.now c.loop-comm.comm-index _ (option_map as_import c.loop-comm.only) (option_map as_import c.import_in-found.result) c.loop-comm-test.true c.loop-comm.invariant c.import_in-found.ensures (some_mapped as_import c.loop-comm.only false none)))
+      subst (λ (o : Option Import). found_in import_in (take (c.loop-comm.comm-index + 1) c.args.comms.now) ≡ listed (option_map as_import o))
+      (sym w.only-is)
+      (found_new import_in c.args.comms.now c.loop-comm.comm-index _ (option_map as_import c.loop-comm.only)
+      (option_map as_import c.import_in-found.result) c.loop-comm-test.true c.loop-comm.invariant c.import_in-found.ensures
+      (some_mapped as_import c.loop-comm.only false none)))
   | else-is_some w ↦
       (let none : is_some c.import_in-found.result ≡ false = cc in
-      subst (λ (o : Option Import). found_in import_in (take (c.loop-comm.comm-index + 1) c.args.comms.now) ≡ listed (option_map as_import o)) (sym w.only-is)
-      (found_same import_in c.args.comms.now c.loop-comm.comm-index _ (option_map as_import c.loop-comm.only) (option_map as_import c.import_in-found.result) c.loop-comm-test.true c.loop-comm.invariant c.import_in-found.ensures (some_mapped as_import c.import_in-found.result false none)))
+      subst (λ (o : Option Import). found_in import_in (take (c.loop-comm.comm-index + 1) c.args.comms.now) ≡ listed (option_map as_import o))
+      (sym w.only-is)
+      (found_same import_in c.args.comms.now c.loop-comm.comm-index _ (option_map as_import c.loop-comm.only)
+      (option_map as_import c.import_in-found.result) c.loop-comm-test.true c.loop-comm.invariant c.import_in-found.ensures
+      (some_mapped as_import c.import_in-found.result false none)))
 ]

@@ -13,5 +13,8 @@ returns-clause-silent c = first_silent c.deref.result.now c.in_ok-tables.tables 
 
 pub returns-clause-step : goal.returns-clause-step
 returns-clause-step c =
-    first_step c.deref.result.now c.in_ok-tables.tables c.in_ok-tables.ensures c.start.new.tables c.start.ensures.told c.args.control.now c.requires.nothing c.requires.wanted
-    (c.deref.ensures.value ∙ (c.in_ok-peers.ensures ∙ ap peers_of c.home-home.ensures.home)) (λ core. subst (λ (h : Home). HoldAll (place_of h core) no_control c.start.new.tables) c.home-home.ensures.home (c.in_ok-start.ensures.held core))
+    first_step c.deref.result.now c.in_ok-tables.tables c.in_ok-tables.ensures c.start.new.tables c.start.ensures.told c.args.control.now
+    c.requires.nothing c.requires.wanted
+    (c.deref.ensures.value ∙ (c.in_ok-peers.ensures ∙ ap peers_of c.home-home.ensures.home))
+    (λ core. subst (λ (h : Home). HoldAll (place_of h core) no_control c.start.new.tables) c.home-home.ensures.home
+    (c.in_ok-start.ensures.held core))

@@ -15,11 +15,13 @@ loop-change-smaller c = let e = ap (λ (l : List (Change Key Value)). length l) 
 
 pub loop-change-preserved : goal.loop-change-preserved
 loop-change-preserved c =
-    one_put c.args.pending c.args.out.now c.loop-change.out c.put_change.new.out c.loop-change.pending c.next.new.self c.in-Some.change c.loop-change.invariant c.in-Some.ensures c.in_ok-put_change.ensures.ok
+    one_put c.args.pending c.args.out.now c.loop-change.out c.put_change.new.out c.loop-change.pending c.next.new.self c.in-Some.change
+    c.loop-change.invariant c.in-Some.ensures c.in_ok-put_change.ensures.ok
 
 pub returns-in_err-put_change-clause-err : goal.returns-in_err-put_change-clause-err
 returns-in_err-put_change-clause-err c =
-    on_err c.from_residual.result _ (front_put c.args.pending c.args.out.now c.loop-change.out c.put_change.new.out c.loop-change.pending c.loop-change.invariant c.in_err-put_change.ensures.err)
+    on_err c.from_residual.result _ (front_put c.args.pending c.args.out.now c.loop-change.out c.put_change.new.out c.loop-change.pending
+    c.loop-change.invariant c.in_err-put_change.ensures.err)
 
 pub returns-clause-ok : goal.returns-clause-ok
 returns-clause-ok c = all_put c.args.pending c.args.out.now c.loop-change.out c.loop-change.pending c.loop-change.invariant c.in_default.ensures.0

@@ -19,7 +19,8 @@ returns-clause-set c = on_ok_weaker c.set_for.result (λ at place own.
     let up = c.args.upstream.now in
     let flow : VrfFlow = record { vrf = record { 0 = 0 }; source = c.args.source; group = c.args.group } in
     at_as insert c.join_key-key.ensures
-    (value_is place c.args.peer flow up.rd (as_import up.import) up.source_as _ (c.join_route-value.ensures place (record { 0 = 0 }) c.args.peer (own.addr ∙ ap V4 (sym c.addr.ensures))))
+    (value_is place c.args.peer flow up.rd (as_import up.import) up.source_as _
+    (c.join_route-value.ensures place (record { 0 = 0 }) c.args.peer (own.addr ∙ ap V4 (sym c.addr.ensures))))
     c.args.peer c.args.tables.now c.set_for.new.self at) c.set_for.ensures.set
 
 pub returns-clause-held : goal.returns-clause-held
@@ -30,6 +31,7 @@ returns-clause-held c = on_ok_weaker c.set_for.result (λ at place control but o
     let value = value_towards place (as_import up.import) in
     one_less place control but c.args.peer key (λ (t : Table). insert t key value) c.args.tables.now c.set_for.new.self
     (at_as insert c.join_key-key.ensures
-    (value_is place c.args.peer flow up.rd (as_import up.import) up.source_as _ (c.join_route-value.ensures place (record { 0 = 0 }) c.args.peer (own.addr ∙ ap V4 (sym c.addr.ensures))))
+    (value_is place c.args.peer flow up.rd (as_import up.import) up.source_as _
+    (c.join_route-value.ensures place (record { 0 = 0 }) c.args.peer (own.addr ∙ ap V4 (sym c.addr.ensures))))
     c.args.peer c.args.tables.now c.set_for.new.self at)
     (λ before. here_set key value before ∙ sym is) (λ before other ne. apart_set key value before other ne) hold) c.set_for.ensures.set

@@ -10,4 +10,5 @@ pub spelled-requires-clause-parts : goal.spelled-requires-clause-parts
 spelled-requires-clause-parts c =
     let pattern = c.args.pattern.now in
     c.selective_key-key.ensures (place_for c.args.own.now) (is_at c.args.own.now)
-    ∙ (λ i. Mcast (afi_by pattern.source pattern.group) (routes.Selective (sym c.vrf.ensures.vrf i).rd pattern.source pattern.group (V4 (sym c.addr.ensures i))))
+    ∙ (λ i. Mcast (afi_by pattern.source pattern.group)
+    (routes.Selective (sym c.vrf.ensures.vrf i).rd pattern.source pattern.group (V4 (sym c.addr.ensures i))))

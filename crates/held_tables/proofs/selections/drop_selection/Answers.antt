@@ -10,7 +10,8 @@ use Rattle.held_tables.proofs.selections.drop_selection.Goals as goal
 
 pub returns-clause-held : goal.returns-clause-held
 returns-clause-held c = on_ok_weaker c.unset.result (λ each place control own hold.
-    hold_each (λ (t : Table). remove t (selective_key place c.args.own.now.local.vrf c.args.pattern.now)) place control (without_selected control c.args.own.now.id c.args.pattern.now) c.args.tables.now c.unset.new.self
+    hold_each (λ (t : Table). remove t (selective_key place c.args.own.now.local.vrf c.args.pattern.now)) place control
+    (without_selected control c.args.own.now.id c.args.pattern.now) c.args.tables.now c.unset.new.self
     (less_as (c.selective_key-key.ensures place own.at) c.args.tables.now c.unset.new.self each)
     (λ peer. selected_less place own.rules peer control (as_own c.args.own.now) own.among c.args.pattern.now)
     hold) c.unset.ensures.unset

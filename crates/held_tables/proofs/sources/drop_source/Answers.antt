@@ -10,7 +10,8 @@ use Rattle.held_tables.proofs.sources.drop_source.Goals as goal
 
 pub returns-clause-held : goal.returns-clause-held
 returns-clause-held c = on_ok_weaker c.unset.result (λ each place control iface own of none hold.
-    hold_each (λ (t : Table). remove t (active_key c.args.own.now.local.vrf c.args.source c.args.group)) place control (without_note control (note_of iface c.args.source c.args.group)) c.args.tables.now c.unset.new.self
+    hold_each (λ (t : Table). remove t (active_key c.args.own.now.local.vrf c.args.source c.args.group)) place control
+    (without_note control (note_of iface c.args.source c.args.group)) c.args.tables.now c.unset.new.self
     (less_as c.active_key-key.ensures c.args.tables.now c.unset.new.self each)
     (λ peer. unnoted place own.rules peer control (as_own c.args.own.now) own.among iface c.args.source c.args.group of none)
     hold) c.unset.ensures.unset

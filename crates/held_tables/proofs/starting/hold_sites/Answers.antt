@@ -16,7 +16,8 @@ hold_prefixes-requires c =
     let own = c.args.own.now in
     let here : c.as_slice.result.now ≡ local_routes c.args.home.now.scenario own.id =
     c.as_slice.ensures ∙ c.in_ok-routes.ensures ∙ ap (λ (s : Scenario). local_routes s own.id) c.scenario.ensures.scenario in
-    subst (λ (routes : List Route). All (λ (route : Route). IsSitePrefix route.prefix) routes) (sym here) (local_prefixes c.args.home.now.scenario c.scenario.ensures.is.rules own.id)
+    subst (λ (routes : List Route). All (λ (route : Route). IsSitePrefix route.prefix) routes) (sym here)
+    (local_prefixes c.args.home.now.scenario c.scenario.ensures.is.rules own.id)
 
 pub returns-clause-set : goal.returns-clause-set
 returns-clause-set c = on_ok_weaker c.hold_prefixes.result (λ each.
@@ -24,7 +25,8 @@ returns-clause-set c = on_ok_weaker c.hold_prefixes.result (λ each.
     let here : c.as_slice.result.now ≡ local_routes c.args.home.now.scenario own.id =
     c.as_slice.ensures ∙ c.in_ok-routes.ensures ∙ ap (λ (s : Scenario). local_routes s own.id) c.scenario.ensures.scenario in
     subst (λ (l : List Entry). EachPeer (Given l) c.args.tables.now c.hold_prefixes.new.tables)
-    (λ i. prefix_routes own.local.vrf.rd (c.unicast_value-value.ensures (home_place c.args.home.now) c.requires i) (here i)) each) c.hold_prefixes.ensures.set
+    (λ i. prefix_routes own.local.vrf.rd (c.unicast_value-value.ensures (home_place c.args.home.now) c.requires i) (here i)) each)
+    c.hold_prefixes.ensures.set
 
 pub returns-clause-partly : goal.returns-clause-partly
 returns-clause-partly c = on_err_weaker c.hold_prefixes.result (λ part.
@@ -32,4 +34,5 @@ returns-clause-partly c = on_err_weaker c.hold_prefixes.result (λ part.
     let here : c.as_slice.result.now ≡ local_routes c.args.home.now.scenario own.id =
     c.as_slice.ensures ∙ c.in_ok-routes.ensures ∙ ap (λ (s : Scenario). local_routes s own.id) c.scenario.ensures.scenario in
     subst (λ (l : List Entry). EachPeer (HasFront l) c.args.tables.now c.hold_prefixes.new.tables)
-    (λ i. prefix_routes own.local.vrf.rd (c.unicast_value-value.ensures (home_place c.args.home.now) c.requires i) (here i)) part) c.hold_prefixes.ensures.partly
+    (λ i. prefix_routes own.local.vrf.rd (c.unicast_value-value.ensures (home_place c.args.home.now) c.requires i) (here i)) part)
+    c.hold_prefixes.ensures.partly

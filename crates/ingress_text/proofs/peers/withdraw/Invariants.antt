@@ -5,7 +5,8 @@ use Rattle.ingress_text.proofs.peers.withdraw.Given as goal
 
 -- the other keys are still to be withdrawn
 abbrev pub invariant-keys : goal.invariant-keys
-invariant-keys l = fold (answer_behind l.request l.leaf) l.answer (unannounced l.rest) ≡ fold (answer_behind l.request l.leaf) l.initial.answer (unannounced l.keys)
+invariant-keys l =
+    fold (answer_behind l.request l.leaf) l.answer (unannounced l.rest) ≡ fold (answer_behind l.request l.leaf) l.initial.answer (unannounced l.keys)
 
 abbrev pub decreases-keys : goal.decreases-keys
 decreases-keys l = length l.rest

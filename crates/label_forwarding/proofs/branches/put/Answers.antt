@@ -9,4 +9,5 @@ returns-then-stands_at-clause-ok c =
 pub returns-clause-ok : goal.returns-clause-ok
 returns-clause-ok c =
     is_added c.args.branch c.args.items.now.items c.deref.result.now c.deref-2.result.now c.insert.new.self.items c.place_of-place.result
-    c.deref.ensures.value c.deref-2.ensures.value c.requires c.place_of-place.ensures.point c.place_of-place.ensures.within (c.stands_at.ensures.no c.if-stands_at.false) c.in_ok-insert.ensures.items
+    c.deref.ensures.value c.deref-2.ensures.value c.requires c.place_of-place.ensures.point c.place_of-place.ensures.within
+    (c.stands_at.ensures.no c.if-stands_at.false) c.in_ok-insert.ensures.items

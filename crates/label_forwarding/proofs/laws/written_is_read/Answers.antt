@@ -7,4 +7,5 @@ pub returns-clause-spelled : goal.returns-clause-spelled
 returns-clause-spelled c = written_spelled
 
 pub returns-clause-read : goal.returns-clause-read
-returns-clause-read c = λ source group payload sent. packet_again source group (written source group payload) (written_spelled source group payload sent)
+returns-clause-read c =
+    λ source group payload sent. packet_again source group (written source group payload) (written_spelled source group payload sent)

@@ -7,7 +7,8 @@ use Rattle.label_forwarding.proofs.pairs.note.Goals as goal
 
 pub returns-clause-counts : goal.returns-clause-counts
 returns-clause-counts c = λ own.
-    ap (noted own) (ok_then c.insert.result (c.insert.ensures.succeeds c.requires.room) c.insert.ensures.entries ∙ insert_entry-new is_hop c.args.pairs.now c.args.at c.args.fec.now c.requires.absent)
+    ap (noted own) (ok_then c.insert.result (c.insert.ensures.succeeds c.requires.room) c.insert.ensures.entries
+    ∙ insert_entry-new is_hop c.args.pairs.now c.args.at c.args.fec.now c.requires.absent)
     ∙ noted_push c.args.pairs.now.entries c.args.at c.args.fec.now own
 
 pub returns-clause-few : goal.returns-clause-few

@@ -8,4 +8,6 @@ use Rattle.label_trees.specs.Loss.{is_lost}
 use Rattle.label_trees.proofs.loss.branches_toward.Given as goal
 
 abbrev pub invariant-loop-fec : goal.invariant-loop-fec
-invariant-loop-fec l = (own : Branch) → list_any (eq_by_cmp branch_cmp own) l.found.items ≡ (list_any (same_fec own.fec) (take l.fec-index l.fecs) && is_lost l.peer l.fib.branches own)
+invariant-loop-fec l =
+    (own : Branch) → list_any (eq_by_cmp branch_cmp own) l.found.items
+    ≡ (list_any (same_fec own.fec) (take l.fec-index l.fecs) && is_lost l.peer l.fib.branches own)

@@ -12,5 +12,6 @@ pub returns : goal.returns
 returns c = λ own. on_ok_weaker c.push_branches.result (λ is.
     ap (list_any (eq_by_cmp branch_cmp own)) is
     ∙ (list_any-append (eq_by_cmp branch_cmp own) c.args.found.now.items (branches_to c.args.peer c.args.fec.now c.push.result.now)
-    ∙ ap (λ (b : Bool). list_any (eq_by_cmp branch_cmp own) c.args.found.now.items || b) (tree_loses c.args.fib.now c.args.peer c.args.fec.now c.push.result.now c.push.ensures own)))
+    ∙ ap (λ (b : Bool). list_any (eq_by_cmp branch_cmp own) c.args.found.now.items || b)
+    (tree_loses c.args.fib.now c.args.peer c.args.fec.now c.push.result.now c.push.ensures own)))
     c.push_branches.ensures

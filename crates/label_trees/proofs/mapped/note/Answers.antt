@@ -9,5 +9,6 @@ returns-in-Ok-clause-all c = subst (λ (f : FibData). AreMapped f.pairs c.args.u
     (noted c.args.fib.now.pairs c.args.uses.now.labels c.args.label c.args.fec.now c.args.upstream c.requires.others c.requires.mapped)
 
 pub returns-in-Err-clause-all : goal.returns-in-Err-clause-all
-returns-in-Err-clause-all c = note_lost c.leave.result c.args.fib.now c.map.new.self c.args.uses.now c.leave.new.self c.args.label c.args.fec.now c.args.upstream
+returns-in-Err-clause-all c =
+    note_lost c.leave.result c.args.fib.now c.map.new.self c.args.uses.now c.leave.new.self c.args.label c.args.fec.now c.args.upstream
     c.in-Err.ensures.err c.requires.others c.requires.mapped c.leave.ensures.leaving c.leave.ensures.free

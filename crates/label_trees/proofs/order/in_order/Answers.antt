@@ -6,4 +6,5 @@ use Rattle.label_trees.proofs.order.in_order.Goals as goal
 
 pub returns : goal.returns
 returns c = ordered_are c.args.fecs.items c.sort_by.new.self.items c.dedup.new.self.items c.sort_by.ensures.permutation
-    (sorted_by c.sort_by.new.self.items c.in_ok-sort_by.ensures.sorted (λ a r q k. search rules)) (dedup_is is_fec c.sort_by.new.self.items c.dedup.new.self.items c.dedup.ensures.filtered)
+    (sorted_by c.sort_by.new.self.items c.in_ok-sort_by.ensures.sorted (λ a r q k. search rules))
+    (dedup_is is_fec c.sort_by.new.self.items c.dedup.new.self.items c.dedup.ensures.filtered)

@@ -12,22 +12,34 @@ parts-init g c =
 pub returns-then-is_among : goal.returns-then-is_among
 returns-then-is_among g c =
     let T = g.T.Listed in
-    sym (sym c.parts.invariant.left ∙ (ap (list_from T.alike T.read_of c.parts.found) c.cut_comma.ensures ∙ again T.alike T.read_of c.parts.found _ _ c.in-Some.item (sym c.read.ensures ∙ c.in-Some.is) (search rules)))
+    sym (sym c.parts.invariant.left ∙ (ap (list_from T.alike T.read_of c.parts.found) c.cut_comma.ensures
+    ∙ again T.alike T.read_of c.parts.found _ _ c.in-Some.item (sym c.read.ensures ∙ c.in-Some.is) (search rules)))
 
 pub returns-in-None-behind : goal.returns-in-None-behind
 returns-in-None-behind g c =
     let T = g.T.Listed in
     let found = c.parts.found ++ c.in-Some.item ∷ [] in
-    let left = taken T.alike T.read_of c.parts.found _ _ (parts_behind c.cut_comma.result.1) c.in-Some.item _ (sym c.read.ensures ∙ c.in-Some.is) c.cut_comma.ensures c.parts.invariant.left in
+    let left =
+    taken T.alike T.read_of c.parts.found _ _ (parts_behind c.cut_comma.result.1) c.in-Some.item _ (sym c.read.ensures ∙ c.in-Some.is)
+    c.cut_comma.ensures c.parts.invariant.left in
     let distinct = distinct_push T.alike c.parts.found c.in-Some.item c.parts.invariant.distinct (search rules) in
-    let done = list_done T.alike T.read_of found (omega (arith, length-append c.parts.found (c.in-Some.item ∷ []), c.parts.invariant.count, c.parts-test.true)) distinct in
-    rw c.in_ok-push.ensures.ok (sym (sym left ∙ (ap (λ (behind : Option (Bor (List ℕ))). list_from T.alike T.read_of found (parts_behind behind)) c.in-None-behind.is ∙ done)))
+    let done =
+    list_done T.alike T.read_of found (omega (
+      arith,
+      length-append c.parts.found (c.in-Some.item ∷ []),
+      c.parts.invariant.count,
+      c.parts-test.true,
+    )) distinct in
+    rw c.in_ok-push.ensures.ok (sym (sym left ∙ (ap (λ (behind : Option (Bor (List ℕ))). list_from T.alike T.read_of found (parts_behind behind))
+    c.in-None-behind.is ∙ done)))
 
 pub parts-preserved : goal.parts-preserved
 parts-preserved g c =
     let T = g.T.Listed in
     let found = c.parts.found ++ c.in-Some.item ∷ [] in
-    let left = taken T.alike T.read_of c.parts.found _ _ (parts_behind c.cut_comma.result.1) c.in-Some.item _ (sym c.read.ensures ∙ c.in-Some.is) c.cut_comma.ensures c.parts.invariant.left in
+    let left =
+    taken T.alike T.read_of c.parts.found _ _ (parts_behind c.cut_comma.result.1) c.in-Some.item _ (sym c.read.ensures ∙ c.in-Some.is)
+    c.cut_comma.ensures c.parts.invariant.left in
     let distinct = distinct_push T.alike c.parts.found c.in-Some.item c.parts.invariant.distinct (search rules) in
     rw c.in_ok-push.ensures.ok (record {
       left = sym (ap (λ (behind : Option (Bor (List ℕ))). list_from T.alike T.read_of found (parts_behind behind)) c.in-Some-behind.is) ∙ left;
@@ -38,4 +50,5 @@ parts-preserved g c =
 pub returns : goal.returns
 returns g c =
     let T = g.T.Listed in
-    sym (sym c.parts.invariant.left ∙ too_many T.alike T.read_of c.parts.found (slice_split (λ b. b == 44) c.parts.rest.now) (some_part c.parts.rest.now) (omega (arith, c.parts.invariant.count, c.parts-test.false)))
+    sym (sym c.parts.invariant.left ∙ too_many T.alike T.read_of c.parts.found (slice_split (λ b. b == 44) c.parts.rest.now)
+    (some_part c.parts.rest.now) (omega (arith, c.parts.invariant.count, c.parts-test.false)))

@@ -15,4 +15,6 @@ pub unreachable-requires : goal.unreachable-requires
 unreachable-requires c =
     let facts = list_is same_target target_of c.args.word.now.text.now c.in-Some.found (sym c.in_ok-found.ensures ∙ c.in-Some.is) in
     let count : length c.as_slice.result.now ≡ length c.in-Some.found = ap (λ (xs : List Target). length xs) c.as_slice.ensures in
-    neither (length c.as_slice.result.now) c.in-Err.field-0 (omega (arith, count, facts.some)) (omega (arith, count, facts.few)) (λ e. c.of.ensures.empty.0 (c.in-Err.is ∙ ap (λ (f : TargetsFault). Err f) e)) (λ e. c.of.ensures.too_many.0 (c.in-Err.is ∙ ap (λ (f : TargetsFault). Err f) e))
+    neither (length c.as_slice.result.now) c.in-Err.field-0 (omega (arith, count, facts.some)) (omega (arith, count, facts.few))
+    (λ e. c.of.ensures.empty.0 (c.in-Err.is ∙ ap (λ (f : TargetsFault). Err f) e))
+    (λ e. c.of.ensures.too_many.0 (c.in-Err.is ∙ ap (λ (f : TargetsFault). Err f) e))

@@ -7,9 +7,11 @@ use Rattle.mldp_node.proofs.settling.settle_mapped.Goals.{else-is_on-via-then-is
 
 pub returns-else-is_on : goal.returns-else-is_on
 returns-else-is_on c = on_ok c.withdraw.result
-    (λ h up. moved_off c.args.fec.now c.args.label up c.args.trees.now c.withdraw.new.trees c.args.puts.now.items c.withdraw.new.puts.items c.args.upstream c.requires
+    (λ h up. moved_off c.args.fec.now c.args.label up c.args.trees.now c.withdraw.new.trees c.args.puts.now.items c.withdraw.new.puts.items
+    c.args.upstream c.requires
     (elim c.else-is_on.branch [
-      | else-is_on-via-then-is_on+else-same_neighbour w ↦ inr (ap (λ o. same_neighbour o c.args.upstream) (sym w.upstream.ensures) ∙ sym w.same_neighbour.ensures ∙ w.if-same_neighbour.false)
+      | else-is_on-via-then-is_on+else-same_neighbour w ↦
+          inr (ap (λ o. same_neighbour o c.args.upstream) (sym w.upstream.ensures) ∙ sym w.same_neighbour.ensures ∙ w.if-same_neighbour.false)
       | else-is_on-via-else-is_on w ↦ inl (sym c.is_on.ensures ∙ w.if-is_on.false)
     ]) (h c.args.upstream))
     c.withdraw.ensures

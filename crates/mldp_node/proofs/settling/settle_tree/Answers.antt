@@ -6,8 +6,11 @@ settle-requires c = record { up = sessions_up c.args.trees.now.uses.sessions c.a
 
 pub returns-clause-ok : goal.returns-clause-ok
 returns-clause-ok c = on_ok c.settle.result
-    (one_settled c.args.core.now c.args.place.now c.upstream-upstream.result c.args.fec.now c.args.ends.now c.args.trees.now c.args.puts.now.items c.settle.new.trees c.settle.new.puts.items c.upstream-upstream.ensures c.requires.tied c.requires.written)
+    (one_settled c.args.core.now c.args.place.now c.upstream-upstream.result c.args.fec.now c.args.ends.now c.args.trees.now c.args.puts.now.items
+    c.settle.new.trees c.settle.new.puts.items c.upstream-upstream.ensures c.requires.tied c.requires.written)
     c.settle.ensures.ok
 
 pub returns-clause-lacks : goal.returns-clause-lacks
-returns-clause-lacks c = λ e. one_lacks c.args.core.now c.args.place.now c.upstream-upstream.result c.args.fec.now c.args.ends.now c.args.trees.now c.args.puts.now.items c.upstream-upstream.ensures (c.settle.ensures.lacks e)
+returns-clause-lacks c =
+    λ e. one_lacks c.args.core.now c.args.place.now c.upstream-upstream.result c.args.fec.now c.args.ends.now c.args.trees.now c.args.puts.now.items
+    c.upstream-upstream.ensures (c.settle.ensures.lacks e)

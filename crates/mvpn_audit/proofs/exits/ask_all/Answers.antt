@@ -12,8 +12,11 @@ loop-iface-preserved c =
     let before = get is_exit c.args.exits.now in
     let cur = get is_exit c.loop-iface.exits in
     record {
-      each = asked_more c.args.number c.args.asked.now c.loop-iface.iface-index _ c.loop-iface-test.true before cur c.loop-iface.invariant.each (get is_exit c.ask-left.new.exits) c.ask-left.ensures.each;
-      lacking = lacks_more c.args.number c.args.asked.now c.loop-iface.iface-index _ c.loop-iface-test.true before cur c.loop-iface.invariant.each c.loop-iface.lacks c.ask-left.result
+      each = asked_more c.args.number c.args.asked.now c.loop-iface.iface-index _ c.loop-iface-test.true before cur c.loop-iface.invariant.each
+          (get is_exit c.ask-left.new.exits) c.ask-left.ensures.each;
+      lacking =
+          lacks_more c.args.number c.args.asked.now c.loop-iface.iface-index _ c.loop-iface-test.true before cur c.loop-iface.invariant.each
+          c.loop-iface.lacks c.ask-left.result
           c.any_lacks-lacks.result c.loop-iface.invariant.lacking c.ask-left.ensures.left c.any_lacks-lacks.ensures;
       unique = c.ask-left.ensures.unique;
     }

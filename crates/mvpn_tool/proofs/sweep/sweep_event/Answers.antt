@@ -18,5 +18,6 @@ returns-in-Ok-clause-ends c =
 
 pub returns-clause-ends : goal.returns-clause-ends
 returns-clause-ends c =
-    event_lacks_label c.args.timed.now c.args.world.now c.step.new.self c.args.counts.now c.args.counts.now _ _ c.new-lines.ensures c.in-Err-NoLabel.field-0-0
+    event_lacks_label c.args.timed.now c.args.world.now c.step.new.self c.args.counts.now c.args.counts.now _ _ c.new-lines.ensures
+    c.in-Err-NoLabel.field-0-0
     (rw c.in-Err-NoLabel.field-0-is at c.in-Err-NoLabel.ensures)

@@ -8,6 +8,9 @@ use Rattle.mvpn_tool.proofs.top.run_ingress.Goals as goal
 pub returns : goal.returns
 returns g c =
     rw (c.told.ensures.status, c.told.ensures.world)
-    (tell_run input_of Tells (λ (x : Input). is_refused x ≡ false) (λ (x : Input). is_refused x ≡ true) (g.S.Source.left c.args.source.now) (g.S.Source.left c.ingress.new.source) (g.K.Sink.written c.args.sink.now) (g.K.Sink.written c.ingress.new.sink)
-    (g.S.Source.faults c.args.source.now) (g.S.Source.faults c.ingress.new.source) (g.K.Sink.faults c.args.sink.now) (g.K.Sink.faults c.ingress.new.sink)
-    c.ingress.result c.ingress.ensures.ends c.ingress.ensures.taken c.ingress.ensures.whole c.ingress.ensures.fault c.ingress.ensures.source_failed c.ingress.ensures.sink_failed)
+    (tell_run input_of Tells (λ (x : Input). is_refused x ≡ false) (λ (x : Input). is_refused x ≡ true) (g.S.Source.left c.args.source.now)
+    (g.S.Source.left c.ingress.new.source) (g.K.Sink.written c.args.sink.now) (g.K.Sink.written c.ingress.new.sink)
+    (g.S.Source.faults c.args.source.now) (g.S.Source.faults c.ingress.new.source) (g.K.Sink.faults c.args.sink.now)
+    (g.K.Sink.faults c.ingress.new.sink)
+    c.ingress.result c.ingress.ensures.ends c.ingress.ensures.taken c.ingress.ensures.whole c.ingress.ensures.fault c.ingress.ensures.source_failed
+    c.ingress.ensures.sink_failed)

@@ -8,6 +8,8 @@ returns-in-Ok g c =
 pub returns-in-Err-Label : goal.returns-in-Err-Label
 returns-in-Err-Label g c =
     rw (c.ended-in-Err-Label.ensures.status, c.ended-in-Err-Label.ensures.world)
-    (halt_ended c.one_run_or_one_halt.ensures.never_both c.args.output (g.S.Source.left c.args.source.now) (g.S.Source.left c.replay.new.source) (g.K.Sink.written c.args.sink.now)
-    (g.K.Sink.written c.replay.new.sink) (g.S.Source.faults c.args.source.now) (g.S.Source.faults c.replay.new.source) (g.K.Sink.faults c.args.sink.now) (g.K.Sink.faults c.replay.new.sink)
+    (halt_ended c.one_run_or_one_halt.ensures.never_both c.args.output (g.S.Source.left c.args.source.now) (g.S.Source.left c.replay.new.source)
+    (g.K.Sink.written c.args.sink.now)
+    (g.K.Sink.written c.replay.new.sink) (g.S.Source.faults c.args.source.now) (g.S.Source.faults c.replay.new.source)
+    (g.K.Sink.faults c.args.sink.now) (g.K.Sink.faults c.replay.new.sink)
     (rw c.in-Err-Label.field-0-is at c.in-Err-Label.ensures.taken) (rw c.in-Err-Label.field-0-is at c.in-Err-Label.ensures.ends))

@@ -14,6 +14,8 @@ change_cost-requires-clause-network c = some_as IsReady IsResting c.args.network
 
 pub returns : goal.returns
 returns c =
-    subst (λ (r : Result (Option Refusal) Halt). Meets (events.Cost c.args.a c.args.b c.args.cost) c.args.network.now c.change_cost.new.network c.args.lines.now c.change_cost.new.lines r) (sym c.met.ensures)
-    (meets_by IsResting (events.Cost c.args.a c.args.b c.args.cost) (λ world. row (cost_acts (scenario_of world) c.args.a c.args.b c.args.cost) world) c.args.network.now c.change_cost.new.network c.args.lines.now
+    subst (λ (r : Result (Option Refusal) Halt). Meets (events.Cost c.args.a c.args.b c.args.cost) c.args.network.now c.change_cost.new.network
+    c.args.lines.now c.change_cost.new.lines r) (sym c.met.ensures)
+    (meets_by IsResting (events.Cost c.args.a c.args.b c.args.cost) (λ world. row (cost_acts (scenario_of world) c.args.a c.args.b c.args.cost) world)
+    c.args.network.now c.change_cost.new.network c.args.lines.now
     c.change_cost.new.lines c.change_cost.result (λ at ready is. refl) (λ at ready is. (ready.resting, refl)) c.change_cost.ensures)

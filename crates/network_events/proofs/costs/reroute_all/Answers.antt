@@ -13,21 +13,26 @@ loop-number-init c = does_nothing IsRepriced (row []) c.args.network.now c.args.
 
 pub reroute_at-requires : goal.reroute_at-requires
 reroute_at-requires c = record {
-  network = some_within c.loop-number.number c.args.nodes c.args.network.now c.loop-number.network c.args.lines.now c.loop-number.lines c.requires.nodes c.loop-number-test.true c.loop-number.invariant c.requires.network;
+  network =
+      some_within c.loop-number.number c.args.nodes c.args.network.now c.loop-number.network c.args.lines.now c.loop-number.lines c.requires.nodes
+      c.loop-number-test.true c.loop-number.invariant c.requires.network;
 }
 
 pub loop-number-preserved : goal.loop-number-preserved
 loop-number-preserved c =
-    reroutes_more c.loop-number.number c.args.nodes c.args.network.now c.loop-number.network c.args.lines.now c.loop-number.lines c.requires.nodes c.loop-number-test.true c.loop-number.invariant
+    reroutes_more c.loop-number.number c.args.nodes c.args.network.now c.loop-number.network c.args.lines.now c.loop-number.lines c.requires.nodes
+    c.loop-number-test.true c.loop-number.invariant
     c.reroute_at.new.network c.reroute_at.new.lines c.in_default.ensures
 
 pub returns-in-Err : goal.returns-in-Err
 returns-in-Err c =
-    reroutes_stop c.loop-number.number c.args.nodes c.args.network.now c.loop-number.network c.args.lines.now c.loop-number.lines c.requires.nodes c.loop-number-test.true c.loop-number.invariant
+    reroutes_stop c.loop-number.number c.args.nodes c.args.network.now c.loop-number.network c.args.lines.now c.loop-number.lines c.requires.nodes
+    c.loop-number-test.true c.loop-number.invariant
     c.reroute_at.new.network c.reroute_at.new.lines c.in-Err.halt c.in-Err.ensures
 
 pub returns : goal.returns
 returns c =
     let all : c.loop-number.number ≡ c.args.nodes = omega (arith, c.loop-number-test.false, c.loop-number.auto.number-end) in
     reroutes_all c.args.nodes c.args.network.now c.loop-number.network c.args.lines.now c.loop-number.lines c.requires.nodes
-    (subst (λ n. Does IsRepriced (with_first n) (row (map (λ m. acts.Reroute m) (node_ids 0 n))) c.args.network.now c.loop-number.network c.args.lines.now c.loop-number.lines (Ok tt)) all c.loop-number.invariant)
+    (subst (λ n. Does IsRepriced (with_first n) (row (map (λ m. acts.Reroute m) (node_ids 0 n))) c.args.network.now c.loop-number.network
+    c.args.lines.now c.loop-number.lines (Ok tt)) all c.loop-number.invariant)

@@ -8,4 +8,6 @@ use Rattle.network_events.proofs.CostLemmas.{with_first}
 use Rattle.network_events.proofs.costs.reroute_all.Given as goal
 
 abbrev pub invariant-loop-number : goal.invariant-loop-number
-invariant-loop-number l = Does IsRepriced (with_first l.number) (row (map (λ n. acts.Reroute n) (node_ids 0 l.number))) l.initial.network l.network l.initial.lines l.lines (Ok tt)
+invariant-loop-number l =
+    Does IsRepriced (with_first l.number) (row (map (λ n. acts.Reroute n) (node_ids 0 l.number))) l.initial.network l.network l.initial.lines l.lines
+    (Ok tt)

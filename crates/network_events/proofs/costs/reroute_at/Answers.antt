@@ -14,5 +14,7 @@ reroute-requires c = record { network = c.requires.network }
 pub returns : goal.returns
 returns c =
     let n = c.args.n in
-    subst (λ (r : Result (Unit {0}) Halt). Does (OfPlane (IsWithin n)) (with_current n) (row (acts.Reroute n ∷ [])) c.args.network.now c.reroute.new.self c.args.lines.now c.reroute.new.lines r) (sym c.answer_at.ensures)
-    (act_does (OfPlane (IsWithin n)) (with_current n) (acts.Reroute n) n c.args.network.now c.reroute.new.self c.args.lines.now c.reroute.new.lines c.reroute.result c.reroute.ensures)
+    subst (λ (r : Result (Unit {0}) Halt). Does (OfPlane (IsWithin n)) (with_current n) (row (acts.Reroute n ∷ [])) c.args.network.now
+    c.reroute.new.self c.args.lines.now c.reroute.new.lines r) (sym c.answer_at.ensures)
+    (act_does (OfPlane (IsWithin n)) (with_current n) (acts.Reroute n) n c.args.network.now c.reroute.new.self c.args.lines.now c.reroute.new.lines
+    c.reroute.result c.reroute.ensures)

@@ -8,13 +8,21 @@ use Rattle.network_events.proofs.customers.active.Goals as goal
 
 pub active-requires-clause-network : goal.active-requires-clause-network
 active-requires-clause-network c =
-    some_iface c.args.network.now c.args.iface c.in-Some.n (found_edge c.args.network.now c.args.iface c.scenario.result.now c.scenario.ensures c.edge_of.result (Some c.in-Some.n) c.edge_of.ensures c.in-Some.is) c.requires.network
+    some_iface c.args.network.now c.args.iface c.in-Some.n
+    (found_edge c.args.network.now c.args.iface c.scenario.result.now c.scenario.ensures c.edge_of.result (Some c.in-Some.n) c.edge_of.ensures
+    c.in-Some.is) c.requires.network
 
 pub unreachable-requires : goal.unreachable-requires
-unreachable-requires c = no_edge c.args.network.now c.args.iface c.requires.network c.requires.event.of_it.0 (found_edge c.args.network.now c.args.iface c.scenario.result.now c.scenario.ensures c.edge_of.result None c.edge_of.ensures c.in-None.is)
+unreachable-requires c =
+    no_edge c.args.network.now c.args.iface c.requires.network c.requires.event.of_it.0
+    (found_edge c.args.network.now c.args.iface c.scenario.result.now c.scenario.ensures c.edge_of.result None c.edge_of.ensures c.in-None.is)
 
 pub returns : goal.returns
 returns c =
-    subst (λ (r : Result (Option Refusal) Halt). Meets (events.Active c.args.iface c.args.source c.args.group) c.args.network.now c.active.new.self c.args.lines.now c.active.new.lines r) (sym c.verdict_at.ensures)
-    (note_taken c.args.network.now c.args.iface c.args.source c.args.group c.args.lines.now c.in-Some.n (found_edge c.args.network.now c.args.iface c.scenario.result.now c.scenario.ensures c.edge_of.result (Some c.in-Some.n) c.edge_of.ensures c.in-Some.is)
-    (are_full c.args.network.now c.are_sessions_full.result false c.are_sessions_full.ensures c.if-are_sessions_full.false) c.active.new.self c.active.new.lines c.active.result c.active.ensures)
+    subst (λ (r : Result (Option Refusal) Halt). Meets (events.Active c.args.iface c.args.source c.args.group) c.args.network.now c.active.new.self
+    c.args.lines.now c.active.new.lines r) (sym c.verdict_at.ensures)
+    (note_taken c.args.network.now c.args.iface c.args.source c.args.group c.args.lines.now c.in-Some.n
+    (found_edge c.args.network.now c.args.iface c.scenario.result.now c.scenario.ensures c.edge_of.result (Some c.in-Some.n) c.edge_of.ensures
+    c.in-Some.is)
+    (are_full c.args.network.now c.are_sessions_full.result false c.are_sessions_full.ensures c.if-are_sessions_full.false) c.active.new.self
+    c.active.new.lines c.active.result c.active.ensures)

@@ -9,5 +9,6 @@ loop-vrf-init c = entering_none c.args.site c.args.datagram.now c.args.network.n
 pub loop-vrf-preserved : goal.loop-vrf-preserved
 loop-vrf-preserved c =
     let none : VrfId = record { 0 = 0 } in
-    entering_next c.args.site c.args.datagram.now c.args.vrfs.now c.loop-vrf.vrf-index none (get_or c.args.vrfs.now c.loop-vrf.vrf-index none) c.args.network.now c.loop-vrf.network c.enter.new.network
+    entering_next c.args.site c.args.datagram.now c.args.vrfs.now c.loop-vrf.vrf-index none (get_or c.args.vrfs.now c.loop-vrf.vrf-index none)
+    c.args.network.now c.loop-vrf.network c.enter.new.network
     c.args.lines.now c.loop-vrf.lines c.enter.new.lines c.loop-vrf-test.true refl c.loop-vrf.invariant c.in_ok-enter.ensures

@@ -20,4 +20,5 @@ returns c =
     on_ok_weaker c.finish.result (λ finishes.
     sent_all c.args.site c.args.datagram.now c.args.network.now c.accept.new.self c.accept.ensures.accepted c.as_slice.result.now
     (c.as_slice.ensures ∙ (c.in_ok-vrfs.ensures ∙ ap (λ (s : Scenario). entered s c.args.site) c.scenario.ensures))
-    c.enter_each.new.network c.finish.new.self c.args.lines.now c.enter_each.new.lines c.in_ok-enter_each.ensures c.bytes.result.now c.bytes.ensures finishes) c.finish.ensures
+    c.enter_each.new.network c.finish.new.self c.args.lines.now c.enter_each.new.lines c.in_ok-enter_each.ensures c.bytes.result.now c.bytes.ensures
+    finishes) c.finish.ensures

@@ -8,5 +8,6 @@ use Rattle.network_events.proofs.draining.drain.Goals as goal
 
 pub returns : goal.returns
 returns c =
-    subst (λ (r : Result (Option Refusal) Halt). Meets events.Drain c.args.network.now c.rounds.new.network c.args.lines.now c.rounds.new.lines r) (sym (c.met.ensures ∙ ap met c.of_memory.ensures))
+    subst (λ (r : Result (Option Refusal) Halt). Meets events.Drain c.args.network.now c.rounds.new.network c.args.lines.now c.rounds.new.lines r)
+    (sym (c.met.ensures ∙ ap met c.of_memory.ensures))
     (drain_meets c.args.network.now c.rounds.new.network c.args.lines.now c.rounds.new.lines c.rounds.result c.rounds.ensures)

@@ -9,5 +9,6 @@ loop-way-init c = landing_none c.args.network.now c.args.lines.now c.requires.ne
 pub loop-way-preserved : goal.loop-way-preserved
 loop-way-preserved c =
     let none : NodeId × NodeId = (record { 0 = 0 }, record { 0 = 0 }) in
-    landing_next c.args.network.now c.loop-way.network c.land.new.network c.args.ways.now c.loop-way.way-index none (get_or c.args.ways.now c.loop-way.way-index none)
+    landing_next c.args.network.now c.loop-way.network c.land.new.network c.args.ways.now c.loop-way.way-index none
+    (get_or c.args.ways.now c.loop-way.way-index none)
     c.args.lines.now c.loop-way.lines c.land.new.lines c.loop-way-test.true refl c.loop-way.invariant c.in_ok-land.ensures

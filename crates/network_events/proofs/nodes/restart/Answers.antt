@@ -15,4 +15,5 @@ restart-requires-clause-network c = some_as IsReady Any c.args.network.now (λ a
 pub returns-in-Ok : goal.returns-in-Ok
 returns-in-Ok c =
     meets_done (events.Restart c.args.node) c.args.network.now c.args.lines.now c.restart.new.self c.args.lines.now (Ok tt) (λ at ready is. refl)
-    (passes_does IsReady same_moment (acts.Restart c.args.node) c.args.network.now c.restart.new.self c.args.lines.now (λ at ready is. c.in-Ok.ensures at tt is))
+    (passes_does IsReady same_moment (acts.Restart c.args.node) c.args.network.now c.restart.new.self c.args.lines.now
+    (λ at ready is. c.in-Ok.ensures at tt is))

@@ -10,4 +10,5 @@ use Rattle.network_events.proofs.nodes.tick.Goals as goal
 pub returns : goal.returns
 returns c =
     meets_done (events.Tick c.args.count) c.args.network.now c.args.lines.now c.tick.new.self c.args.lines.now (Ok tt) (λ at ready is. refl)
-    (passes_does IsReady same_moment (acts.Tick c.args.count) c.args.network.now c.tick.new.self c.args.lines.now (λ at ready is. c.tick.ensures at is))
+    (passes_does IsReady same_moment (acts.Tick c.args.count) c.args.network.now c.tick.new.self c.args.lines.now
+    (λ at ready is. c.tick.ensures at is))

@@ -14,6 +14,8 @@ timers_at-requires-clause-network c = some_as IsReady IsResting c.args.network.n
 
 pub returns : goal.returns
 returns c =
-    subst (λ (r : Result (Option Refusal) Halt). Meets (events.Timers c.args.node) c.args.network.now c.timers_at.new.network c.args.lines.now c.timers_at.new.lines r) (sym c.met.ensures)
-    (meets_by IsResting (events.Timers c.args.node) (row (acts.Timers c.args.node ∷ [])) c.args.network.now c.timers_at.new.network c.args.lines.now c.timers_at.new.lines c.timers_at.result (λ at ready is. refl)
+    subst (λ (r : Result (Option Refusal) Halt). Meets (events.Timers c.args.node) c.args.network.now c.timers_at.new.network c.args.lines.now
+    c.timers_at.new.lines r) (sym c.met.ensures)
+    (meets_by IsResting (events.Timers c.args.node) (row (acts.Timers c.args.node ∷ [])) c.args.network.now c.timers_at.new.network c.args.lines.now
+    c.timers_at.new.lines c.timers_at.result (λ at ready is. refl)
     (λ at ready is. (ready.resting, refl)) c.timers_at.ensures)

@@ -7,21 +7,30 @@ use Rattle.network_events.proofs.CustomerLemmas.{are_full, select_again, select_
 use Rattle.network_events.proofs.selections.select_at.Goals as goal
 
 pub is_selected-requires : goal.is_selected-requires
-is_selected-requires c = record { network = some_vrf c.args.network.now c.args.vrf c.args.pattern c.args.n c.requires.edge c.args.lines.now c.requires.network }
+is_selected-requires c =
+    record { network = some_vrf c.args.network.now c.args.vrf c.args.pattern c.args.n c.requires.edge c.args.lines.now c.requires.network }
 
 pub returns-then-is_selected : goal.returns-then-is_selected
-returns-then-is_selected c = select_again c.args.network.now c.args.vrf c.args.pattern c.args.n c.requires.edge c.args.lines.now (λ at fits is. sym c.if-is_selected.true ∙ c.is_selected.ensures at fits is)
+returns-then-is_selected c =
+    select_again c.args.network.now c.args.vrf c.args.pattern c.args.n c.requires.edge c.args.lines.now
+    (λ at fits is. sym c.if-is_selected.true ∙ c.is_selected.ensures at fits is)
 
 pub returns-then-are_sessions_full : goal.returns-then-are_sessions_full
 returns-then-are_sessions_full c =
-    select_full c.args.network.now c.args.vrf c.args.pattern c.args.n c.requires.edge c.args.lines.now (λ at fits is. sym c.if-is_selected.false ∙ c.is_selected.ensures at fits is)
+    select_full c.args.network.now c.args.vrf c.args.pattern c.args.n c.requires.edge c.args.lines.now
+    (λ at fits is. sym c.if-is_selected.false ∙ c.is_selected.ensures at fits is)
     (are_full c.args.network.now c.are_sessions_full.result true c.are_sessions_full.ensures c.if-are_sessions_full.true)
 
 pub select-requires-clause-network : goal.select-requires-clause-network
-select-requires-clause-network c = some_unselected c.args.network.now c.args.vrf c.args.pattern c.args.n c.requires.edge c.args.lines.now (λ at fits is. sym c.if-is_selected.false ∙ c.is_selected.ensures at fits is) c.requires.network
+select-requires-clause-network c =
+    some_unselected c.args.network.now c.args.vrf c.args.pattern c.args.n c.requires.edge c.args.lines.now
+    (λ at fits is. sym c.if-is_selected.false ∙ c.is_selected.ensures at fits is) c.requires.network
 
 pub returns : goal.returns
 returns c =
-    subst (λ (r : Result (Option Refusal) Halt). Meets (events.Select c.args.vrf c.args.pattern) c.args.network.now c.select.new.self c.args.lines.now c.select.new.lines r) (sym c.verdict_at.ensures)
-    (select_taken c.args.network.now c.args.vrf c.args.pattern c.args.n c.requires.edge c.args.lines.now (λ at fits is. sym c.if-is_selected.false ∙ c.is_selected.ensures at fits is)
-    (are_full c.args.network.now c.are_sessions_full.result false c.are_sessions_full.ensures c.if-are_sessions_full.false) c.select.new.self c.select.new.lines c.select.result c.select.ensures)
+    subst (λ (r : Result (Option Refusal) Halt). Meets (events.Select c.args.vrf c.args.pattern) c.args.network.now c.select.new.self c.args.lines.now
+    c.select.new.lines r) (sym c.verdict_at.ensures)
+    (select_taken c.args.network.now c.args.vrf c.args.pattern c.args.n c.requires.edge c.args.lines.now
+    (λ at fits is. sym c.if-is_selected.false ∙ c.is_selected.ensures at fits is)
+    (are_full c.args.network.now c.are_sessions_full.result false c.are_sessions_full.ensures c.if-are_sessions_full.false) c.select.new.self
+    c.select.new.lines c.select.result c.select.ensures)

@@ -7,24 +7,34 @@ use Rattle.network_events.proofs.CustomerLemmas.{are_full, selected_pattern, som
 use Rattle.network_events.proofs.selections.unselect_at.Goals as goal
 
 pub is_selected-requires : goal.is_selected-requires
-is_selected-requires c = record { network = some_vrf c.args.network.now c.args.vrf c.args.pattern c.args.n c.requires.edge c.args.lines.now c.requires.network }
+is_selected-requires c =
+    record { network = some_vrf c.args.network.now c.args.vrf c.args.pattern c.args.n c.requires.edge c.args.lines.now c.requires.network }
 
 pub returns-then-not-is_selected : goal.returns-then-not-is_selected
-returns-then-not-is_selected c = unselect_none c.args.network.now c.args.vrf c.args.pattern c.args.n c.requires.edge c.args.lines.now (λ at fits is. sym c.if-not-is_selected.true ∙ c.is_selected.ensures at fits is)
+returns-then-not-is_selected c =
+    unselect_none c.args.network.now c.args.vrf c.args.pattern c.args.n c.requires.edge c.args.lines.now
+    (λ at fits is. sym c.if-not-is_selected.true ∙ c.is_selected.ensures at fits is)
 
 pub returns-then-are_sessions_full : goal.returns-then-are_sessions_full
 returns-then-are_sessions_full c =
-    unselect_full c.args.network.now c.args.vrf c.args.pattern c.args.n c.requires.edge c.args.lines.now (λ at fits is. sym c.if-not-is_selected.false ∙ c.is_selected.ensures at fits is)
+    unselect_full c.args.network.now c.args.vrf c.args.pattern c.args.n c.requires.edge c.args.lines.now
+    (λ at fits is. sym c.if-not-is_selected.false ∙ c.is_selected.ensures at fits is)
     (are_full c.args.network.now c.are_sessions_full.result true c.are_sessions_full.ensures c.if-are_sessions_full.true)
 
 pub unselect-requires-clause-network : goal.unselect-requires-clause-network
-unselect-requires-clause-network c = some_vrf c.args.network.now c.args.vrf c.args.pattern c.args.n c.requires.edge c.args.lines.now c.requires.network
+unselect-requires-clause-network c =
+    some_vrf c.args.network.now c.args.vrf c.args.pattern c.args.n c.requires.edge c.args.lines.now c.requires.network
 
 pub unselect-requires-clause-pattern : goal.unselect-requires-clause-pattern
-unselect-requires-clause-pattern c = selected_pattern c.args.network.now c.args.vrf c.args.pattern c.args.n c.requires.edge c.args.lines.now (λ at fits is. sym c.if-not-is_selected.false ∙ c.is_selected.ensures at fits is) c.requires.network
+unselect-requires-clause-pattern c =
+    selected_pattern c.args.network.now c.args.vrf c.args.pattern c.args.n c.requires.edge c.args.lines.now
+    (λ at fits is. sym c.if-not-is_selected.false ∙ c.is_selected.ensures at fits is) c.requires.network
 
 pub returns : goal.returns
 returns c =
-    subst (λ (r : Result (Option Refusal) Halt). Meets (events.Unselect c.args.vrf c.args.pattern) c.args.network.now c.unselect.new.self c.args.lines.now c.unselect.new.lines r) (sym (c.met.ensures ∙ ap met c.answer_at.ensures))
-    (unselect_taken c.args.network.now c.args.vrf c.args.pattern c.args.n c.requires.edge c.args.lines.now (λ at fits is. sym c.if-not-is_selected.false ∙ c.is_selected.ensures at fits is)
-    (are_full c.args.network.now c.are_sessions_full.result false c.are_sessions_full.ensures c.if-are_sessions_full.false) c.unselect.new.self c.unselect.new.lines c.unselect.result c.unselect.ensures)
+    subst (λ (r : Result (Option Refusal) Halt). Meets (events.Unselect c.args.vrf c.args.pattern) c.args.network.now c.unselect.new.self
+    c.args.lines.now c.unselect.new.lines r) (sym (c.met.ensures ∙ ap met c.answer_at.ensures))
+    (unselect_taken c.args.network.now c.args.vrf c.args.pattern c.args.n c.requires.edge c.args.lines.now
+    (λ at fits is. sym c.if-not-is_selected.false ∙ c.is_selected.ensures at fits is)
+    (are_full c.args.network.now c.are_sessions_full.result false c.are_sessions_full.ensures c.if-are_sessions_full.false) c.unselect.new.self
+    c.unselect.new.lines c.unselect.result c.unselect.ensures)

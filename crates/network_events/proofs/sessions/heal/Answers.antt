@@ -15,6 +15,8 @@ heal_sessions-requires c = record { network = some_as IsReady IsResting c.args.n
 
 pub returns : goal.returns
 returns c =
-    subst (λ (r : Result (Option Refusal) Halt). Meets events.Heal c.args.network.now c.heal_sessions.new.network c.args.lines.now c.heal_sessions.new.lines r) (sym c.met.ensures)
-    (meets_by IsResting events.Heal (λ world. each healed (sessions (scenario_of world)) world) c.args.network.now c.heal_sessions.new.network c.args.lines.now c.heal_sessions.new.lines c.heal_sessions.result (λ at ready is. refl)
+    subst (λ (r : Result (Option Refusal) Halt). Meets events.Heal c.args.network.now c.heal_sessions.new.network c.args.lines.now
+    c.heal_sessions.new.lines r) (sym c.met.ensures)
+    (meets_by IsResting events.Heal (λ world. each healed (sessions (scenario_of world)) world) c.args.network.now c.heal_sessions.new.network
+    c.args.lines.now c.heal_sessions.new.lines c.heal_sessions.result (λ at ready is. refl)
     (λ at ready is. (ready.resting, refl)) c.heal_sessions.ensures)

@@ -17,26 +17,31 @@ loop-session-init c = does_nothing IsResting (each healed []) c.args.network.now
 pub heal_session-requires-clause-network : goal.heal_session-requires-clause-network
 heal_session-requires-clause-network c =
     let first = take c.loop-session.session-index c.args.sessions.now in
-    still_some (each healed first) (each_even healed healed_even first) c.args.network.now c.loop-session.network c.args.lines.now c.loop-session.lines c.loop-session.invariant c.requires.network
+    still_some (each healed first) (each_even healed healed_even first) c.args.network.now c.loop-session.network c.args.lines.now
+    c.loop-session.lines c.loop-session.invariant c.requires.network
 
 pub heal_session-requires-clause-way : goal.heal_session-requires-clause-way
 heal_session-requires-clause-way c =
     let first = take c.loop-session.session-index c.args.sessions.now in
     session_at c.args.network.now c.loop-session.network c.args.sessions.now c.loop-session.session-index _
-    (same_scenario (each healed first) (each_even healed healed_even first) c.args.network.now c.loop-session.network c.args.lines.now c.loop-session.lines c.loop-session.invariant c.requires.network)
+    (same_scenario (each healed first) (each_even healed healed_even first) c.args.network.now c.loop-session.network c.args.lines.now
+    c.loop-session.lines c.loop-session.invariant c.requires.network)
     c.requires.sessions c.loop-session-test.true
 
 pub loop-session-preserved : goal.loop-session-preserved
 loop-session-preserved c =
-    turn_more healed healed_even c.args.sessions.now c.loop-session.session-index _ c.loop-session-test.true c.args.network.now c.loop-session.network c.args.lines.now c.loop-session.lines c.loop-session.invariant
+    turn_more healed healed_even c.args.sessions.now c.loop-session.session-index _ c.loop-session-test.true c.args.network.now c.loop-session.network
+    c.args.lines.now c.loop-session.lines c.loop-session.invariant
     c.heal_session.new.network c.heal_session.new.lines c.in_default.ensures
 
 pub returns-in-Err : goal.returns-in-Err
 returns-in-Err c =
-    turn_stops healed healed_even c.args.sessions.now c.loop-session.session-index _ c.loop-session-test.true c.args.network.now c.loop-session.network c.args.lines.now c.loop-session.lines c.loop-session.invariant
+    turn_stops healed healed_even c.args.sessions.now c.loop-session.session-index _ c.loop-session-test.true c.args.network.now
+    c.loop-session.network c.args.lines.now c.loop-session.lines c.loop-session.invariant
     c.heal_session.new.network c.heal_session.new.lines c.in-Err.halt c.in-Err.ensures
 
 pub returns : goal.returns
 returns c =
-    subst (λ (l : List Session). Does IsResting same_moment (each healed l) c.args.network.now c.loop-session.network c.args.lines.now c.loop-session.lines (Ok tt))
+    subst (λ (l : List Session). Does IsResting same_moment (each healed l) c.args.network.now c.loop-session.network c.args.lines.now
+    c.loop-session.lines (Ok tt))
     (take_all c.loop-session.session-index c.args.sessions.now (omega (arith, c.loop-session-test.false))) c.loop-session.invariant

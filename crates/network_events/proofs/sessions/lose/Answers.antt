@@ -12,4 +12,5 @@ pub returns : goal.returns
 returns c =
     meets_done (events.Lose c.args.kind c.args.a c.args.b) c.args.network.now c.args.lines.now c.lose.new.self c.args.lines.now (Ok tt)
     (λ at ready is. lose_taken at.world c.args.kind c.args.a c.args.b (sym (c.is_joined.ensures at is) ∙ c.if-not-is_joined.false))
-    (passes_does IsReady same_moment (acts.Lose c.args.kind c.args.a c.args.b) c.args.network.now c.lose.new.self c.args.lines.now (λ at ready is. c.lose.ensures at is))
+    (passes_does IsReady same_moment (acts.Lose c.args.kind c.args.a c.args.b) c.args.network.now c.lose.new.self c.args.lines.now
+    (λ at ready is. c.lose.ensures at is))

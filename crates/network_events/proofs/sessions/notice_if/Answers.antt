@@ -22,8 +22,11 @@ returns c =
     let kind = c.args.kind in
     let a = c.args.a in
     let b = c.args.b in
-    subst (λ (r : Result (Unit {0}) Halt). Does (OfPlane (IsLost kind a b)) same_moment (row (cond c.args.up (acts.Notice kind a b ∷ []) [])) c.args.network.now c.notice.new.self c.args.lines.now c.notice.new.lines r)
+    subst (λ (r : Result (Unit {0}) Halt). Does (OfPlane (IsLost kind a b)) same_moment (row (cond c.args.up (acts.Notice kind a b ∷ []) []))
+    c.args.network.now c.notice.new.self c.args.lines.now c.notice.new.lines r)
     (sym c.answer_at.ensures)
-    (does_alike (OfPlane (IsLost kind a b)) (row (acts.Notice kind a b ∷ [])) (row (cond c.args.up (acts.Notice kind a b ∷ []) [])) c.args.network.now c.notice.new.self c.args.lines.now c.notice.new.lines
+    (does_alike (OfPlane (IsLost kind a b)) (row (acts.Notice kind a b ∷ [])) (row (cond c.args.up (acts.Notice kind a b ∷ []) [])) c.args.network.now
+    c.notice.new.self c.args.lines.now c.notice.new.lines
     (answer_at a c.notice.result) (λ at lost is. ap (λ (up : Bool). row (cond up (acts.Notice kind a b ∷ []) []) at.world) (sym c.if-not-up.false))
-    (act_does (OfPlane (IsLost kind a b)) same_moment (acts.Notice kind a b) a c.args.network.now c.notice.new.self c.args.lines.now c.notice.new.lines c.notice.result c.notice.ensures))
+    (act_does (OfPlane (IsLost kind a b)) same_moment (acts.Notice kind a b) a c.args.network.now c.notice.new.self c.args.lines.now
+    c.notice.new.lines c.notice.result c.notice.ensures))

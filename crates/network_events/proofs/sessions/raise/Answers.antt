@@ -18,12 +18,16 @@ use Rattle.network_events.proofs.sessions.raise.Goals as goal
 
 pub is_up-requires : goal.is_up-requires
 is_up-requires c = record {
-  network = some_as IsReady (OfPlane (IsWithin c.args.a)) c.args.network.now (λ at ready is. first_within c.args.kind c.args.a c.args.b c.args.network.now c.requires.event.of_it at is) c.requires.network;
+  network =
+      some_as IsReady (OfPlane (IsWithin c.args.a)) c.args.network.now
+      (λ at ready is. first_within c.args.kind c.args.a c.args.b c.args.network.now c.requires.event.of_it at is) c.requires.network;
 }
 
 pub is_up-requires-else-is_up : goal.is_up-requires-else-is_up
 is_up-requires-else-is_up c = record {
-  network = some_as IsReady (OfPlane (IsWithin c.args.b)) c.args.network.now (λ at ready is. second_within c.args.kind c.args.a c.args.b c.args.network.now c.requires.event.of_it at is) c.requires.network;
+  network =
+      some_as IsReady (OfPlane (IsWithin c.args.b)) c.args.network.now
+      (λ at ready is. second_within c.args.kind c.args.a c.args.b c.args.network.now c.requires.event.of_it at is) c.requires.network;
 }
 
 pub returns-then-is_up : goal.returns-then-is_up
@@ -35,10 +39,12 @@ returns-then-is_up c =
     elim c.then-is_up.branch [
       | then-is_up-via-then-is_up w ↦
           meets_refused (events.Raise kind a b) old c.args.lines.now refusals.State
-          (λ at ready is. raise_first_up at.world kind a b (sym (c.is_up.ensures at (first_within kind a b old c.requires.event.of_it at is) is) ∙ w.if-is_up.true))
+          (λ at ready is. raise_first_up at.world kind a b
+          (sym (c.is_up.ensures at (first_within kind a b old c.requires.event.of_it at is) is) ∙ w.if-is_up.true))
       | then-is_up-via-else-is_up+then-is_up-2 w ↦
           meets_refused (events.Raise kind a b) old c.args.lines.now refusals.State
-          (λ at ready is. raise_second_up at.world kind a b (sym (w.is_up-else-is_up.ensures at (second_within kind a b old c.requires.event.of_it at is) is) ∙ w.if-is_up-2.true))
+          (λ at ready is. raise_second_up at.world kind a b
+          (sym (w.is_up-else-is_up.ensures at (second_within kind a b old c.requires.event.of_it at is) is) ∙ w.if-is_up-2.true))
     ]
 
 pub raise_session-requires : goal.raise_session-requires
@@ -68,7 +74,10 @@ returns c =
       first = sym (c.is_up.ensures at (first_within kind a b old c.requires.event.of_it at is) is) ∙ c.if-is_up.false;
       second = sym (c.is_up-else-is_up.ensures at (second_within kind a b old c.requires.event.of_it at is) is) ∙ c.if-is_up-2.false;
     } in
-    subst (λ (r : Result (Option Refusal) Halt). Meets (events.Raise kind a b) old c.raise_session.new.network c.args.lines.now c.raise_session.new.lines r) (sym c.met.ensures)
-    (meets_by (IsRaisable kind a b) (events.Raise kind a b) (λ world. row (raises (sessions (scenario_of world)) kind a b) world) old c.raise_session.new.network c.args.lines.now c.raise_session.new.lines
+    subst (λ (r : Result (Option Refusal) Halt). Meets (events.Raise kind a b) old c.raise_session.new.network c.args.lines.now
+    c.raise_session.new.lines r) (sym c.met.ensures)
+    (meets_by (IsRaisable kind a b) (events.Raise kind a b) (λ world. row (raises (sessions (scenario_of world)) kind a b) world) old
+    c.raise_session.new.network c.args.lines.now c.raise_session.new.lines
     c.raise_session.result
-    (λ at ready is. raise_taken at.world kind a b (raisable at ready is).first (raisable at ready is).second) (λ at ready is. (raisable at ready is, refl)) c.raise_session.ensures)
+    (λ at ready is. raise_taken at.world kind a b (raisable at ready is).first (raisable at ready is).second)
+    (λ at ready is. (raisable at ready is, refl)) c.raise_session.ensures)

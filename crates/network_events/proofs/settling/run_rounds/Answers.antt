@@ -16,31 +16,37 @@ returns-then-total-eq0 c =
     let round = each turn c.args.ways.now in
     let even = each_even turn turn_even c.args.ways.now in
     let done = c.loop-round.invariant in
-    rounds_end round even c.loop-round._round c.args.network.now c.loop-round.network c.args.lines.now c.loop-round.lines done c.args.rounds c.loop-round-test.true
+    rounds_end round even c.loop-round._round c.args.network.now c.loop-round.network c.args.lines.now c.loop-round.lines done c.args.rounds
+    c.loop-round-test.true
     (idle_round c.args.network.now c.loop-round.network c.args.ways.now
-    (same_scenario (times round c.loop-round._round) (times_even round even c.loop-round._round) c.args.network.now c.loop-round.network c.args.lines.now c.loop-round.lines done c.requires.network)
+    (same_scenario (times round c.loop-round._round) (times_even round even c.loop-round._round) c.args.network.now c.loop-round.network
+    c.args.lines.now c.loop-round.lines done c.requires.network)
     c.requires.ways (λ at is. sym (c.total.ensures at is) ∙ c.if-total-eq0.true))
 
 pub run_round-requires-clause-network : goal.run_round-requires-clause-network
 run_round-requires-clause-network c =
     let round = each turn c.args.ways.now in
     let even = each_even turn turn_even c.args.ways.now in
-    still_some (times round c.loop-round._round) (times_even round even c.loop-round._round) c.args.network.now c.loop-round.network c.args.lines.now c.loop-round.lines c.loop-round.invariant c.requires.network
+    still_some (times round c.loop-round._round) (times_even round even c.loop-round._round) c.args.network.now c.loop-round.network c.args.lines.now
+    c.loop-round.lines c.loop-round.invariant c.requires.network
 
 pub run_round-requires-clause-ways : goal.run_round-requires-clause-ways
 run_round-requires-clause-ways c =
     let round = each turn c.args.ways.now in
     let even = each_even turn turn_even c.args.ways.now in
     c.requires.ways
-    ∙ ap directions (sym (same_scenario (times round c.loop-round._round) (times_even round even c.loop-round._round) c.args.network.now c.loop-round.network c.args.lines.now c.loop-round.lines c.loop-round.invariant
+    ∙ ap directions (sym (same_scenario (times round c.loop-round._round) (times_even round even c.loop-round._round) c.args.network.now
+    c.loop-round.network c.args.lines.now c.loop-round.lines c.loop-round.invariant
     c.requires.network))
 
 pub returns-in-Err : goal.returns-in-Err
 returns-in-Err c =
-    round_stops (each turn c.args.ways.now) (each_even turn turn_even c.args.ways.now) c.loop-round._round c.args.network.now c.loop-round.network c.args.lines.now c.loop-round.lines c.loop-round.invariant
+    round_stops (each turn c.args.ways.now) (each_even turn turn_even c.args.ways.now) c.loop-round._round c.args.network.now c.loop-round.network
+    c.args.lines.now c.loop-round.lines c.loop-round.invariant
     c.args.rounds c.loop-round-test.true c.run_round.new.network c.run_round.new.lines c.in-Err.halt c.in-Err.ensures
 
 pub loop-round-preserved : goal.loop-round-preserved
 loop-round-preserved c =
-    round_more (each turn c.args.ways.now) (each_even turn turn_even c.args.ways.now) c.loop-round._round c.args.network.now c.loop-round.network c.args.lines.now c.loop-round.lines c.loop-round.invariant
+    round_more (each turn c.args.ways.now) (each_even turn turn_even c.args.ways.now) c.loop-round._round c.args.network.now c.loop-round.network
+    c.args.lines.now c.loop-round.lines c.loop-round.invariant
     c.run_round.new.network c.run_round.new.lines c.in_default.ensures

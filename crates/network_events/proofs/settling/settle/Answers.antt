@@ -13,6 +13,8 @@ settle_nodes-requires c = record { network = some_as IsReady IsResting c.args.ne
 
 pub returns : goal.returns
 returns c =
-    subst (λ (r : Result (Option Refusal) Halt). Meets events.Settle c.args.network.now c.settle_nodes.new.network c.args.lines.now c.settle_nodes.new.lines r) (sym c.met.ensures)
-    (meets_by IsResting events.Settle settled c.args.network.now c.settle_nodes.new.network c.args.lines.now c.settle_nodes.new.lines c.settle_nodes.result (λ at ready is. refl)
+    subst (λ (r : Result (Option Refusal) Halt). Meets events.Settle c.args.network.now c.settle_nodes.new.network c.args.lines.now
+    c.settle_nodes.new.lines r) (sym c.met.ensures)
+    (meets_by IsResting events.Settle settled c.args.network.now c.settle_nodes.new.network c.args.lines.now c.settle_nodes.new.lines
+    c.settle_nodes.result (λ at ready is. refl)
     (λ at ready is. (ready.resting, refl)) c.settle_nodes.ensures)

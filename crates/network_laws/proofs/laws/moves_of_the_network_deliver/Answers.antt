@@ -5,4 +5,5 @@ use Rattle.network_laws.proofs.Nodes.{honest_nodes}
 use Rattle.network_laws.proofs.laws.moves_of_the_network_deliver.Goals as goal
 
 pub returns : goal.returns
-returns c scenario old pending direction count new good lines joined e = (moves_first_while (sound_system scenario) (Sound scenario) old pending direction count new (honest_nodes scenario) lines good joined e).0
+returns c scenario old pending direction count new good lines joined e =
+    (moves_first_while (sound_system scenario) (Sound scenario) old pending direction count new (honest_nodes scenario) lines good joined e).0

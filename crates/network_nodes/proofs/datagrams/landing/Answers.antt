@@ -16,7 +16,8 @@ returns-in_ok-branches_along-in-Some c = λ none.
     core_arrives c.args.core_node.now.labels.node.part c.args.from c.args.label fec
     (record { outs = c.new-outs.result; branches = c.in_ok-branches_along-in-Some.field-0 })
     (ap (λ (n : NodeData). tree_of c.args.from (use_of n.node.part c.args.label)) (sym own)
-    ∙ (one_tree c.args.from (use_of c.label_node.result.now.node.part c.args.label) ∙ (sym (c.fib.ensures.mapped c.args.from c.args.label) ∙ noted.0)))
+    ∙ (one_tree c.args.from (use_of c.label_node.result.now.node.part c.args.label)
+    ∙ (sym (c.fib.ensures.mapped c.args.from c.args.label) ∙ noted.0)))
     c.new-outs.ensures
     (c.in_ok-branches_along-in-Some.ensures
     ∙ (tree_branches fec c.label_node.result.now.node.part c.fib.result.now c.branches.result.now c.fib.ensures

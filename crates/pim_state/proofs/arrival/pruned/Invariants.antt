@@ -6,4 +6,5 @@ use Rattle.pim_state.specs.Plan.{is_among}
 use Rattle.pim_state.proofs.arrival.pruned.Given as goal
 
 abbrev pub invariant-loop-group : goal.invariant-loop-group
-invariant-loop-group l = (entry : JoinEntry) → is_among l.entries.keys entry ≡ list_any (λ group. lists group.group group.prunes entry) (take l.group-index l.groups)
+invariant-loop-group l =
+    (entry : JoinEntry) → is_among l.entries.keys entry ≡ list_any (λ group. lists group.group group.prunes entry) (take l.group-index l.groups)

@@ -24,7 +24,8 @@ lines-preserved c =
           ∙ sym (declared_next c.lines.draft (done + 1) k (lines c.lines.rest.now) line more c.in-Ok.said c.split_line.ensures.line c.in-Ok.ensures)
           ∙ ap (λ (n : ℕ). declared_from c.lines.draft (done + 1) (take n (lines c.lines.rest.now))) (sym at)
           ∙ c.lines.invariant.same;
-      rows = sym (ap (λ (n : ℕ). drop n (lines c.args.text.now)) next ∙ drop_next (lines c.args.text.now) done line more (sym c.lines.invariant.rows ∙ c.split_line.ensures.line));
+      rows = sym (ap (λ (n : ℕ). drop n (lines c.args.text.now)) next
+          ∙ drop_next (lines c.args.text.now) done line more (sym c.lines.invariant.rows ∙ c.split_line.ensures.line));
       kept = subst Kept (sym c.in_ok-add.ensures) (line_kept c.lines.draft (done + 1) line c.in-Ok.said c.lines.invariant.kept c.in-Ok.ensures);
       within = omega (arith, c.lines-test.true);
       count = omega (arith, c.lines.invariant.count, c.split_line.ensures.shorter);
@@ -34,5 +35,7 @@ pub returns-in-Err-clause-fault : goal.returns-in-Err-clause-fault
 returns-in-Err-clause-fault c =
     let k = c.args.place - (c.lines.done + 1) in
     let at : c.args.place - c.lines.done ≡ suc k = omega (arith, c.lines-test.true) in
-    subst (Fails c.in-Err.stop) (ap (λ (n : ℕ). declared_from c.lines.draft (c.lines.done + 1) (take n (lines c.lines.rest.now))) (sym at) ∙ c.lines.invariant.same)
-    (front_fails c.lines.draft (c.lines.done + 1) k (lines c.lines.rest.now) c.split_line.result.0.now (lines c.split_line.result.1.now) c.in-Err.stop c.split_line.ensures.line c.in-Err.ensures)
+    subst (Fails c.in-Err.stop) (ap (λ (n : ℕ). declared_from c.lines.draft (c.lines.done + 1) (take n (lines c.lines.rest.now))) (sym at)
+    ∙ c.lines.invariant.same)
+    (front_fails c.lines.draft (c.lines.done + 1) k (lines c.lines.rest.now) c.split_line.result.0.now (lines c.split_line.result.1.now) c.in-Err.stop
+    c.split_line.ensures.line c.in-Err.ensures)

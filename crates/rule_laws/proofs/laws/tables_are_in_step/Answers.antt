@@ -15,4 +15,5 @@ pub returns-clause-labels : goal.returns-clause-labels
 returns-clause-labels c cores script events trace new s u n joined =
     let kept = run_in_step script.scenario cores events trace new s.scenario s.sound_events s.run in
     labels_in_step script.scenario new kept u n
-    (λ same. let x : true ≡ false = sym joined ∙ ap (λ (m : NodeId). new.network.joined (direction kinds.Ldp u m)) (sym same) ∙ kept.2.base.apart u in absurd cc) joined
+    (λ same. let x : true ≡ false = sym joined ∙ ap (λ (m : NodeId). new.network.joined (direction kinds.Ldp u m)) (sym same) ∙ kept.2.base.apart u in
+    absurd cc) joined

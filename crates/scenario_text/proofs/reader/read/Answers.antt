@@ -4,13 +4,16 @@ use Rattle.scenario_text.proofs.RulesLemmas.{sound, line_holds, script_rules}
 use Rattle.scenario_text.proofs.reader.read.Goals as goal
 
 pub add-requires : goal.add-requires
-add-requires c = line_new c.lines.draft c.lines.number c.split_line.result.0.now c.in_ok-said.said (sound c.lines.draft c.lines.number c.lines.invariant.holds) c.in_ok-said.ensures
+add-requires c =
+    line_new c.lines.draft c.lines.number c.split_line.result.0.now c.in_ok-said.said (sound c.lines.draft c.lines.number c.lines.invariant.holds)
+    c.in_ok-said.ensures
 
 pub lines-preserved : goal.lines-preserved
 lines-preserved c = record {
   same = search rules;
   count = omega arith;
-  holds = rw c.in_ok-add.ensures (line_holds c.lines.draft c.lines.number c.split_line.result.0.now c.in_ok-said.said c.lines.invariant.holds c.in_ok-said.ensures);
+  holds = rw c.in_ok-add.ensures (line_holds c.lines.draft c.lines.number c.split_line.result.0.now c.in_ok-said.said c.lines.invariant.holds
+      c.in_ok-said.ensures);
 }
 
 pub returns-clause-rules : goal.returns-clause-rules

@@ -11,5 +11,6 @@ loop-number-preserved c =
     let number = c.loop-number.number in
     let taken : list_any (has_number c.loop-number.number) c.args.selections.now ≡ true = cc (c.if-not-has_number.ensures) in
     let some : 0 < (length c.args.selections.now + 1) - c.loop-number.number = omega arith in
-    let less : ((length c.args.selections.now + 1) - c.loop-number.number) - 1 ≡ (length c.args.selections.now + 1) - (c.loop-number.number + 1) = omega arith in
+    let less : ((length c.args.selections.now + 1) - c.loop-number.number) - 1 ≡ (length c.args.selections.now + 1) - (c.loop-number.number + 1) =
+    omega arith in
     c.loop-number.invariant ∙ (free_next used (count - number) number taken some ∙ ap (λ (k : ℕ). free_number used k (number + 1)) less)

@@ -9,5 +9,6 @@ use Rattle.session_rows.proofs.two_edges.has_iface.Goals as goal
 pub returns : goal.returns
 returns c =
     c.is_iface_of_any.ensures
-    ∙ ap (λ (scenario : Scenario). list_any (λ (own : OwnVrf). is_iface_of scenario own.id c.args.iface) c.vrfs.result.now) c.scenario.ensures.scenario
+    ∙ ap (λ (scenario : Scenario). list_any (λ (own : OwnVrf). is_iface_of scenario own.id c.args.iface) c.vrfs.result.now)
+    c.scenario.ensures.scenario
     ∙ any_own c.args.home.now c.vrfs.result.now (λ own. is_iface_of c.args.home.now.scenario own.id c.args.iface) c.vrfs.ensures.vrfs

@@ -6,7 +6,8 @@ returns-clause-next c cores script events trace after old new number first secon
     run_rests cores script events trace after old new number first second third fourth count run lt calmed
 
 pub returns-clause-within : goal.returns-clause-within
-returns-clause-within c cores script before after trace new first second third fourth count s lt = rests_within cores script before after trace new first second third fourth count s lt
+returns-clause-within c cores script before after trace new first second third fourth count s lt =
+    rests_within cores script before after trace new first second third fourth count s lt
 
 pub returns-clause-line : goal.returns-clause-line
 returns-clause-line c world rest = rest_line world rest

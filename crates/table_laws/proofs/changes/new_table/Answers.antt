@@ -4,7 +4,9 @@ use Rattle.table_laws.proofs.PendingLemmas.{changes_lead, changes_changing, all_
 use Rattle.table_laws.proofs.changes.new_table.Goals as goal
 
 pub returns-clause-reached : goal.returns-clause-reached
-returns-clause-reached g c = λ old new. all_taken g.met.K.Ord.total c.requires.keys old new (changes g.V.PartialEq.eq old new) (changes_lead g.met.K.Ord.total g.V.PartialEq.eq c.requires.values old new)
+returns-clause-reached g c =
+    λ old new. all_taken g.met.K.Ord.total c.requires.keys old new (changes g.V.PartialEq.eq old new)
+    (changes_lead g.met.K.Ord.total g.V.PartialEq.eq c.requires.values old new)
 
 pub returns-clause-changing : goal.returns-clause-changing
 returns-clause-changing g c = changes_changing g.met.K.Ord.total g.V.PartialEq.eq c.requires.values

@@ -8,7 +8,8 @@ use Rattle.tunnel_bindings.proofs.places.end_all.Goals as goal
 pub end_place-requires : goal.end_place-requires
 end_place-requires c =
     let space = c.loop-place.space in
-    ready_here c.pop.new.self.items c.in-Some.place space (subst (λ (places : List Place). AreReady places space) c.in-Some.ensures.items c.loop-place.invariant.ready)
+    ready_here c.pop.new.self.items c.in-Some.place space
+    (subst (λ (places : List Place). AreReady places space) c.in-Some.ensures.items c.loop-place.invariant.ready)
 
 pub loop-place-preserved : goal.loop-place-preserved
 loop-place-preserved c =
@@ -25,5 +26,6 @@ loop-place-preserved c =
 pub returns : goal.returns
 returns c =
     let space = c.loop-place.space in
-    let none : c.loop-place.places.items ≡ [] = no_places c.loop-place.places.items (omega (arith, c.in_default.ensures.cases.0, c.loop-place.places.ok.0)) in
+    let none : c.loop-place.places.items ≡ [] =
+    no_places c.loop-place.places.items (omega (arith, c.in_default.ensures.cases.0, c.loop-place.places.ok.0)) in
     c.loop-place.invariant.behind space (subst (λ (places : List Place). AreEnded places space space) (sym none) (none_ended space))

@@ -17,4 +17,5 @@ returns-clause-start c = omega (arith, few_digits c.args.octet c.from.result c.r
 pub returns-clause-text : goal.returns-clause-text
 returns-clause-text c =
     let some : 1 ≤ c.write_digits-digits.result = omega (arith, few_digits c.args.octet c.from.result c.ranges.octet.fits c.from.ensures) in
-    mark_before c.write_digits-digits.new.buf c.write_digits-digits.result 46 (decimal c.args.octet ++ drop c.args.end c.args.text.now) some (omega arith) (c.write_digits-digits.ensures.written ∙ ap (λ n. decimal n ++ drop c.args.end c.args.text.now) c.from.ensures)
+    mark_before c.write_digits-digits.new.buf c.write_digits-digits.result 46 (decimal c.args.octet ++ drop c.args.end c.args.text.now) some
+    (omega arith) (c.write_digits-digits.ensures.written ∙ ap (λ n. decimal n ++ drop c.args.end c.args.text.now) c.from.ensures)

@@ -8,7 +8,10 @@ pub returns-then-holds-clause-each : goal.returns-then-holds-clause-each
 returns-then-holds-clause-each c = λ q. held-present (get same_flow c.args.flows.now) c.args.flow q (sym c.if-holds.ensures)
 
 pub returns-clause-each : goal.returns-clause-each
-returns-clause-each c = λ q. held-absent (get same_flow c.args.flows.now) c.args.flow q _ (sym c.holds.ensures ∙ c.if-holds.false) (c.in_ok-hold.ensures.each q)
+returns-clause-each c =
+    λ q. held-absent (get same_flow c.args.flows.now) c.args.flow q _ (sym c.holds.ensures ∙ c.if-holds.false) (c.in_ok-hold.ensures.each q)
 
 pub returns-clause-grown : goal.returns-clause-grown
-returns-clause-grown c = λ q. grown-by (same_flow c.args.flow q) _ _ (held-absent (get same_flow c.args.flows.now) c.args.flow q _ (sym c.holds.ensures ∙ c.if-holds.false) (c.in_ok-hold.ensures.each q))
+returns-clause-grown c =
+    λ q. grown-by (same_flow c.args.flow q) _ _ (held-absent (get same_flow c.args.flows.now) c.args.flow q _ (sym c.holds.ensures ∙ c.if-holds.false)
+    (c.in_ok-hold.ensures.each q))

@@ -8,6 +8,7 @@ use Rattle.vrf_flows.proofs.held.hold_sources.Given as goal
 
 abbrev pub invariant-loop-source : goal.invariant-loop-source
 invariant-loop-source l = record {
-  each : (q : Flow) → get same_flow l.flows q ≡ held_too (list_any (joins_flow l.group q) (take l.source-index l.sources)) (get same_flow l.initial.flows q);
+  each : (q : Flow) → get same_flow l.flows q ≡ held_too (list_any (joins_flow l.group q) (take l.source-index l.sources))
+      (get same_flow l.initial.flows q);
   unique : IsUnique same_flow l.flows;
 }

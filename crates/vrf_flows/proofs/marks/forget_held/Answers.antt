@@ -8,5 +8,6 @@ use Rattle.vrf_flows.proofs.marks.forget_held.Goals as goal
 
 pub returns-clause-each : goal.returns-clause-each
 returns-clause-each c =
-    let kept : c.retain.new.self.entries ≡ change_each forget_by c.args.flows.now.entries = retained _ forget_by _ (λ k v b w g call. search rules) _ _ c.retain.ensures.filtered in
+    let kept : c.retain.new.self.entries ≡ change_each forget_by c.args.flows.now.entries =
+    retained _ forget_by _ (λ k v b w g call. search rules) _ _ c.retain.ensures.filtered in
     λ q. ap (λ (es : List (Flow × Held)). lookup (same_flow q) es) kept ∙ lookup-forgotten c.args.flows.now.entries q

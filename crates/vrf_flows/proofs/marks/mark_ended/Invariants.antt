@@ -8,6 +8,7 @@ use Rattle.vrf_flows.proofs.marks.mark_ended.Given as goal
 
 abbrev pub invariant-loop-at : goal.invariant-loop-at
 invariant-loop-at l = record {
-  each : (q : Flow) → marked (list_any (ended l.now q) l.at-iterator) (get same_flow l.flows q) ≡ marked (list_any (ended l.now q) l.entries.entries) (get same_flow l.initial.flows q);
+  each : (q : Flow) → marked (list_any (ended l.now q) l.at-iterator) (get same_flow l.flows q)
+      ≡ marked (list_any (ended l.now q) l.entries.entries) (get same_flow l.initial.flows q);
   unique : IsUnique same_flow l.flows;
 }

@@ -8,6 +8,7 @@ use Rattle.vrf_flows.proofs.marks.mark_message.Given as goal
 
 abbrev pub invariant-loop-group : goal.invariant-loop-group
 invariant-loop-group l = record {
-  each : (q : Flow) → get same_flow l.flows q ≡ marked (list_any (λ group. names_in group q) (take l.group-index l.groups)) (get same_flow l.initial.flows q);
+  each : (q : Flow) → get same_flow l.flows q ≡ marked (list_any (λ group. names_in group q) (take l.group-index l.groups))
+      (get same_flow l.initial.flows q);
   unique : IsUnique same_flow l.flows;
 }

@@ -9,5 +9,6 @@ use Rattle.vrf_flows.proofs.marks.mark_where.Goals as goal
 
 pub returns-clause-each : goal.returns-clause-each
 returns-clause-each c =
-    let kept : c.retain.new.self.entries ≡ change_each (mark_by (concerns c.args.cause.now)) c.args.flows.now.entries = retained _ (mark_by (concerns c.args.cause.now)) _ (λ k v b w g call. search rules) _ _ c.retain.ensures.filtered in
+    let kept : c.retain.new.self.entries ≡ change_each (mark_by (concerns c.args.cause.now)) c.args.flows.now.entries =
+    retained _ (mark_by (concerns c.args.cause.now)) _ (λ k v b w g call. search rules) _ _ c.retain.ensures.filtered in
     λ q. ap (λ (es : List (Flow × Held)). lookup (same_flow q) es) kept ∙ lookup-marked (concerns c.args.cause.now) c.args.flows.now.entries q

@@ -15,8 +15,10 @@ pub loop-flow-preserved : goal.loop-flow-preserved
 loop-flow-preserved c = record {
   each = λ cost costs q.
       let front = rest_more deref_pair _ _ c.next.result _ c.in-Some.is c.next.ensures.steps in
-      ap (λ (o : Option Now). puts (λ flow held. replan held (seen c.args.sight.now cost flow)) c.next.new.self o q) (c.in_ok-plan_flow.ensures.each cost costs q)
-      ∙ (ap (λ (l : List (Flow × Held)). puts (λ flow held. replan held (seen c.args.sight.now cost flow)) l (get same_flow c.loop-flow.plan q) q) (sym front)
+      ap (λ (o : Option Now). puts (λ flow held. replan held (seen c.args.sight.now cost flow)) c.next.new.self o q)
+      (c.in_ok-plan_flow.ensures.each cost costs q)
+      ∙ (ap (λ (l : List (Flow × Held)). puts (λ flow held. replan held (seen c.args.sight.now cost flow)) l (get same_flow c.loop-flow.plan q) q)
+      (sym front)
       ∙ c.loop-flow.invariant.each cost costs q);
   unique = c.plan_flow.ensures.unique;
 }
@@ -24,6 +26,8 @@ loop-flow-preserved c = record {
 pub returns-clause-each : goal.returns-clause-each
 returns-clause-each c = λ cost costs q.
     let done : c.loop-flow.flow-iterator ≡ [] = rest_all deref_pair _ _ c.next.result c.in-None.is c.next.ensures.steps in
-    ap (λ (l : List (Flow × Held)). puts (λ flow held. replan held (seen c.args.sight.now cost flow)) l (get same_flow c.loop-flow.plan q) q) (sym done)
+    ap (λ (l : List (Flow × Held)). puts (λ flow held. replan held (seen c.args.sight.now cost flow)) l (get same_flow c.loop-flow.plan q) q)
+    (sym done)
     ∙ (c.loop-flow.invariant.each cost costs q
-    ∙ (puts-lookup (λ flow held. replan held (seen c.args.sight.now cost flow)) c.args.flows.now.entries None q c.requires.unique ∙ plan-end (seen c.args.sight.now cost) q (get same_flow c.args.flows.now q)))
+    ∙ (puts-lookup (λ flow held. replan held (seen c.args.sight.now cost flow)) c.args.flows.now.entries None q c.requires.unique
+    ∙ plan-end (seen c.args.sight.now cost) q (get same_flow c.args.flows.now q)))

@@ -11,6 +11,7 @@ use Rattle.vrf_flows.proofs.plan.plan_all.Given as goal
 abbrev pub invariant-loop-flow : goal.invariant-loop-flow
 invariant-loop-flow l = record {
   each : (cost : NodeId → ℕ) → AreCosts l.sight.core.now l.sight.me cost → (q : Flow) →
-      puts (λ flow held. replan held (seen l.sight cost flow)) l.flow-iterator (get same_flow l.plan q) q ≡ puts (λ flow held. replan held (seen l.sight cost flow)) l.flows.entries None q;
+      puts (λ flow held. replan held (seen l.sight cost flow)) l.flow-iterator (get same_flow l.plan q) q
+      ≡ puts (λ flow held. replan held (seen l.sight cost flow)) l.flows.entries None q;
   unique : IsUnique same_flow l.plan;
 }

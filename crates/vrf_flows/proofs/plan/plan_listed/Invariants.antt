@@ -13,6 +13,7 @@ use Rattle.vrf_flows.proofs.plan.plan_listed.Given as goal
 abbrev pub invariant-loop-flow : goal.invariant-loop-flow
 invariant-loop-flow l = record {
   each : (cost : NodeId → ℕ) → AreCosts l.sight.core.now l.sight.me cost → (q : Flow) →
-      get same_flow l.plan q ≡ planned_by (list_any (same_flow q) (take l.flow-index l.listed)) (planned (get same_flow l.flows q) (seen l.sight cost q));
+      get same_flow l.plan q ≡ planned_by (list_any (same_flow q) (take l.flow-index l.listed))
+      (planned (get same_flow l.flows q) (seen l.sight cost q));
   unique : IsUnique same_flow l.plan;
 }

@@ -6,5 +6,6 @@ use Rattle.vrf_flows.proofs.plan.settle.Goals as goal
 
 pub none_stale-requires : goal.none_stale-requires
 none_stale-requires c = record {
-  none = λ q. settled-stale (get same_flow c.args.flows.now q) (get same_flow c.settle_each.new.flows q) (get same_flow c.args.plan q) (needs c.args.sight.now q) (c.requires.planned q) (c.in_ok-settle_each.ensures.each q);
+  none = λ q. settled-stale (get same_flow c.args.flows.now q) (get same_flow c.settle_each.new.flows q) (get same_flow c.args.plan q)
+      (needs c.args.sight.now q) (c.requires.planned q) (c.in_ok-settle_each.ensures.each q);
 }

@@ -10,4 +10,5 @@ use Rattle.vrf_trees.proofs.exchange.carry.Goals as goal
 pub returns-clause-each : goal.returns-clause-each
 returns-clause-each c = λ q.
     let all : get same_flow c.loop-flow.wants q ≡ sets next_for c.args.plan.entries (get same_flow c.args.wants.now q) q = search rules in
-    all ∙ (sets-lookup next_for c.args.plan.entries (get same_flow c.args.wants.now q) q c.requires.unique ∙ carry-end q (get same_flow c.args.plan q) (get same_flow c.args.wants.now q))
+    all ∙ (sets-lookup next_for c.args.plan.entries (get same_flow c.args.wants.now q) q c.requires.unique
+    ∙ carry-end q (get same_flow c.args.plan q) (get same_flow c.args.wants.now q))

@@ -10,4 +10,5 @@ use Rattle.vrf_trees.proofs.plan.plan_all.Goals as goal
 pub returns-clause-each : goal.returns-clause-each
 returns-clause-each c = λ q.
     let all : get same_flow c.loop-flow.plan q ≡ puts (renewal c.args.leaf.now) c.args.wants.now.entries None q = search rules in
-    all ∙ (puts-lookup (renewal c.args.leaf.now) c.args.wants.now.entries None q c.requires.unique ∙ stale-end c.args.leaf.now q (get same_flow c.args.wants.now q))
+    all ∙ (puts-lookup (renewal c.args.leaf.now) c.args.wants.now.entries None q c.requires.unique
+    ∙ stale-end c.args.leaf.now q (get same_flow c.args.wants.now q))

@@ -9,5 +9,7 @@ use Rattle.vrf_trees.proofs.plan.plan_joins.Goals as goal
 
 pub returns-clause-each : goal.returns-clause-each
 returns-clause-each c = λ q.
-    let all : get same_flow c.loop-flow.plan q ≡ puts (joins_for c.args.leaf.now) c.args.joins.now.entries (get same_flow c.args.plan.now q) q = search rules in
-    all ∙ (puts-lookup (joins_for c.args.leaf.now) c.args.joins.now.entries (get same_flow c.args.plan.now q) q c.requires.joins ∙ joins-end c.args.leaf.now q (get same_flow c.args.joins.now q) (get same_flow c.args.plan.now q))
+    let all : get same_flow c.loop-flow.plan q ≡ puts (joins_for c.args.leaf.now) c.args.joins.now.entries (get same_flow c.args.plan.now q) q =
+    search rules in
+    all ∙ (puts-lookup (joins_for c.args.leaf.now) c.args.joins.now.entries (get same_flow c.args.plan.now q) q c.requires.joins
+    ∙ joins-end c.args.leaf.now q (get same_flow c.args.joins.now q) (get same_flow c.args.plan.now q))

@@ -10,4 +10,5 @@ use Rattle.vrf_trees.proofs.plan.plan_leaves.Goals as goal
 pub returns-clause-each : goal.returns-clause-each
 returns-clause-each c = λ q.
     let all : get same_flow c.loop-flow.plan q ≡ puts leaves_for c.args.leaves.now.entries (get same_flow c.args.plan.now q) q = search rules in
-    all ∙ (puts-lookup leaves_for c.args.leaves.now.entries (get same_flow c.args.plan.now q) q c.requires.leaves ∙ leaves-end q (get same_flow c.args.leaves.now q) (get same_flow c.args.plan.now q))
+    all ∙ (puts-lookup leaves_for c.args.leaves.now.entries (get same_flow c.args.plan.now q) q c.requires.leaves
+    ∙ leaves-end q (get same_flow c.args.leaves.now q) (get same_flow c.args.plan.now q))

@@ -8,6 +8,7 @@ use Rattle.vrf_trees.proofs.plan.plan_leaves.Given as goal
 
 abbrev pub invariant-loop-flow : goal.invariant-loop-flow
 invariant-loop-flow l = record {
-  each : (q : Flow) → puts leaves_for l.flow-iterator (get same_flow l.plan q) q ≡ puts leaves_for l.leaves.entries (get same_flow l.initial.plan q) q;
+  each : (q : Flow) → puts leaves_for l.flow-iterator (get same_flow l.plan q) q
+      ≡ puts leaves_for l.leaves.entries (get same_flow l.initial.plan q) q;
   unique : IsUnique same_flow l.plan;
 }

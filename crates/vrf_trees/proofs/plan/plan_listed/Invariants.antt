@@ -9,6 +9,7 @@ use Rattle.vrf_trees.proofs.plan.plan_listed.Given as goal
 
 abbrev pub invariant-loop-flow : goal.invariant-loop-flow
 invariant-loop-flow l = record {
-  each : (q : Flow) → get same_flow l.plan q ≡ planned_by (list_any (same_flow q) (take l.flow-index l.listed)) (planned l.leaf q (get same_flow l.wants q));
+  each : (q : Flow) → get same_flow l.plan q ≡ planned_by (list_any (same_flow q) (take l.flow-index l.listed))
+      (planned l.leaf q (get same_flow l.wants q));
   unique : IsUnique same_flow l.plan;
 }

@@ -9,5 +9,7 @@ use Rattle.vrf_trees.proofs.plan.plan_one.Goals as goal
 pub returns-in-Some-clause-each : goal.returns-in-Some-clause-each
 returns-in-Some-clause-each c = λ q.
     let there : get same_flow c.args.wants.now c.args.flow ≡ Some c.in-Some.held.now = search rules in
-    subst (λ (o : Option Wants). OnOk c.plan_held.result (get same_flow c.plan_held.new.plan q ≡ put_at (same_flow c.args.flow q) (planned c.args.leaf.now c.args.flow o) (get same_flow c.args.plan.now q))) (sym there)
+    subst (λ (o : Option Wants). OnOk c.plan_held.result
+    (get same_flow c.plan_held.new.plan q ≡ put_at (same_flow c.args.flow q) (planned c.args.leaf.now c.args.flow o)
+    (get same_flow c.args.plan.now q))) (sym there)
     (c.plan_held.ensures.each q)

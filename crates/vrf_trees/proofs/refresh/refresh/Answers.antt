@@ -16,9 +16,13 @@ use Rattle.vrf_trees.proofs.refresh.refresh.Goals as goal
 pub returns-clause-sound : goal.returns-clause-sound
 returns-clause-sound c =
     let least = least_costs c.args.core.now.nodes c.args.core.now.links c.args.me c.nodes.ensures.topology c.nodes.ensures.connected c.requires.me in
-    let renewed = all-renewed c.args.leaf.now c.args.flows.now.flows c.refresh.new.self.flows (get same_flow c.args.wants.now) (get same_flow c.exchange.new.wants) (get same_flow c.in_ok-plan.plan)
-    (get same_flow c.in_ok-changes.changes.joins) (get same_flow c.in_ok-changes.changes.leaves) (flow_of c.args.flows.now least.0 c.args.now) c.requires.sound.holds
-    (λ q. c.in_ok-changes.ensures.flows least.0 least.1 q) (λ q. c.in_ok-changes.ensures.joins least.0 least.1 q) (λ q. c.in_ok-changes.ensures.leaves least.0 least.1 q)
+    let renewed =
+    all-renewed c.args.leaf.now c.args.flows.now.flows c.refresh.new.self.flows (get same_flow c.args.wants.now)
+    (get same_flow c.exchange.new.wants) (get same_flow c.in_ok-plan.plan)
+    (get same_flow c.in_ok-changes.changes.joins) (get same_flow c.in_ok-changes.changes.leaves) (flow_of c.args.flows.now least.0 c.args.now)
+    c.requires.sound.holds
+    (λ q. c.in_ok-changes.ensures.flows least.0 least.1 q) (λ q. c.in_ok-changes.ensures.joins least.0 least.1 q)
+    (λ q. c.in_ok-changes.ensures.leaves least.0 least.1 q)
     (λ q. c.in_ok-plan.ensures.each q) (λ q. c.in_ok-told.ensures.each q) in
     record {
       unique = c.exchange.ensures.unique;
@@ -28,24 +32,31 @@ returns-clause-sound c =
 pub returns-clause-wants : goal.returns-clause-wants
 returns-clause-wants c =
     let least = least_costs c.args.core.now.nodes c.args.core.now.links c.args.me c.nodes.ensures.topology c.nodes.ensures.connected c.requires.me in
-    let renewed = all-renewed c.args.leaf.now c.args.flows.now.flows c.refresh.new.self.flows (get same_flow c.args.wants.now) (get same_flow c.exchange.new.wants) (get same_flow c.in_ok-plan.plan)
-    (get same_flow c.in_ok-changes.changes.joins) (get same_flow c.in_ok-changes.changes.leaves) (flow_of c.args.flows.now least.0 c.args.now) c.requires.sound.holds
-    (λ q. c.in_ok-changes.ensures.flows least.0 least.1 q) (λ q. c.in_ok-changes.ensures.joins least.0 least.1 q) (λ q. c.in_ok-changes.ensures.leaves least.0 least.1 q)
+    let renewed =
+    all-renewed c.args.leaf.now c.args.flows.now.flows c.refresh.new.self.flows (get same_flow c.args.wants.now)
+    (get same_flow c.exchange.new.wants) (get same_flow c.in_ok-plan.plan)
+    (get same_flow c.in_ok-changes.changes.joins) (get same_flow c.in_ok-changes.changes.leaves) (flow_of c.args.flows.now least.0 c.args.now)
+    c.requires.sound.holds
+    (λ q. c.in_ok-changes.ensures.flows least.0 least.1 q) (λ q. c.in_ok-changes.ensures.joins least.0 least.1 q)
+    (λ q. c.in_ok-changes.ensures.leaves least.0 least.1 q)
     (λ q. c.in_ok-plan.ensures.each q) (λ q. c.in_ok-told.ensures.each q) in
     wants-are c.args.leaf.now c.refresh.new.self.flows c.exchange.new.wants.entries c.exchange.ensures.unique renewed
 
 pub returns-clause-joins : goal.returns-clause-joins
 returns-clause-joins c = λ cost costs.
-    let given : Flow → Option Upstream = λ q. gained (upstream_of (maps.get c.args.flows.now.flows q)) (upstream_of (flow_of c.args.flows.now cost c.args.now q)) in
+    let given : Flow → Option Upstream =
+    λ q. gained (upstream_of (maps.get c.args.flows.now.flows q)) (upstream_of (flow_of c.args.flows.now cost c.args.now q)) in
     subst (λ (l : List TreeJoin). AreJoins l given) (sym c.in_ok-joins.ensures)
     (joins-are c.in_ok-changes.changes.joins.entries given c.in_ok-changes.ensures.once.0 (λ q. c.in_ok-changes.ensures.joins cost costs q))
 
 pub returns-clause-leaves : goal.returns-clause-leaves
 returns-clause-leaves c = λ cost costs.
-    let given : Flow → Option Upstream = λ q. lost (upstream_of (maps.get c.args.flows.now.flows q)) (upstream_of (flow_of c.args.flows.now cost c.args.now q)) in
+    let given : Flow → Option Upstream =
+    λ q. lost (upstream_of (maps.get c.args.flows.now.flows q)) (upstream_of (flow_of c.args.flows.now cost c.args.now q)) in
     subst (λ (l : List TreeJoin). AreJoins l given) (sym c.in_ok-leaves.ensures)
     (joins-are c.in_ok-changes.changes.leaves.entries given c.in_ok-changes.ensures.once.1 (λ q. c.in_ok-changes.ensures.leaves cost costs q))
 
 pub exchange-requires-clause-fresh : goal.exchange-requires-clause-fresh
 exchange-requires-clause-fresh c = λ q.
-    carried-fresh c.args.leaf.now q (get same_flow c.in_ok-changes.changes.joins q) (get same_flow c.in_ok-changes.changes.leaves q) (get same_flow c.args.wants.now q) (get same_flow c.in_ok-plan.plan q) (c.in_ok-plan.ensures.each q)
+    carried-fresh c.args.leaf.now q (get same_flow c.in_ok-changes.changes.joins q) (get same_flow c.in_ok-changes.changes.leaves q)
+    (get same_flow c.args.wants.now q) (get same_flow c.in_ok-plan.plan q) (c.in_ok-plan.ensures.each q)

@@ -12,6 +12,7 @@ pub returns-clause-sound : goal.returns-clause-sound
 returns-clause-sound c = λ flows sound. record {
   unique = c.mark.ensures.unique;
   holds = subst (λ (leaf : Leaf). Holds leaf (ups_in flows) (get same_flow c.mark.new.self)) (sym c.forget_peer.ensures)
-      (marked-holds c.args.leaf.now (record c.args.leaf.now { routes = without_peer c.args.peer c.args.leaf.now.routes }) (ups_in flows) (get same_flow c.args.wants.now) (get same_flow c.mark.new.self) (causes.Peer c.args.peer) sound.holds c.mark.ensures.each
+      (marked-holds c.args.leaf.now (record c.args.leaf.now { routes = without_peer c.args.peer c.args.leaf.now.routes }) (ups_in flows)
+      (get same_flow c.args.wants.now) (get same_flow c.mark.new.self) (causes.Peer c.args.peer) sound.holds c.mark.ensures.each
       (tunnels-without c.args.leaf.now c.args.peer));
 }

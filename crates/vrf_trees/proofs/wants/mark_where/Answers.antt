@@ -9,10 +9,12 @@ use Rattle.vrf_trees.proofs.wants.mark_where.Goals as goal
 
 pub returns-clause-each : goal.returns-clause-each
 returns-clause-each c =
-    let kept : c.retain.new.self.entries ≡ mark_each c.args.cause.now c.args.wants.now.entries = retained _ c.args.cause.now _ (λ k v b w g call. search rules) _ _ c.retain.ensures.filtered in
+    let kept : c.retain.new.self.entries ≡ mark_each c.args.cause.now c.args.wants.now.entries =
+    retained _ c.args.cause.now _ (λ k v b w g call. search rules) _ _ c.retain.ensures.filtered in
     λ q. ap (λ (es : List (Flow × Wants)). lookup (same_flow q) es) kept ∙ lookup-marked c.args.cause.now c.args.wants.now.entries q
 
 pub returns-clause-tunnels : goal.returns-clause-tunnels
 returns-clause-tunnels c =
-    let kept : c.retain.new.self.entries ≡ mark_each c.args.cause.now c.args.wants.now.entries = retained _ c.args.cause.now _ (λ k v b w g call. search rules) _ _ c.retain.ensures.filtered in
+    let kept : c.retain.new.self.entries ≡ mark_each c.args.cause.now c.args.wants.now.entries =
+    retained _ c.args.cause.now _ (λ k v b w g call. search rules) _ _ c.retain.ensures.filtered in
     ap tunnels_in kept ∙ tunnels-marked c.args.cause.now c.args.wants.now.entries

@@ -14,6 +14,7 @@ returns c = record {
   shared = λ at. refl;
   note = λ at.
       c.in_ok-insert.ensures.updates.0 at
-      ∙ ap (λ (b : Bool). cond b (Some (record { expiry = c.args.expiry; set = c.args.self.now.count })) (get is_at c.args.self.now.notes at)) (at-symmetric (at_iface c.args.iface c.args.entry) at);
+      ∙ ap (λ (b : Bool). cond b (Some (record { expiry = c.args.expiry; set = c.args.self.now.count })) (get is_at c.args.self.now.notes at))
+      (at-symmetric (at_iface c.args.iface c.args.entry) at);
   restarts = refl;
 }

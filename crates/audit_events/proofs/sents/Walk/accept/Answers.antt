@@ -12,4 +12,5 @@ step-requires-clause-fresh c = is_fresh c.args.case.now c.requires.is c.args.num
 
 pub returns-clause-stepped : goal.returns-clause-stepped
 returns-clause-stepped c =
-    stepped c.args.case.now c.requires.is c.args.number c.args.timed.now c.requires.at c.args.self.now c.step.new.self c.requires.walked c.requires.accepted c.in_ok-step.ensures
+    stepped c.args.case.now c.requires.is c.args.number c.args.timed.now c.requires.at c.args.self.now c.step.new.self c.requires.walked
+    c.requires.accepted c.in_ok-step.ensures

@@ -14,13 +14,21 @@ attributes-preserved c =
     let fits : IsOctets c.args.octets.now = λ i. omega (arith, c.type_inv.octets i) in
     let (before, read) = c.attributes.invariant in
     let place = c.attributes.passed in
-    let more = read_more c.args.octets.now place c.in-Ok.len before c.attributes.found c.in-Ok.attribute fits read c.in-Ok.ensures.part.0 c.in-Ok.ensures.part.1 c.in-Ok.ensures.value in
-    (before ++ c.in-Ok.attribute ∷ [], subst (IsRead c.args.octets.now (place + c.in-Ok.len) (before ++ c.in-Ok.attribute ∷ [])) (sym c.add.ensures) more)
+    let more =
+    read_more c.args.octets.now place c.in-Ok.len before c.attributes.found c.in-Ok.attribute fits read c.in-Ok.ensures.part.0
+    c.in-Ok.ensures.part.1 c.in-Ok.ensures.value in (
+      before ++ c.in-Ok.attribute ∷ [],
+      subst (IsRead c.args.octets.now (place + c.in-Ok.len) (before ++ c.in-Ok.attribute ∷ [])) (sym c.add.ensures)
+          more,
+    )
 
 pub returns-in-Err-clause-value : goal.returns-in-Err-clause-value
 returns-in-Err-clause-value c =
     let (before, read) = c.attributes.invariant in
-    subst (λ (fault : AttributesFault). Fails fault (found_at c.args.octets.now)) (sym c.behind.ensures) (fails_further c.args.octets.now c.attributes.passed before c.attributes.found c.in-Err.fault read c.attributes-test.true c.in-Err.ensures.value)
+    subst (λ (fault : AttributesFault). Fails fault (found_at c.args.octets.now)) (sym c.behind.ensures)
+    (fails_further c.args.octets.now c.attributes.passed before c.attributes.found c.in-Err.fault read c.attributes-test.true
+    c.in-Err.ensures.value)
 
 pub returns-clause-value : goal.returns-clause-value
-returns-clause-value c = let (before, read) = c.attributes.invariant in read_all c.args.octets.now c.attributes.passed before c.attributes.found read c.attributes-test.false
+returns-clause-value c = let (before, read) = c.attributes.invariant in
+    read_all c.args.octets.now c.attributes.passed before c.attributes.found read c.attributes-test.false

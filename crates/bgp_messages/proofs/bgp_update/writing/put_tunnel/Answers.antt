@@ -12,4 +12,5 @@ returns-in-Some c =
     let is = front_is _ c.encode-len.new.out text c.encode-len.result c.encode-len.ensures.len c.encode-len.ensures.octets in
     let octets = take c.encode-len.result c.encode-len.new.out in
     let P : Option Pmsi → Type 0 = λ pmsi. OnOk c.put_attribute.result (c.put_attribute.new.out ≡ c.args.out.now ++ tunnel_text pmsi) in
-    subst P (sym c.in-Some.is) (put_same c.put_attribute.result c.args.out.now c.put_attribute.new.out (attribute 192 22 octets) (attribute 192 22 text) (ap (attribute 192 22) is) c.put_attribute.ensures)
+    subst P (sym c.in-Some.is) (put_same c.put_attribute.result c.args.out.now c.put_attribute.new.out (attribute 192 22 octets)
+    (attribute 192 22 text) (ap (attribute 192 22) is) c.put_attribute.ensures)

@@ -7,5 +7,6 @@ pub returns : goal.returns
 returns c =
     let text = written c.args.pmsi.now in
     let front : take c.encode-len.result c.encode-len.new.out ≡ text =
-    ap (λ (n : ℕ). take n c.encode-len.new.out) c.encode-len.ensures.len ∙ ap (λ (xs : List ℕ). take (length text) xs) c.encode-len.ensures.octets ∙ front_put c.args.out.now text in
+    ap (λ (n : ℕ). take n c.encode-len.new.out) c.encode-len.ensures.len ∙ ap (λ (xs : List ℕ). take (length text) xs) c.encode-len.ensures.octets
+    ∙ front_put c.args.out.now text in
     c.decode.ensures.only_spelled c.args.pmsi.now (subst (Spells c.args.pmsi.now) (sym front) c.requires.spelled)

@@ -69,8 +69,10 @@ module _ (E : BlockOf) where
   abbrev Both : RattleType
   Both = Tuple (R E ∷ P E ∷ [])
 
-module _ (E : BlockOf) {M : Type 1} {𝓤 : Ura M} (𝓛 : Logic 𝓤) (at_mem : Memory → SProp 𝓤) (run : Routine → Fun 𝓤) (C : Calls 𝓤 𝓛.H) (Λ : Loops 𝓤 𝓛.H) (fm : FmC 𝓤 𝓛.H 𝓛.laws C)
-    (callee : Triple 𝓤 (C (gives_key E.al)) (Gives E.al 𝓛 at_mem run)) (κT ρ : Lft) (qT qρ : Share) (within : ρ ⊑ E.al.row.lives) (d : D E) (vs : List Val) where
+module _ (E : BlockOf) {M : Type 1} {𝓤 : Ura M} (𝓛 : Logic 𝓤) (at_mem : Memory → SProp 𝓤) (run : Routine → Fun 𝓤) (C : Calls 𝓤 𝓛.H) (Λ : Loops 𝓤 𝓛.H)
+    (fm : FmC 𝓤 𝓛.H 𝓛.laws C)
+    (callee : Triple 𝓤 (C (gives_key E.al)) (Gives E.al 𝓛 at_mem run)) (κT ρ : Lft) (qT qρ : Share) (within : ρ ⊑ E.al.row.lives) (d : D E)
+    (vs : List Val) where
   open 𝓛 use {H, A}
 
   abbrev bound : (walk_of 𝓛 (ended E) (stayed E) (clauses E 𝓛 at_mem run)).Ghost
@@ -86,18 +88,23 @@ module _ (E : BlockOf) {M : Type 1} {𝓤 : Ura M} (𝓛 : Logic 𝓤) (at_mem :
   x = d.value
 
   abbrev Had : Val → ℕ → ℕ → SProp 𝓤
-  Had hv b o = sep 𝓤 (sem 𝓛 (part_at (R E) full_share x b o)) (sep 𝓤 (sem 𝓛 (token E.al a (bare (τ E)) (block_ptr b o))) (sep 𝓤 (sem 𝓛 (handle E a hv)) (sep 𝓤 (A.lft ρ qρ) (A.lft κT qT))))
+  Had hv b o =
+      sep 𝓤 (sem 𝓛 (part_at (R E) full_share x b o))
+      (sep 𝓤 (sem 𝓛 (token E.al a (bare (τ E)) (block_ptr b o))) (sep 𝓤 (sem 𝓛 (handle E a hv)) (sep 𝓤 (A.lft ρ qρ) (A.lft κT qT))))
 
   exits : (u v : Val) → ent 𝓤 (sep 𝓤 (sem 𝓛 ((Both E).own_val (x, a) (pair_val u v ∷ []))) (sep 𝓤 (A.lft κT qT) (A.lft ρ qρ))) (Post (pair_val u v))
   exits u v =
-      qed 𝓛 (‵ ((Both E).own_val (x, a) (pair_val u v ∷ [])) ∷ ‵ (flft κT qT) ∷ ‵ (flft ρ qρ) ∷ []) ∵ suffices ! _ (ends_at 𝓛 (ended E) (stayed E) (clauses E 𝓛 at_mem run) bound (pair_val u v) (x, a) ((tt, (tt, tt)), tt) (tt, tt)) $ says ! refl $
+      qed 𝓛 (‵ ((Both E).own_val (x, a) (pair_val u v ∷ [])) ∷ ‵ (flft κT qT) ∷ ‵ (flft ρ qρ) ∷ []) ∵ suffices ! _
+      (ends_at 𝓛 (ended E) (stayed E) (clauses E 𝓛 at_mem run) bound (pair_val u v) (x, a) ((tt, (tt, tt)), tt) (tt, tt)) $ says ! refl $
       nothing ! $ nothing ! $ fjoin ! $ join ! $ nothing ! $ move ! (3 ∷ 0 ∷ []) $ join ! $ move ! (2 ∷ 0 ∷ []) $ join ! $ join ! $ done !
 
   walk : (hv : Val) (b o : ℕ) → Fits E.al hv → ent 𝓤 (Had hv b o) (WpFn 𝓤 H C Λ (fn' E) (word E hv b o ∷ []) Post)
   walk hv b o fa =
       let typed = block_typed E hv b o fa in
-      qed 𝓛 (‵ (part_at (R E) full_share x b o) ∷ ‵ (token E.al a (bare (τ E)) (block_ptr b o)) ∷ ‵ (handle E a hv) ∷ ‵ (flft ρ qρ) ∷ ‵ (flft κT qT) ∷ []) ∵
-      use1 𝓛 (some (λ (v : Val). given (Good E v) (‵ (fat full_share (τ E) b o v) ⊛ ‵ (own E x (v ∷ []))))) (el_out E 𝓛 x b o) $ pick ! (λ v. learn ! (λ t. split ! $ move ! (0 ∷ 2 ∷ 3 ∷ 4 ∷ 5 ∷ []) $
+      qed 𝓛 (‵ (part_at (R E) full_share x b o) ∷ ‵ (token E.al a (bare (τ E)) (block_ptr b o)) ∷ ‵ (handle E a hv) ∷ ‵ (flft ρ qρ) ∷ ‵ (flft κT qT)
+      ∷ []) ∵
+      use1 𝓛 (some (λ (v : Val). given (Good E v) (‵ (fat full_share (τ E) b o v) ⊛ ‵ (own E x (v ∷ []))))) (el_out E 𝓛 x b o) $ pick !
+      (λ v. learn ! (λ t. split ! $ move ! (0 ∷ 2 ∷ 3 ∷ 4 ∷ 5 ∷ []) $
       -- [the value's cell; the right to free it; the handle; the token of ρ; the token of κT; what the value owns]
       enter ! C Λ (fn' E) (word E hv b o ∷ []) _ $ alloc_all ! (λ l. pass_all ! refl (typed, tt) $
       let En : Env 𝓤 H = env (fn' E).locals l in
@@ -106,8 +113,10 @@ module _ (E : BlockOf) {M : Type 1} {𝓤 : Ura M} (𝓛 : Logic 𝓤) (at_mem :
       let at : ℕ = up (align (α E.al)) 8 in
       let words : Vals = vcons (vptr b o) (vcons hv vnil) in
       let fields : Tys = tcons ty_ptr (tcons (α E.al) tnil) in
-      sets ! (of_opd ! (get ! refl)) refl typed $ sets ! (of_opd ! (get_in ! (fld ! refl (stop !)) (sub ! 0 refl (whole !)))) refl (tt, tt) $ sets ! (of_opd ! (get ! refl)) refl (tt, tt) $
-      first ! $ blocks ! $ sets_last ! (of_opd ! (load ! (through ! refl (stop !)) (look ! 0 refl))) refl t $ exec ! C Λ En (after 4 (fn' E).body) (at_ret En Post) $
+      sets ! (of_opd ! (get ! refl)) refl typed $ sets ! (of_opd ! (get_in ! (fld ! refl (stop !)) (sub ! 0 refl (whole !)))) refl (tt, tt) $ sets !
+      (of_opd ! (get ! refl)) refl (tt, tt) $
+      first ! $ blocks ! $ sets_last ! (of_opd ! (load ! (through ! refl (stop !)) (look ! 0 refl))) refl t $ exec ! C Λ En (after 4 (fn' E).body)
+      (at_ret En Post) $
       sets ! (of_opd ! (get ! refl)) refl t $ use1 𝓛 (‵ (froom (τ E) b o)) (𝓛.laws.at_room (τ E) b o v) $ as_raw ! (τ E) b o $
       first ! $ blocks ! $ sets ! (addr ! (from ! (fld ! refl (stop !)))) refl (tt, tt) $ sets ! (of_opd ! (get ! refl)) refl (tt, tt) $
       take_at ! 2 $ move ! (0 ∷ 3 ∷ 4 ∷ []) $
@@ -116,25 +125,34 @@ module _ (E : BlockOf) {M : Type 1} {𝓤 : Ura M} (𝓛 : Logic 𝓤) (at_mem :
       let hp : ℕ × ℕ = (l 2, 0 + at) in
       let y : (Gives E.al 𝓛 at_mem run).Ghost = at_gives E.al 𝓛 at_mem run κ m.1 hp a b o s al (bare (τ E)) in
       join ! $ move ! (2 ∷ 3 ∷ 0 ∷ []) $ use3 𝓛 (raw ((Gives E.al 𝓛 at_mem run).pre y))
-      (Gives-goes E.al 𝓛 at_mem run κ m.1 hp a (Incl-trans (meet_⊑_right (m.0 ∷ []) ρ) within) b o s al (bare (τ E)) (ap capped (size-raw (τ E))) (ap capped (align-raw (τ E))) (capped_fits (size (τ E))) (capped_fits (align (τ E)))) $
-      calls_at_last ! fm (Gives E.al 𝓛 at_mem run) callee y (and_then ! (get ! refl) (and_then ! (get ! refl) (and_then ! (size_word !) (and_then ! (align_word !) (no_more !))))) (λ u.
-      use1 𝓛 (later (given (u ≡ vunit) (‵ (flft κ m.1)))) (Gives-Gives E.al 𝓛 at_mem run κ m.1 hp a b o s al (bare (τ E)) u) $ await ! tt $ learn ! (λ e.
+      (Gives-goes E.al 𝓛 at_mem run κ m.1 hp a (Incl-trans (meet_⊑_right (m.0 ∷ []) ρ) within) b o s al (bare (τ E)) (ap capped (size-raw (τ E)))
+      (ap capped (align-raw (τ E))) (capped_fits (size (τ E))) (capped_fits (align (τ E)))) $
+      calls_at_last ! fm (Gives E.al 𝓛 at_mem run) callee y
+      (and_then ! (get ! refl) (and_then ! (get ! refl) (and_then ! (size_word !) (and_then ! (align_word !) (no_more !))))) (λ u.
+      use1 𝓛 (later (given (u ≡ vunit) (‵ (flft κ m.1)))) (Gives-Gives E.al 𝓛 at_mem run κ m.1 hp a b o s al (bare (τ E)) u) $ await ! tt $ learn !
+      (λ e.
       takes_back E.al (owning E).name fields 1 at (l 2) 0 words a ρ qρ ! tt m (λ hv' fa'. give_at ! 2 $
       lands_last ! refl (subst (λ (z : Val). T (has_ty ty_unit z) × WT z) (sym e) (tt, tt)) $ exec ! C Λ En (after 6 (fn' E).body) (at_ret En Post) $
-      sets ! (of_opd ! (get_in ! (fld ! refl (stop !)) (sub ! 1 refl (whole !)))) refl fa' $ sets ! (of_opd ! (get ! refl)) refl t $ sets ! (of_opd ! (get ! refl)) refl fa' $
+      sets ! (of_opd ! (get_in ! (fld ! refl (stop !)) (sub ! 1 refl (whole !)))) refl fa' $ sets ! (of_opd ! (get ! refl)) refl t $ sets !
+      (of_opd ! (get ! refl)) refl fa' $
       sets ! (agg ! (and_then ! (get ! refl) (and_then ! (get ! refl) (no_more !)))) refl (pair_Typed (τ E) (α E.al) v hv' t fa') $
       returns ! (look_at ! 0 refl) $ free_all ! refl $
-      move ! (3 ∷ 0 ∷ []) $ use2 𝓛 (‵ ((Both E).own_val (x, a) (pair_val v hv' ∷ []))) (pair_of 𝓛 (R E) (P E) x a v hv') $ keep ! (0 ∷ 2 ∷ 1 ∷ []) $ by ! (exits v hv'))))))))
+      move ! (3 ∷ 0 ∷ []) $ use2 𝓛 (‵ ((Both E).own_val (x, a) (pair_val v hv' ∷ []))) (pair_of 𝓛 (R E) (P E) x a v hv') $ keep ! (0 ∷ 2 ∷ 1 ∷ []) $
+      by ! (exits v hv'))))))))
 
   entry : ent 𝓤 (on_entry 𝓛 (ended E).signature (κT, (ρ, tt)) (qT, (qρ, tt)) (d, tt) (vs, tt)) (WpFn 𝓤 H C Λ (fn' E) (vs ++ []) Post)
   entry =
-      qed 𝓛 ((‵ (flft κT qT) ⊛ ‵ (flft ρ qρ) ⊛ ‵ ftrue) ∷ ‵ (owns (B E ∷ []) (d, tt) (vs, tt)) ∷ []) ∵ split3 ! $ move ! (3 ∷ []) $ fsplit ! $ block_out E ! d vs (λ b o hv e is fa.
-      keep ! (0 ∷ 1 ∷ 2 ∷ 5 ∷ 4 ∷ []) $ by ! (subst (λ (ws : List Val). ent 𝓤 (Had hv b o) (WpFn 𝓤 H C Λ (fn' E) (ws ++ []) Post)) (sym is) (walk hv b o fa)))
+      qed 𝓛 ((‵ (flft κT qT) ⊛ ‵ (flft ρ qρ) ⊛ ‵ ftrue) ∷ ‵ (owns (B E ∷ []) (d, tt) (vs, tt)) ∷ []) ∵ split3 ! $ move ! (3 ∷ []) $ fsplit ! $
+      block_out E ! d vs (λ b o hv e is fa.
+      keep ! (0 ∷ 1 ∷ 2 ∷ 5 ∷ 4 ∷ []) $ by ! (subst (λ (ws : List Val). ent 𝓤 (Had hv b o) (WpFn 𝓤 H C Λ (fn' E) (ws ++ []) Post)) (sym is)
+      (walk hv b o fa)))
 
-meets : (E : BlockOf) {M : Type 1} {𝓤 : Ura M} (𝓛 : Logic 𝓤) (at_mem : Memory → SProp 𝓤) (run : Routine → Fun 𝓤) (𝓣 : Tables 𝓤 𝓛.H) → Triple 𝓤 (𝓣.C (gives_key E.al)) (Gives E.al 𝓛 at_mem run)
+meets : (E : BlockOf) {M : Type 1} {𝓤 : Ura M} (𝓛 : Logic 𝓤) (at_mem : Memory → SProp 𝓤) (run : Routine → Fun 𝓤) (𝓣 : Tables 𝓤 𝓛.H)
+    → Triple 𝓤 (𝓣.C (gives_key E.al)) (Gives E.al 𝓛 at_mem run)
     → Meets 𝓛 (ended E).signature (WpFn 𝓤 𝓛.H 𝓣.C 𝓣.Λ (fn' E)) (closing 𝓛 (ended E) (clauses E 𝓛 at_mem run))
 meets E {𝓤 = 𝓤} 𝓛 at_mem run 𝓣 callee =
-    walk_Meets 𝓛 (ended E) (stayed E) (Goes-blank 𝓛 2 (plain (λ _. B E)) no (λ κs x f. tt), tt) (clauses E 𝓛 at_mem run) (WpFn 𝓤 𝓛.H 𝓣.C 𝓣.Λ (fn' E)) (WpFn-mono 𝓤 𝓛.H 𝓛.laws 𝓣 (fn' E))
+    walk_Meets 𝓛 (ended E) (stayed E) (Goes-blank 𝓛 2 (plain (λ _. B E)) no (λ κs x f. tt), tt) (clauses E 𝓛 at_mem run) (WpFn 𝓤 𝓛.H 𝓣.C 𝓣.Λ (fn' E))
+    (WpFn-mono 𝓤 𝓛.H 𝓛.laws 𝓣 (fn' E))
     (λ z. let κs = z.0.0 in let qs = z.0.1 in let On : SProp 𝓤 = on_entry 𝓛 (ended E).signature κs qs z.0.3 z.0.4 in
     second 𝓤 (κs.0 ⊑ E.row.lives) (κs.1.0 ⊑ E.al.row.lives) On (emp 𝓤) (λ within. via 𝓤 On (fst∗ 𝓤 On (emp 𝓤))
     (entry E 𝓛 at_mem run 𝓣.C 𝓣.Λ (fm_of 𝓤 𝓛.H 𝓛.laws 𝓣) callee κs.0 κs.1.0 qs.0 qs.1.0 within z.0.3.0 z.0.4.0)))
@@ -145,5 +163,6 @@ give_back_spec 𝓤 𝓛 𝓜 𝓡 wired Y Z L LZ g d dd met md =
     let E : BlockOf = record { row = Y; laws = L; al = record { row = Z; laws = LZ; g = g; d = d; drops = dd } } in
     let A = 𝓛.A in
     let 𝓣 : Tables 𝓤 𝓛.H = tables_of 𝓤 𝓛.H 𝓜 (tables 𝓤 𝓛.H 𝓜 𝓡 𝓡.env) in
-    entered 𝓤 𝓛.H (triple_of 𝓛 (ended E).signature (F.spec Y Z g d dd 𝓛 𝓜.mem 𝓡.returns)) 𝓣.C 𝓣.Λ (#self (args E)) (fn' E) (code.unfolded 𝓤 𝓛.H 𝓜 𝓡 wired (Y, (Z, tt)) d dd)
+    entered 𝓤 𝓛.H (triple_of 𝓛 (ended E).signature (F.spec Y Z g d dd 𝓛 𝓜.mem 𝓡.returns)) 𝓣.C 𝓣.Λ (#self (args E)) (fn' E)
+    (code.unfolded 𝓤 𝓛.H 𝓜 𝓡 wired (Y, (Z, tt)) d dd)
     (meets E 𝓛 𝓜.mem 𝓡.returns 𝓣 (met.deallocate dd))

@@ -81,8 +81,10 @@ module _ (E : BlockOf) where
   abbrev Out : RattleType
   Out = RS.the_row (B E) (Both)
 
-module _ (E : BlockOf) {M : Type 1} {𝓤 : Ura M} (𝓛 : Logic 𝓤) (at_mem : Memory → SProp 𝓤) (run : Routine → Fun 𝓤) (C : Calls 𝓤 𝓛.H) (Λ : Loops 𝓤 𝓛.H) (fm : FmC 𝓤 𝓛.H 𝓛.laws C)
-    (callee : Triple 𝓤 (C (takes_key E.al)) (Takes E.al 𝓛 at_mem run)) (κT ρ : Lft) (qT qρ : Share) (within : ρ ⊑ E.al.row.lives) (a : E.al.row.Denot) (x : X E) (vs us : List Val) where
+module _ (E : BlockOf) {M : Type 1} {𝓤 : Ura M} (𝓛 : Logic 𝓤) (at_mem : Memory → SProp 𝓤) (run : Routine → Fun 𝓤) (C : Calls 𝓤 𝓛.H) (Λ : Loops 𝓤 𝓛.H)
+    (fm : FmC 𝓤 𝓛.H 𝓛.laws C)
+    (callee : Triple 𝓤 (C (takes_key E.al)) (Takes E.al 𝓛 at_mem run)) (κT ρ : Lft) (qT qρ : Share) (within : ρ ⊑ E.al.row.lives) (a : E.al.row.Denot)
+    (x : X E) (vs us : List Val) where
   open 𝓛 use {H, A}
 
   abbrev bound : (walk_of 𝓛 (ended E) (stayed E) (clauses E 𝓛 at_mem run)).Ghost
@@ -94,14 +96,18 @@ module _ (E : BlockOf) {M : Type 1} {𝓤 : Ura M} (𝓛 : Logic 𝓤) (at_mem :
   abbrev Had : Val → Val → SProp 𝓤
   Had hv v = sep 𝓤 (sem 𝓛 (E.al.row.own_val a (hv ∷ []))) (sep 𝓤 (A.lft ρ qρ) (sep 𝓤 (A.lft κT qT) (sem 𝓛 (own E x (v ∷ [])))))
 
-  exits : (r : (Out E).Denot) (v : Val) → MatchResult r (λ d. d.value ≡ x) (λ e. e.0 ≡ x) → ent 𝓤 (sep 𝓤 (sem 𝓛 ((Out E).own_val r (v ∷ []))) (sep 𝓤 (A.lft κT qT) (A.lft ρ qρ))) (Post v)
+  exits : (r : (Out E).Denot) (v : Val) → MatchResult r (λ d. d.value ≡ x) (λ e. e.0 ≡ x)
+      → ent 𝓤 (sep 𝓤 (sem 𝓛 ((Out E).own_val r (v ∷ []))) (sep 𝓤 (A.lft κT qT) (A.lft ρ qρ))) (Post v)
   exits r v k =
-      qed 𝓛 (‵ ((Out E).own_val r (v ∷ [])) ∷ ‵ (flft κT qT) ∷ ‵ (flft ρ qρ) ∷ []) ∵ suffices ! _ (ends_at 𝓛 (ended E) (stayed E) (clauses E 𝓛 at_mem run) bound v r (tt, (tt, tt)) (tt, (tt, tt))) $ says ! k $
-      nothing ! $ nothing ! $ fjoin ! $ nothing ! $ fjoin ! $ join ! $ nothing ! $ move ! (3 ∷ 0 ∷ []) $ join ! $ move ! (2 ∷ 0 ∷ []) $ join ! $ join ! $ done !
+      qed 𝓛 (‵ ((Out E).own_val r (v ∷ [])) ∷ ‵ (flft κT qT) ∷ ‵ (flft ρ qρ) ∷ []) ∵ suffices ! _
+      (ends_at 𝓛 (ended E) (stayed E) (clauses E 𝓛 at_mem run) bound v r (tt, (tt, tt)) (tt, (tt, tt))) $ says ! k $
+      nothing ! $ nothing ! $ fjoin ! $ nothing ! $ fjoin ! $ join ! $ nothing ! $ move ! (3 ∷ 0 ∷ []) $ join ! $ move ! (2 ∷ 0 ∷ []) $ join ! $ join
+      ! $ done !
 
   walk : (hv w : Val) → Fits E.al hv → Good E w → ent 𝓤 (Had hv w) (WpFn 𝓤 H C Λ (fn' E) (hv ∷ w ∷ []) Post)
   walk hv w fa t =
-      qed 𝓛 (‵ (E.al.row.own_val a (hv ∷ [])) ∷ ‵ (flft ρ qρ) ∷ ‵ (flft κT qT) ∷ ‵ (own E x (w ∷ [])) ∷ []) ∵ enter ! C Λ (fn' E) (hv ∷ w ∷ []) _ $ alloc_all ! (λ l. pass_all ! refl (fa, (t, tt)) $
+      qed 𝓛 (‵ (E.al.row.own_val a (hv ∷ [])) ∷ ‵ (flft ρ qρ) ∷ ‵ (flft κT qT) ∷ ‵ (own E x (w ∷ [])) ∷ []) ∵ enter ! C Λ (fn' E) (hv ∷ w ∷ []) _ $
+      alloc_all ! (λ l. pass_all ! refl (fa, (t, tt)) $
       let En : Env 𝓤 H = env (fn' E).locals l in
       let both : Body = head (after 3 (fn' E).body) in
       let Then : After 𝓤 H = any_q (after_seq 𝓤 H (Wp 𝓤 H C Λ En (after 4 (fn' E).body) (at_return 𝓤 H En Post)) (at_return 𝓤 H En Post)) in
@@ -117,12 +123,17 @@ module _ (E : BlockOf) {M : Type 1} {𝓤 : Ura M} (𝓛 : Logic 𝓤) (at_mem :
       let y : (Takes E.al 𝓛 at_mem run).Ghost = at_takes E.al 𝓛 at_mem run κ n.1 hp a s al (bare (τ E)) in
       use1 𝓛 (‵ (seen E.al κ hp a) ⊛ ‵ (flft κ n.1) ⊛ raw (wand 𝓤 (A.lft κ n.1) Again)) (id⊢ 𝓤 _) $ split3 ! $
       use2 𝓛 (raw ((Takes E.al 𝓛 at_mem run).pre y))
-      (Takes-goes E.al 𝓛 at_mem run κ n.1 hp a (Incl-trans (meet_⊑_right (n.0 ∷ []) ρ) within) s al (bare (τ E)) (ap capped (size-raw (τ E))) (ap capped (align-raw (τ E))) (capped_fits (size (τ E))) (capped_fits (align (τ E)))) $
-      calls_at ! fm (Takes E.al 𝓛 at_mem run) callee y (and_then ! (get ! refl) (and_then ! (size_word !) (and_then ! (align_word !) (no_more !)))) (λ v.
-      use1 𝓛 (later (raw (Answered E.al 𝓛 at_mem run a (bare (τ E)) v) ⊛ ‵ (flft κ n.1))) (Takes-gives E.al 𝓛 at_mem run κ n.1 hp a s al (bare (τ E)) v) $ await ! tt $ split ! $ move ! (1 ∷ 2 ∷ []) $
+      (Takes-goes E.al 𝓛 at_mem run κ n.1 hp a (Incl-trans (meet_⊑_right (n.0 ∷ []) ρ) within) s al (bare (τ E)) (ap capped (size-raw (τ E)))
+      (ap capped (align-raw (τ E))) (capped_fits (size (τ E))) (capped_fits (align (τ E)))) $
+      calls_at ! fm (Takes E.al 𝓛 at_mem run) callee y (and_then ! (get ! refl) (and_then ! (size_word !) (and_then ! (align_word !) (no_more !))))
+      (λ v.
+      use1 𝓛 (later (raw (Answered E.al 𝓛 at_mem run a (bare (τ E)) v) ⊛ ‵ (flft κ n.1)))
+      (Takes-gives E.al 𝓛 at_mem run κ n.1 hp a s al (bare (τ E)) v) $ await ! tt $ split ! $ move ! (1 ∷ 2 ∷ []) $
       use2 𝓛 (later (‵ Lies ⊛ ‵ (flft ρ qρ))) (apply∗ 𝓤 (A.lft κ n.1) Again) $ await ! tt $ split ! $
-      use1 𝓛 (some (λ (u : Val). ‵ (fat full_share (α E.al) (l 3) 0 u) ⊛ ‵ (E.al.row.own_val a (u ∷ [])))) (part_out 𝓛 (param 0 E.al.row) refl full_share a (l 3) 0) $ pick ! (λ hv'. split ! $
-      use1 𝓛 (given (Fits E.al hv') (‵ (fat full_share (α E.al) (l 3) 0 hv'))) (𝓛.laws.at_wt full_share (α E.al) (l 3) 0 hv') $ learn ! (λ fa'. give_at ! 3 $ move ! (2 ∷ []) $
+      use1 𝓛 (some (λ (u : Val). ‵ (fat full_share (α E.al) (l 3) 0 u) ⊛ ‵ (E.al.row.own_val a (u ∷ []))))
+      (part_out 𝓛 (param 0 E.al.row) refl full_share a (l 3) 0) $ pick ! (λ hv'. split ! $
+      use1 𝓛 (given (Fits E.al hv') (‵ (fat full_share (α E.al) (l 3) 0 hv'))) (𝓛.laws.at_wt full_share (α E.al) (l 3) 0 hv') $ learn !
+      (λ fa'. give_at ! 3 $ move ! (2 ∷ []) $
       -- [the answer; the handle; the token of ρ; the token of κT; what the value owns]
       answers E.al ! at_mem run a (bare (τ E)) v
       (λ b o e.
@@ -130,11 +141,15 @@ module _ (E : BlockOf) {M : Type 1} {𝓤 : Ura M} (𝓛 : Logic 𝓤) (at_mem :
       let ok = first_Good (block_ty E) (word E hv' b o) made in
       let d : D E = record { ptr = block_ptr b o; alloc = a; value = x } in
       -- [the room; the right to free it; the handle; ρ; κT; what the value owns]
-      lands_as ! e refl (Answer-typed true b o) $ first ! $ switches_on ! (get_tag ! (vrt ! refl (fld ! refl (stop !))) (whole !)) $ exec ! C Λ En (arm_body 0 both) Then $
-      sets ! (of_opd ! (get_in ! (vrt ! refl (fld ! refl (stop !))) (in_variant ! 0 0 refl refl (whole !)))) refl (tt, tt) $ sets ! (of_opd ! (get ! refl)) refl (tt, tt) $
-      as_written ! (τ E) b o $ first ! $ blocks ! $ sets ! (of_opd ! (get ! refl)) refl t $ assigns_last ! (of_opd ! (get ! refl)) (through ! refl (stop !)) (init ! 0 refl t) $
+      lands_as ! e refl (Answer-typed true b o) $ first ! $ switches_on ! (get_tag ! (vrt ! refl (fld ! refl (stop !))) (whole !)) $ exec ! C Λ En
+      (arm_body 0 both) Then $
+      sets ! (of_opd ! (get_in ! (vrt ! refl (fld ! refl (stop !))) (in_variant ! 0 0 refl refl (whole !)))) refl (tt, tt) $ sets !
+      (of_opd ! (get ! refl)) refl (tt, tt) $
+      as_written ! (τ E) b o $ first ! $ blocks ! $ sets ! (of_opd ! (get ! refl)) refl t $ assigns_last ! (of_opd ! (get ! refl))
+      (through ! refl (stop !)) (init ! 0 refl t) $
       exec ! C Λ En (after 3 (arm_body 0 both)) Then $
-      sets ! (of_opd ! (get ! refl)) refl fa' $ sets ! (agg ! (and_then ! (get ! refl) (and_then ! (get ! refl) (no_more !)))) refl made $ sets_last ! (agg ! (and_then ! (lit ! tt) (and_then ! (get ! refl) (no_more !)))) refl ok $
+      sets ! (of_opd ! (get ! refl)) refl fa' $ sets ! (agg ! (and_then ! (get ! refl) (and_then ! (get ! refl) (no_more !)))) refl made $ sets_last !
+      (agg ! (and_then ! (lit ! tt) (and_then ! (get ! refl) (no_more !)))) refl ok $
       exec ! C Λ En (after 4 (fn' E).body) (at_ret En Post) $ sets ! (of_opd ! (get ! refl)) refl ok $
       move ! (0 ∷ 5 ∷ []) $ use2 𝓛 (‵ (part_at (R E) full_share x b o)) (el_in E 𝓛 x b o w) $ block_in E ! d b o x refl refl $
       use1 𝓛 (‵ ((Out E).own_val (Ok d) (live 0 (vcons (word E hv' b o) vnil) ∷ []))) (ok_of 𝓛 (B E) (Both E) d (word E hv' b o)) $
@@ -142,23 +157,35 @@ module _ (E : BlockOf) {M : Type 1} {𝓤 : Ura M} (𝓛 : Logic 𝓤) (at_mem :
       (λ e.
       let pair = pair_Typed (τ E) (α E.al) w hv' t fa' in
       let none = some_Good (lone (Both E).mir) (pair_val w hv') pair in
-      lands_as ! e refl (Answer-typed false 0 0) $ first ! $ switches_on ! (get_tag ! (vrt ! refl (fld ! refl (stop !))) (whole !)) $ exec ! C Λ En (arm_body 1 both) Then $
-      sets ! (of_opd ! (get ! refl)) refl t $ sets ! (of_opd ! (get ! refl)) refl fa' $ sets ! (agg ! (and_then ! (get ! refl) (and_then ! (get ! refl) (no_more !)))) refl pair $ sets_last ! (agg ! (and_then ! (lit ! tt) (and_then ! (get ! refl) (no_more !)))) refl none $
+      lands_as ! e refl (Answer-typed false 0 0) $ first ! $ switches_on ! (get_tag ! (vrt ! refl (fld ! refl (stop !))) (whole !)) $ exec ! C Λ En
+      (arm_body 1 both) Then $
+      sets ! (of_opd ! (get ! refl)) refl t $ sets ! (of_opd ! (get ! refl)) refl fa' $ sets !
+      (agg ! (and_then ! (get ! refl) (and_then ! (get ! refl) (no_more !)))) refl pair $ sets_last !
+      (agg ! (and_then ! (lit ! tt) (and_then ! (get ! refl) (no_more !)))) refl none $
       exec ! C Λ En (after 4 (fn' E).body) (at_ret En Post) $ sets ! (of_opd ! (get ! refl)) refl none $
       move ! (3 ∷ 0 ∷ []) $ use2 𝓛 (‵ ((Both E).own_val (x, a) (pair_val w hv' ∷ []))) (pair_of 𝓛 (R E) (P E) x a w hv') $
       use1 𝓛 (‵ ((Out E).own_val (Err (x, a)) (live 1 (vcons (pair_val w hv') vnil) ∷ []))) (err_of 𝓛 (B E) (Both E) (x, a) (pair_val w hv')) $
-      returns ! (look_at ! 0 refl) $ free_all ! refl $ keep ! (0 ∷ 2 ∷ 1 ∷ []) $ by ! (exits (Err (x, a)) (live 1 (vcons (pair_val w hv') vnil)) refl)))))))
+      returns ! (look_at ! 0 refl) $ free_all ! refl $ keep ! (0 ∷ 2 ∷ 1 ∷ []) $ by !
+      (exits (Err (x, a)) (live 1 (vcons (pair_val w hv') vnil)) refl)))))))
 
-  entry : ent 𝓤 (on_entry 𝓛 (ended E).signature (κT, (ρ, tt)) (qT, (qρ, tt)) (a, (x, tt)) (vs, (us, tt))) (WpFn 𝓤 H C Λ (fn' E) (vs ++ (us ++ [])) Post)
+  entry : ent 𝓤 (on_entry 𝓛 (ended E).signature (κT, (ρ, tt)) (qT, (qρ, tt)) (a, (x, tt)) (vs, (us, tt)))
+      (WpFn 𝓤 H C Λ (fn' E) (vs ++ (us ++ [])) Post)
   entry =
-      qed 𝓛 ((‵ (flft κT qT) ⊛ ‵ (flft ρ qρ) ⊛ ‵ ftrue) ∷ ‵ (owns (P E ∷ R E ∷ []) (a, (x, tt)) (vs, (us, tt))) ∷ []) ∵ split3 ! $ move ! (3 ∷ []) $ fsplit ! $ handle_tells E.al ! a vs (λ hv is fa.
+      qed 𝓛 ((‵ (flft κT qT) ⊛ ‵ (flft ρ qρ) ⊛ ‵ ftrue) ∷ ‵ (owns (P E ∷ R E ∷ []) (a, (x, tt)) (vs, (us, tt))) ∷ []) ∵ split3 ! $ move ! (3 ∷ []) $
+      fsplit ! $ handle_tells E.al ! a vs (λ hv is fa.
       move ! (1 ∷ []) $ fsplit ! $ el_tells E ! x us (λ w iw t.
-      keep ! (2 ∷ 4 ∷ 3 ∷ 0 ∷ []) $ by ! (subst (λ (ws : List Val × List Val). ent 𝓤 (Had hv w) (WpFn 𝓤 H C Λ (fn' E) (ws.0 ++ (ws.1 ++ [])) Post)) (λ i. (sym is i, sym iw i)) (walk hv w fa t))))
+      keep ! (2 ∷ 4 ∷ 3 ∷ 0 ∷ []) $ by ! (subst (λ (ws : List Val × List Val). ent 𝓤 (Had hv w) (WpFn 𝓤 H C Λ (fn' E) (ws.0 ++ (ws.1 ++ [])) Post))
+      (λ i. (sym is i, sym iw i)) (walk hv w fa t))))
 
-meets : (E : BlockOf) {M : Type 1} {𝓤 : Ura M} (𝓛 : Logic 𝓤) (at_mem : Memory → SProp 𝓤) (run : Routine → Fun 𝓤) (𝓣 : Tables 𝓤 𝓛.H) → Triple 𝓤 (𝓣.C (takes_key E.al)) (Takes E.al 𝓛 at_mem run)
+meets : (E : BlockOf) {M : Type 1} {𝓤 : Ura M} (𝓛 : Logic 𝓤) (at_mem : Memory → SProp 𝓤) (run : Routine → Fun 𝓤) (𝓣 : Tables 𝓤 𝓛.H)
+    → Triple 𝓤 (𝓣.C (takes_key E.al)) (Takes E.al 𝓛 at_mem run)
     → Meets 𝓛 (ended E).signature (WpFn 𝓤 𝓛.H 𝓣.C 𝓣.Λ (fn' E)) (closing 𝓛 (ended E) (clauses E 𝓛 at_mem run))
 meets E {𝓤 = 𝓤} 𝓛 at_mem run 𝓣 callee =
-    walk_Meets 𝓛 (ended E) (stayed E) (Goes-dropped 𝓛 2 (plain (λ _. P E)) no (λ κs x f. refl), (Goes-dropped 𝓛 2 (plain (λ _. R E)) no (λ κs x f. refl), tt)) (clauses E 𝓛 at_mem run) (WpFn 𝓤 𝓛.H 𝓣.C 𝓣.Λ (fn' E)) (WpFn-mono 𝓤 𝓛.H 𝓛.laws 𝓣 (fn' E))
+    walk_Meets 𝓛 (ended E) (stayed E) (
+      Goes-dropped 𝓛 2 (plain (λ _. P E)) no (λ κs x f. refl),
+      (Goes-dropped 𝓛 2 (plain (λ _. R E)) no (λ κs x f. refl), tt),
+    ) (clauses E 𝓛 at_mem run) (WpFn 𝓤 𝓛.H 𝓣.C 𝓣.Λ (fn' E))
+    (WpFn-mono 𝓤 𝓛.H 𝓛.laws 𝓣 (fn' E))
     (λ z. let κs = z.0.0 in let qs = z.0.1 in let On : SProp 𝓤 = on_entry 𝓛 (ended E).signature κs qs z.0.3 z.0.4 in
     second 𝓤 (κs.0 ⊑ E.row.lives) (κs.1.0 ⊑ E.al.row.lives) On (emp 𝓤) (λ within. via 𝓤 On (fst∗ 𝓤 On (emp 𝓤))
     (entry E 𝓛 at_mem run 𝓣.C 𝓣.Λ (fm_of 𝓤 𝓛.H 𝓛.laws 𝓣) callee κs.0 κs.1.0 qs.0 qs.1.0 within z.0.3.0 z.0.3.1.0 z.0.4.0 z.0.4.1.0)))
@@ -169,5 +196,6 @@ put_spec 𝓤 𝓛 𝓜 𝓡 wired Y Z L LZ g d dd met md =
     let E : BlockOf = record { row = Y; laws = L; al = record { row = Z; laws = LZ; g = g; d = d; drops = dd } } in
     let A = 𝓛.A in
     let 𝓣 : Tables 𝓤 𝓛.H = tables_of 𝓤 𝓛.H 𝓜 (tables 𝓤 𝓛.H 𝓜 𝓡 𝓡.env) in
-    entered 𝓤 𝓛.H (triple_of 𝓛 (ended E).signature (F.spec Y Z g d dd 𝓛 𝓜.mem 𝓡.returns)) 𝓣.C 𝓣.Λ (#self (args E)) (fn' E) (code.unfolded 𝓤 𝓛.H 𝓜 𝓡 wired (Y, (Z, tt)) d dd)
+    entered 𝓤 𝓛.H (triple_of 𝓛 (ended E).signature (F.spec Y Z g d dd 𝓛 𝓜.mem 𝓡.returns)) 𝓣.C 𝓣.Λ (#self (args E)) (fn' E)
+    (code.unfolded 𝓤 𝓛.H 𝓜 𝓡 wired (Y, (Z, tt)) d dd)
     (meets E 𝓛 𝓜.mem 𝓡.returns 𝓣 (met.allocate dd))

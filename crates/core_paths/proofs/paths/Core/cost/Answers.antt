@@ -9,4 +9,5 @@ index-requires c =
 
 pub returns : goal.returns
 returns c =
-    cost_at _ _ c.self.inside.tables.costs.items _ _ c.place.result _ c.self.view_is c.self.invariant.least c.requires.from c.requires.to c.place.ensures (cc)
+    cost_at _ _ c.self.inside.tables.costs.items _ _ c.place.result _ c.self.view_is c.self.invariant.least c.requires.from c.requires.to
+    c.place.ensures (cc)

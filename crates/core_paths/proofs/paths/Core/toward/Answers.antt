@@ -9,4 +9,5 @@ index-requires c =
 
 pub returns-clause-next : goal.returns-clause-next
 returns-clause-next c =
-    next_at _ _ c.self.inside.tables.nexts.items _ _ c.place.result _ c.self.view_is c.self.invariant.toward c.requires.from c.requires.to c.if-from-to.false c.place.ensures c.index.ensures
+    next_at _ _ c.self.inside.tables.nexts.items _ _ c.place.result _ c.self.view_is c.self.invariant.toward c.requires.from c.requires.to
+    c.if-from-to.false c.place.ensures c.index.ensures

@@ -9,7 +9,8 @@ use Rattle.data_plane.proofs.link_copies.aging.age.Goals as goal
 
 pub loop-index-preserved : goal.loop-index-preserved
 loop-index-preserved c = record {
-  aged = c.age_at.ensures.aged ∙ ap (aged_at c.args.now c.args.life c.loop-index.index) c.loop-index.invariant.aged ∙ aged-more c.args.now c.args.life c.args.ways.now.entries c.loop-index.index;
+  aged = c.age_at.ensures.aged ∙ ap (aged_at c.args.now c.args.life c.loop-index.index) c.loop-index.invariant.aged
+      ∙ aged-more c.args.now c.args.life c.args.ways.now.entries c.loop-index.index;
   counted = c.age_at.ensures.counted;
   held = λ name. omega (arith, c.age_at.ensures.held name, c.loop-index.invariant.held name);
   fades = fades_twice c.args.pool.now c.loop-index.pool c.age_at.new.pool c.loop-index.invariant.fades c.age_at.ensures.fades;
@@ -18,4 +19,5 @@ loop-index-preserved c = record {
 pub returns-clause-unique : goal.returns-clause-unique
 returns-clause-unique c =
     subst (λ (ways : List (NodeId × NodeId)). IsDistinct is_way ways)
-    (sym (ap keys_of c.loop-index.invariant.aged ∙ aged-keys c.args.now c.args.life c.args.ways.now.entries c.loop-index.index)) c.len-index-end.ensures.unique
+    (sym (ap keys_of c.loop-index.invariant.aged ∙ aged-keys c.args.now c.args.life c.args.ways.now.entries c.loop-index.index))
+    c.len-index-end.ensures.unique

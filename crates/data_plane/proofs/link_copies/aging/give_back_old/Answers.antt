@@ -28,14 +28,16 @@ loop-place-preserved c = elim c.match-at.branch [
       ap (λ (m : Buffers). count_of m name) w.pool-is,
       gone-more c.args.now c.args.life name c.args.queue.now c.loop-place.place w.in-Some.kept (sym c.at.ensures ∙ w.in-Some.is),
     ),
-    subst (Fades c.args.pool.now) (sym w.pool-is) (fades_twice c.args.pool.now c.loop-place.pool w.give_back_of.new.pool c.loop-place.invariant.1 w.give_back_of.ensures.fades),
+    subst (Fades c.args.pool.now) (sym w.pool-is)
+        (fades_twice c.args.pool.now c.loop-place.pool w.give_back_of.new.pool c.loop-place.invariant.1 w.give_back_of.ensures.fades),
   )
   | in_default w ↦ (
     λ name. omega (
       arith,
       c.loop-place.invariant.0 name,
       ap (λ (m : Buffers). count_of m name) w.pool-is,
-      ap (λ (ks : List KeptCopy). gone c.args.now c.args.life name ks) (past-more c.args.queue.now c.loop-place.place (sym c.at.ensures ∙ w.in_default.is)),
+      ap (λ (ks : List KeptCopy). gone c.args.now c.args.life name ks)
+          (past-more c.args.queue.now c.loop-place.place (sym c.at.ensures ∙ w.in_default.is)),
     ),
     subst (Fades c.args.pool.now) (sym w.pool-is) c.loop-place.invariant.1,
   )

@@ -32,6 +32,7 @@ pub returns-clause-wants : goal.returns-clause-wants
 returns-clause-wants c =
     let kept : Kept = kept_of c.self.inside.home c.self.inside.trees.items c.self.inside.taken in
     ap wants_of (c.lose_in.ensures no_core)
-    ∙ turned_wants (losing kept.home no_core c.args.peer (table_of kept.peers c.args.peer)) (λ own tree. (lost_leaves (place_of kept.home no_core) own (control_of kept) c.args.peer tree).1) (vrfs_of kept.home)
+    ∙ turned_wants (losing kept.home no_core c.args.peer (table_of kept.peers c.args.peer))
+    (λ own tree. (lost_leaves (place_of kept.home no_core) own (control_of kept) c.args.peer tree).1) (vrfs_of kept.home)
     kept.trees (as_many kept c.self.invariant)
     ∙ ap (λ (k : Kept). wants_of k.trees) c.self.view_is

@@ -16,28 +16,38 @@ use Rattle.edge_control.proofs.control.EdgeControl.note_fitting.Goals as goal
 pub note_at-requires : goal.note_at-requires
 note_at-requires c =
     let kept : Kept = kept_of c.self.inside.home c.self.inside.trees.items c.self.inside.taken in
-    let place = subst (λ (k : Kept). IsPlace k.home c.args.place (λ own. is_iface_of k.home.scenario own.id c.args.iface)) (sym c.self.view_is) c.requires.place in
+    let place =
+    subst (λ (k : Kept). IsPlace k.home c.args.place (λ own. is_iface_of k.home.scenario own.id c.args.iface)) (sym c.self.view_is)
+    c.requires.place in
     record { there = is_there kept c.self.invariant c.args.place (λ own. is_iface_of kept.home.scenario own.id c.args.iface) place }
 
 pub invariant_of-self : goal.invariant_of-self
 invariant_of-self c =
     let kept : Kept = kept_of c.self.inside.home c.self.inside.trees.items c.self.inside.taken in
-    let place = subst (λ (k : Kept). IsPlace k.home c.args.place (λ own. is_iface_of k.home.scenario own.id c.args.iface)) (sym c.self.view_is) c.requires.place in
-    sound_either c.note_at.result kept c.note_at.new.trees.items (changed_at c.args.place (noted c.args.iface c.args.source c.args.group) kept.trees) c.self.invariant
-    (noted_made kept c.self.invariant c.args.place c.args.iface place c.args.source c.args.group 0 no_core).sound c.note_at.ensures.noted c.note_at.ensures.unchanged
+    let place =
+    subst (λ (k : Kept). IsPlace k.home c.args.place (λ own. is_iface_of k.home.scenario own.id c.args.iface)) (sym c.self.view_is)
+    c.requires.place in
+    sound_either c.note_at.result kept c.note_at.new.trees.items (changed_at c.args.place (noted c.args.iface c.args.source c.args.group) kept.trees)
+    c.self.invariant
+    (noted_made kept c.self.invariant c.args.place c.args.iface place c.args.source c.args.group 0 no_core).sound c.note_at.ensures.noted
+    c.note_at.ensures.unchanged
 
 pub returns-clause-noted : goal.returns-clause-noted
 returns-clause-noted c =
     let kept : Kept = kept_of c.self.inside.home c.self.inside.trees.items c.self.inside.taken in
-    let place = subst (λ (k : Kept). IsPlace k.home c.args.place (λ own. is_iface_of k.home.scenario own.id c.args.iface)) (sym c.self.view_is) c.requires.place in
+    let place =
+    subst (λ (k : Kept). IsPlace k.home c.args.place (λ own. is_iface_of k.home.scenario own.id c.args.iface)) (sym c.self.view_is)
+    c.requires.place in
     λ core now. on_ok_weaker c.note_at.result (λ e.
     ap (λ (trees : List TreeData). control_of (record kept { trees = trees })) e
     ∙ (noted_made kept c.self.invariant c.args.place c.args.iface place c.args.source c.args.group now core).is
-    ∙ ap (λ (k : Kept). effect (place_of k.home core) now (control_of k) (Active c.args.iface c.args.source c.args.group)) c.self.view_is) c.note_at.ensures.noted
+    ∙ ap (λ (k : Kept). effect (place_of k.home core) now (control_of k) (Active c.args.iface c.args.source c.args.group)) c.self.view_is)
+    c.note_at.ensures.noted
 
 pub returns-clause-wants : goal.returns-clause-wants
 returns-clause-wants c =
     let kept : Kept = kept_of c.self.inside.home c.self.inside.trees.items c.self.inside.taken in
-    wants_either c.note_at.result kept.trees c.note_at.new.trees.items (changed_at c.args.place (noted c.args.iface c.args.source c.args.group) kept.trees) c.note_at.ensures.noted c.note_at.ensures.unchanged
+    wants_either c.note_at.result kept.trees c.note_at.new.trees.items
+    (changed_at c.args.place (noted c.args.iface c.args.source c.args.group) kept.trees) c.note_at.ensures.noted c.note_at.ensures.unchanged
     (changed_wants (noted c.args.iface c.args.source c.args.group) (λ tree. refl) c.args.place kept.trees)
     ∙ ap (λ (k : Kept). wants_of k.trees) c.self.view_is

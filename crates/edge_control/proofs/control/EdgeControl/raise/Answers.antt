@@ -24,7 +24,8 @@ invariant_of-self c =
     (λ new. subst (λ (tables : FinMap node_cmp Taken). IsSound (kept_of c.self.inside.home c.lose_in.new.trees.items tables))
     (sym (new ∙ ap (λ (tables : FinMap node_cmp Taken). maps.insert tables c.args.peer maps.empty) c.lose.ensures))
     (raised_sound kept c.self.invariant c.args.peer c.lose_in.new.trees.items c.lose_in.ensures known))
-    (λ same. subst (λ (tables : FinMap node_cmp Taken). IsSound (kept_of c.self.inside.home c.lose_in.new.trees.items tables)) (sym (same ∙ c.lose.ensures))
+    (λ same. subst (λ (tables : FinMap node_cmp Taken). IsSound (kept_of c.self.inside.home c.lose_in.new.trees.items tables))
+    (sym (same ∙ c.lose.ensures))
     (lost_sound kept c.self.invariant c.args.peer c.lose_in.new.trees.items c.lose_in.ensures))
 
 pub returns-clause-raised : goal.returns-clause-raised
@@ -53,6 +54,7 @@ pub returns-clause-wants : goal.returns-clause-wants
 returns-clause-wants c =
     let kept : Kept = kept_of c.self.inside.home c.self.inside.trees.items c.self.inside.taken in
     ap wants_of (c.lose_in.ensures no_core)
-    ∙ turned_wants (losing kept.home no_core c.args.peer (table_of kept.peers c.args.peer)) (λ own tree. (lost_leaves (place_of kept.home no_core) own (control_of kept) c.args.peer tree).1) (vrfs_of kept.home)
+    ∙ turned_wants (losing kept.home no_core c.args.peer (table_of kept.peers c.args.peer))
+    (λ own tree. (lost_leaves (place_of kept.home no_core) own (control_of kept) c.args.peer tree).1) (vrfs_of kept.home)
     kept.trees (as_many kept c.self.invariant)
     ∙ ap (λ (k : Kept). wants_of k.trees) c.self.view_is

@@ -14,7 +14,8 @@ use Rattle.edge_control.proofs.control.EdgeControl.refresh.Goals as goal
 pub refresh_trees-requires : goal.refresh_trees-requires
 refresh_trees-requires c =
     let kept : Kept = kept_of c.self.inside.home c.self.inside.trees.items c.self.inside.taken in
-    let count : c.args.core.now.nodes ≡ length kept.home.scenario.nodes = c.requires ∙ ap (λ (k : Kept). length k.home.scenario.nodes) (sym c.self.view_is) in
+    let count : c.args.core.now.nodes ≡ length kept.home.scenario.nodes =
+    c.requires ∙ ap (λ (k : Kept). length k.home.scenario.nodes) (sym c.self.view_is) in
     record {
       me = subst (λ (me : NodeId). me.0 < c.args.core.now.nodes) (sym c.me-me.ensures) (is_node kept c.self.invariant c.args.core.now.nodes count);
       peers = are_of_core kept c.self.invariant c.args.core.now.nodes count;
@@ -28,7 +29,8 @@ invariant_of-self c =
 pub returns-clause-refreshed : goal.returns-clause-refreshed
 returns-clause-refreshed c = λ own is.
     let kept : Kept = kept_of c.self.inside.home c.self.inside.trees.items c.self.inside.taken in
-    let count : c.args.core.now.nodes ≡ length kept.home.scenario.nodes = c.requires ∙ ap (λ (k : Kept). length k.home.scenario.nodes) (sym c.self.view_is) in
+    let count : c.args.core.now.nodes ≡ length kept.home.scenario.nodes =
+    c.requires ∙ ap (λ (k : Kept). length k.home.scenario.nodes) (sym c.self.view_is) in
     let costs : AreCosts c.args.core.now c.me-me.result (own.cost kept.home.me) =
     subst (λ (me : NodeId). AreCosts c.args.core.now me (own.cost kept.home.me)) (sym c.me-me.ensures)
     (least_costs c.args.core.now own is kept.home.me (is_node kept c.self.invariant c.args.core.now.nodes count)) in
@@ -40,7 +42,8 @@ returns-clause-refreshed c = λ own is.
 pub returns-clause-wanted : goal.returns-clause-wanted
 returns-clause-wanted c =
     let kept : Kept = kept_of c.self.inside.home c.self.inside.trees.items c.self.inside.taken in
-    let count : c.args.core.now.nodes ≡ length kept.home.scenario.nodes = c.requires ∙ ap (λ (k : Kept). length k.home.scenario.nodes) (sym c.self.view_is) in
+    let count : c.args.core.now.nodes ≡ length kept.home.scenario.nodes =
+    c.requires ∙ ap (λ (k : Kept). length k.home.scenario.nodes) (sym c.self.view_is) in
     let (own, is) = c.known.ensures in
     let costs : AreCosts c.args.core.now c.me-me.result (own.cost kept.home.me) =
     subst (λ (me : NodeId). AreCosts c.args.core.now me (own.cost kept.home.me)) (sym c.me-me.ensures)
@@ -59,11 +62,15 @@ returns-clause-rest c =
 pub returns-clause-joins : goal.returns-clause-joins
 returns-clause-joins c =
     let kept : Kept = kept_of c.self.inside.home c.self.inside.trees.items c.self.inside.taken in
-    let count : c.args.core.now.nodes ≡ length kept.home.scenario.nodes = c.requires ∙ ap (λ (k : Kept). length k.home.scenario.nodes) (sym c.self.view_is) in
+    let count : c.args.core.now.nodes ≡ length kept.home.scenario.nodes =
+    c.requires ∙ ap (λ (k : Kept). length k.home.scenario.nodes) (sym c.self.view_is) in
     let (own, is) = c.known.ensures in
-    let costs = least_costs c.args.core.now own is c.me-me.result (subst (λ (me : NodeId). me.0 < c.args.core.now.nodes) (sym c.me-me.ensures) (is_node kept c.self.invariant c.args.core.now.nodes count)) in
+    let costs =
+    least_costs c.args.core.now own is c.me-me.result
+    (subst (λ (me : NodeId). me.0 < c.args.core.now.nodes) (sym c.me-me.ensures) (is_node kept c.self.invariant c.args.core.now.nodes count)) in
     IfOk-weaker c.refresh_trees.result _ _ (λ changes moved.
-    subst (λ (k : Kept). AreChanged (control_of k).flows (control_of (record kept { trees = c.refresh_trees.new.trees.items })).flows changes.joins.items) c.self.view_is
+    subst (λ (k : Kept). AreChanged (control_of k).flows (control_of (record kept { trees = c.refresh_trees.new.trees.items })).flows
+    changes.joins.items) c.self.view_is
     (are_changed kept c.self.invariant c.refresh_trees.new.trees.items c.refresh_trees.ensures.rest changes.joins.items moved))
     (c.refresh_trees.ensures.joins (own.cost c.me-me.result) costs)
 

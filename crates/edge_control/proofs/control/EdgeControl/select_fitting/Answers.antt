@@ -26,32 +26,42 @@ pub select_at-requires-clause-new : goal.select_at-requires-clause-new
 select_at-requires-clause-new c =
     let kept : Kept = kept_of c.self.inside.home c.self.inside.trees.items c.self.inside.taken in
     let place = subst (λ (k : Kept). IsPlace k.home c.args.place (λ own. own.id.0 == c.args.vrf.0)) (sym c.self.view_is) c.requires.place in
-    let none = subst (λ (k : Kept). maps.get (control_of k).selections (record { vrf = c.args.vrf; pattern = c.args.pattern }) ≡ None) (sym c.self.view_is) c.requires.new in
+    let none =
+    subst (λ (k : Kept). maps.get (control_of k).selections (record { vrf = c.args.vrf; pattern = c.args.pattern }) ≡ None) (sym c.self.view_is)
+    c.requires.new in
     is_new kept c.self.invariant c.args.place c.args.vrf place c.args.pattern none
 
 pub select_at-requires-clause-few : goal.select_at-requires-clause-few
 select_at-requires-clause-few c =
     let kept : Kept = kept_of c.self.inside.home c.self.inside.trees.items c.self.inside.taken in
     let place = subst (λ (k : Kept). IsPlace k.home c.args.place (λ own. own.id.0 == c.args.vrf.0)) (sym c.self.view_is) c.requires.place in
-    few_there kept c.self.invariant c.args.place c.args.vrf place (subst (λ (k : Kept). is_selection_too_many (control_of k) ≡ false) (sym c.self.view_is) c.requires.few)
+    few_there kept c.self.invariant c.args.place c.args.vrf place
+    (subst (λ (k : Kept). is_selection_too_many (control_of k) ≡ false) (sym c.self.view_is) c.requires.few)
 
 pub invariant_of-self : goal.invariant_of-self
 invariant_of-self c =
     let kept : Kept = kept_of c.self.inside.home c.self.inside.trees.items c.self.inside.taken in
     let place = subst (λ (k : Kept). IsPlace k.home c.args.place (λ own. own.id.0 == c.args.vrf.0)) (sym c.self.view_is) c.requires.place in
-    let none = subst (λ (k : Kept). maps.get (control_of k).selections (record { vrf = c.args.vrf; pattern = c.args.pattern }) ≡ None) (sym c.self.view_is) c.requires.new in
-    sound_either c.select_at.result kept c.select_at.new.trees.items (changed_at c.args.place (selected c.args.pattern c.args.now) kept.trees) c.self.invariant
-    (selected_made kept c.self.invariant c.args.place c.args.vrf place c.args.pattern c.args.now none no_core).sound c.select_at.ensures.selected c.select_at.ensures.unchanged
+    let none =
+    subst (λ (k : Kept). maps.get (control_of k).selections (record { vrf = c.args.vrf; pattern = c.args.pattern }) ≡ None) (sym c.self.view_is)
+    c.requires.new in
+    sound_either c.select_at.result kept c.select_at.new.trees.items (changed_at c.args.place (selected c.args.pattern c.args.now) kept.trees)
+    c.self.invariant
+    (selected_made kept c.self.invariant c.args.place c.args.vrf place c.args.pattern c.args.now none no_core).sound c.select_at.ensures.selected
+    c.select_at.ensures.unchanged
 
 pub returns-clause-selected : goal.returns-clause-selected
 returns-clause-selected c =
     let kept : Kept = kept_of c.self.inside.home c.self.inside.trees.items c.self.inside.taken in
     let place = subst (λ (k : Kept). IsPlace k.home c.args.place (λ own. own.id.0 == c.args.vrf.0)) (sym c.self.view_is) c.requires.place in
-    let none = subst (λ (k : Kept). maps.get (control_of k).selections (record { vrf = c.args.vrf; pattern = c.args.pattern }) ≡ None) (sym c.self.view_is) c.requires.new in
+    let none =
+    subst (λ (k : Kept). maps.get (control_of k).selections (record { vrf = c.args.vrf; pattern = c.args.pattern }) ≡ None) (sym c.self.view_is)
+    c.requires.new in
     λ core. on_ok_weaker c.select_at.result (λ e.
     ap (λ (trees : List TreeData). control_of (record kept { trees = trees })) e
     ∙ (selected_made kept c.self.invariant c.args.place c.args.vrf place c.args.pattern c.args.now none core).is
-    ∙ ap (λ (k : Kept). effect (place_of k.home core) c.args.now (control_of k) (Select c.args.vrf c.args.pattern)) c.self.view_is) c.select_at.ensures.selected
+    ∙ ap (λ (k : Kept). effect (place_of k.home core) c.args.now (control_of k) (Select c.args.vrf c.args.pattern)) c.self.view_is)
+    c.select_at.ensures.selected
 
 pub returns-clause-number : goal.returns-clause-number
 returns-clause-number c =
@@ -65,6 +75,7 @@ returns-clause-number c =
 pub returns-clause-wants : goal.returns-clause-wants
 returns-clause-wants c =
     let kept : Kept = kept_of c.self.inside.home c.self.inside.trees.items c.self.inside.taken in
-    wants_either c.select_at.result kept.trees c.select_at.new.trees.items (changed_at c.args.place (selected c.args.pattern c.args.now) kept.trees) c.select_at.ensures.selected c.select_at.ensures.unchanged
+    wants_either c.select_at.result kept.trees c.select_at.new.trees.items (changed_at c.args.place (selected c.args.pattern c.args.now) kept.trees)
+    c.select_at.ensures.selected c.select_at.ensures.unchanged
     (changed_wants (selected c.args.pattern c.args.now) (λ tree. refl) c.args.place kept.trees)
     ∙ ap (λ (k : Kept). wants_of k.trees) c.self.view_is

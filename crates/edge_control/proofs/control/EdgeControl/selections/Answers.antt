@@ -14,5 +14,6 @@ returns c =
     let kept : Kept = kept_of c.self.inside.home c.self.inside.trees.items c.self.inside.taken in
     c.selections_in.ensures
     ∙ ap (λ (trees : List TreeData). min (sum_by (λ (tree : TreeData). length tree.root.selections) trees) most) c.deref.ensures.value
-    ∙ ap (λ (n : ℕ). min n most) (sym (selections_counted kept (sound_full kept c.self.invariant) (sound_parts kept c.self.invariant) c.self.invariant.single))
+    ∙ ap (λ (n : ℕ). min n most) (sym (selections_counted kept (sound_full kept c.self.invariant) (sound_parts kept c.self.invariant)
+    c.self.invariant.single))
     ∙ ap (λ (k : Kept). min (maps.len (control_of k).selections) most) c.self.view_is

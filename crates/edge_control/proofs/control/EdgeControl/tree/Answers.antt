@@ -10,4 +10,5 @@ pub returns : goal.returns
 returns c =
     let kept : Kept = kept_of c.self.inside.home c.self.inside.trees.items c.self.inside.taken in
     subst (λ (k : Kept). IsTreeAt k c.args.vrf c.index.result.now) c.self.view_is
-    (tree_at kept (sound_full kept c.self.invariant) c.place_of_vrf-place.result c.args.vrf c.place_of_vrf-place.ensures c.index.result.now c.index.ensures)
+    (tree_at kept (sound_full kept c.self.invariant) c.place_of_vrf-place.result c.args.vrf c.place_of_vrf-place.ensures c.index.result.now
+    c.index.ensures)

@@ -10,5 +10,6 @@ invariant_of-self c = λ e.
 
 pub returns-clause-answers : goal.returns-clause-answers
 returns-clause-answers c = λ core.
-    answers_seen core c.args.now (Select c.args.vrf c.args.pattern) c.self.inside.parts c.select-answer.new.self c.self.inside.spent c.spent_by-self-inside.result c.args.self.now c.select-answer.result
+    answers_seen core c.args.now (Select c.args.vrf c.args.pattern) c.self.inside.parts c.select-answer.new.self c.self.inside.spent
+    c.spent_by-self-inside.result c.args.self.now c.select-answer.result
     c.in_default.is c.self.view_is c.spent_by-self-inside.ensures (c.select-answer.ensures.settles core)

@@ -14,7 +14,8 @@ pub returns-in_ok-branches_along-in-Some : goal.returns-in_ok-branches_along-in-
 returns-in_ok-branches_along-in-Some c = λ walks is.
     let noted = c.in-Some.ensures.noted in
     let fec = c.in-Some.entry.now.fec in
-    arrives (place_of c.args.self.now.routing.control.home walks) c.args.now (data_of (going c.args.self.now)) c.args.source c.args.group c.args.from c.args.label fec
+    arrives (place_of c.args.self.now.routing.control.home walks) c.args.now (data_of (going c.args.self.now)) c.args.source c.args.group c.args.from
+    c.args.label fec
     (record { outs = c.in_ok-delivered-in-Some.field-0; branches = c.in_ok-branches_along-in-Some.field-0 })
     (ap (λ (n : NodeData). tree_of c.args.from (use_of n.node.part c.args.label)) (sym c.node.ensures)
     ∙ (one_tree c.args.from (use_of c.node.result.now.node.part c.args.label) ∙ (sym (c.fib.ensures.mapped c.args.from c.args.label) ∙ noted.0)))

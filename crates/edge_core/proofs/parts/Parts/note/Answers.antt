@@ -12,7 +12,8 @@ settle-requires-clause-called c =
     record {
       call = call;
       old = going old;
-      is = midway c.args.core.now c.args.now owns.None call old c.note.new.self old.streams (Ok c.in-Ok.told) refl c.requires.live c.requires.nodes refl tt refl c.note.ensures.home c.in-Ok.ensures.stepped;
+      is = midway c.args.core.now c.args.now owns.None call old c.note.new.self old.streams (Ok c.in-Ok.told) refl c.requires.live c.requires.nodes
+          refl tt refl c.note.ensures.home c.in-Ok.ensures.stepped;
     }
 
 pub returns-in-Ok-clause-settles : goal.returns-in-Ok-clause-settles
@@ -20,4 +21,5 @@ returns-in-Ok-clause-settles c =
     let old = c.args.self.now in
     let call = Active c.args.iface c.args.source c.args.group in
     c.settle.ensures.answers call (going old)
-    (midway c.args.core.now c.args.now owns.None call old c.note.new.self old.streams (Ok c.in-Ok.told) refl c.requires.live c.requires.nodes refl tt refl c.note.ensures.home c.in-Ok.ensures.stepped)
+    (midway c.args.core.now c.args.now owns.None call old c.note.new.self old.streams (Ok c.in-Ok.told) refl c.requires.live c.requires.nodes refl tt
+    refl c.note.ensures.home c.in-Ok.ensures.stepped)

@@ -12,7 +12,9 @@ settle-requires-clause-called c =
     record {
       call = Raised kinds.Bgp c.args.peer;
       old = going old;
-      is = midway_raised c.args.core.now c.args.now owns.None (Raised kinds.Bgp c.args.peer) old c.raise-told.new.self c.raise.new.self c.raise-2.new.self c.raise-told.result c.in_ok-raise-2.ensures c.requires.live c.requires.nodes refl tt c.in_ok-raise.ensures.raised c.raise-told.ensures.home
+      is = midway_raised c.args.core.now c.args.now owns.None (Raised kinds.Bgp c.args.peer) old c.raise-told.new.self c.raise.new.self
+          c.raise-2.new.self c.raise-told.result c.in_ok-raise-2.ensures c.requires.live c.requires.nodes refl tt c.in_ok-raise.ensures.raised
+          c.raise-told.ensures.home
           c.raise-told.ensures.stepped;
     }
 
@@ -20,5 +22,6 @@ pub returns-clause-settles : goal.returns-clause-settles
 returns-clause-settles c =
     let old = c.args.self.now in
     c.settle.ensures.answers (Raised kinds.Bgp c.args.peer) (going old)
-    (midway_raised c.args.core.now c.args.now owns.None (Raised kinds.Bgp c.args.peer) old c.raise-told.new.self c.raise.new.self c.raise-2.new.self c.raise-told.result c.in_ok-raise-2.ensures c.requires.live c.requires.nodes refl tt c.in_ok-raise.ensures.raised c.raise-told.ensures.home
+    (midway_raised c.args.core.now c.args.now owns.None (Raised kinds.Bgp c.args.peer) old c.raise-told.new.self c.raise.new.self c.raise-2.new.self
+    c.raise-told.result c.in_ok-raise-2.ensures c.requires.live c.requires.nodes refl tt c.in_ok-raise.ensures.raised c.raise-told.ensures.home
     c.raise-told.ensures.stepped)

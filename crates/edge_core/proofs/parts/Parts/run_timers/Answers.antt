@@ -11,7 +11,8 @@ settle-requires-clause-called c =
     record {
       call = Timers;
       old = going old;
-      is = midway c.args.core.now c.args.now owns.Timers Timers old c.run_timers-told.new.self old.streams c.run_timers-told.result refl c.requires.live c.requires.nodes refl tt refl c.run_timers-told.ensures.home
+      is = midway c.args.core.now c.args.now owns.Timers Timers old c.run_timers-told.new.self old.streams c.run_timers-told.result refl
+          c.requires.live c.requires.nodes refl tt refl c.run_timers-told.ensures.home
           c.run_timers-told.ensures.stepped;
     }
 
@@ -19,5 +20,6 @@ pub returns-clause-settles : goal.returns-clause-settles
 returns-clause-settles c =
     let old = c.args.self.now in
     c.settle.ensures.answers Timers (going old)
-    (midway c.args.core.now c.args.now owns.Timers Timers old c.run_timers-told.new.self old.streams c.run_timers-told.result refl c.requires.live c.requires.nodes refl tt refl c.run_timers-told.ensures.home
+    (midway c.args.core.now c.args.now owns.Timers Timers old c.run_timers-told.new.self old.streams c.run_timers-told.result refl c.requires.live
+    c.requires.nodes refl tt refl c.run_timers-told.ensures.home
     c.run_timers-told.ensures.stepped)

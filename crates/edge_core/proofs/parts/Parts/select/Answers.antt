@@ -16,9 +16,18 @@ returns-clause-settles c = λ core.
     let home = c.select.ensures.home in
     elim c.match-select.branch [
       | in-Ok w ↦ subst (SettlesCall core c.args.now call (going old) new) (sym w.result-is)
-          (has_selected c.args.now call (record { own = refl; prepared = λ state. refl; leaves = λ place other control. refl; peers = λ place control peer. refl; raised = λ old. refl }) old c.select.new.self w.in-Ok.field-0 c.requires.live home w.in-Ok.ensures.stepped core)
+          (has_selected c.args.now call (record {
+            own = refl;
+            prepared = λ state. refl;
+            leaves = λ place other control. refl;
+            peers =
+                λ place control peer. refl;
+            raised = λ old. refl;
+          }) old c.select.new.self w.in-Ok.field-0 c.requires.live home w.in-Ok.ensures.stepped
+          core)
       | in-Err-Full w ↦ subst (SettlesCall core c.args.now call (going old) new) (sym w.result-is)
-          (stays_full core c.args.now call old c.select.new.self (w.in-Err-Full.ensures.full (ap (λ (fault : ControlFault). Err fault) w.in-Err-Full.field-0-is)).1 c.requires.live)
+          (stays_full core c.args.now call old c.select.new.self
+          (w.in-Err-Full.ensures.full (ap (λ (fault : ControlFault). Err fault) w.in-Err-Full.field-0-is)).1 c.requires.live)
       | in-Err-NoMemory w ↦ subst (SettlesCall core c.args.now call (going old) new) (sym w.result-is)
           (lacks_memory core c.args.now call (going old) new faults.NoMemory refl refl home)
     ]

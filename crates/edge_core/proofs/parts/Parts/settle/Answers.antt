@@ -9,10 +9,13 @@ pub step-requires-clause-trees : goal.step-requires-clause-trees
 step-requires-clause-trees c =
     let called = c.requires.called in
     let told = c.in_ok-candidates.field-0 in
-    let mid = told_is c.args.core.now c.args.now c.args.own.now called.call called.old c.args.self.now c.args.told told c.in_ok-candidates.was called.is in
-    wantable c.args.core.now c.args.now c.args.own.now called.call called.old c.args.self.now told mid c.home.ensures.sound.home no_core c.deref-2.result.now
+    let mid =
+    told_is c.args.core.now c.args.now c.args.own.now called.call called.old c.args.self.now c.args.told told c.in_ok-candidates.was called.is in
+    wantable c.args.core.now c.args.now c.args.own.now called.call called.old c.args.self.now told mid c.home.ensures.sound.home no_core
+    c.deref-2.result.now
     (ap (λ (xs : List LeafChange). map leaf_call xs) c.deref-2.ensures.value
-    ∙ changes_of c.args.core.now c.args.now c.args.own.now called.call called.old c.args.self.now told mid c.deref.result.now c.in_ok-changes.changes.items c.deref.ensures.value c.in_ok-changes.ensures no_core)
+    ∙ changes_of c.args.core.now c.args.now c.args.own.now called.call called.old c.args.self.now told mid c.deref.result.now
+    c.in_ok-changes.changes.items c.deref.ensures.value c.in_ok-changes.ensures no_core)
 
 pub returns-in-Ok-clause-answers : goal.returns-in-Ok-clause-answers
 returns-in-Ok-clause-answers c = λ call old is.
@@ -20,24 +23,29 @@ returns-in-Ok-clause-answers c = λ call old is.
     let mid = told_is c.args.core.now c.args.now c.args.own.now call old c.args.self.now c.args.told told c.in_ok-candidates.was is in
     has_settled c.args.core.now c.args.now c.args.own.now call old c.args.self.now told mid c.step.new.self c.deref-2.result.now c.nodes.ensures.told
     (λ any. ap (λ (xs : List LeafChange). map leaf_call xs) c.deref-2.ensures.value
-    ∙ changes_of c.args.core.now c.args.now c.args.own.now call old c.args.self.now told mid c.deref.result.now c.in_ok-changes.changes.items c.deref.ensures.value c.in_ok-changes.ensures any)
+    ∙ changes_of c.args.core.now c.args.now c.args.own.now call old c.args.self.now told mid c.deref.result.now c.in_ok-changes.changes.items
+    c.deref.ensures.value c.in_ok-changes.ensures any)
     (c.in-Ok.ensures)
 
 pub returns-clause-answers : goal.returns-clause-answers
 returns-clause-answers c = λ call old is.
     let told = c.in_ok-candidates.field-0 in
     let mid = told_is c.args.core.now c.args.now c.args.own.now call old c.args.self.now c.args.told told c.in_ok-candidates.was is in
-    has_stopped c.args.core.now c.args.now c.args.own.now call old c.args.self.now told mid c.step.new.self c.deref-2.result.now c.in-Err.fault c.from.result c.from.ensures
+    has_stopped c.args.core.now c.args.now c.args.own.now call old c.args.self.now told mid c.step.new.self c.deref-2.result.now c.in-Err.fault
+    c.from.result c.from.ensures
     (λ any. ap (λ (xs : List LeafChange). map leaf_call xs) c.deref-2.ensures.value
-    ∙ changes_of c.args.core.now c.args.now c.args.own.now call old c.args.self.now told mid c.deref.result.now c.in_ok-changes.changes.items c.deref.ensures.value c.in_ok-changes.ensures any)
+    ∙ changes_of c.args.core.now c.args.now c.args.own.now call old c.args.self.now told mid c.deref.result.now c.in_ok-changes.changes.items
+    c.deref.ensures.value c.in_ok-changes.ensures any)
     c.in-Err.ensures
 
 pub returns-in-Ok-clause-toward : goal.returns-in-Ok-clause-toward
 returns-in-Ok-clause-toward c = λ is_own.
     let called = c.requires.called in
     let told = c.in_ok-candidates.field-0 in
-    let mid = told_is c.args.core.now c.args.now c.args.own.now called.call called.old c.args.self.now c.args.told told c.in_ok-candidates.was called.is in
+    let mid =
+    told_is c.args.core.now c.args.now c.args.own.now called.call called.old c.args.self.now c.args.told told c.in_ok-candidates.was called.is in
     has_rerouted c.args.core.now c.args.now c.args.own.now called.call called.old c.args.self.now told mid c.step.new.self c.deref-2.result.now
     (λ any. ap (λ (xs : List LeafChange). map leaf_call xs) c.deref-2.ensures.value
-    ∙ changes_of c.args.core.now c.args.now c.args.own.now called.call called.old c.args.self.now told mid c.deref.result.now c.in_ok-changes.changes.items c.deref.ensures.value c.in_ok-changes.ensures any)
+    ∙ changes_of c.args.core.now c.args.now c.args.own.now called.call called.old c.args.self.now told mid c.deref.result.now
+    c.in_ok-changes.changes.items c.deref.ensures.value c.in_ok-changes.ensures any)
     (c.in-Ok.ensures) is_own

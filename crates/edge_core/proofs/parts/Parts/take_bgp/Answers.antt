@@ -9,24 +9,33 @@ use Rattle.edge_core.proofs.parts.Parts.take_bgp.Goals as goal
 pub drain_bgp-requires : goal.drain_bgp-requires
 drain_bgp-requires c =
     let old = c.args.self.now in
-    record { stream = fed_there (session kinds.Bgp c.args.peer) c.args.bytes.now old.streams c.feed_bgp.new.self (up_there kinds.Bgp c.args.peer old c.requires.live c.requires.up) c.in_ok-feed_bgp.ensures.fed }
+    record {
+      stream =
+          fed_there (session kinds.Bgp c.args.peer) c.args.bytes.now old.streams c.feed_bgp.new.self
+          (up_there kinds.Bgp c.args.peer old c.requires.live c.requires.up) c.in_ok-feed_bgp.ensures.fed;
+    }
 
 pub take_updates-requires-clause-live : goal.take_updates-requires-clause-live
 take_updates-requires-clause-live c =
     let old = c.args.self.now in
-    mid_live c.args.core.now c.args.now kinds.Bgp c.args.peer c.args.bytes.now old old c.feed_bgp.new.self c.drain_bgp.new.self c.requires.live (up_there kinds.Bgp c.args.peer old c.requires.live c.requires.up)
+    mid_live c.args.core.now c.args.now kinds.Bgp c.args.peer c.args.bytes.now old old c.feed_bgp.new.self c.drain_bgp.new.self c.requires.live
+    (up_there kinds.Bgp c.args.peer old c.requires.live c.requires.up)
     c.in_ok-feed_bgp.ensures.fed c.in_ok-messages.ensures.rest
 
 pub returns-in-Ok-clause-answers : goal.returns-in-Ok-clause-answers
 returns-in-Ok-clause-answers c =
     let old = c.args.self.now in
-    octets_taken c.args.core.now c.args.now kinds.Bgp c.args.peer c.args.bytes.now old c.take_updates.new.self c.feed_bgp.new.self c.drain_bgp.new.self c.requires.live (up_there kinds.Bgp c.args.peer old c.requires.live c.requires.up)
-    c.in_ok-feed_bgp.ensures.fed c.in_ok-messages.ensures.rest (map (λ message. Bgp message) c.in_ok-messages.messages.items) c.in_ok-messages.ensures.messages
+    octets_taken c.args.core.now c.args.now kinds.Bgp c.args.peer c.args.bytes.now old c.take_updates.new.self c.feed_bgp.new.self
+    c.drain_bgp.new.self c.requires.live (up_there kinds.Bgp c.args.peer old c.requires.live c.requires.up)
+    c.in_ok-feed_bgp.ensures.fed c.in_ok-messages.ensures.rest (map (λ message. Bgp message) c.in_ok-messages.messages.items)
+    c.in_ok-messages.ensures.messages
     c.sound.result c.sound.ensures.sound c.sound.ensures.fault c.in-Ok.ensures.settles
 
 pub returns-in-Err-clause-answers : goal.returns-in-Err-clause-answers
 returns-in-Err-clause-answers c =
     let old = c.args.self.now in
-    octets_stopped c.args.core.now c.args.now kinds.Bgp c.args.peer c.args.bytes.now old c.take_updates.new.self c.feed_bgp.new.self c.drain_bgp.new.self c.requires.live (up_there kinds.Bgp c.args.peer old c.requires.live c.requires.up)
-    c.in_ok-feed_bgp.ensures.fed c.in_ok-messages.ensures.rest (map (λ message. Bgp message) c.in_ok-messages.messages.items) c.in_ok-messages.ensures.messages
+    octets_stopped c.args.core.now c.args.now kinds.Bgp c.args.peer c.args.bytes.now old c.take_updates.new.self c.feed_bgp.new.self
+    c.drain_bgp.new.self c.requires.live (up_there kinds.Bgp c.args.peer old c.requires.live c.requires.up)
+    c.in_ok-feed_bgp.ensures.fed c.in_ok-messages.ensures.rest (map (λ message. Bgp message) c.in_ok-messages.messages.items)
+    c.in_ok-messages.ensures.messages
     c.in-Err.fault (c.in-Err.ensures.only c.in-Err.fault refl) c.in-Err.ensures.settles

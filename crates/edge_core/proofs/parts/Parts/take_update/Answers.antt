@@ -11,7 +11,8 @@ settle-requires-clause-called c =
     record {
       call = Update c.args.peer c.args.message;
       old = going old;
-      is = midway c.args.core.now c.args.now owns.None (Update c.args.peer c.args.message) old c.take_update-told.new.self old.streams c.take_update-told.result refl c.requires.live c.requires.nodes refl tt refl c.take_update-told.ensures.home
+      is = midway c.args.core.now c.args.now owns.None (Update c.args.peer c.args.message) old c.take_update-told.new.self old.streams
+          c.take_update-told.result refl c.requires.live c.requires.nodes refl tt refl c.take_update-told.ensures.home
           c.take_update-told.ensures.stepped;
     }
 
@@ -19,5 +20,6 @@ pub returns-clause-settles : goal.returns-clause-settles
 returns-clause-settles c =
     let old = c.args.self.now in
     c.settle.ensures.answers (Update c.args.peer c.args.message) (going old)
-    (midway c.args.core.now c.args.now owns.None (Update c.args.peer c.args.message) old c.take_update-told.new.self old.streams c.take_update-told.result refl c.requires.live c.requires.nodes refl tt refl c.take_update-told.ensures.home
+    (midway c.args.core.now c.args.now owns.None (Update c.args.peer c.args.message) old c.take_update-told.new.self old.streams
+    c.take_update-told.result refl c.requires.live c.requires.nodes refl tt refl c.take_update-told.ensures.home
     c.take_update-told.ensures.stepped)

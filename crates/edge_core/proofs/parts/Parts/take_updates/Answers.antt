@@ -7,7 +7,8 @@ use Rattle.edge_core.proofs.parts.Parts.take_updates.Goals as goal
 
 pub loop-message-init : goal.loop-message-init
 loop-message-init c =
-    subst (λ (ms : List Message). AreLeft c.args.core.now c.args.now c.args.peer (map (λ message. Bgp message) c.args.messages.items) (map (λ message. Bgp message) ms) c.args.self.now c.args.self.now)
+    subst (λ (ms : List Message). AreLeft c.args.core.now c.args.now c.args.peer (map (λ message. Bgp message) c.args.messages.items)
+    (map (λ message. Bgp message) ms) c.args.self.now c.args.self.now)
     (sym c.into_iter-message-iterator.ensures.into_iter_gives.0)
     (all_left c.args.core.now c.args.now c.args.peer (map (λ message. Bgp message) c.args.messages.items) c.args.self.now c.requires.live)
 
@@ -19,22 +20,27 @@ take_update-requires-clause-nodes c = c.requires.nodes ∙ ap (λ (h : Home). le
 
 pub loop-message-preserved : goal.loop-message-preserved
 loop-message-preserved c =
-    one_less c.args.core.now c.args.now c.args.peer (Bgp c.in-Some.message) (map (λ message. Bgp message) c.next.new.self.rest.items) c.loop-message.self
+    one_less c.args.core.now c.args.now c.args.peer (Bgp c.in-Some.message) (map (λ message. Bgp message) c.next.new.self.rest.items)
+    c.loop-message.self
     (map (λ message. Bgp message) c.args.messages.items) c.args.self.now
-    (subst (λ (ms : List Message). AreLeft c.args.core.now c.args.now c.args.peer (map (λ message. Bgp message) c.args.messages.items) (map (λ message. Bgp message) ms) c.args.self.now c.loop-message.self)
+    (subst (λ (ms : List Message). AreLeft c.args.core.now c.args.now c.args.peer (map (λ message. Bgp message) c.args.messages.items)
+    (map (λ message. Bgp message) ms) c.args.self.now c.loop-message.self)
     c.in-Some.ensures.steps.0 c.loop-message.invariant)
     c.take_update.new.self c.in_default.ensures.settles
 
 pub returns-in-Err-clause-settles : goal.returns-in-Err-clause-settles
 returns-in-Err-clause-settles c =
-    stopped_at c.args.core.now c.args.now c.args.peer (Bgp c.in-Some.message) (map (λ message. Bgp message) c.next.new.self.rest.items) c.loop-message.self
+    stopped_at c.args.core.now c.args.now c.args.peer (Bgp c.in-Some.message) (map (λ message. Bgp message) c.next.new.self.rest.items)
+    c.loop-message.self
     (map (λ message. Bgp message) c.args.messages.items) c.args.self.now
-    (subst (λ (ms : List Message). AreLeft c.args.core.now c.args.now c.args.peer (map (λ message. Bgp message) c.args.messages.items) (map (λ message. Bgp message) ms) c.args.self.now c.loop-message.self)
+    (subst (λ (ms : List Message). AreLeft c.args.core.now c.args.now c.args.peer (map (λ message. Bgp message) c.args.messages.items)
+    (map (λ message. Bgp message) ms) c.args.self.now c.loop-message.self)
     c.in-Some.ensures.steps.0 c.loop-message.invariant)
     c.take_update.new.self c.in-Err.fault c.in-Err.ensures.settles
 
 pub returns-clause-settles : goal.returns-clause-settles
 returns-clause-settles c =
     let rest = c.loop-message.message-iterator.rest in
-    none_left c.args.core.now c.args.now c.args.peer (map (λ message. Bgp message) c.args.messages.items) (map (λ message. Bgp message) rest.items) c.args.self.now c.loop-message.self
+    none_left c.args.core.now c.args.now c.args.peer (map (λ message. Bgp message) c.args.messages.items) (map (λ message. Bgp message) rest.items)
+    c.args.self.now c.loop-message.self
     (map_none (λ message. Bgp message) rest.items (sym rest.ok.0 ∙ c.in-None.ensures.steps.0)) c.loop-message.invariant

@@ -5,4 +5,5 @@ use Rattle.edge_core.proofs.parts.Parts.take_updates.Given as goal
 
 abbrev pub invariant-loop-message : goal.invariant-loop-message
 invariant-loop-message l =
-    AreLeft l.core l.now l.peer (map (λ message. Bgp message) l.fn.messages.items) (map (λ message. Bgp message) l.message-iterator.rest.items) l.fn.self l.self
+    AreLeft l.core l.now l.peer (map (λ message. Bgp message) l.fn.messages.items) (map (λ message. Bgp message) l.message-iterator.rest.items)
+    l.fn.self l.self

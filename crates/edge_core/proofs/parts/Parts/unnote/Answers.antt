@@ -12,7 +12,8 @@ settle-requires-clause-called c =
     record {
       call = call;
       old = going old;
-      is = midway c.args.core.now c.args.now owns.None call old c.unnote-told.new.self old.streams c.unnote-told.result refl c.requires.live c.requires.nodes refl tt refl c.unnote-told.ensures.home c.unnote-told.ensures.stepped;
+      is = midway c.args.core.now c.args.now owns.None call old c.unnote-told.new.self old.streams c.unnote-told.result refl c.requires.live
+          c.requires.nodes refl tt refl c.unnote-told.ensures.home c.unnote-told.ensures.stepped;
     }
 
 pub returns-clause-settles : goal.returns-clause-settles
@@ -20,4 +21,5 @@ returns-clause-settles c =
     let old = c.args.self.now in
     let call = Idle c.args.iface c.args.source c.args.group in
     c.settle.ensures.answers call (going old)
-    (midway c.args.core.now c.args.now owns.None call old c.unnote-told.new.self old.streams c.unnote-told.result refl c.requires.live c.requires.nodes refl tt refl c.unnote-told.ensures.home c.unnote-told.ensures.stepped)
+    (midway c.args.core.now c.args.now owns.None call old c.unnote-told.new.self old.streams c.unnote-told.result refl c.requires.live
+    c.requires.nodes refl tt refl c.unnote-told.ensures.home c.unnote-told.ensures.stepped)

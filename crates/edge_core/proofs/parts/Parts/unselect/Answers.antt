@@ -15,7 +15,15 @@ returns-clause-settles c = λ core now.
     let home = c.unselect.ensures.home in
     elim c.match-unselect.branch [
       | in-Ok w ↦ subst (SettlesCall core now call (going old) new) (sym w.result-is)
-          (has_selected now call (record { own = refl; prepared = λ state. refl; leaves = λ place other control. refl; peers = λ place control peer. refl; raised = λ old. refl }) old c.unselect.new.self w.in-Ok.field-0 c.requires.live home (λ any. w.in-Ok.ensures.stepped any now) core)
+          (has_selected now call (record {
+            own = refl;
+            prepared = λ state. refl;
+            leaves = λ place other control. refl;
+            peers =
+                λ place control peer. refl;
+            raised = λ old. refl;
+          }) old c.unselect.new.self w.in-Ok.field-0 c.requires.live home
+          (λ any. w.in-Ok.ensures.stepped any now) core)
       | in-Err w ↦ subst (SettlesCall core now call (going old) new) (sym w.result-is)
           (lacks_memory core now call (going old) new faults.NoMemory refl refl home)
     ]

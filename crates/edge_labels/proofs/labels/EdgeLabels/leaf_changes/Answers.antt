@@ -14,10 +14,12 @@ use Rattle.edge_labels.proofs.ChangeLemmas.{all_changes}
 use Rattle.edge_labels.proofs.labels.EdgeLabels.leaf_changes.Goals as goal
 
 -- The changes of the candidates in their order are those of the leaves.
-told : (old fib new : FinSet fec_cmp) (candidates fecs leaves : List Fec) (changes : List LeafChange) → fib ≡ old → fecs ≡ in_order (sets.from_list {R = fec_cmp} candidates)
+told : (old fib new : FinSet fec_cmp) (candidates fecs leaves : List Fec) (changes : List LeafChange) → fib ≡ old
+    → fecs ≡ in_order (sets.from_list {R = fec_cmp} candidates)
     → AreCandidates old new candidates leaves → changes ≡ changes_in fib leaves fecs → map leaf_call changes ≡ changed_leaves old new
 told old fib new candidates fecs leaves changes same ordered are is =
-    ap (λ (list : List LeafChange). map leaf_call list) (is ∙ (λ i. changes_in (same i) leaves (ordered i))) ∙ all_changes old new candidates leaves are
+    ap (λ (list : List LeafChange). map leaf_call list) (is ∙ (λ i. changes_in (same i) leaves (ordered i)))
+    ∙ all_changes old new candidates leaves are
 
 pub returns : goal.returns
 returns c = λ new are.

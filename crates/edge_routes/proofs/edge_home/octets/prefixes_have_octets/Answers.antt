@@ -8,8 +8,10 @@ use Rattle.edge_routes.proofs.edge_home.octets.prefixes_have_octets.Goals as goa
 
 pub loop-prefix-preserved : goal.loop-prefix-preserved
 loop-prefix-preserved c =
-    All-more (λ (p : Prefix). IsOctets (addr_octets p.addr)) c.args.prefixes.now c.loop-prefix.prefix-index _ c.loop-prefix-test.true c.loop-prefix.invariant c.prefix_has_octets.ensures
+    All-more (λ (p : Prefix). IsOctets (addr_octets p.addr)) c.args.prefixes.now c.loop-prefix.prefix-index _ c.loop-prefix-test.true
+    c.loop-prefix.invariant c.prefix_has_octets.ensures
 
 pub returns : goal.returns
 returns c =
-    subst (All (λ (p : Prefix). IsOctets (addr_octets p.addr))) (take_all c.loop-prefix.prefix-index c.args.prefixes.now c.loop-prefix-test.false) c.loop-prefix.invariant
+    subst (All (λ (p : Prefix). IsOctets (addr_octets p.addr))) (take_all c.loop-prefix.prefix-index c.args.prefixes.now c.loop-prefix-test.false)
+    c.loop-prefix.invariant

@@ -9,4 +9,5 @@ use Rattle.edge_routing.proofs.edge_datagrams.egress.all_outs.Given as goal
 
 abbrev pub invariant-loop-place : goal.invariant-loop-place
 invariant-loop-place l = (walks : Core) → IsCoreOf l.core.nodes l.core.links walks
-    → l.outs.items ≡ flat_map (outs_at (place_of l.control.home walks) l.now (control_of l.control) l.fec l.flow.source l.flow.group) (take l.place (vrfs_of l.control.home))
+    → l.outs.items ≡ flat_map (outs_at (place_of l.control.home walks) l.now (control_of l.control) l.fec l.flow.source l.flow.group)
+    (take l.place (vrfs_of l.control.home))

@@ -15,5 +15,6 @@ pub returns-in-None : goal.returns-in-None
 returns-in-None c = λ walks is.
     let scenario = c.scenario.ensures.scenario ∙ ap (λ (home : Home). home.scenario) c.home.ensures.home in
     c.new.ensures
-    ∙ sym (none_leave c.args.control.now c.home.ensures.sound walks c.args.now c.args.fec.now (record { source = c.args.source; group = c.args.group })
+    ∙ sym (none_leave c.args.control.now c.home.ensures.sound walks c.args.now c.args.fec.now
+    (record { source = c.args.source; group = c.args.group })
     (sym (ap (λ (s : Scenario). node_with s c.args.fec.now.root) scenario) ∙ sym c.root_of.ensures ∙ c.in-None.is))

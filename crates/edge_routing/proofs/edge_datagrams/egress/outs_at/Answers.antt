@@ -24,31 +24,43 @@ pub returns-then-imports_at : goal.returns-then-imports_at
 returns-then-imports_at c = λ walks own is at.
     let me = c.me.ensures ∙ ap (λ (home : Home). home.me) c.home-home.ensures.home in
     let told =
-    c.in_ok-outs.ensures (walks.cost c.me.result) (home_costs c.args.control.now.home c.args.core.now walks c.me.result c.home-home.ensures.sound.home c.requires.core is me)
+    c.in_ok-outs.ensures (walks.cost c.me.result)
+    (home_costs c.args.control.now.home c.args.core.now walks c.me.result c.home-home.ensures.sound.home c.requires.core is me)
     ∙ ap (λ (n : NodeId). outgoing c.index-trees-place.result.vrf (walks.cost n) c.args.now c.args.flow (origins.Edge c.args.root)) me in
     let within = within_trees c.args.control.now c.home-home.ensures.sound c.args.control.now.trees c.args.place refl c.requires.place in
-    let tree = tree_read c.trees.result.now c.args.control.now.trees c.args.place c.index-trees-place.result c.trees.ensures within c.index-trees-place.is in
-    let own_at = subst (λ (home : Home). slice_get (vrfs_of home) c.args.place ≡ Some (as_own c.own_at-own.result.now)) c.home-home.ensures.home c.own_at-own.ensures in
+    let tree =
+    tree_read c.trees.result.now c.args.control.now.trees c.args.place c.index-trees-place.result c.trees.ensures within c.index-trees-place.is in
+    let own_at =
+    subst (λ (home : Home). slice_get (vrfs_of home) c.args.place ≡ Some (as_own c.own_at-own.result.now)) c.home-home.ensures.home
+    c.own_at-own.ensures in
     let same = same_Some (as_own c.own_at-own.result.now) own (sym own_at ∙ at) in
     elim c.if-is_empty.branch [
-      | then-is_empty w ↦ leave_empty c.args.control.now c.home-home.ensures.sound walks c.args.now c.args.fec.now c.args.flow c.are_of_octets.ensures c.args.root c.requires.root c.requires.rooted
+      | then-is_empty w ↦ leave_empty c.args.control.now c.home-home.ensures.sound walks c.args.now c.args.fec.now c.args.flow c.are_of_octets.ensures
+          c.args.root c.requires.root c.requires.rooted
           c.args.place own c.index-trees-place.result at tree c.in_ok-outs.outs told (c.is_empty.ensures.0 w.if-is_empty.true)
-      | else-is_empty w ↦ leave_all c.args.control.now c.home-home.ensures.sound walks c.args.now c.args.fec.now c.args.flow c.are_of_octets.ensures c.args.root c.requires.root c.requires.rooted
+      | else-is_empty w ↦ leave_all c.args.control.now c.home-home.ensures.sound walks c.args.now c.args.fec.now c.args.flow c.are_of_octets.ensures
+          c.args.root c.requires.root c.requires.rooted
           c.args.place own c.index-trees-place.result at tree c.in_ok-outs.outs w.imports_at.result told
-          (w.imports_at.ensures walks ∙ ap (λ (o : OwnVrf). imports (place_of c.args.control.now.home walks) (control_of c.args.control.now) o c.args.root c.args.fec.now) same)
+          (w.imports_at.ensures walks ∙ ap (λ (o : OwnVrf). imports (place_of c.args.control.now.home walks) (control_of c.args.control.now) o
+          c.args.root c.args.fec.now) same)
           (sym w.value-is ∙ c.if-imports_at.true)
     ]
 
 pub returns-else-imports_at : goal.returns-else-imports_at
 returns-else-imports_at c = λ walks own is at.
     let within = within_trees c.args.control.now c.home-home.ensures.sound c.args.control.now.trees c.args.place refl c.requires.place in
-    let tree = tree_read c.trees.result.now c.args.control.now.trees c.args.place c.index-trees-place.result c.trees.ensures within c.index-trees-place.is in
-    let own_at = subst (λ (home : Home). slice_get (vrfs_of home) c.args.place ≡ Some (as_own c.own_at-own.result.now)) c.home-home.ensures.home c.own_at-own.ensures in
+    let tree =
+    tree_read c.trees.result.now c.args.control.now.trees c.args.place c.index-trees-place.result c.trees.ensures within c.index-trees-place.is in
+    let own_at =
+    subst (λ (home : Home). slice_get (vrfs_of home) c.args.place ≡ Some (as_own c.own_at-own.result.now)) c.home-home.ensures.home
+    c.own_at-own.ensures in
     let same = same_Some (as_own c.own_at-own.result.now) own (sym own_at ∙ at) in
     elim c.if-is_empty.branch [
       | then-is_empty w ↦ absurd (not_both c.if-is_empty.value (w.value-is ∙ w.if-is_empty.true) c.if-imports_at.false)
-      | else-is_empty w ↦ leave_none c.args.control.now c.home-home.ensures.sound walks c.args.now c.args.fec.now c.args.flow c.are_of_octets.ensures c.args.root c.requires.root c.requires.rooted
+      | else-is_empty w ↦ leave_none c.args.control.now c.home-home.ensures.sound walks c.args.now c.args.fec.now c.args.flow c.are_of_octets.ensures
+          c.args.root c.requires.root c.requires.rooted
           c.args.place own c.index-trees-place.result at tree c.new.result w.imports_at.result c.new.ensures
-          (w.imports_at.ensures walks ∙ ap (λ (o : OwnVrf). imports (place_of c.args.control.now.home walks) (control_of c.args.control.now) o c.args.root c.args.fec.now) same)
+          (w.imports_at.ensures walks ∙ ap (λ (o : OwnVrf). imports (place_of c.args.control.now.home walks) (control_of c.args.control.now) o
+          c.args.root c.args.fec.now) same)
           (sym w.value-is ∙ c.if-imports_at.false)
     ]

@@ -22,4 +22,5 @@ returns c =
     let lt : c.args.place < length c.vrfs.result.now = omega (arith, same) in
     ap (λ xs. slice_get xs c.args.place) (sym (c.vrfs.ensures.vrfs.vrfs no_core))
     ∙ slice_get-map as_own c.vrfs.result.now c.args.place
-    ∙ ap (option_map as_own) (slice_get_read c.vrfs.result.now (length c.vrfs.result.now) c.args.place c.index-vrfs-place.result refl lt c.index-vrfs-place.is)
+    ∙ ap (option_map as_own) (slice_get_read c.vrfs.result.now (length c.vrfs.result.now) c.args.place c.index-vrfs-place.result refl lt
+    c.index-vrfs-place.is)

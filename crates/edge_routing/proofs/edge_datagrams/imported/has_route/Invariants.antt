@@ -8,4 +8,5 @@ use Rattle.edge_routing.proofs.edge_datagrams.imported.has_route.Given as goal
 
 abbrev pub invariant-loop-key : goal.invariant-loop-key
 invariant-loop-key l = (place : EdgePlace) (peer : NodeId) → addr_of place.scenario peer ≡ l.addr
-    → list_any (is_route_of place (as_own l.own) peer l.fec) l.key-iterator ≡ list_any (is_route_of place (as_own l.own) peer l.fec) l.initial.key-iterator
+    → list_any (is_route_of place (as_own l.own) peer l.fec) l.key-iterator
+    ≡ list_any (is_route_of place (as_own l.own) peer l.fec) l.initial.key-iterator

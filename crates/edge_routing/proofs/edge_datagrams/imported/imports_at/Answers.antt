@@ -12,6 +12,8 @@ returns-in-None c = λ core.
 
 pub returns-in-Some : goal.returns-in-Some
 returns-in-Some c = λ core.
-    c.has_route.ensures (place_of c.args.control.now.home core) c.args.edge (sym (c.addr_of.ensures ∙ ap (λ (home : Home). addr_of home.scenario c.args.edge) c.home.ensures.home))
+    c.has_route.ensures (place_of c.args.control.now.home core) c.args.edge
+    (sym (c.addr_of.ensures ∙ ap (λ (home : Home). addr_of home.scenario c.args.edge) c.home.ensures.home))
     ∙ any_passes c.args.control.now c.taken.result.now c.taken.ensures c.args.edge
-    (is_route_of (place_of c.args.control.now.home core) (as_own c.args.own.now) c.args.edge c.args.fec.now) c.in-Some.entries c.in-Some.ensures.entries
+    (is_route_of (place_of c.args.control.now.home core) (as_own c.args.own.now) c.args.edge c.args.fec.now) c.in-Some.entries
+    c.in-Some.ensures.entries

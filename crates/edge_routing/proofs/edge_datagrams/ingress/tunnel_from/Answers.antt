@@ -11,7 +11,8 @@ pub returns-then-joined_in : goal.returns-then-joined_in
 returns-then-joined_in c = λ walks is.
     let flow = flow_by_addrs c.args.source c.args.group in
     tunnel_some c.args.home.now walks c.args.tree.now c.args.from flow c.accepts.result c.joined_in.result c.tunnel_for.result
-    (c.accepts.ensures (walks.cost c.me.result) (home_costs c.args.home.now c.args.core.now walks c.me.result c.requires.home c.requires.core is c.me.ensures)
+    (c.accepts.ensures (walks.cost c.me.result) (home_costs c.args.home.now c.args.core.now walks c.me.result c.requires.home c.requires.core is
+    c.me.ensures)
     ∙ ap (λ (me : NodeId). is_from c.args.from (chosen_for c.args.tree.now.vrf.routes (walks.cost me) flow)) c.me.ensures)
     c.if-accepts.true c.joined_in.ensures c.if-joined_in.true (c.tunnel_for.ensures walks)
 
@@ -19,9 +20,11 @@ pub returns-else-accepts : goal.returns-else-accepts
 returns-else-accepts c = λ walks is.
     let flow = flow_by_addrs c.args.source c.args.group in
     elim c.else-accepts.branch [
-      | else-accepts-via-then-accepts+else-joined_in w ↦ not_joined c.args.home.now walks c.args.tree.now c.args.from flow w.joined_in.result w.joined_in.ensures w.if-joined_in.false
+      | else-accepts-via-then-accepts+else-joined_in w ↦
+          not_joined c.args.home.now walks c.args.tree.now c.args.from flow w.joined_in.result w.joined_in.ensures w.if-joined_in.false
       | else-accepts-via-else-accepts w ↦ not_accepted c.args.home.now walks c.args.tree.now c.args.from flow c.accepts.result
-          (c.accepts.ensures (walks.cost c.me.result) (home_costs c.args.home.now c.args.core.now walks c.me.result c.requires.home c.requires.core is c.me.ensures)
+          (c.accepts.ensures (walks.cost c.me.result)
+          (home_costs c.args.home.now c.args.core.now walks c.me.result c.requires.home c.requires.core is c.me.ensures)
           ∙ ap (λ (me : NodeId). is_from c.args.from (chosen_for c.args.tree.now.vrf.routes (walks.cost me) flow)) c.me.ensures)
           w.if-accepts.false
     ]

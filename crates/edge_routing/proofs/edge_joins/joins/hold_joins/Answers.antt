@@ -7,7 +7,8 @@ loop-join-init c = record { held = λ core of_vrfs ipv4 hold. hold; told = all_a
 
 pub loop-join-preserved : goal.loop-join-preserved
 loop-join-preserved c = record {
-  held = way_more c.args.control.now c.args.joins.now c.loop-join.join-index c.loop-join-test.true c.args.tables.now c.loop-join.tables c.hold_one.new.tables c.loop-join.invariant.held
+  held = way_more c.args.control.now c.args.joins.now c.loop-join.join-index c.loop-join-test.true c.args.tables.now c.loop-join.tables
+      c.hold_one.new.tables c.loop-join.invariant.held
       c.in_ok-hold_one.ensures.held;
   told = all_alike_then c.args.tables.now c.loop-join.tables c.hold_one.new.tables c.loop-join.invariant.told c.in_ok-hold_one.ensures.told;
 }
@@ -15,11 +16,14 @@ loop-join-preserved c = record {
 pub returns-in_err-hold_one-clause-left : goal.returns-in_err-hold_one-clause-left
 returns-in_err-hold_one-clause-left c =
     on_err c.from_residual.result _
-    (way_cut c.args.control.now c.args.joins.now c.loop-join.join-index c.args.tables.now c.loop-join.tables c.hold_one.new.tables c.loop-join.invariant.held c.in_err-hold_one.ensures.unchanged)
+    (way_cut c.args.control.now c.args.joins.now c.loop-join.join-index c.args.tables.now c.loop-join.tables c.hold_one.new.tables
+    c.loop-join.invariant.held c.in_err-hold_one.ensures.unchanged)
 
 pub returns-in_err-hold_one-clause-told : goal.returns-in_err-hold_one-clause-told
-returns-in_err-hold_one-clause-told c = all_alike_then c.args.tables.now c.loop-join.tables c.hold_one.new.tables c.loop-join.invariant.told c.in_err-hold_one.ensures.told
+returns-in_err-hold_one-clause-told c =
+    all_alike_then c.args.tables.now c.loop-join.tables c.hold_one.new.tables c.loop-join.invariant.told c.in_err-hold_one.ensures.told
 
 pub returns-clause-held : goal.returns-clause-held
 returns-clause-held c =
-    way_end c.args.control.now c.args.joins.now c.loop-join.join-index c.loop-join-test.false c.args.tables.now c.loop-join.tables c.loop-join.invariant.held
+    way_end c.args.control.now c.args.joins.now c.loop-join.join-index c.loop-join-test.false c.args.tables.now c.loop-join.tables
+    c.loop-join.invariant.held

@@ -25,9 +25,11 @@ unreachable-requires c =
     let join = c.args.join.now in
     let kept = c.args.control.now in
     let some : (first_told (import_at join) kept.trees >>? remote_by join) ≡ Some c.in-Some.upstream =
-    sym (c.remote.ensures ∙ ap (λ (o : Option (Addr × ℕ)). o >>? remote_by join) (c.first_import.ensures ∙ ap (first_told (import_at join)) c.trees.ensures)) ∙ c.in-Some.is in
+    sym (c.remote.ensures ∙ ap (λ (o : Option (Addr × ℕ)). o >>? remote_by join)
+    (c.first_import.ensures ∙ ap (first_told (import_at join)) c.trees.ensures)) ∙ c.in-Some.is in
     let none : slice_get c.vrfs-vrfs.result.now 0 ≡ None = sym c.in-None-first.ensures.value in
-    some_vrf kept no_core c.home.ensures.sound join c.home.result.now c.vrfs-vrfs.result.now c.home.ensures.home c.vrfs-vrfs.ensures.vrfs none c.in-Some.upstream some
+    some_vrf kept no_core c.home.ensures.sound join c.home.result.now c.vrfs-vrfs.result.now c.home.ensures.home c.vrfs-vrfs.ensures.vrfs none
+    c.in-Some.upstream some
 
 pub returns-in-Some-first-clause-held : goal.returns-in-Some-first-clause-held
 returns-in-Some-first-clause-held c =
@@ -35,12 +37,15 @@ returns-in-Some-first-clause-held c =
     let kept = c.args.control.now in
     let up = c.in-Some.upstream in
     let some : (first_told (import_at join) kept.trees >>? remote_by join) ≡ Some up =
-    sym (c.remote.ensures ∙ ap (λ (o : Option (Addr × ℕ)). o >>? remote_by join) (c.first_import.ensures ∙ ap (first_told (import_at join)) c.trees.ensures)) ∙ c.in-Some.is in
+    sym (c.remote.ensures ∙ ap (λ (o : Option (Addr × ℕ)). o >>? remote_by join)
+    (c.first_import.ensures ∙ ap (first_told (import_at join)) c.trees.ensures)) ∙ c.in-Some.is in
     on_ok_weaker c.hold_join.result (λ done core but of_vrfs ipv4 hold.
     done (place_of kept.home core) (control_of kept) but
-    (first_at kept core c.home.result.now c.vrfs-vrfs.result.now c.in-Some-first.own.now c.home.ensures.home c.vrfs-vrfs.ensures.vrfs (sym c.in-Some-first.ensures.value))
+    (first_at kept core c.home.result.now c.vrfs-vrfs.result.now c.in-Some-first.own.now c.home.ensures.home c.vrfs-vrfs.ensures.vrfs
+    (sym c.in-Some-first.ensures.value))
     (found_held kept core c.home.ensures.sound join of_vrfs up some)
-    (subst (λ (k : NodeId × Key). HoldAllBut (place_of kept.home core) (control_of kept) (k ∷ but) c.args.tables.now) (found_key join (first_told (import_at join) kept.trees) up some) hold))
+    (subst (λ (k : NodeId × Key). HoldAllBut (place_of kept.home core) (control_of kept) (k ∷ but) c.args.tables.now)
+    (found_key join (first_told (import_at join) kept.trees) up some) hold))
     c.hold_join.ensures.held
 
 pub returns-in-Some-first-clause-told : goal.returns-in-Some-first-clause-told
@@ -48,7 +53,8 @@ returns-in-Some-first-clause-told c =
     let join = c.args.join.now in
     let own = c.in-Some-first.own.now.local in
     let up = c.in-Some.upstream in
-    alike_either c.hold_join.result (λ (t : Table). insert t (join_key (afi_of join.source) up.rd up.source_as (flow_in join)) (value_towards (place_for own) (as_import up.import))) join.edge c.args.tables.now c.hold_join.new.tables
+    alike_either c.hold_join.result (λ (t : Table). insert t (join_key (afi_of join.source) up.rd up.source_as (flow_in join))
+    (value_towards (place_for own) (as_import up.import))) join.edge c.args.tables.now c.hold_join.new.tables
     (on_ok_weaker c.hold_join.result (λ at. at (place_for own) (is_at own)) c.hold_join.ensures.set) c.hold_join.ensures.unchanged
 
 pub returns-in-None-clause-held : goal.returns-in-None-clause-held
@@ -56,11 +62,14 @@ returns-in-None-clause-held c =
     let join = c.args.join.now in
     let kept = c.args.control.now in
     let none : (first_told (import_at join) kept.trees >>? remote_by join) ≡ None =
-    sym (c.remote.ensures ∙ ap (λ (o : Option (Addr × ℕ)). o >>? remote_by join) (c.first_import.ensures ∙ ap (first_told (import_at join)) c.trees.ensures)) ∙ c.in-None.is in
+    sym (c.remote.ensures ∙ ap (λ (o : Option (Addr × ℕ)). o >>? remote_by join)
+    (c.first_import.ensures ∙ ap (first_told (import_at join)) c.trees.ensures)) ∙ c.in-None.is in
     on_ok_weaker c.drop_join.result (λ left core but of_vrfs ipv4 hold.
-    left (place_of kept.home core) (control_of kept) but (none_held kept core c.home.ensures.sound join of_vrfs ipv4 none) hold) c.drop_join.ensures.held
+    left (place_of kept.home core) (control_of kept) but (none_held kept core c.home.ensures.sound join of_vrfs ipv4 none) hold)
+    c.drop_join.ensures.held
 
 pub returns-in-None-clause-told : goal.returns-in-None-clause-told
 returns-in-None-clause-told c =
     let join = c.args.join.now in
-    alike_either c.drop_join.result (λ (t : Table). remove t (key_of join).1) join.edge c.args.tables.now c.drop_join.new.tables c.drop_join.ensures.unset c.drop_join.ensures.unchanged
+    alike_either c.drop_join.result (λ (t : Table). remove t (key_of join).1) join.edge c.args.tables.now c.drop_join.new.tables
+    c.drop_join.ensures.unset c.drop_join.ensures.unchanged

@@ -9,4 +9,5 @@ use Rattle.edge_routing.proofs.edge_leaves.inclusive.any_imports.Given as goal
 
 abbrev pub invariant-loop-own : goal.invariant-loop-own
 invariant-loop-own l = (core : Core)
-    → list_any (λ (own : OwnVrf). imports_inclusive (place_of l.control.home core) (control_of l.control) (as_own own) l.edge l.fec) (take l.own-index l.vrfs) ≡ false
+    → list_any (λ (own : OwnVrf). imports_inclusive (place_of l.control.home core) (control_of l.control) (as_own own) l.edge l.fec)
+    (take l.own-index l.vrfs) ≡ false

@@ -9,4 +9,5 @@ use Rattle.edge_routing.proofs.edge_leaves.inclusive.has_route.Given as goal
 
 abbrev pub invariant-loop-key : goal.invariant-loop-key
 invariant-loop-key l =
-    let test : Key × TakenRoute → Bool = λ entry. is_tunnel l.fec (imported_inclusive (as_own l.own).vrf l.addr entry) in list_any test l.key-iterator ≡ list_any test l.initial.key-iterator
+    let test : Key × TakenRoute → Bool = λ entry. is_tunnel l.fec (imported_inclusive (as_own l.own).vrf l.addr entry) in
+    list_any test l.key-iterator ≡ list_any test l.initial.key-iterator

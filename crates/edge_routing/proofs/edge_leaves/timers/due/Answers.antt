@@ -7,5 +7,6 @@ use Rattle.edge_routing.proofs.edge_leaves.timers.due.Goals as goal
 pub loop-tree-preserved : goal.loop-tree-preserved
 loop-tree-preserved c =
     c.saturating_add-count.ensures
-    ∙ due_more (tree_due c.args.now) c.trees-tree-items.result.now c.loop-tree.tree-index c.tree-item.result c.loop-tree.count c.tree_due.result (omega arith) c.loop-tree.invariant
+    ∙ due_more (tree_due c.args.now) c.trees-tree-items.result.now c.loop-tree.tree-index c.tree-item.result c.loop-tree.count c.tree_due.result
+    (omega arith) c.loop-tree.invariant
     (c.tree_due.ensures ∙ ap (λ (tree : TreeData). min (tree_due c.args.now tree) most) c.tree-item.is)

@@ -15,9 +15,12 @@ pub loop-fec-preserved : goal.loop-fec-preserved
 loop-fec-preserved c = λ core.
     let test : Fec → Bool = λ fec. sets.contains (leaves (place_of c.args.control.now.home core) (control_of c.args.control.now)) fec in
     elim c.if-wants.branch [
-      | then-wants+in_ok-push w ↦ more_wanted test c.args.fecs.now c.loop-fec.found.items c.if-wants.found.items c.loop-fec.fec-index c.fec-item.result c.wants.result (omega arith) c.fec-item.is
-          (c.loop-fec.invariant core) (c.wants.ensures core) w.if-wants.true (ap (λ (v : Vec Fec Global). v.items) w.found-is ∙ w.in_ok-push.ensures.items)
-      | else-wants w ↦ none_wanted test c.args.fecs.now c.loop-fec.found.items c.if-wants.found.items c.loop-fec.fec-index c.fec-item.result c.wants.result (omega arith) c.fec-item.is
+      | then-wants+in_ok-push w ↦ more_wanted test c.args.fecs.now c.loop-fec.found.items c.if-wants.found.items c.loop-fec.fec-index
+          c.fec-item.result c.wants.result (omega arith) c.fec-item.is
+          (c.loop-fec.invariant core) (c.wants.ensures core) w.if-wants.true
+          (ap (λ (v : Vec Fec Global). v.items) w.found-is ∙ w.in_ok-push.ensures.items)
+      | else-wants w ↦ none_wanted test c.args.fecs.now c.loop-fec.found.items c.if-wants.found.items c.loop-fec.fec-index c.fec-item.result
+          c.wants.result (omega arith) c.fec-item.is
           (c.loop-fec.invariant core) (c.wants.ensures core) w.if-wants.false (ap (λ (v : Vec Fec Global). v.items) w.found-is)
     ]
 

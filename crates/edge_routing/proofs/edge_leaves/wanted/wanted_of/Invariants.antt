@@ -8,4 +8,6 @@ use Rattle.control_laws.specs.Control.{control_of}
 use Rattle.edge_routing.proofs.edge_leaves.wanted.wanted_of.Given as goal
 
 abbrev pub invariant-loop-fec : goal.invariant-loop-fec
-invariant-loop-fec l = (core : Core) → l.found.items ≡ filter (λ fec. sets.contains (leaves (place_of l.control.home core) (control_of l.control)) fec) (take l.fec-index l.fecs)
+invariant-loop-fec l =
+    (core : Core) → l.found.items ≡ filter (λ fec. sets.contains (leaves (place_of l.control.home core) (control_of l.control)) fec)
+    (take l.fec-index l.fecs)

@@ -11,10 +11,12 @@ loop-own-preserved c =
     let own = c.own-item.result in
     let lt : c.loop-own.own-index < length c.args.vrfs.now = omega arith in
     let told : c.imported_inclusive.result ≡ imported_inclusive own.local.vrf c.args.peer (c.args.key.now, route_of value) =
-    c.imported_inclusive.ensures (route_of value) refl ∙ ap (λ vrf. imported_inclusive vrf c.args.peer (c.args.key.now, route_of value)) c.vrf.ensures.vrf in
+    c.imported_inclusive.ensures (route_of value) refl
+    ∙ ap (λ vrf. imported_inclusive vrf c.args.peer (c.args.key.now, route_of value)) c.vrf.ensures.vrf in
     c.in_ok-append.ensures
     ∙ ap (λ fecs. fecs ++ listed c.imported_inclusive.result) c.loop-own.invariant
-    ∙ append_assoc c.args.fecs.now.items (told_to c.args.peer c.args.key.now value (take c.loop-own.own-index c.args.vrfs.now)) (listed c.imported_inclusive.result)
+    ∙ append_assoc c.args.fecs.now.items (told_to c.args.peer c.args.key.now value (take c.loop-own.own-index c.args.vrfs.now))
+    (listed c.imported_inclusive.result)
     ∙ ap (λ fecs. c.args.fecs.now.items ++ fecs)
     (ap (λ one. told_to c.args.peer c.args.key.now value (take c.loop-own.own-index c.args.vrfs.now) ++ listed one) told
     ∙ sym (told_more c.args.peer c.args.key.now value c.args.vrfs.now c.loop-own.own-index own lt c.own-item.is))

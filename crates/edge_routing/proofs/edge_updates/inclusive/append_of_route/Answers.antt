@@ -10,5 +10,6 @@ returns c =
     on_ok_weaker c.append_imported.result (λ e.
     e
     ∙ ap (λ addr. c.args.fecs.now.items ++ told_to addr c.args.key.now (value_of c.args.value.now) c.vrfs.result.now) c.addr_of-addr.ensures
-    ∙ ap (λ fecs. c.args.fecs.now.items ++ fecs) (told_all c.args.home.now c.args.peer c.args.key.now (value_of c.args.value.now) c.vrfs.result.now c.vrfs.ensures.vrfs))
+    ∙ ap (λ fecs. c.args.fecs.now.items ++ fecs)
+    (told_all c.args.home.now c.args.peer c.args.key.now (value_of c.args.value.now) c.vrfs.result.now c.vrfs.ensures.vrfs))
     c.append_imported.ensures

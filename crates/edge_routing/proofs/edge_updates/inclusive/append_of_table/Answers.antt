@@ -9,5 +9,7 @@ use Rattle.edge_routing.proofs.edge_updates.inclusive.append_of_table.Goals as g
 pub returns-in-None : goal.returns-in-None
 returns-in-None c =
     let none : None ≡ option_map (λ (taken : Taken). maps.entries taken) (maps.get c.args.control.now.peers c.args.peer) =
-    subst (λ (tables : Tables). None ≡ option_map (λ (taken : Taken). maps.entries taken) (maps.get tables c.args.peer)) c.taken.ensures c.in-None.ensures.entries in
-    sym (ap (λ entries. c.args.fecs.now.items ++ told_by_all c.args.control.now.home c.args.peer entries) (no_table c.args.control.now.peers c.args.peer none) ∙ append-nil c.args.fecs.now.items)
+    subst (λ (tables : Tables). None ≡ option_map (λ (taken : Taken). maps.entries taken) (maps.get tables c.args.peer)) c.taken.ensures
+    c.in-None.ensures.entries in
+    sym (ap (λ entries. c.args.fecs.now.items ++ told_by_all c.args.control.now.home c.args.peer entries)
+    (no_table c.args.control.now.peers c.args.peer none) ∙ append-nil c.args.fecs.now.items)

@@ -14,6 +14,7 @@ pub returns : goal.returns
 returns c = λ core fec.
     let kept = c.args.control.now in
     let all : c.append_of_table.new.fecs.items ≡ told_by_all kept.home c.args.peer (maps.entries (table_of kept.peers c.args.peer)) =
-    c.in_ok-append_of_table.ensures ∙ ap (λ fecs. fecs ++ told_by_all kept.home c.args.peer (maps.entries (table_of kept.peers c.args.peer))) c.new-fecs.ensures.items in
+    c.in_ok-append_of_table.ensures ∙ ap (λ fecs. fecs ++ told_by_all kept.home c.args.peer (maps.entries (table_of kept.peers c.args.peer)))
+    c.new-fecs.ensures.items in
     subst (λ fecs. IsInclusiveFrom (place_of kept.home core) (control_of kept) c.args.peer fec ↔ (list_any (same_fec fec) fecs ≡ true)) (sym all)
     (all_listed kept.home core c.args.peer (control_of kept) fec)

@@ -21,5 +21,7 @@ returns-clause-taken c =
     let next : Home → _ = λ home. told_at home c.args.peer key (route_at new.peers c.args.peer key) in
     on_ok_weaker c.append_at-2.result (λ e.
     subst (λ (k : Key). AreTaken c.args.now c.args.peer (reach k value ∷ []) old new before c.append_at-2.new.fecs.items) c.of-key.ensures
-    (change_taken c.args.now c.args.peer (reach key value) old new before c.append_at-2.new.fecs.items c.announce.ensures.home c.announce.ensures.wants
-    c.in_ok-announce.ensures.announced (e ∙ ap (λ fecs. fecs ++ next new.home) c.in_ok-append_at.ensures ∙ ap (λ home. (before ++ first) ++ next home) c.announce.ensures.home))) c.append_at-2.ensures
+    (change_taken c.args.now c.args.peer (reach key value) old new before c.append_at-2.new.fecs.items c.announce.ensures.home
+    c.announce.ensures.wants
+    c.in_ok-announce.ensures.announced (e ∙ ap (λ fecs. fecs ++ next new.home) c.in_ok-append_at.ensures
+    ∙ ap (λ home. (before ++ first) ++ next home) c.announce.ensures.home))) c.append_at-2.ensures

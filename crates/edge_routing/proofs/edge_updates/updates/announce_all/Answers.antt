@@ -27,8 +27,10 @@ loop-advert-preserved c =
           omega arith
           );
       taken =
-          subst (λ changes. AreTaken c.args.now c.args.peer changes c.args.control.now c.announce.new.control c.args.fecs.now.items c.announce.new.fecs.items)
+          subst (λ changes. AreTaken c.args.now c.args.peer changes c.args.control.now c.announce.new.control c.args.fecs.now.items
+          c.announce.new.fecs.items)
           (sym (map-append (λ (a : Advert). Reach a) at.yielded (advert ∷ [])))
-          (taken_then c.args.now c.args.peer (announced at.yielded) (Reach advert ∷ []) c.args.control.now at.control c.announce.new.control c.args.fecs.now.items at.fecs.items
+          (taken_then c.args.now c.args.peer (announced at.yielded) (Reach advert ∷ []) c.args.control.now at.control c.announce.new.control
+          c.args.fecs.now.items at.fecs.items
           c.announce.new.fecs.items at.invariant.taken c.in_ok-announce.ensures.taken);
     }

@@ -20,14 +20,16 @@ loop-key-preserved c = λ now.
     let lt : at.key-index < length c.args.keys.now = omega arith in
     subst (λ changes. AreTaken now c.args.peer changes c.args.control.now c.withdraw.new.control c.args.fecs.now.items c.withdraw.new.fecs.items)
     (unannounced_more c.args.keys.now at.key-index key lt c.key-item.is)
-    (taken_then now c.args.peer (unannounced (take at.key-index c.args.keys.now)) (Unreach key ∷ []) c.args.control.now at.control c.withdraw.new.control c.args.fecs.now.items at.fecs.items
+    (taken_then now c.args.peer (unannounced (take at.key-index c.args.keys.now)) (Unreach key ∷ []) c.args.control.now at.control
+    c.withdraw.new.control c.args.fecs.now.items at.fecs.items
     c.withdraw.new.fecs.items (at.invariant now) (c.in_ok-withdraw.ensures.taken now))
 
 pub returns-clause-taken : goal.returns-clause-taken
 returns-clause-taken c = λ now.
     let at = c.loop-key in
     let le : length c.args.keys.now ≤ at.key-index = omega arith in
-    subst (λ keys. AreTaken now c.args.peer (unannounced keys) c.args.control.now at.control c.args.fecs.now.items at.fecs.items) (take_all at.key-index c.args.keys.now le)
+    subst (λ keys. AreTaken now c.args.peer (unannounced keys) c.args.control.now at.control c.args.fecs.now.items at.fecs.items)
+    (take_all at.key-index c.args.keys.now le)
     (at.invariant now)
 
 pub returns-clause-home : goal.returns-clause-home

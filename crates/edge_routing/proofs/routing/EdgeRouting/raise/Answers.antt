@@ -13,14 +13,18 @@ raise-requires c = is_node c.args.self.now.control.home c.args.peer c.requires.p
 pub finish-requires-clause-groups : goal.finish-requires-clause-groups
 finish-requires-clause-groups c =
     let old = c.args.self.now in
-    (turned_way (Raised kinds.Bgp c.args.peer) c.args.peer raised c.args.now old c.raise.new.self c.raise-2.new.self c.new.result.items no_core c.requires.step
-    (raise_made c.args.peer c.args.now old c.raise.new.self c.raise-2.new.self c.new.result.items c.requires.step c.raise.ensures.home (λ core. c.in_ok-raise.ensures.raised core c.args.now) c.raise.ensures.wants
+    (turned_way (Raised kinds.Bgp c.args.peer) c.args.peer raised c.args.now old c.raise.new.self c.raise-2.new.self c.new.result.items no_core
+    c.requires.step
+    (raise_made c.args.peer c.args.now old c.raise.new.self c.raise-2.new.self c.new.result.items c.requires.step c.raise.ensures.home
+    (λ core. c.in_ok-raise.ensures.raised core c.args.now) c.raise.ensures.wants
     c.in_ok-raise-2.ensures.raised c.requires.peer c.requires.down)).groups
 
 pub returns-clause-stepped : goal.returns-clause-stepped
 returns-clause-stepped c =
     let old = c.args.self.now in
     c.finish.ensures.stepped (Raised kinds.Bgp c.args.peer) old refl c.requires.step
-    (turned_way (Raised kinds.Bgp c.args.peer) c.args.peer raised c.args.now old c.raise.new.self c.raise-2.new.self c.new.result.items no_core c.requires.step
-    (raise_made c.args.peer c.args.now old c.raise.new.self c.raise-2.new.self c.new.result.items c.requires.step c.raise.ensures.home (λ core. c.in_ok-raise.ensures.raised core c.args.now) c.raise.ensures.wants
+    (turned_way (Raised kinds.Bgp c.args.peer) c.args.peer raised c.args.now old c.raise.new.self c.raise-2.new.self c.new.result.items no_core
+    c.requires.step
+    (raise_made c.args.peer c.args.now old c.raise.new.self c.raise-2.new.self c.new.result.items c.requires.step c.raise.ensures.home
+    (λ core. c.in_ok-raise.ensures.raised core c.args.now) c.raise.ensures.wants
     c.in_ok-raise-2.ensures.raised c.requires.peer c.requires.down))

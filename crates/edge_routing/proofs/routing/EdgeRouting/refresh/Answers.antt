@@ -10,7 +10,8 @@ pub hold_joins-requires : goal.hold_joins-requires
 hold_joins-requires c = record {
   groups = subst (All (λ (join : TreeJoin). IsGroup (afi_of join.source) join.group)) (sym c.deref.ensures.value)
       (join_groups (control_of c.args.self.now.control) (control_of c.refresh.new.self) c.in_ok-changes.changes.joins.items c.requires.groups
-      (groups_behind c.args.now c.args.self.now.control c.refresh.new.self c.nodes.ensures.told.0 c.requires.groups c.home.ensures.sound (c.in_ok-changes.ensures.refreshed c.nodes.ensures.told.0 c.nodes.ensures.told.1))
+      (groups_behind c.args.now c.args.self.now.control c.refresh.new.self c.nodes.ensures.told.0 c.requires.groups c.home.ensures.sound
+      (c.in_ok-changes.ensures.refreshed c.nodes.ensures.told.0 c.nodes.ensures.told.1))
       c.in_ok-changes.ensures.joins);
 }
 
@@ -23,10 +24,13 @@ returns-clause-refreshed c =
       is_core = is_core;
       is = record { home = c.refresh.ensures.home; control = c.in_ok-changes.ensures.refreshed };
       trees = c.in_ok-changes.ensures.wanted;
-      groups = groups_behind c.args.now c.args.self.now.control c.refresh.new.self own c.requires.groups c.home.ensures.sound (c.in_ok-changes.ensures.refreshed own is_core);
+      groups = groups_behind c.args.now c.args.self.now.control c.refresh.new.self own c.requires.groups c.home.ensures.sound
+          (c.in_ok-changes.ensures.refreshed own is_core);
       hold = λ any vrfs hold.
-          held_behind c.args.self.now.control c.refresh.new.self own any c.args.now c.in_ok-changes.changes.joins.items c.deref.result.now c.args.self.now.tables c.hold_joins.new.tables c.refresh.ensures.home
-          (c.in_ok-changes.ensures.refreshed own is_core) vrfs c.in_ok-changes.ensures.joins hold c.deref.ensures.value (c.in_ok-hold_joins.ensures.held any);
+          held_behind c.args.self.now.control c.refresh.new.self own any c.args.now c.in_ok-changes.changes.joins.items c.deref.result.now
+          c.args.self.now.tables c.hold_joins.new.tables c.refresh.ensures.home
+          (c.in_ok-changes.ensures.refreshed own is_core) vrfs c.in_ok-changes.ensures.joins hold c.deref.ensures.value
+          (c.in_ok-hold_joins.ensures.held any);
       alike = c.hold_joins.ensures.told;
       wants = c.in_ok-changes.ensures.tunnels;
     }

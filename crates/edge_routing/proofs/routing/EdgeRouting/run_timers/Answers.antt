@@ -10,7 +10,8 @@ finish-requires-clause-groups c =
     let old = c.args.self.now in
     let control = c.run_timers.new.self in
     (on_way Timers c.args.now old control old.tables c.new.result.items no_core c.requires.step
-    (timers_made c.args.now old control c.new.result.items c.requires.step c.run_timers.ensures.home c.in_ok-run_timers.ensures.run c.run_timers.ensures.wants)).groups
+    (timers_made c.args.now old control c.new.result.items c.requires.step c.run_timers.ensures.home c.in_ok-run_timers.ensures.run
+    c.run_timers.ensures.wants)).groups
 
 pub returns-clause-stepped : goal.returns-clause-stepped
 returns-clause-stepped c =
@@ -18,4 +19,5 @@ returns-clause-stepped c =
     let control = c.run_timers.new.self in
     c.finish.ensures.stepped Timers old refl c.requires.step
     (on_way Timers c.args.now old control old.tables c.new.result.items no_core c.requires.step
-    (timers_made c.args.now old control c.new.result.items c.requires.step c.run_timers.ensures.home c.in_ok-run_timers.ensures.run c.run_timers.ensures.wants))
+    (timers_made c.args.now old control c.new.result.items c.requires.step c.run_timers.ensures.home c.in_ok-run_timers.ensures.run
+    c.run_timers.ensures.wants))

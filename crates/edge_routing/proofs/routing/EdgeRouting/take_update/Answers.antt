@@ -10,7 +10,8 @@ finish-requires-clause-groups c =
     let old = c.args.self.now in
     let control = c.take_update.new.control in
     (on_way (Update c.args.peer c.args.message) c.args.now old control old.tables c.in_ok-tunnels.tunnels.items no_core c.requires.step
-    (update_made c.args.now c.args.peer c.args.message old control c.in_ok-tunnels.tunnels.items c.requires.step c.take_update.ensures.home c.in_ok-tunnels.ensures.taken c.take_update.ensures.wants
+    (update_made c.args.now c.args.peer c.args.message old control c.in_ok-tunnels.tunnels.items c.requires.step c.take_update.ensures.home
+    c.in_ok-tunnels.ensures.taken c.take_update.ensures.wants
     c.in_ok-tunnels.ensures.tunnels)).groups
 
 pub returns-clause-stepped : goal.returns-clause-stepped
@@ -19,5 +20,6 @@ returns-clause-stepped c =
     let control = c.take_update.new.control in
     c.finish.ensures.stepped (Update c.args.peer c.args.message) old refl c.requires.step
     (on_way (Update c.args.peer c.args.message) c.args.now old control old.tables c.in_ok-tunnels.tunnels.items no_core c.requires.step
-    (update_made c.args.now c.args.peer c.args.message old control c.in_ok-tunnels.tunnels.items c.requires.step c.take_update.ensures.home c.in_ok-tunnels.ensures.taken c.take_update.ensures.wants
+    (update_made c.args.now c.args.peer c.args.message old control c.in_ok-tunnels.tunnels.items c.requires.step c.take_update.ensures.home
+    c.in_ok-tunnels.ensures.taken c.take_update.ensures.wants
     c.in_ok-tunnels.ensures.tunnels))

@@ -20,9 +20,12 @@ returns-clause-stepped c = λ core now.
     let vrf = c.args.vrf in
     let pattern = c.args.pattern in
     settled core now (Unselect vrf pattern) old control tables c.put.new.self c.none.result c.requires.step refl
-    (unselect_made vrf pattern now old control tables c.unselect.ensures.home (λ walks. c.unselect.ensures.unselected walks now) c.unselect.ensures.wants
-    (λ walks. subst (λ (v : VrfId). HoldAll (place_of control.home walks) (without_selected (control_of old.control) v pattern) tables) c.own_of_vrf-own.ensures.of
+    (unselect_made vrf pattern now old control tables c.unselect.ensures.home (λ walks. c.unselect.ensures.unselected walks now)
+    c.unselect.ensures.wants
+    (λ walks. subst (λ (v : VrfId). HoldAll (place_of control.home walks) (without_selected (control_of old.control) v pattern) tables)
+    c.own_of_vrf-own.ensures.of
     (c.in_ok-drop_selection.ensures.held (place_of control.home walks) (control_of old.control)
     (own_at control c.home.result.now own c.home.ensures.home c.home.ensures.sound c.own_of_vrf-own.ensures.among c.own_of_vrf-own.ensures.at walks)
     (held_at old control c.requires.step c.unselect.ensures.home walks))) c.drop_selection.ensures.told)
-    (ap (λ (made : Control). made.peers) (c.unselect.ensures.unselected no_core now)) c.home.ensures.sound c.in_ok-put.ensures.put c.none.ensures.candidates
+    (ap (λ (made : Control). made.peers) (c.unselect.ensures.unselected no_core now)) c.home.ensures.sound c.in_ok-put.ensures.put
+    c.none.ensures.candidates

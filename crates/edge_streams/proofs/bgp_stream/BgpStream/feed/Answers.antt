@@ -5,12 +5,14 @@ use Rattle.edge_streams.proofs.bgp_stream.BgpStream.feed.Goals as goal
 
 pub invariant_of-self : goal.invariant_of-self
 invariant_of-self c = (
-  c.self.invariant.0 ∙ fault_stays message_front c.self.inside.stream c.args.bytes.now c.feed.result c.feed.new.self c.feed.ensures.exact (λ place fault e. (let ok = c.in-Ok.is in absurd cc)),
+  c.self.invariant.0 ∙ fault_stays message_front c.self.inside.stream c.args.bytes.now c.feed.result c.feed.new.self c.feed.ensures.exact
+      (λ place fault e. (let ok = c.in-Ok.is in absurd cc)),
   bgp_holds 4096 c.self.inside.stream c.args.bytes.now c.feed.result c.feed.new.self c.feed.ensures.feeds c.self.invariant.1,
 )
 
 pub invariant_of-self-in-Err-First : goal.invariant_of-self-in-Err-First
 invariant_of-self-in-Err-First c = (
-  fault_told message_front c.self.inside.stream c.args.bytes.now c.feed.result c.feed.new.self c.in-Err-First.place c.in-Err-First.fault c.feed.ensures.exact cc,
+  fault_told message_front c.self.inside.stream c.args.bytes.now c.feed.result c.feed.new.self c.in-Err-First.place c.in-Err-First.fault
+      c.feed.ensures.exact cc,
   bgp_holds 4096 c.self.inside.stream c.args.bytes.now c.feed.result c.feed.new.self c.feed.ensures.feeds c.self.invariant.1,
 )

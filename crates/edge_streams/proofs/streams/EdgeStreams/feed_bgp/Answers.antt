@@ -16,4 +16,5 @@ returns-clause-fed c = on_ok_weaker c.feed.result (λ each.
     ∙ ap (λ (m : FinMap peer_cmp Stream). with_octets (session kinds.Bgp c.args.peer) c.args.bytes.now m) c.self.view_is) c.feed.ensures.fed
 
 pub returns-clause-same : goal.returns-clause-same
-returns-clause-same c = on_err_weaker c.feed.result (λ each. bgp_same c.self.inside.bgp c.feed.new.streams c.self.inside.ldp each ∙ c.self.view_is) c.feed.ensures.same
+returns-clause-same c =
+    on_err_weaker c.feed.result (λ each. bgp_same c.self.inside.bgp c.feed.new.streams c.self.inside.ldp each ∙ c.self.view_is) c.feed.ensures.same

@@ -16,4 +16,5 @@ returns-clause-fed c = on_ok_weaker c.feed.result (λ each.
     ∙ ap (λ (m : FinMap peer_cmp Stream). with_octets (session kinds.Ldp c.args.peer) c.args.bytes.now m) c.self.view_is) c.feed.ensures.fed
 
 pub returns-clause-same : goal.returns-clause-same
-returns-clause-same c = on_err_weaker c.feed.result (λ each. ldp_same c.self.inside.bgp c.self.inside.ldp c.feed.new.streams each ∙ c.self.view_is) c.feed.ensures.same
+returns-clause-same c =
+    on_err_weaker c.feed.result (λ each. ldp_same c.self.inside.bgp c.self.inside.ldp c.feed.new.streams each ∙ c.self.view_is) c.feed.ensures.same

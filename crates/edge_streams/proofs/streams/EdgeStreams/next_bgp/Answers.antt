@@ -13,7 +13,8 @@ use Rattle.edge_streams.proofs.streams.EdgeStreams.next_bgp.Goals as goal
 
 pub returns-clause-first : goal.returns-clause-first
 returns-clause-first c =
-    subst (λ (m : FinMap peer_cmp Stream). TakesFirst (session kinds.Bgp c.args.peer) m (option_map (λ message. Bgp message) c.next.result) (streams_of c.next.new.streams c.self.inside.ldp)) c.self.view_is
+    subst (λ (m : FinMap peer_cmp Stream). TakesFirst (session kinds.Bgp c.args.peer) m (option_map (λ message. Bgp message) c.next.result)
+    (streams_of c.next.new.streams c.self.inside.ldp)) c.self.view_is
     (bgp_taken c.self.inside.bgp c.next.new.streams c.self.inside.ldp c.args.peer c.next.result c.next.ensures.first c.next.ensures.others)
 
 pub returns-clause-writable : goal.returns-clause-writable

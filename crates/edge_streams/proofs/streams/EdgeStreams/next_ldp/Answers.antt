@@ -13,7 +13,8 @@ use Rattle.edge_streams.proofs.streams.EdgeStreams.next_ldp.Goals as goal
 
 pub returns-clause-first : goal.returns-clause-first
 returns-clause-first c =
-    subst (λ (m : FinMap peer_cmp Stream). TakesFirst (session kinds.Ldp c.args.peer) m (option_map (λ message. Label message) c.next.result) (streams_of c.self.inside.bgp c.next.new.streams)) c.self.view_is
+    subst (λ (m : FinMap peer_cmp Stream). TakesFirst (session kinds.Ldp c.args.peer) m (option_map (λ message. Label message) c.next.result)
+    (streams_of c.self.inside.bgp c.next.new.streams)) c.self.view_is
     (ldp_taken c.self.inside.bgp c.self.inside.ldp c.next.new.streams c.args.peer c.next.result c.next.ensures.first c.next.ensures.others)
 
 pub returns-clause-writable : goal.returns-clause-writable

@@ -5,7 +5,9 @@ use Rattle.edge_tables.proofs.rib_sync.Replaying.{Replayed, began, turned}
 use Rattle.edge_tables.proofs.rib_sync.kept.all_new.Goals as goal
 
 pub loop-key-init : goal.loop-key-init
-loop-key-init g c = began g.K.Ord.cmp c.args.set.now c.new-news.result c.into_iter-key-iterator.result (search rules) c.new-news.ensures.empty (IsDistinct-from_sorted g.K.Ord.cmp (keys_of c.args.set.now.entries) c.iter-key-items.ensures.ordered) c.new-news.ensures.ordered
+loop-key-init g c =
+    began g.K.Ord.cmp c.args.set.now c.new-news.result c.into_iter-key-iterator.result (search rules) c.new-news.ensures.empty
+    (IsDistinct-from_sorted g.K.Ord.cmp (keys_of c.args.set.now.entries) c.iter-key-items.ensures.ordered) c.new-news.ensures.ordered
 
 pub loop-key-preserved : goal.loop-key-preserved
 loop-key-preserved g c =

@@ -7,5 +7,6 @@ use Rattle.edge_tables.proofs.slot.Slot.put.Goals as goal
 pub returns-clause-partly : goal.returns-clause-partly
 returns-clause-partly c =
     on_err_weaker c.put_changes.result
-    (put_part (rib_out key_cmp c.args.self.now.table) (rib_out key_cmp c.flush-pending.new.self) c.args.self.now.waiting c.put_changes.new.out c.flush-pending.result c.flush-pending.ensures.changes c.flush-pending.ensures.told)
+    (put_part (rib_out key_cmp c.args.self.now.table) (rib_out key_cmp c.flush-pending.new.self) c.args.self.now.waiting c.put_changes.new.out
+    c.flush-pending.result c.flush-pending.ensures.changes c.flush-pending.ensures.told)
     c.put_changes.ensures.err

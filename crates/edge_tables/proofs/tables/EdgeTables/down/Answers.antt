@@ -10,5 +10,6 @@ returns-in-None c =
 
 pub returns-in-Some : goal.returns-in-Some
 returns-in-Some c =
-    slot_set c.self.inside.slots.items c.deref.result.now c.args.self.now c.args.peer c.in-Some.place c.index_mut.result.now c.self.view_is c.deref.ensures.value c.in-Some.ensures.place c.index_mut.ensures.value
+    slot_set c.self.inside.slots.items c.deref.result.now c.args.self.now c.args.peer c.in-Some.place c.index_mut.result.now c.self.view_is
+    c.deref.ensures.value c.in-Some.ensures.place c.index_mut.ensures.value
     (λ (old new : PeerTable). new ≡ downed old) c.down.new.self c.down.ensures.peer c.down.ensures.downed

@@ -5,9 +5,11 @@ use Rattle.edge_tables.proofs.tables.EdgeTables.is_up.Goals as goal
 
 pub returns-in-None : goal.returns-in-None
 returns-in-None c =
-    sym (ap up_of (no_slot c.self.inside.slots.items c.deref.result.now c.args.self.now c.args.peer c.self.view_is c.deref.ensures.value c.in-None.ensures.place))
+    sym (ap up_of (no_slot c.self.inside.slots.items c.deref.result.now c.args.self.now c.args.peer c.self.view_is c.deref.ensures.value
+    c.in-None.ensures.place))
 
 pub returns-in-Some : goal.returns-in-Some
 returns-in-Some c =
     c.is_up.ensures
-    ∙ sym (ap up_of (slot_at c.self.inside.slots.items c.deref.result.now c.args.self.now c.args.peer c.in-Some.place c.index.result.now c.self.view_is c.deref.ensures.value c.in-Some.ensures.place c.index.ensures))
+    ∙ sym (ap up_of (slot_at c.self.inside.slots.items c.deref.result.now c.args.self.now c.args.peer c.in-Some.place c.index.result.now
+    c.self.view_is c.deref.ensures.value c.in-Some.ensures.place c.index.ensures))

@@ -9,7 +9,8 @@ loop-peer-init c = ap (map entry) c.new-slots.ensures.items
 
 pub loop-peer-preserved : goal.loop-peer-preserved
 loop-peer-preserved c =
-    made_more c.args.peers.now c.loop-peer.slots.items c.push.new.self.items c.loop-peer.peer-index _ c.of.result c.loop-peer-test.true c.loop-peer.invariant c.in_ok-push.ensures.items c.of.ensures.peer c.of.ensures.fresh
+    made_more c.args.peers.now c.loop-peer.slots.items c.push.new.self.items c.loop-peer.peer-index _ c.of.result c.loop-peer-test.true
+    c.loop-peer.invariant c.in_ok-push.ensures.items c.of.ensures.peer c.of.ensures.fresh
 
 pub returns : goal.returns
 returns c =

@@ -12,6 +12,7 @@ returns-in-None-clause-raised c =
 pub returns-in-Some-clause-raised : goal.returns-in-Some-clause-raised
 returns-in-Some-clause-raised c =
     on_ok_weaker c.raise.result
-    (slot_set c.self.inside.slots.items c.deref.result.now c.args.self.now c.args.peer c.in-Some.place c.index_mut.result.now c.self.view_is c.deref.ensures.value c.in-Some.ensures.place c.index_mut.ensures.value
+    (slot_set c.self.inside.slots.items c.deref.result.now c.args.self.now c.args.peer c.in-Some.place c.index_mut.result.now c.self.view_is
+    c.deref.ensures.value c.in-Some.ensures.place c.index_mut.ensures.value
     (λ (old new : PeerTable). new ≡ raised old) c.raise.new.self c.raise.ensures.peer)
     c.raise.ensures.raised

@@ -12,6 +12,7 @@ returns-in-None-clause-set c =
 pub returns-in-Some-clause-set : goal.returns-in-Some-clause-set
 returns-in-Some-clause-set c =
     on_ok_weaker c.set.result
-    (slot_set c.self.inside.slots.items c.deref.result.now c.args.self.now c.args.peer c.in-Some.place c.index_mut.result.now c.self.view_is c.deref.ensures.value c.in-Some.ensures.place c.index_mut.ensures.value
+    (slot_set c.self.inside.slots.items c.deref.result.now c.args.self.now c.args.peer c.in-Some.place c.index_mut.result.now c.self.view_is
+    c.deref.ensures.value c.in-Some.ensures.place c.index_mut.ensures.value
     (λ (old new : PeerTable). new ≡ with_route c.args.key.now c.args.value.now old) c.set.new.self c.set.ensures.peer)
     c.set.ensures.set

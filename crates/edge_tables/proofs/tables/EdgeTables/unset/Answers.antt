@@ -6,8 +6,11 @@ use Rattle.edge_tables.proofs.tables.EdgeTables.unset.Goals as goal
 
 pub returns-clause-unset : goal.returns-clause-unset
 returns-clause-unset c =
-    on_ok_weaker c.unset_each.result (each_behind (λ (old new : PeerTable). new ≡ without_route c.args.key.now old) c.self.inside.slots c.deref_mut.result.now c.unset_each.new.slots c.args.self.now c.self.view_is c.deref_mut.ensures.value) c.unset_each.ensures.unset
+    on_ok_weaker c.unset_each.result (each_behind (λ (old new : PeerTable). new ≡ without_route c.args.key.now old) c.self.inside.slots
+    c.deref_mut.result.now c.unset_each.new.slots c.args.self.now c.self.view_is c.deref_mut.ensures.value) c.unset_each.ensures.unset
 
 pub returns-clause-partly : goal.returns-clause-partly
 returns-clause-partly c =
-    on_err_weaker c.unset_each.result (each_behind (λ (old new : PeerTable). (new ≡ old) ⊎ (new ≡ without_route c.args.key.now old)) c.self.inside.slots c.deref_mut.result.now c.unset_each.new.slots c.args.self.now c.self.view_is c.deref_mut.ensures.value) c.unset_each.ensures.partly
+    on_err_weaker c.unset_each.result (each_behind (λ (old new : PeerTable). (new ≡ old) ⊎ (new ≡ without_route c.args.key.now old))
+    c.self.inside.slots c.deref_mut.result.now c.unset_each.new.slots c.args.self.now c.self.view_is c.deref_mut.ensures.value)
+    c.unset_each.ensures.partly

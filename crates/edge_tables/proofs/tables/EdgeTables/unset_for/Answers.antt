@@ -12,6 +12,7 @@ returns-in-None-clause-unset c =
 pub returns-in-Some-clause-unset : goal.returns-in-Some-clause-unset
 returns-in-Some-clause-unset c =
     on_ok_weaker c.unset.result
-    (slot_set c.self.inside.slots.items c.deref.result.now c.args.self.now c.args.peer c.in-Some.place c.index_mut.result.now c.self.view_is c.deref.ensures.value c.in-Some.ensures.place c.index_mut.ensures.value
+    (slot_set c.self.inside.slots.items c.deref.result.now c.args.self.now c.args.peer c.in-Some.place c.index_mut.result.now c.self.view_is
+    c.deref.ensures.value c.in-Some.ensures.place c.index_mut.ensures.value
     (λ (old new : PeerTable). new ≡ without_route c.args.key.now old) c.unset.new.self c.unset.ensures.peer)
     c.unset.ensures.unset

@@ -12,7 +12,8 @@ returns-then-not-same_hop c =
 
 pub returns-then-not-same_comms : goal.returns-then-not-same_comms
 returns-then-not-same_comms c =
-    other_comms (value_of c.args.own.now) (value_of c.args.other.now) (λ e. never c.same_comms.result (c.same_comms.ensures.1 e) c.if-not-same_comms.true)
+    other_comms (value_of c.args.own.now) (value_of c.args.other.now)
+    (λ e. never c.same_comms.result (c.same_comms.ensures.1 e) c.if-not-same_comms.true)
 
 pub returns : goal.returns
 returns c =

@@ -13,4 +13,5 @@ pub returns-clause-learned : goal.returns-clause-learned
 returns-clause-learned c =
     let old = taken_in c.args.table.now in
     c.in_ok-apply.ensures.applied
-    ∙ ap (insert old c.args.key) (c.of.ensures ∙ sym (news_learned (handed c.args.value) (get old c.args.key) c.args.now (sym c.is_news.ensures ∙ c.if-not-is_news.false)))
+    ∙ ap (insert old c.args.key) (c.of.ensures ∙ sym
+    (news_learned (handed c.args.value) (get old c.args.key) c.args.now (sym c.is_news.ensures ∙ c.if-not-is_news.false)))

@@ -6,4 +6,5 @@ use Rattle.edge_tables.proofs.taken_tables.running.run_table.Goals as goal
 
 pub returns : goal.returns
 returns c =
-    table_ran _ (run_at c.args.vrfs.now c.args.delay c.args.now c.args.peer) _ (λ k v b w g call. search rules) (taken_in c.args.table.now) (taken_in c.retain.new.self) c.retain.ensures
+    table_ran _ (run_at c.args.vrfs.now c.args.delay c.args.now c.args.peer) _ (λ k v b w g call. search rules) (taken_in c.args.table.now)
+    (taken_in c.retain.new.self) c.retain.ensures

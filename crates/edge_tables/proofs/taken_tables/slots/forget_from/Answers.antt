@@ -10,7 +10,8 @@ pub returns-in-None-clause-forgot : goal.returns-in-None-clause-forgot
 returns-in-None-clause-forgot c = λ now.
     let old = c.args.slots.now.entries in
     (λ i. tables_of (c.get_mut.follows.holds-at-none i).entries)
-    ∙ unchanged_at (tables_of old) c.args.peer (λ taken. taken_change now taken (Unreach c.args.key.now)) (none_there old (tables_of old) c.args.peer refl c.in-None.ensures.value)
+    ∙ unchanged_at (tables_of old) c.args.peer (λ taken. taken_change now taken (Unreach c.args.key.now))
+    (none_there old (tables_of old) c.args.peer refl c.in-None.ensures.value)
 
 pub returns-in-Some-clause-forgot : goal.returns-in-Some-clause-forgot
 returns-in-Some-clause-forgot c = λ now.

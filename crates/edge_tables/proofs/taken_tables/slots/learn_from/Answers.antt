@@ -12,7 +12,8 @@ pub returns-in-None-clause-learned : goal.returns-in-None-clause-learned
 returns-in-None-clause-learned c =
     let old = c.args.slots.now.entries in
     (λ i. tables_of (c.get_mut.follows.holds-at-none i).entries)
-    ∙ unchanged_at (tables_of old) c.args.peer (λ taken. taken_change c.args.now taken (reach c.args.key (handed c.args.value))) (none_there old (tables_of old) c.args.peer refl c.in-None.ensures.value)
+    ∙ unchanged_at (tables_of old) c.args.peer (λ taken. taken_change c.args.now taken (reach c.args.key (handed c.args.value)))
+    (none_there old (tables_of old) c.args.peer refl c.in-None.ensures.value)
 
 pub returns-in-None-clause-news : goal.returns-in-None-clause-news
 returns-in-None-clause-news c =

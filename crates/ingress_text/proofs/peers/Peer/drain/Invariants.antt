@@ -5,7 +5,8 @@ use Rattle.ingress_text.proofs.peers.Peer.drain.Given as goal
 -- the other messages are still to be heard
 abbrev pub invariant-loop-message : goal.invariant-loop-message
 invariant-loop-message l = record {
-  all : fold (answer_by l.request l.leaf) l.self.answer l.self.stream.waiting ≡ fold (answer_by l.request l.leaf) l.initial.self.answer l.initial.self.stream.waiting;
+  all : fold (answer_by l.request l.leaf) l.self.answer l.self.stream.waiting
+      ≡ fold (answer_by l.request l.leaf) l.initial.self.answer l.initial.self.stream.waiting;
   same : record l.self.stream { waiting = [] } ≡ record l.initial.self.stream { waiting = [] };
 }
 

@@ -8,4 +8,6 @@ pub invariant_of-self : goal.invariant_of-self
 invariant_of-self c = rw c.cut.ensures (sorted_without c.args.branch c.self.inside.items.items c.self.invariant)
 
 pub returns : goal.returns
-returns c = ap set_of c.cut.ensures ∙ (set_without c.args.branch c.self.inside.items.items c.self.invariant ∙ ap (λ (m : Hops). maps.remove m c.args.branch) c.self.view_is)
+returns c =
+    ap set_of c.cut.ensures ∙ (set_without c.args.branch c.self.inside.items.items c.self.invariant
+    ∙ ap (λ (m : Hops). maps.remove m c.args.branch) c.self.view_is)

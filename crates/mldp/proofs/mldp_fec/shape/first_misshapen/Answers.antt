@@ -10,7 +10,12 @@ returns-in_default c =
     let octets = c.args.octets.now in
     let place = c.loop-place.place in
     let found : tlv_len (drop place octets) ≡ None = ap tlv_len (sym (take_rest octets place)) ∙ sym c.in_default.ensures.value in
-    record { value = sym (stops tlv_len place (drop place octets) (omega (arith, length-drop place octets, c.loop-place-test.true)) found) ∙ c.loop-place.invariant.1; within = c.loop-place-test.true }
+    record {
+      value =
+          sym (stops tlv_len place (drop place octets) (omega (arith, length-drop place octets, c.loop-place-test.true)) found)
+          ∙ c.loop-place.invariant.1;
+      within = c.loop-place-test.true;
+    }
 
 pub loop-place-preserved : goal.loop-place-preserved
 loop-place-preserved c =
@@ -18,8 +23,17 @@ loop-place-preserved c =
     let place = c.loop-place.place in
     let len = c.in-Some.len in
     let within : len ≤ length (drop place octets) = rw (← take_rest octets place) c.in-Some.ensures.within.1 in
-    let found : tlv_len (drop place octets) ≡ Some len = ap tlv_len (sym (take_rest octets place)) ∙ sym c.in-Some.ensures.value in
-    (omega (arith, within, length-drop place octets, c.loop-place.invariant.0), ap (λ (xs : List ℕ). walk tlv_len (place + len) 0 xs) (sym (drop-drop len place octets)) ∙ sym (one_further tlv_len place len (drop place octets) c.in-Some.ensures.within.0 within found) ∙ c.loop-place.invariant.1)
+    let found : tlv_len (drop place octets) ≡ Some len = ap tlv_len (sym (take_rest octets place)) ∙ sym c.in-Some.ensures.value in (
+      omega (arith, within, length-drop place octets, c.loop-place.invariant.0),
+      ap (λ (xs : List ℕ). walk tlv_len (place + len) 0 xs) (sym (drop-drop len place octets))
+          ∙ sym (one_further tlv_len place len (drop place octets) c.in-Some.ensures.within.0 within found) ∙ c.loop-place.invariant.1,
+    )
 
 pub returns : goal.returns
-returns c = record { value = sym (ends tlv_len c.loop-place.place) ∙ ap (λ (xs : List ℕ). walk tlv_len c.loop-place.place 0 xs) (sym (drop_all c.loop-place.place c.args.octets.now c.loop-place-test.false)) ∙ c.loop-place.invariant.1; within = tt }
+returns c =
+    record {
+      value =
+          sym (ends tlv_len c.loop-place.place) ∙ ap (λ (xs : List ℕ). walk tlv_len c.loop-place.place 0 xs)
+          (sym (drop_all c.loop-place.place c.args.octets.now c.loop-place-test.false)) ∙ c.loop-place.invariant.1;
+      within = tt;
+    }

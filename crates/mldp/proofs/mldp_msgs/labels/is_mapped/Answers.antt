@@ -16,7 +16,8 @@ messages-preserved c =
     let one_more : take (index + 1) all ≡ take index all ++ item ∷ [] =
     take_more all index item c.messages-test.true ∙ ap (λ (m : LabelMessage). take index all ++ m ∷ []) (sym c.message-item.is) in
     let P : List LabelMessage → Type 0 = λ ms. IsTrue c.mapped_by-mapped.result ↔ IsMapped ms c.args.fec.now c.args.label in
-    subst P (sym one_more) (mapped_more (take index all) item c.args.fec.now c.args.label c.messages.mapped c.mapped_by-mapped.result c.mapped_by-mapped.ensures c.messages.invariant)
+    subst P (sym one_more) (mapped_more (take index all) item c.args.fec.now c.args.label c.messages.mapped c.mapped_by-mapped.result
+    c.mapped_by-mapped.ensures c.messages.invariant)
 
 pub returns : goal.returns
 returns c =

@@ -15,5 +15,7 @@ front_is old text out n put len =
 pub returns : goal.returns
 returns c =
     let text : List ℕ = fec.written c.args.fec.now in
-    let front : take c.encode-len.result c.encode-len.new.out ≡ text = front_is _ text c.encode-len.new.out c.encode-len.result c.encode-len.ensures.octets c.encode-len.ensures.len in
-    subst (λ (xs : List ℕ). OnOk c.push_tlv.result (c.push_tlv.new.out ≡ c.args.out.now ++ (to_be_bytes w16 0x0100 ++ (to_be_bytes w16 (length xs) ++ xs)))) front c.push_tlv.ensures
+    let front : take c.encode-len.result c.encode-len.new.out ≡ text =
+    front_is _ text c.encode-len.new.out c.encode-len.result c.encode-len.ensures.octets c.encode-len.ensures.len in
+    subst (λ (xs : List ℕ). OnOk c.push_tlv.result
+    (c.push_tlv.new.out ≡ c.args.out.now ++ (to_be_bytes w16 0x0100 ++ (to_be_bytes w16 (length xs) ++ xs)))) front c.push_tlv.ensures

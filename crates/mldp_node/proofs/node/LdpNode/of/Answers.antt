@@ -10,7 +10,9 @@ use Rattle.mldp_node.proofs.node.LdpNode.of.Goals as goal
 
 pub invariant_of-result : goal.invariant_of-result
 invariant_of-result c = λ e. record {
-  tied = subst (λ (t : Trees). AreTied t c.of-3.result) (sym c.in_ok-of.ensures) (subst (λ (x : Ends). AreTied (untouched c.args.life c.args.labels) x) (sym c.of-3.ensures) (fresh_tied c.args.life c.args.labels c.requires.few));
+  tied = subst (λ (t : Trees). AreTied t c.of-3.result) (sym c.in_ok-of.ensures)
+      (subst (λ (x : Ends). AreTied (untouched c.args.life c.args.labels) x) (sym c.of-3.ensures)
+      (fresh_tied c.args.life c.args.labels c.requires.few));
   on = subst (λ (t : Trees). WaitOnTrees t) (sym c.in_ok-of.ensures) (none_waits c.args.life c.args.labels);
   life = ap (λ (t : Trees). t.uses.life) c.in_ok-of.ensures ∙ sym (ap (λ (p : NodePlace). p.life) c.of.ensures);
 }

@@ -11,5 +11,7 @@ raised-requires-clause-down c =
     ∙ c.requires.down (sym (ap (λ (n : NodeData). n.node.spent) c.self.view_is) ∙ ap (option_map cause) c.in_default.is)
 
 pub returns-in-Ok : goal.returns-in-Ok
-returns-in-Ok c = answers_ok c.args.core.now c.args.now (Raised c.args.peer) c.self.inside.place c.self.inside.trees c.self.inside.ends c.raised.new.trees c.raised.new.ends c.args.self.now c.self.inside.spent
+returns-in-Ok c =
+    answers_ok c.args.core.now c.args.now (Raised c.args.peer) c.self.inside.place c.self.inside.trees c.self.inside.ends c.raised.new.trees
+    c.raised.new.ends c.args.self.now c.self.inside.spent
     c.in_default.is c.self.view_is (c.self.invariant c.in_default.is).on c.in-Ok.ensures.ok

@@ -12,7 +12,11 @@ returns-in-Some c = λ own is.
     let addrs : c.as_slice.result.now ≡ c.args.self.now.addrs = c.as_slice.ensures ∙ ap (λ (p : NodePlace). p.addrs) c.self.view_is in
     let count : length c.self.inside.addrs ≡ c.args.core.now.nodes = ap (λ (p : NodePlace). length p.addrs) c.self.view_is ∙ sym c.requires in
     let near : c.self.inside.me.0 < c.args.core.now.nodes = subst (λ n. c.self.inside.me.0 < n) count c.self.invariant.within in
-    let far : c.in-Some.root.0 < c.args.core.now.nodes = subst (λ n. c.in-Some.root.0 < n) (ap (λ (xs : List Addr). length xs) c.as_slice.ensures ∙ count) (within_some c.node_at.result c.in-Some.root (length c.as_slice.result.now) c.in-Some.is c.node_at.ensures.within) in
-    toward_is c.args.core.now.nodes c.args.core.now.links own c.self.inside.me c.in-Some.root c.toward.result is near far c.toward.ensures.next c.toward.ensures.none
+    let far : c.in-Some.root.0 < c.args.core.now.nodes =
+    subst (λ n. c.in-Some.root.0 < n) (ap (λ (xs : List Addr). length xs) c.as_slice.ensures ∙ count)
+    (within_some c.node_at.result c.in-Some.root (length c.as_slice.result.now) c.in-Some.is c.node_at.ensures.within) in
+    toward_is c.args.core.now.nodes c.args.core.now.links own c.self.inside.me c.in-Some.root c.toward.result is near far c.toward.ensures.next
+    c.toward.ensures.none
     ∙ ap (λ (n : NodeId). own.toward n c.in-Some.root) me
-    ∙ ap (λ (o : Option NodeId). o >>? λ root. own.toward c.args.self.now.me root) (sym c.in-Some.is ∙ c.node_at.ensures.value ∙ ap (λ (xs : List Addr). node_at xs c.args.fec.now.root) addrs)
+    ∙ ap (λ (o : Option NodeId). o >>? λ root. own.toward c.args.self.now.me root)
+    (sym c.in-Some.is ∙ c.node_at.ensures.value ∙ ap (λ (xs : List Addr). node_at xs c.args.fec.now.root) addrs)

@@ -13,7 +13,8 @@ loop-round-preserved c =
 
 told : (c : goal.After-all_marked) → c.all_marked.result ≡ is_connected c.args.nodes c.args.links.now
 told c =
-    all_marks c.args.nodes c.loop-round.round c.args.links.now c.loop-round.marks c.all_marked.result c.requires (omega arith) c.loop-round.invariant c.all_marked.ensures
+    all_marks c.args.nodes c.loop-round.round c.args.links.now c.loop-round.marks c.all_marked.result c.requires (omega arith) c.loop-round.invariant
+    c.all_marked.ensures
 
 pub returns-clause-value : goal.returns-clause-value
 returns-clause-value c = told c

@@ -6,4 +6,10 @@ pub overflow_sub-total : goal.overflow_sub-total
 overflow_sub-total c = omega (arith, c.waiting.ensures, c.requires.counted, held_least c.args.sessions.now c.args.over)
 
 pub returns-clause-counted : goal.returns-clause-counted
-returns-clause-counted c = omega (arith, c.waiting.ensures, c.requires.counted, held_changes c.args.sessions.now c.swap_remove.new.self c.args.over None c.swap_remove.ensures.updates.0)
+returns-clause-counted c =
+    omega (
+      arith,
+      c.waiting.ensures,
+      c.requires.counted,
+      held_changes c.args.sessions.now c.swap_remove.new.self c.args.over None c.swap_remove.ensures.updates.0,
+    )

@@ -21,13 +21,16 @@ returns-in_err-hand_over-clause-waits c = λ own h. c.in_err-hand_over.ensures.w
 
 pub loop-way-preserved : goal.loop-way-preserved
 loop-way-preserved c =
-    one_done c.args.ways.now c.loop-way.way-index (get_or c.args.ways.now c.loop-way.way-index no_way) c.args.node.now c.loop-way.node c.hand_over.new.node c.args.transit.now c.loop-way.transit c.hand_over.new.transit
+    one_done c.args.ways.now c.loop-way.way-index (get_or c.args.ways.now c.loop-way.way-index no_way) c.args.node.now c.loop-way.node
+    c.hand_over.new.node c.args.transit.now c.loop-way.transit c.hand_over.new.transit
     c.args.lines.now c.loop-way.lines c.hand_over.new.lines no_way c.loop-way-test.true refl c.loop-way.invariant
-    c.in_ok-hand_over.ensures.handed c.in_ok-hand_over.ensures.unspent c.in_ok-hand_over.ensures.peers c.in_ok-hand_over.ensures.placed c.in_ok-hand_over.ensures.waits
+    c.in_ok-hand_over.ensures.handed c.in_ok-hand_over.ensures.unspent c.in_ok-hand_over.ensures.peers c.in_ok-hand_over.ensures.placed
+    c.in_ok-hand_over.ensures.waits
 
 pub returns-clause-handed : goal.returns-clause-handed
 returns-clause-handed c =
-    all_done c.args.ways.now c.loop-way.way-index c.args.node.now c.loop-way.node c.args.transit.now c.loop-way.transit c.args.lines.now c.loop-way.lines c.loop-way-test.false c.loop-way.invariant
+    all_done c.args.ways.now c.loop-way.way-index c.args.node.now c.loop-way.node c.args.transit.now c.loop-way.transit c.args.lines.now
+    c.loop-way.lines c.loop-way-test.false c.loop-way.invariant
 
 pub returns-clause-unspent : goal.returns-clause-unspent
 returns-clause-unspent c = c.loop-way.invariant.unspent

@@ -8,7 +8,9 @@ active-requires-clause-plane c = some_plane (IsIfaceEdge c.args.n c.args.iface) 
 
 pub returns : goal.returns
 returns c =
-    customer_acts_as _ c.args.self.now c.self.view_is c.active.new.self (IsIfaceEdge c.args.n c.args.iface) c.args.n (steps.Active c.args.iface c.args.source c.args.group) (is_note_full c.args.n (record { iface = c.args.iface; source = c.args.source; group = c.args.group }))
+    customer_acts_as _ c.args.self.now c.self.view_is c.active.new.self (IsIfaceEdge c.args.n c.args.iface) c.args.n
+    (steps.Active c.args.iface c.args.source c.args.group)
+    (is_note_full c.args.n (record { iface = c.args.iface; source = c.args.source; group = c.args.group }))
     c.args.lines.now c.active.new.lines c.active.result c.active.ensures.acts
 
 pub invariant_of-self : goal.invariant_of-self

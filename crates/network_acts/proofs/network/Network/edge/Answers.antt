@@ -8,7 +8,8 @@ use Rattle.network_acts.proofs.network.Network.edge.Goals as goal
 pub unreachable-requires : goal.unreachable-requires
 unreachable-requires c =
     let none = c.edge.ensures.none c.in-None.is c.self.inside.scenario c.self.invariant in
-    (let t : true ≡ false = sym c.requires.edge ∙ (ap (λ (network : NetworkView). is_edge network.scenario c.args.n) (sym c.self.view_is) ∙ none) in cc)
+    (let t : true ≡ false = sym c.requires.edge ∙ (ap (λ (network : NetworkView). is_edge network.scenario c.args.n) (sym c.self.view_is) ∙ none) in
+    cc)
 
 pub returns : goal.returns
 returns c = λ at is. c.in-Some.ensures.is (standing_of at) (own_is _ c.args.self.now c.self.view_is at is).plane

@@ -8,5 +8,6 @@ send-requires c = record { sending = some_sending Any _ c.args.self.now c.self.v
 
 pub returns : goal.returns
 returns c =
-    on_ok_weaker c.send.result (λ sent. sends _ c.args.self.now c.self.view_is c.args.octets.now c.clock.result c.send.new.self (λ standing plane. c.clock.ensures.is standing plane) sent)
+    on_ok_weaker c.send.result (λ sent. sends _ c.args.self.now c.self.view_is c.args.octets.now c.clock.result c.send.new.self
+    (λ standing plane. c.clock.ensures.is standing plane) sent)
     c.send.ensures.sent

@@ -13,8 +13,10 @@ idle-requires-clause-plane c = some_plane (IsIfaceEdge c.args.n c.args.iface) _ 
 
 pub returns : goal.returns
 returns c =
-    acts_as _ c.args.self.now c.self.view_is c.idle.new.self (IsIfaceEdge c.args.n c.args.iface) same_moment (acts.At c.args.n (steps.Idle c.args.iface c.args.source c.args.group)) c.args.n
-    (octets.Call (Own c.args.n (steps.Idle c.args.iface c.args.source c.args.group)) ∷ []) no_lines c.args.lines.now c.idle.new.lines c.idle.result (λ at. refl) c.idle.ensures.acts
+    acts_as _ c.args.self.now c.self.view_is c.idle.new.self (IsIfaceEdge c.args.n c.args.iface) same_moment
+    (acts.At c.args.n (steps.Idle c.args.iface c.args.source c.args.group)) c.args.n
+    (octets.Call (Own c.args.n (steps.Idle c.args.iface c.args.source c.args.group)) ∷ []) no_lines c.args.lines.now c.idle.new.lines c.idle.result
+    (λ at. refl) c.idle.ensures.acts
 
 pub invariant_of-self : goal.invariant_of-self
 invariant_of-self c = c.idle.ensures.places.keeps c.self.inside.scenario c.self.invariant

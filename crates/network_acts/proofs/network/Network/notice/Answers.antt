@@ -13,8 +13,10 @@ notice-requires c = record { plane = some_plane (IsLost c.args.kind c.args.a c.a
 
 pub returns : goal.returns
 returns c =
-    acts_as _ c.args.self.now c.self.view_is c.notice.new.self (IsLost c.args.kind c.args.a c.args.b) same_moment (acts.Notice c.args.kind c.args.a c.args.b) c.args.a
-    (octets.Forget (acts.is_from_peer c.args.kind c.args.a c.args.b) ∷ octets.Call (Own c.args.a (steps.Noticed c.args.kind c.args.b)) ∷ []) no_lines c.args.lines.now c.notice.new.lines c.notice.result (λ at. refl) c.notice.ensures.acts
+    acts_as _ c.args.self.now c.self.view_is c.notice.new.self (IsLost c.args.kind c.args.a c.args.b) same_moment
+    (acts.Notice c.args.kind c.args.a c.args.b) c.args.a
+    (octets.Forget (acts.is_from_peer c.args.kind c.args.a c.args.b) ∷ octets.Call (Own c.args.a (steps.Noticed c.args.kind c.args.b)) ∷ []) no_lines
+    c.args.lines.now c.notice.new.lines c.notice.result (λ at. refl) c.notice.ensures.acts
 
 pub invariant_of-self : goal.invariant_of-self
 invariant_of-self c = c.notice.ensures.places.keeps c.self.inside.scenario c.self.invariant

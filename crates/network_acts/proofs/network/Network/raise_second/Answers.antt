@@ -13,8 +13,10 @@ raise_second-requires c = record { plane = some_plane (IsHalfUp c.args.kind c.ar
 
 pub returns : goal.returns
 returns c =
-    acts_as _ c.args.self.now c.self.view_is c.raise_second.new.self (IsHalfUp c.args.kind c.args.a c.args.b) none_rising (acts.RaiseSecond c.args.kind c.args.a c.args.b) c.args.b
-    (octets.Call (Own c.args.b (steps.Raised c.args.kind c.args.a)) ∷ []) no_lines c.args.lines.now c.raise_second.new.lines c.raise_second.result (λ at. refl) c.raise_second.ensures.acts
+    acts_as _ c.args.self.now c.self.view_is c.raise_second.new.self (IsHalfUp c.args.kind c.args.a c.args.b) none_rising
+    (acts.RaiseSecond c.args.kind c.args.a c.args.b) c.args.b
+    (octets.Call (Own c.args.b (steps.Raised c.args.kind c.args.a)) ∷ []) no_lines c.args.lines.now c.raise_second.new.lines c.raise_second.result
+    (λ at. refl) c.raise_second.ensures.acts
 
 pub invariant_of-self : goal.invariant_of-self
 invariant_of-self c = c.raise_second.ensures.places.keeps c.self.inside.scenario c.self.invariant

@@ -15,7 +15,8 @@ pub returns : goal.returns
 returns c =
     passes_as _ c.args.self.now c.self.view_is c.restart.new.self Any same_moment (acts.Restart c.args.n) c.args.n
     (octets.Lose (acts.is_at c.args.n) ∷ octets.Forget (acts.leads_to c.args.n) ∷ octets.Call (Reset c.args.n) ∷ []) c.restart.result (λ at. refl)
-    (on_ok_weaker c.restart.result (λ each at is. each (standing_of at) (sym (own_is _ c.args.self.now c.self.view_is at is).scenario)) c.restart.ensures.restarted)
+    (on_ok_weaker c.restart.result (λ each at is. each (standing_of at) (sym (own_is _ c.args.self.now c.self.view_is at is).scenario))
+    c.restart.ensures.restarted)
 
 pub invariant_of-self : goal.invariant_of-self
 invariant_of-self c = c.restart.ensures.places c.self.invariant

@@ -8,7 +8,8 @@ select-requires-clause-plane c = some_plane (IsUnselected c.args.n c.args.vrf c.
 
 pub returns : goal.returns
 returns c =
-    customer_acts_as _ c.args.self.now c.self.view_is c.select.new.self (IsUnselected c.args.n c.args.vrf c.args.pattern) c.args.n (steps.Select c.args.vrf c.args.pattern) (is_selection_full c.args.n)
+    customer_acts_as _ c.args.self.now c.self.view_is c.select.new.self (IsUnselected c.args.n c.args.vrf c.args.pattern) c.args.n
+    (steps.Select c.args.vrf c.args.pattern) (is_selection_full c.args.n)
     c.args.lines.now c.select.new.lines c.select.result c.select.ensures.acts
 
 pub invariant_of-self : goal.invariant_of-self

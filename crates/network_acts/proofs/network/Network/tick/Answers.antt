@@ -6,7 +6,8 @@ use Rattle.network_acts.proofs.network.Network.tick.Goals as goal
 
 pub returns : goal.returns
 returns c = λ at is.
-    ticks _ c.args.self.now c.self.view_is c.elapse.new.self at c.args.ticks c.age.new.self is (c.elapse.ensures.acts (standing_of at)) (λ world idle in_plane same.
+    ticks _ c.args.self.now c.self.view_is c.elapse.new.self at c.args.ticks c.age.new.self is (c.elapse.ensures.acts (standing_of at))
+    (λ world idle in_plane same.
     c.age.ensures world idle
     (sym (c.clock.ensures.is (record (standing_of at) { network = world.network }) in_plane))
     (ap (λ (s : Scenario). s.life) (same ∙ sym (own_is _ c.args.self.now c.self.view_is at is).scenario)))

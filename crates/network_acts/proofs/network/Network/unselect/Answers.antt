@@ -13,8 +13,10 @@ unselect-requires-clause-plane c = some_plane (IsVrfEdge c.args.n c.args.vrf) _ 
 
 pub returns : goal.returns
 returns c =
-    acts_as _ c.args.self.now c.self.view_is c.unselect.new.self (IsVrfEdge c.args.n c.args.vrf) same_moment (acts.At c.args.n (steps.Unselect c.args.vrf c.args.pattern)) c.args.n
-    (octets.Call (Own c.args.n (steps.Unselect c.args.vrf c.args.pattern)) ∷ []) no_lines c.args.lines.now c.unselect.new.lines c.unselect.result (λ at. refl) c.unselect.ensures.acts
+    acts_as _ c.args.self.now c.self.view_is c.unselect.new.self (IsVrfEdge c.args.n c.args.vrf) same_moment
+    (acts.At c.args.n (steps.Unselect c.args.vrf c.args.pattern)) c.args.n
+    (octets.Call (Own c.args.n (steps.Unselect c.args.vrf c.args.pattern)) ∷ []) no_lines c.args.lines.now c.unselect.new.lines c.unselect.result
+    (λ at. refl) c.unselect.ensures.acts
 
 pub invariant_of-self : goal.invariant_of-self
 invariant_of-self c = c.unselect.ensures.places.keeps c.self.inside.scenario c.self.invariant

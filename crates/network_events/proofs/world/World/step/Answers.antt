@@ -26,7 +26,8 @@ meet-answer-requires-clause-event c =
 pub meet-answer-requires-clause-clock : goal.meet-answer-requires-clause-clock
 meet-answer-requires-clause-clock c =
     let unhalted = ap (λ (w : WorldView). w.halt) (sym c.self.view_is) ∙ c.in_default.is in
-    subst (λ (w : WorldView). w.network.plane.clock + ticks_of c.args.event.now < 9223372036854775808) (sym c.self.view_is) (c.requires.clock unhalted)
+    subst (λ (w : WorldView). w.network.plane.clock + ticks_of c.args.event.now < 9223372036854775808) (sym c.self.view_is)
+    (c.requires.clock unhalted)
 
 pub returns-in-Err : goal.returns-in-Err
 returns-in-Err c =
@@ -35,9 +36,13 @@ returns-in-Err c =
     let now : WorldView = record { network = c.meet-answer.new.network; halt = Some c.in-Err.halt } in
     let unhalted = ap (λ (w : WorldView). w.halt) (sym c.self.view_is) ∙ c.in_default.is in
     let is = subst (λ (w : WorldView). IsEventOf w.network.scenario c.args.event.now) (sym c.self.view_is) (c.requires.event unhalted) in
-    let meets = subst (λ (l : List ReportLine). Meets c.args.event.now view.network c.meet-answer.new.network l c.meet-answer.new.lines c.meet-answer.result) c.new-own.ensures c.meet-answer.ensures in
-    subst (λ (w : WorldView). Steps c.args.line c.args.event.now w now c.args.lines.now c.hand_over-result.new.lines (Err c.in-Err.halt)) c.self.view_is
-    (step_halts c.args.line c.args.event.now view c.in_default.is is c.meet-answer.new.network c.args.lines.now c.meet-answer.new.lines c.tell-told.new.lines c.hand_over-result.new.lines c.meet-answer.result meets
+    let meets =
+    subst (λ (l : List ReportLine). Meets c.args.event.now view.network c.meet-answer.new.network l c.meet-answer.new.lines c.meet-answer.result)
+    c.new-own.ensures c.meet-answer.ensures in
+    subst (λ (w : WorldView). Steps c.args.line c.args.event.now w now c.args.lines.now c.hand_over-result.new.lines (Err c.in-Err.halt))
+    c.self.view_is
+    (step_halts c.args.line c.args.event.now view c.in_default.is is c.meet-answer.new.network c.args.lines.now c.meet-answer.new.lines
+    c.tell-told.new.lines c.hand_over-result.new.lines c.meet-answer.result meets
     c.in-Err.halt c.tell-told.result c.hand_over-result.result c.in-Err.is c.tell-told.ensures c.hand_over-result.ensures)
 
 pub invariant_of-self : goal.invariant_of-self
@@ -50,10 +55,15 @@ invariant_of-self-in_default-result c = λ going.
     let now : WorldView = record { network = c.meet-answer.new.network; halt = inside.halt } in
     let unhalted = ap (λ (w : WorldView). w.halt) (sym c.self.view_is) ∙ c.in_default.is in
     let is = subst (λ (w : WorldView). IsEventOf w.network.scenario c.args.event.now) (sym c.self.view_is) (c.requires.event unhalted) in
-    let meets = subst (λ (l : List ReportLine). Meets c.args.event.now view.network c.meet-answer.new.network l c.meet-answer.new.lines c.meet-answer.result) c.new-own.ensures c.meet-answer.ensures in
-    still_reached c.args.line c.args.event.now view now c.args.lines.now c.hand_over-result.new.lines c.hand_over-result.result c.in_default-result.not-Err
-    (step_goes c.args.line c.args.event.now view c.in_default.is is c.meet-answer.new.network c.args.lines.now c.meet-answer.new.lines c.tell-told.new.lines c.hand_over-result.new.lines c.meet-answer.result meets
-    inside.halt c.in_default.is c.tell-told.result c.hand_over-result.result c.in_default-result.not-Err c.tell-told.ensures c.hand_over-result.ensures)
+    let meets =
+    subst (λ (l : List ReportLine). Meets c.args.event.now view.network c.meet-answer.new.network l c.meet-answer.new.lines c.meet-answer.result)
+    c.new-own.ensures c.meet-answer.ensures in
+    still_reached c.args.line c.args.event.now view now c.args.lines.now c.hand_over-result.new.lines c.hand_over-result.result
+    c.in_default-result.not-Err
+    (step_goes c.args.line c.args.event.now view c.in_default.is is c.meet-answer.new.network c.args.lines.now c.meet-answer.new.lines
+    c.tell-told.new.lines c.hand_over-result.new.lines c.meet-answer.result meets
+    inside.halt c.in_default.is c.tell-told.result c.hand_over-result.result c.in_default-result.not-Err c.tell-told.ensures
+    c.hand_over-result.ensures)
     (c.self.invariant c.in_default.is)
 
 pub returns-in_default-result : goal.returns-in_default-result
@@ -63,7 +73,12 @@ returns-in_default-result c =
     let now : WorldView = record { network = c.meet-answer.new.network; halt = inside.halt } in
     let unhalted = ap (λ (w : WorldView). w.halt) (sym c.self.view_is) ∙ c.in_default.is in
     let is = subst (λ (w : WorldView). IsEventOf w.network.scenario c.args.event.now) (sym c.self.view_is) (c.requires.event unhalted) in
-    let meets = subst (λ (l : List ReportLine). Meets c.args.event.now view.network c.meet-answer.new.network l c.meet-answer.new.lines c.meet-answer.result) c.new-own.ensures c.meet-answer.ensures in
-    subst (λ (w : WorldView). Steps c.args.line c.args.event.now w now c.args.lines.now c.hand_over-result.new.lines c.hand_over-result.result) c.self.view_is
-    (step_goes c.args.line c.args.event.now view c.in_default.is is c.meet-answer.new.network c.args.lines.now c.meet-answer.new.lines c.tell-told.new.lines c.hand_over-result.new.lines c.meet-answer.result meets
-    inside.halt c.in_default.is c.tell-told.result c.hand_over-result.result c.in_default-result.not-Err c.tell-told.ensures c.hand_over-result.ensures)
+    let meets =
+    subst (λ (l : List ReportLine). Meets c.args.event.now view.network c.meet-answer.new.network l c.meet-answer.new.lines c.meet-answer.result)
+    c.new-own.ensures c.meet-answer.ensures in
+    subst (λ (w : WorldView). Steps c.args.line c.args.event.now w now c.args.lines.now c.hand_over-result.new.lines c.hand_over-result.result)
+    c.self.view_is
+    (step_goes c.args.line c.args.event.now view c.in_default.is is c.meet-answer.new.network c.args.lines.now c.meet-answer.new.lines
+    c.tell-told.new.lines c.hand_over-result.new.lines c.meet-answer.result meets
+    inside.halt c.in_default.is c.tell-told.result c.hand_over-result.result c.in_default-result.not-Err c.tell-told.ensures
+    c.hand_over-result.ensures)

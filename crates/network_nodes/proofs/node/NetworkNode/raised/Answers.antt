@@ -12,12 +12,19 @@ use Rattle.network_nodes.proofs.node.NetworkNode.raised.Goals as goal
 
 pub returns-in-Edge-clause-answers : goal.returns-in-Edge-clause-answers
 returns-in-Edge-clause-answers c =
-    subst (λ (old : NetworkNode). Answers c.args.core.now c.args.now (after (Raised c.args.kind c.args.peer)) old (nodes.Edge c.raised.new.self) c.raised.result) (sym c.in-Edge.is)
+    subst (λ (old : NetworkNode). Answers c.args.core.now c.args.now (after (Raised c.args.kind c.args.peer)) old (nodes.Edge c.raised.new.self)
+    c.raised.result) (sym c.in-Edge.is)
     (edge_call c.args.core.now c.args.now (Raised c.args.kind c.args.peer) c.in-Edge.edge c.raised.new.self c.raised.result c.raised.ensures.answers)
 
 pub returns-in-CoreNode-clause-answers : goal.returns-in-CoreNode-clause-answers
 returns-in-CoreNode-clause-answers c =
-    subst (λ (old : NetworkNode). Answers c.args.core.now c.args.now (after (Raised c.args.kind c.args.peer)) old (nodes.CoreNode c.raised-in-CoreNode.new.self) c.told.result) (sym c.in-CoreNode.is)
-    (subst (λ (r : Result (Unit {0}) EdgeFault). Answers c.args.core.now c.args.now (after (Raised c.args.kind c.args.peer)) (nodes.CoreNode c.in-CoreNode.core_node) (nodes.CoreNode c.raised-in-CoreNode.new.self) r)
+    subst (λ (old : NetworkNode). Answers c.args.core.now c.args.now (after (Raised c.args.kind c.args.peer)) old
+    (nodes.CoreNode c.raised-in-CoreNode.new.self) c.told.result) (sym c.in-CoreNode.is)
+    (subst (λ (r : Result (Unit {0}) EdgeFault). Answers c.args.core.now c.args.now (after (Raised c.args.kind c.args.peer))
+    (nodes.CoreNode c.in-CoreNode.core_node) (nodes.CoreNode c.raised-in-CoreNode.new.self) r)
     (sym c.told.ensures)
-    (core_call c.args.core.now c.args.now (Raised c.args.kind c.args.peer) (labels.Raised c.args.peer) c.in-CoreNode.core_node c.raised-in-CoreNode.new.self c.raised-in-CoreNode.result (ap (λ (kind : Kind). own_label_call (Raised kind c.args.peer)) (subst (λ (node : NetworkNode). MayBePeer node c.args.kind c.args.peer) c.in-CoreNode.is c.requires.peer)) c.raised-in-CoreNode.ensures.answers))
+    (core_call c.args.core.now c.args.now (Raised c.args.kind c.args.peer) (labels.Raised c.args.peer) c.in-CoreNode.core_node
+    c.raised-in-CoreNode.new.self c.raised-in-CoreNode.result
+    (ap (λ (kind : Kind). own_label_call (Raised kind c.args.peer))
+    (subst (λ (node : NetworkNode). MayBePeer node c.args.kind c.args.peer) c.in-CoreNode.is c.requires.peer))
+    c.raised-in-CoreNode.ensures.answers))

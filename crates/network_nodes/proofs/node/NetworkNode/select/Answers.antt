@@ -8,5 +8,6 @@ use Rattle.network_nodes.proofs.node.NetworkNode.select.Goals as goal
 
 pub returns-clause-answers : goal.returns-clause-answers
 returns-clause-answers c = λ core.
-    subst (λ (old : NetworkNode). Answers core c.args.now (after (Select c.args.vrf c.args.pattern)) old (nodes.Edge c.select.new.self) c.select.result) (sym c.in-Edge.is)
+    subst (λ (old : NetworkNode). Answers core c.args.now (after (Select c.args.vrf c.args.pattern)) old (nodes.Edge c.select.new.self)
+    c.select.result) (sym c.in-Edge.is)
     (edge_call core c.args.now (Select c.args.vrf c.args.pattern) c.in-Edge.edge c.select.new.self c.select.result (c.select.ensures.answers core))

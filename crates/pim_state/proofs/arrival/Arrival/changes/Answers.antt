@@ -12,7 +12,11 @@ returns c = λ message tells.
     let arrival = c.args.self.now in
     let entries = c.args.entries.now in
     plan-applied arrival entries message c.plan_unnamed.new.changes.entries tells c.plan_unnamed.ensures.unique (λ at.
-    let empty : get is_at c.new-changes.result at ≡ None = ap (λ (es : List (IfaceEntry × Option Expiry)). lookup (is_at at) es) c.new-changes.ensures.empty in
-    let first : get is_at c.plan_named.new.changes at ≡ told_at arrival entries (is_named arrival arrival.joins.keys at) None at = c.in_ok-plan_named.ensures.each at ∙ (λ i. told_at arrival entries (is_named arrival (c.as_slice.ensures.keys i) at) (empty i) at) in
-    let second = c.in_ok-plan_named-2.ensures.each at ∙ (λ i. told_at arrival entries (is_named arrival (c.as_slice-2.ensures.keys i) at) (first i) at) in
-    c.in_ok-plan_unnamed.ensures.each at ∙ ap (λ (o : Option (Option Expiry)). told_at arrival entries (ends_among arrival (keys entries) at) o at) second)
+    let empty : get is_at c.new-changes.result at ≡ None =
+    ap (λ (es : List (IfaceEntry × Option Expiry)). lookup (is_at at) es) c.new-changes.ensures.empty in
+    let first : get is_at c.plan_named.new.changes at ≡ told_at arrival entries (is_named arrival arrival.joins.keys at) None at =
+    c.in_ok-plan_named.ensures.each at ∙ (λ i. told_at arrival entries (is_named arrival (c.as_slice.ensures.keys i) at) (empty i) at) in
+    let second =
+    c.in_ok-plan_named-2.ensures.each at ∙ (λ i. told_at arrival entries (is_named arrival (c.as_slice-2.ensures.keys i) at) (first i) at) in
+    c.in_ok-plan_unnamed.ensures.each at ∙ ap (λ (o : Option (Option Expiry)). told_at arrival entries (ends_among arrival (keys entries) at) o at)
+    second)

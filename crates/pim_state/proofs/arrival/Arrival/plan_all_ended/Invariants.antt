@@ -6,6 +6,7 @@ use Rattle.pim_state.proofs.arrival.Arrival.plan_all_ended.Given as goal
 
 abbrev pub invariant-loop-at : goal.invariant-loop-at
 invariant-loop-at l = record {
-  each : (at : IfaceEntry) → get is_at l.changes at ≡ told_at l.self l.entries (ends_among l.self (take l.at-index l.present) at) (get is_at l.initial.changes at) at;
+  each : (at : IfaceEntry) → get is_at l.changes at
+      ≡ told_at l.self l.entries (ends_among l.self (take l.at-index l.present) at) (get is_at l.initial.changes at) at;
   unique : IsUnique is_at l.changes;
 }

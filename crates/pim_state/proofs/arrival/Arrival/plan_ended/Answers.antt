@@ -6,9 +6,11 @@ use Rattle.pim_state.proofs.arrival.Arrival.plan_ended.Goals as goal
 
 pub returns-then-may_end-clause-each : goal.returns-then-may_end-clause-each
 returns-then-may_end-clause-each c = λ other.
-    subst (λ (b : Bool). OnOk c.plan.result (get is_at c.plan.new.changes other ≡ told_at c.args.self.now c.args.entries.now b (get is_at c.args.changes.now other) other))
+    subst (λ (b : Bool). OnOk c.plan.result (get is_at c.plan.new.changes other
+    ≡ told_at c.args.self.now c.args.entries.now b (get is_at c.args.changes.now other) other))
     (ended-one c.args.self.now c.args.at.now other (sym c.may_end.ensures ∙ c.if-may_end.true)) (c.plan.ensures.each other)
 
 pub returns-else-may_end-clause-each : goal.returns-else-may_end-clause-each
 returns-else-may_end-clause-each c = λ other.
-    sym (ap (λ (b : Bool). told_at c.args.self.now c.args.entries.now b (get is_at c.args.changes.now other) other) (kept-one c.args.self.now c.args.at.now other (sym c.may_end.ensures ∙ c.if-may_end.false)))
+    sym (ap (λ (b : Bool). told_at c.args.self.now c.args.entries.now b (get is_at c.args.changes.now other) other)
+    (kept-one c.args.self.now c.args.at.now other (sym c.may_end.ensures ∙ c.if-may_end.false)))

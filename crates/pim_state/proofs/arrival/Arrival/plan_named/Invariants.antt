@@ -6,6 +6,7 @@ use Rattle.pim_state.proofs.arrival.Arrival.plan_named.Given as goal
 
 abbrev pub invariant-loop-entry : goal.invariant-loop-entry
 invariant-loop-entry l = record {
-  each : (at : IfaceEntry) → get is_at l.changes at ≡ told_at l.self l.entries (is_named l.self (take l.entry-index l.named) at) (get is_at l.initial.changes at) at;
+  each : (at : IfaceEntry) → get is_at l.changes at
+      ≡ told_at l.self l.entries (is_named l.self (take l.entry-index l.named) at) (get is_at l.initial.changes at) at;
   unique : IsUnique is_at l.changes;
 }

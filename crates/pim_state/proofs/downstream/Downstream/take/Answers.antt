@@ -7,7 +7,8 @@ use Rattle.pim_state.proofs.downstream.Downstream.take.Goals as goal
 pub invariant_of-self-2 : goal.invariant_of-self-2
 invariant_of-self-2 c =
     let few : c.count_after.result ≤ 1024 = search rules in
-    let behind : len (from_entries {R = entry_cmp} c.apply.new.entries.entries) ≡ length c.apply.new.entries.entries = length-map c.apply.new.entries.entries c.apply.ensures.unique in (
+    let behind : len (from_entries {R = entry_cmp} c.apply.new.entries.entries) ≡ length c.apply.new.entries.entries =
+    length-map c.apply.new.entries.entries c.apply.ensures.unique in (
       c.apply.ensures.unique,
       either c.apply.result c.apply.ensures.ok c.apply.ensures.err
           (λ same. omega (arith, few, behind, ap (λ (m : Entries). len m) same, c.count_after.ensures))

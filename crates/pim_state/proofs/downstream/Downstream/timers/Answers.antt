@@ -11,13 +11,24 @@ use Rattle.pim_state.proofs.downstream.Downstream.timers.Goals as goal
 
 pub returns-clause-kept : goal.returns-clause-kept
 returns-clause-kept c =
-    let left : c.retain.new.self.entries ≡ left_at c.args.now c.self.inside.entries.entries = filter-RetainsPairs _ _ _ (λ k v b w g call. search rules) _ _ c.retain.ensures.filtered in
-    ap (from_entries {R = entry_cmp}) left ∙ (left-kept c.args.now c.self.inside.entries.entries c.self.invariant.0 ∙ ap (λ (m : Entries). kept_at m c.args.now) c.self.view_is)
+    let left : c.retain.new.self.entries ≡ left_at c.args.now c.self.inside.entries.entries =
+    filter-RetainsPairs _ _ _ (λ k v b w g call. search rules) _ _ c.retain.ensures.filtered in
+    ap (from_entries {R = entry_cmp}) left ∙ (left-kept c.args.now c.self.inside.entries.entries c.self.invariant.0
+    ∙ ap (λ (m : Entries). kept_at m c.args.now) c.self.view_is)
 
 pub returns-clause-fewer : goal.returns-clause-fewer
 returns-clause-fewer c =
-    let left : c.retain.new.self.entries ≡ left_at c.args.now c.self.inside.entries.entries = filter-RetainsPairs _ _ _ (λ k v b w g call. search rules) _ _ c.retain.ensures.filtered in
-    let before : len (from_entries {R = entry_cmp} c.self.inside.entries.entries) ≡ length c.self.inside.entries.entries = length-map c.self.inside.entries.entries c.self.invariant.0 in
-    let behind : len (from_entries {R = entry_cmp} c.retain.new.self.entries) ≡ length c.retain.new.self.entries = length-map c.retain.new.self.entries c.retain.ensures.unique in
-    let fewer : length c.retain.new.self.entries ≤ length c.self.inside.entries.entries = omega (arith, ap length left, length-filter_both (λ (e : IfaceEntry × Expiry). is_after e.1 c.args.now) (λ e. not (is_after e.1 c.args.now)) (λ _. refl) c.self.inside.entries.entries) in
+    let left : c.retain.new.self.entries ≡ left_at c.args.now c.self.inside.entries.entries =
+    filter-RetainsPairs _ _ _ (λ k v b w g call. search rules) _ _ c.retain.ensures.filtered in
+    let before : len (from_entries {R = entry_cmp} c.self.inside.entries.entries) ≡ length c.self.inside.entries.entries =
+    length-map c.self.inside.entries.entries c.self.invariant.0 in
+    let behind : len (from_entries {R = entry_cmp} c.retain.new.self.entries) ≡ length c.retain.new.self.entries =
+    length-map c.retain.new.self.entries c.retain.ensures.unique in
+    let fewer : length c.retain.new.self.entries ≤ length c.self.inside.entries.entries =
+    omega (
+      arith,
+      ap length left,
+      length-filter_both (λ (e : IfaceEntry × Expiry). is_after e.1 c.args.now) (λ e. not (is_after e.1 c.args.now))
+          (λ _. refl) c.self.inside.entries.entries,
+    ) in
     omega (arith, before, behind, fewer, ap (λ (m : Entries). len m) c.self.view_is)

@@ -21,12 +21,16 @@ write_line-requires c = named_is c.args.scenario.now c.args.text.now c.in-Some.l
 pub returns-then-not-is_ended-clause-back : goal.returns-then-not-is_ended-clause-back
 returns-then-not-is_ended-clause-back c = λ line is bounds written.
     absurd (unwritten c.args.scenario.now c.requires c.args.text.now c.in_ok-line.field-0 c.in-Some.line c.in_ok-line.ensures c.in-Some.is
-    (λ same. differ c.is_ended.result c.if-not-is_ended.true (c.is_ended.ensures.1 (only_written _ _ _ c.new-written.ensures (c.as_slice.ensures ∙ c.in_ok-write_line.ensures.ok) ∙ same))) line is bounds written)
+    (λ same. differ c.is_ended.result c.if-not-is_ended.true
+    (c.is_ended.ensures.1 (only_written _ _ _ c.new-written.ensures (c.as_slice.ensures ∙ c.in_ok-write_line.ensures.ok) ∙ same))) line is bounds
+    written)
 
 pub returns-then-not-is_ended-clause-none : goal.returns-then-not-is_ended-clause-none
 returns-then-not-is_ended-clause-none c = λ _ line is bounds written.
     unwritten c.args.scenario.now c.requires c.args.text.now c.in_ok-line.field-0 c.in-Some.line c.in_ok-line.ensures c.in-Some.is
-    (λ same. differ c.is_ended.result c.if-not-is_ended.true (c.is_ended.ensures.1 (only_written _ _ _ c.new-written.ensures (c.as_slice.ensures ∙ c.in_ok-write_line.ensures.ok) ∙ same))) line is bounds written
+    (λ same. differ c.is_ended.result c.if-not-is_ended.true
+    (c.is_ended.ensures.1 (only_written _ _ _ c.new-written.ensures (c.as_slice.ensures ∙ c.in_ok-write_line.ensures.ok) ∙ same))) line is bounds
+    written
 
 pub returns-clause-line : goal.returns-clause-line
 returns-clause-line c = (
@@ -36,4 +40,5 @@ returns-clause-line c = (
 
 pub returns-clause-back : goal.returns-clause-back
 returns-clause-back c = λ line is bounds written.
-    inl (ap (λ (found : ReportLine). Ok found) (only_line c.args.scenario.now c.requires c.args.text.now c.in_ok-line.field-0 c.in-Some.line c.in_ok-line.ensures c.in-Some.is line is bounds written))
+    inl (ap (λ (found : ReportLine). Ok found) (only_line c.args.scenario.now c.requires c.args.text.now c.in_ok-line.field-0 c.in-Some.line
+    c.in_ok-line.ensures c.in-Some.is line is bounds written))

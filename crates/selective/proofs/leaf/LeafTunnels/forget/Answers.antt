@@ -9,6 +9,8 @@ use Rattle.selective.proofs.leaf.LeafTunnels.forget.Goals as goal
 pub returns : goal.returns
 returns c =
     let key = key_of c.args.peer c.args.rd c.args.pattern in
-    let routes = removed route_cmp route_total route_exact c.self.inside.routes.entries c.remove.new.self.entries key c.self.invariant c.remove.ensures.ordered c.remove.ensures.updates.0 in
+    let routes =
+    removed route_cmp route_total route_exact c.self.inside.routes.entries c.remove.new.self.entries key c.self.invariant c.remove.ensures.ordered
+    c.remove.ensures.updates.0 in
     ap (λ (r : Routes). record { delay = c.self.inside.delay; routes = r }) routes
     ∙ ap (λ (l : Leaf). record { delay = l.delay; routes = remove l.routes key }) c.self.view_is

@@ -12,6 +12,8 @@ pub returns : goal.returns
 returns c =
     let left : c.retain.new.self.entries ≡ filter (λ (e : RouteKey × Learned). not (is_of_peer c.args.peer e)) c.self.inside.routes.entries =
     filter_same_pairs _ _ _ (λ k v b w g call. search rules) _ _ c.retain.ensures.filtered in
-    let routes = ap from_sorted (left ∙ ap (filter (λ (e : RouteKey × Learned). not (is_of_peer c.args.peer e))) (sym (entries_of route_cmp c.self.inside.routes.entries c.self.invariant))) in
+    let routes =
+    ap from_sorted (left ∙ ap (filter (λ (e : RouteKey × Learned). not (is_of_peer c.args.peer e)))
+    (sym (entries_of route_cmp c.self.inside.routes.entries c.self.invariant))) in
     ap (λ (r : Routes). record { delay = c.self.inside.delay; routes = r }) routes
     ∙ ap (λ (l : Leaf). record { delay = l.delay; routes = without_peer c.args.peer l.routes }) c.self.view_is

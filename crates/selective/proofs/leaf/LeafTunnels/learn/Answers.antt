@@ -11,6 +11,8 @@ pub returns-clause-learned : goal.returns-clause-learned
 returns-clause-learned c =
     let learned : Learned = record { fec = c.args.fec; since = c.args.now; run = false } in
     let key = key_of c.args.peer c.args.rd c.args.pattern in
-    let routes = inserted route_cmp route_total route_exact c.self.inside.routes.entries c.insert.new.self.entries key learned c.self.invariant c.insert.ensures.ordered c.in_ok-insert.ensures.updates.0 in
+    let routes =
+    inserted route_cmp route_total route_exact c.self.inside.routes.entries c.insert.new.self.entries key learned c.self.invariant
+    c.insert.ensures.ordered c.in_ok-insert.ensures.updates.0 in
     ap (λ (r : Routes). record { delay = c.self.inside.delay; routes = r }) routes
     ∙ ap (λ (l : Leaf). record { delay = l.delay; routes = insert l.routes key learned }) c.self.view_is

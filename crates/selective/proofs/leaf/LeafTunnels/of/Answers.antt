@@ -9,4 +9,5 @@ use Rattle.selective.proofs.leaf.LeafTunnels.of.Goals as goal
 
 pub returns : goal.returns
 returns c =
-    ap (λ (r : Routes). record { delay = c.args.delay; routes = r }) (ap (λ (es : List (RouteKey × Learned)). from_sorted es) c.new.ensures.empty ∙ empty_map route_cmp)
+    ap (λ (r : Routes). record { delay = c.args.delay; routes = r })
+    (ap (λ (es : List (RouteKey × Learned)). from_sorted es) c.new.ensures.empty ∙ empty_map route_cmp)

@@ -6,6 +6,8 @@ use Rattle.selective.proofs.leaf.LeafTunnels.push_routes.Given as goal
 
 abbrev pub invariant-loop-key : goal.invariant-loop-key
 invariant-loop-key l = record {
-  told : l.fecs ++ map (λ (e : RouteKey × Learned). e.1.fec) l._key-iterator ≡ l.initial.fecs ++ map (λ (e : RouteKey × Learned). e.1.fec) l.initial._key-iterator;
-  ran : (l.run || list_any (λ (e : RouteKey × Learned). e.1.run) l._key-iterator) ≡ list_any (λ (e : RouteKey × Learned). e.1.run) l.initial._key-iterator;
+  told : l.fecs ++ map (λ (e : RouteKey × Learned). e.1.fec) l._key-iterator ≡ l.initial.fecs
+      ++ map (λ (e : RouteKey × Learned). e.1.fec) l.initial._key-iterator;
+  ran : (l.run || list_any (λ (e : RouteKey × Learned). e.1.run) l._key-iterator)
+      ≡ list_any (λ (e : RouteKey × Learned). e.1.run) l.initial._key-iterator;
 }

@@ -14,7 +14,8 @@ lsp_number-requires-clause-number c =
 pub invariant_of-self-2 : goal.invariant_of-self-2
 invariant_of-self-2 c =
     let same : c.self.inside.selections.items ≡ c.args.self.now.selections = ap (λ (r : Root). r.selections) c.self.view_is in
-    push_root c.self.inside.number c.self.inside.delay c.self.inside.selections.items c.push.new.self.items _ c.in_ok-push.ensures.items c.self.invariant
+    push_root c.self.inside.number c.self.inside.delay c.self.inside.selections.items c.push.new.self.items _ c.in_ok-push.ensures.items
+    c.self.invariant
     (subst (λ (xs : List Selection). length xs < 256) (sym same) c.requires.few)
     (λ s. c.requires.new (subst (IsSelected c.args.pattern) same s))
     (c.next_number-number.ensures ∙ ap next_number c.deref.ensures.value)

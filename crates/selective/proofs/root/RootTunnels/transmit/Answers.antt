@@ -8,4 +8,5 @@ use Rattle.selective.proofs.root.RootTunnels.transmit.Goals as goal
 pub lsp_number-requires-clause-number : goal.lsp_number-requires-clause-number
 lsp_number-requires-clause-number c =
     added_within c.self.inside.selections.items c.args.source c.args.group c.transmit_number.result
-    (c.transmit_number.ensures ∙ ap (λ (xs : List Selection). added (transmitted xs c.args.source c.args.group)) c.deref.ensures.value) c.self.invariant.kept
+    (c.transmit_number.ensures ∙ ap (λ (xs : List Selection). added (transmitted xs c.args.source c.args.group)) c.deref.ensures.value)
+    c.self.invariant.kept

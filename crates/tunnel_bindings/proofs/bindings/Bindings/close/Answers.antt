@@ -12,7 +12,8 @@ end_all-requires c =
 
 pub returns-clause-freed : goal.returns-clause-freed
 returns-clause-freed c = λ name label h.
-    c.end_all.ensures.freed name.index label (at_place c.self.inside.places.places.items name label (subst (λ (n : Named). Carries n name label) (sym c.self.view_is) h))
+    c.end_all.ensures.freed name.index label (at_place c.self.inside.places.places.items name label
+    (subst (λ (n : Named). Carries n name label) (sym c.self.view_is) h))
 
 pub returns-clause-others : goal.returns-clause-others
 returns-clause-others c = λ label none.

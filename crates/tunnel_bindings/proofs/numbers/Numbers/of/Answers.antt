@@ -20,4 +20,5 @@ invariant_of-result c =
     let states : c.in_ok-states.states.items ≡ replicate c.args.count Free = search rules in
     let all : c.loop-number.number ≡ c.args.count = omega (arith, c.loop-number-test.false, c.loop-number.auto.number-end) in
     let long = c.loop-number.invariant.long in
-    rw states (all-marked c.args.count c.loop-number.free (omega (arith, long)) (length-replicate c.args.count Free) (λ k. c.loop-number.invariant.same k ∙ ap (λ m. nat_lt k m) all))
+    rw states (all-marked c.args.count c.loop-number.free (omega (arith, long)) (length-replicate c.args.count Free)
+    (λ k. c.loop-number.invariant.same k ∙ ap (λ m. nat_lt k m) all))

@@ -8,4 +8,5 @@ invariant_of-self c =
 
 pub invariant_of-self-in_default : goal.invariant_of-self-in_default
 invariant_of-self-in_default c =
-    rw c.remove.ensures (set-other c.self.inside.states.items c.self.inside.free c.args.number c.args.state (not_free c.args.state c.in_default.not-Free) (search rules) c.self.invariant)
+    rw c.remove.ensures (set-other c.self.inside.states.items c.self.inside.free c.args.number c.args.state
+    (not_free c.args.state c.in_default.not-Free) (search rules) c.self.invariant)

@@ -9,7 +9,8 @@ release-requires c =
     let places = c.args.self.now.places.items in
     let name = c.args.name in
     let place = found places name (sym c.holds.ensures ∙ c.if-not-holds.false) in
-    rw c.empty-binding.ensures.free (room-left places c.args.self.now.free.items (vec_capacity c.args.self.now.free) name.index name.generation place.0 place.1 c.requires)
+    rw c.empty-binding.ensures.free (room-left places c.args.self.now.free.items (vec_capacity c.args.self.now.free) name.index name.generation
+    place.0 place.1 c.requires)
 
 pub returns-clause-well : goal.returns-clause-well
 returns-clause-well c =
@@ -17,5 +18,6 @@ returns-clause-well c =
     let name = c.args.name in
     let place = found places name (sym c.holds.ensures ∙ c.if-not-holds.false) in
     rw (c.release.ensures.places, c.release.ensures.free, c.empty-binding.ensures.places, c.empty-binding.ensures.free)
-    (well-emptied places c.args.self.now.free.items (vec_capacity c.args.self.now.free) (vec_capacity c.release.new.self.free) name.index name.generation place.0
+    (well-emptied places c.args.self.now.free.items (vec_capacity c.args.self.now.free) (vec_capacity c.release.new.self.free) name.index
+    name.generation place.0
     (omega (arith, c.release.ensures.capacity, ap vec_capacity c.empty-binding.ensures.free)) place.1 c.requires)

@@ -8,5 +8,8 @@ use Rattle.tunnel_bindings.proofs.space.LabelSpace.free.Goals as goal
 pub invariant_of-self : goal.invariant_of-self
 invariant_of-self c =
     let fields = c.self.inside in
-    let owned = label-at (record { life = fields.life; states = fields.numbers }) c.args.label Owned (subst (λ (space : Space). IsOwned space c.args.label) (sym c.self.view_is) c.requires) in
-    rw c.set.ensures (space-set fields.life fields.numbers fields.rests.items (vec_capacity fields.rests) (c.args.label - 16) Owned Free owned (λ p. refl) (λ p. refl) c.self.invariant)
+    let owned =
+    label-at (record { life = fields.life; states = fields.numbers }) c.args.label Owned
+    (subst (λ (space : Space). IsOwned space c.args.label) (sym c.self.view_is) c.requires) in
+    rw c.set.ensures (space-set fields.life fields.numbers fields.rests.items (vec_capacity fields.rests) (c.args.label - 16) Owned Free owned
+    (λ p. refl) (λ p. refl) c.self.invariant)

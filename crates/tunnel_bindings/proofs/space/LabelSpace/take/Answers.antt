@@ -9,4 +9,5 @@ pub invariant_of-self : goal.invariant_of-self
 invariant_of-self c =
     let fields = c.self.inside in
     let first : IsFirstFree fields.numbers c.in_ok-number.number = search rules in
-    rw c.set.ensures (space-set fields.life fields.numbers fields.rests.items (vec_capacity fields.rests) c.in_ok-number.number Free Owned first.free (λ p. refl) (λ p. refl) c.self.invariant)
+    rw c.set.ensures (space-set fields.life fields.numbers fields.rests.items (vec_capacity fields.rests) c.in_ok-number.number Free Owned first.free
+    (λ p. refl) (λ p. refl) c.self.invariant)

@@ -30,9 +30,11 @@ returns-then-is_found-clause-origin c =
 pub returns-clause-route : goal.returns-clause-route
 returns-clause-route c =
     let none : (length : ℕ) → IsNoneAt c.args.self.now c.args.source length = λ length. c.loop-length.invariant.none length (search rules) in
-    λ cost costs. sym (ap (chosen c.args.self.now.learned) (no_length c.args.self.now c.args.source (cost_by c.args.self.now.rule cost (known c.args.self.now) c.args.source c.args.group) none))
+    λ cost costs. sym (ap (chosen c.args.self.now.learned)
+    (no_length c.args.self.now c.args.source (cost_by c.args.self.now.rule cost (known c.args.self.now) c.args.source c.args.group) none))
 
 pub returns-clause-origin : goal.returns-clause-origin
 returns-clause-origin c =
     let none : (length : ℕ) → IsNoneAt c.args.self.now c.args.source length = λ length. c.loop-length.invariant.none length (search rules) in
-    λ cost costs. sym (ap (option_map (λ (route : KnownRoute). route.origin)) (no_length c.args.self.now c.args.source (cost_by c.args.self.now.rule cost (known c.args.self.now) c.args.source c.args.group) none))
+    λ cost costs. sym (ap (option_map (λ (route : KnownRoute). route.origin))
+    (no_length c.args.self.now c.args.source (cost_by c.args.self.now.rule cost (known c.args.self.now) c.args.source c.args.group) none))

@@ -15,15 +15,19 @@ use Rattle.umh_select.proofs.EdgeLemmas.{lowest_first}
 use Rattle.umh_select.proofs.umh.Umh.edge_after.Goals as goal
 
 pub range-key-items-requires : goal.range-key-items-requires
-range-key-items-requires c = (λ i. is_gt (key_cmp ((c.new-ends.ensures.start ∙ c.end.ensures) i) ((c.new-ends.ensures.end ∙ c.end-2.ensures) i))) ∙ forward c.args.source c.args.bits
+range-key-items-requires c =
+    (λ i. is_gt (key_cmp ((c.new-ends.ensures.start ∙ c.end.ensures) i) ((c.new-ends.ensures.end ∙ c.end-2.ensures) i)))
+    ∙ forward c.args.source c.args.bits
 
 pub returns : goal.returns
 returns c =
     let gives : c.into_iter-key-iterator.result ≡ c.range-key-items.result = cc (c.into_iter-key-iterator.ensures.into_iter_gives) in
     let listed : c.into_iter-key-iterator.result ≡ at_length c.args.source c.args.bits (entries c.args.self.now.learned) =
-    between c.args.source c.args.bits c.new-ends.result.start c.new-ends.result.end (c.new-ends.ensures.start ∙ c.end.ensures) (c.new-ends.ensures.end ∙ c.end-2.ensures)
+    between c.args.source c.args.bits c.new-ends.result.start c.new-ends.result.end (c.new-ends.ensures.start ∙ c.end.ensures)
+    (c.new-ends.ensures.end ∙ c.end-2.ensures)
     c.self.inside.learned.entries c.self.invariant.0 (learned_inner c.self.inside.lengths c.self.inside.learned.entries c.self.invariant.2)
-    c.args.self.now.learned (ap (λ (r : Routes). r.learned) c.self.view_is) c.into_iter-key-iterator.result (gives ∙ c.range-key-items.ensures.between c.new-ends.ensures.exhausted) in
+    c.args.self.now.learned (ap (λ (r : Routes). r.learned) c.self.view_is) c.into_iter-key-iterator.result
+    (gives ∙ c.range-key-items.ensures.between c.new-ends.ensures.exhausted) in
     let done : c.loop-key.key-iterator ≡ [] = rest_all deref_pair _ _ c.next.result c.in-None.is c.next.ensures.steps in
     ap (λ (l : List (RouteKey × Held)). lowest_of c.args.after c.loop-key.best (map edge_of l)) (sym done)
     ∙ (c.loop-key.invariant

@@ -23,6 +23,7 @@ loop-passed-preserved c =
     let is = sym c.loop-passed.invariant.edge ∙ c.in-Some.is in
     let more = one_more (edges_in listed) c.loop-passed.passed _ is in
     record {
-      edge = next_edge (edges_in listed) c.loop-passed.passed _ c.edge_after-edge-in-Some.result (edges_rise listed) is c.edge_after-edge-in-Some.ensures;
+      edge = next_edge (edges_in listed) c.loop-passed.passed _ c.edge_after-edge-in-Some.result (edges_rise listed) is
+          c.edge_after-edge-in-Some.ensures;
       within = omega (arith, more);
     }

@@ -12,6 +12,8 @@ pub returns : goal.returns
 returns c =
     let left : c.retain.new.self.entries ≡ filter (λ (e : RouteKey × Held). not (is_from c.args.peer e.0.place)) c.self.inside.learned.entries =
     filter_same_pairs _ _ _ (λ k v b w g call. search rules) _ _ c.retain.ensures.filtered in
-    let map = ap from_sorted (left ∙ ap (filter (λ (e : RouteKey × Held). not (is_from c.args.peer e.0.place))) (sym (entries_of key_cmp c.self.inside.learned.entries c.self.invariant.0))) in
+    let map =
+    ap from_sorted (left ∙ ap (filter (λ (e : RouteKey × Held). not (is_from c.args.peer e.0.place)))
+    (sym (entries_of key_cmp c.self.inside.learned.entries c.self.invariant.0))) in
     ap (λ (m : FinMap key_cmp Held). record { rule = c.self.inside.rule; learned = m; attached = from_sorted c.self.inside.attached.entries }) map
     ∙ ap (λ (r : Routes). record r { learned = without_peer c.args.peer r.learned }) c.self.view_is

@@ -9,6 +9,8 @@ use Rattle.umh_select.proofs.umh.Umh.of.Goals as goal
 
 pub returns : goal.returns
 returns c =
-    let learned : from_sorted {R = key_cmp} c.new.result.entries ≡ empty = ap (λ (es : List (RouteKey × Held)). from_sorted es) c.new.ensures.empty ∙ empty_map key_cmp in
-    let attached : from_sorted {R = key_cmp} c.new-2.result.entries ≡ empty = ap (λ (es : List (RouteKey × SiteId)). from_sorted es) c.new-2.ensures.empty ∙ empty_map key_cmp in
+    let learned : from_sorted {R = key_cmp} c.new.result.entries ≡ empty =
+    ap (λ (es : List (RouteKey × Held)). from_sorted es) c.new.ensures.empty ∙ empty_map key_cmp in
+    let attached : from_sorted {R = key_cmp} c.new-2.result.entries ≡ empty =
+    ap (λ (es : List (RouteKey × SiteId)). from_sorted es) c.new-2.ensures.empty ∙ empty_map key_cmp in
     λ i. record { rule = c.args.rule; learned = learned i; attached = attached i }

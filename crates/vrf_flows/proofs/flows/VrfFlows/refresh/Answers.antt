@@ -11,8 +11,12 @@ refresh-requires-clause-peers c = subst (λ (v : VrfData). AreOfCore c.args.core
 
 pub returns-clause-joins : goal.returns-clause-joins
 returns-clause-joins c = λ cost costs q.
-    subst (λ (v : VrfData). IfOk c.refresh.result (λ changes. get same_flow changes.joins q ≡ gained (upstream_of (maps.get v.flows q)) (upstream_of (flow_of v cost c.args.now q)))) c.self.view_is (c.refresh.ensures.joins cost costs q)
+    subst (λ (v : VrfData). IfOk c.refresh.result
+    (λ changes. get same_flow changes.joins q ≡ gained (upstream_of (maps.get v.flows q)) (upstream_of (flow_of v cost c.args.now q))))
+    c.self.view_is (c.refresh.ensures.joins cost costs q)
 
 pub returns-clause-leaves : goal.returns-clause-leaves
 returns-clause-leaves c = λ cost costs q.
-    subst (λ (v : VrfData). IfOk c.refresh.result (λ changes. get same_flow changes.leaves q ≡ lost (upstream_of (maps.get v.flows q)) (upstream_of (flow_of v cost c.args.now q)))) c.self.view_is (c.refresh.ensures.leaves cost costs q)
+    subst (λ (v : VrfData). IfOk c.refresh.result
+    (λ changes. get same_flow changes.leaves q ≡ lost (upstream_of (maps.get v.flows q)) (upstream_of (flow_of v cost c.args.now q))))
+    c.self.view_is (c.refresh.ensures.leaves cost costs q)

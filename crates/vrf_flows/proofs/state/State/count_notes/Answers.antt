@@ -7,7 +7,8 @@ use Rattle.vrf_words.proofs.tree_defs.KeyLemmas.{note_exact, note_ties, note_tot
 use Rattle.vrf_flows.proofs.SetLemmas.{len-listed}
 use Rattle.vrf_flows.proofs.state.State.count_notes.Goals as goal
 
-count-is : (n : ℕ) (keys : List Note) → IsDistinct same_note keys → n ≡ min (length keys) 4294967295 → n ≡ min (sets.len (sets.from_list {R = note_cmp} keys)) 4294967295
+count-is : (n : ℕ) (keys : List Note) → IsDistinct same_note keys → n ≡ min (length keys) 4294967295
+    → n ≡ min (sets.len (sets.from_list {R = note_cmp} keys)) 4294967295
 count-is n keys distinct e = e ∙ ap (λ (k : ℕ). min k 4294967295) (sym (len-listed note_total note_exact same_note note_ties keys distinct))
 
 pub returns : goal.returns

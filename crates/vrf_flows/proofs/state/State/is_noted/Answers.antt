@@ -7,4 +7,6 @@ use Rattle.vrf_flows.proofs.SetLemmas.{any-items}
 use Rattle.vrf_flows.proofs.state.State.is_noted.Goals as goal
 
 pub returns : goal.returns
-returns c = c.is_noted.ensures ∙ ((λ i. is_noted_in (c.as_slice.ensures.keys i) c.args.flow) ∙ sym (any-items note_total note_exact same_note note_ties (λ (note : Note). same_flow note.flow c.args.flow) c.args.self.now.notes.keys))
+returns c =
+    c.is_noted.ensures ∙ ((λ i. is_noted_in (c.as_slice.ensures.keys i) c.args.flow)
+    ∙ sym (any-items note_total note_exact same_note note_ties (λ (note : Note). same_flow note.flow c.args.flow) c.args.self.now.notes.keys))

@@ -12,7 +12,9 @@ pub returns-clause-sound : goal.returns-clause-sound
 returns-clause-sound c = record {
   unique = c.of-3.ensures.unique;
   rule = sym (ap (λ (r : Routes). r.rule) c.of-2.ensures);
-  sent = λ q. (λ i. is_sent (c.new-4.ensures.empty i) q) ∙ sym (λ i. is_noted_in (c.new-2.ensures.empty i) q || is_announced_in (c.new-3.ensures.empty i) q);
+  sent = λ q. (λ i. is_sent (c.new-4.ensures.empty i) q)
+      ∙ sym (λ i. is_noted_in (c.new-2.ensures.empty i) q || is_announced_in (c.new-3.ensures.empty i) q);
   cost = λ _. 0;
-  keeps = keeps-of c.of.result (chosen_for c.of-2.result (λ _. 0)) (get same_flow c.of-3.result) c.new-4.result.keys c.new.result c.of-3.ensures.none c.new-4.ensures.empty c.new.ensures;
+  keeps = keeps-of c.of.result (chosen_for c.of-2.result (λ _. 0)) (get same_flow c.of-3.result) c.new-4.result.keys c.new.result c.of-3.ensures.none
+      c.new-4.ensures.empty c.new.ensures;
 }

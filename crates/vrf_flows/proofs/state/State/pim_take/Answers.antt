@@ -20,17 +20,24 @@ returns-clause-sound c =
     let groups = c.args.message.now.groups in
     let taken : c.take.new.self ≡ applied c.args.self.now.entries c.args.iface c.args.message.now c.args.now = search rules in
     let new = applied old.entries c.args.iface c.args.message.now c.args.now in
-    let grown = keeps-grown (get same_flow old.flows) (get same_flow c.hold_message.new.flows) (flow_at old.ifaces old.entries old.sent.keys chosen old.clock) (is_needed old.ifaces old.entries old.sent.keys) sound.keeps c.hold_message.ensures.grown in
+    let grown =
+    keeps-grown (get same_flow old.flows) (get same_flow c.hold_message.new.flows) (flow_at old.ifaces old.entries old.sent.keys chosen old.clock)
+    (is_needed old.ifaces old.entries old.sent.keys) sound.keeps c.hold_message.ensures.grown in
     record {
       unique = c.mark_message.ensures.unique;
       rule = sound.rule;
       sent = sound.sent;
       cost = sound.cost;
-      keeps = subst (λ (entries : Entries). Keeps (get same_flow c.mark_message.new.flows) (flow_at c.args.self.now.ifaces entries c.args.self.now.sent.keys (chosen_for c.args.self.now.routes c.requires.sound.cost) c.args.self.now.clock) (is_needed c.args.self.now.ifaces entries c.args.self.now.sent.keys)) (sym taken)
-          (keeps-change (get same_flow c.hold_message.new.flows) (get same_flow c.mark_message.new.flows) (λ q. list_any (λ group. names_in group q) groups) (flow_at old.ifaces old.entries old.sent.keys chosen old.clock) (flow_at old.ifaces new old.sent.keys chosen old.clock)
+      keeps = subst (λ (entries : Entries). Keeps (get same_flow c.mark_message.new.flows)
+          (flow_at c.args.self.now.ifaces entries c.args.self.now.sent.keys (chosen_for c.args.self.now.routes c.requires.sound.cost)
+          c.args.self.now.clock) (is_needed c.args.self.now.ifaces entries c.args.self.now.sent.keys)) (sym taken)
+          (keeps-change (get same_flow c.hold_message.new.flows) (get same_flow c.mark_message.new.flows)
+          (λ q. list_any (λ group. names_in group q) groups) (flow_at old.ifaces old.entries old.sent.keys chosen old.clock)
+          (flow_at old.ifaces new old.sent.keys chosen old.clock)
           (is_needed old.ifaces old.entries old.sent.keys) (is_needed old.ifaces new old.sent.keys) grown (λ q. search rules)
           (λ q h. take-same old.ifaces old.entries old.sent.keys chosen old.clock c.args.iface c.args.message.now c.args.now q h)
-          (take-needed (get same_flow old.flows) (get same_flow c.hold_message.new.flows) old.ifaces old.entries old.sent.keys c.args.iface c.args.message.now c.args.now sound.keeps.needed (λ q. search rules))
+          (take-needed (get same_flow old.flows) (get same_flow c.hold_message.new.flows) old.ifaces old.entries old.sent.keys c.args.iface
+          c.args.message.now c.args.now sound.keeps.needed (λ q. search rules))
           (λ q h. absent-none old.ifaces new old.sent.keys chosen old.clock q h));
     }
 
@@ -38,17 +45,49 @@ pub returns-clause-taken : goal.returns-clause-taken
 returns-clause-taken c =
     let old = c.args.self.now in
     let taken : c.take.new.self ≡ applied c.args.self.now.entries c.args.iface c.args.message.now c.args.now = search rules in
-    let flows = flows-same old.flows c.mark_message.new.flows c.requires.sound.unique c.mark_message.ensures.unique (λ q. kept-change _ _ _ (c.mark_message.ensures.each q) ∙ kept-grown _ _ _ (c.hold_message.ensures.grown q)) in
-    λ i. record { ifaces = old.ifaces; entries = taken i; notes = sets.from_list old.notes.keys; actives = sets.from_list old.actives.keys; routes = old.routes; flows = flows i }
+    let flows =
+    flows-same old.flows c.mark_message.new.flows c.requires.sound.unique c.mark_message.ensures.unique
+    (λ q. kept-change _ _ _ (c.mark_message.ensures.each q) ∙ kept-grown _ _ _ (c.hold_message.ensures.grown q)) in
+    λ i. record {
+      ifaces = old.ifaces;
+      entries = taken i;
+      notes = sets.from_list old.notes.keys;
+      actives = sets.from_list old.actives.keys;
+      routes =
+          old.routes;
+      flows = flows i;
+    }
 
 pub returns-in_err-hold_message-clause-unchanged : goal.returns-in_err-hold_message-clause-unchanged
 returns-in_err-hold_message-clause-unchanged c =
     let old = c.args.self.now in
-    let flows = flows-same old.flows c.hold_message.new.flows c.requires.sound.unique c.hold_message.ensures.unique (λ q. kept-grown _ _ _ (c.hold_message.ensures.grown q)) in
-    on-err {P = vrf_of (record c.args.self.now { flows = c.hold_message.new.flows }) ≡ vrf_of c.args.self.now} c.from_residual.result (λ i. record { ifaces = old.ifaces; entries = old.entries; notes = sets.from_list old.notes.keys; actives = sets.from_list old.actives.keys; routes = old.routes; flows = flows i })
+    let flows =
+    flows-same old.flows c.hold_message.new.flows c.requires.sound.unique c.hold_message.ensures.unique
+    (λ q. kept-grown _ _ _ (c.hold_message.ensures.grown q)) in
+    on-err {P = vrf_of (record c.args.self.now { flows = c.hold_message.new.flows }) ≡ vrf_of c.args.self.now} c.from_residual.result
+    (λ i. record {
+      ifaces = old.ifaces;
+      entries = old.entries;
+      notes = sets.from_list old.notes.keys;
+      actives =
+          sets.from_list old.actives.keys;
+      routes = old.routes;
+      flows = flows i;
+    })
 
 pub returns-in_err-take-clause-unchanged : goal.returns-in_err-take-clause-unchanged
 returns-in_err-take-clause-unchanged c =
     let old = c.args.self.now in
-    let flows = flows-same old.flows c.hold_message.new.flows c.requires.sound.unique c.hold_message.ensures.unique (λ q. kept-grown _ _ _ (c.hold_message.ensures.grown q)) in
-    on-err {P = vrf_of (record c.args.self.now { entries = c.take.new.self; flows = c.hold_message.new.flows }) ≡ vrf_of c.args.self.now} c.from_residual-in_err-take.result (λ i. record { ifaces = old.ifaces; entries = c.in_err-take.ensures.unchanged i; notes = sets.from_list old.notes.keys; actives = sets.from_list old.actives.keys; routes = old.routes; flows = flows i })
+    let flows =
+    flows-same old.flows c.hold_message.new.flows c.requires.sound.unique c.hold_message.ensures.unique
+    (λ q. kept-grown _ _ _ (c.hold_message.ensures.grown q)) in
+    on-err {P = vrf_of (record c.args.self.now { entries = c.take.new.self; flows = c.hold_message.new.flows }) ≡ vrf_of c.args.self.now}
+    c.from_residual-in_err-take.result (λ i. record {
+      ifaces = old.ifaces;
+      entries = c.in_err-take.ensures.unchanged i;
+      notes =
+          sets.from_list old.notes.keys;
+      actives = sets.from_list old.actives.keys;
+      routes = old.routes;
+      flows = flows i;
+    })

@@ -23,9 +23,14 @@ returns-clause-sound c =
       rule = sound.rule;
       sent = sound.sent;
       cost = sound.cost;
-      keeps = subst (λ (entries : Entries). Keeps (get same_flow c.mark_ended.new.flows) (flow_at c.args.self.now.ifaces entries c.args.self.now.sent.keys (chosen_for c.args.self.now.routes c.requires.sound.cost) c.args.self.now.clock) (is_needed c.args.self.now.ifaces entries c.args.self.now.sent.keys)) (sym c.timers.ensures.kept)
-          (keeps-change (get same_flow old.flows) (get same_flow c.mark_ended.new.flows) (λ q. list_any (ended c.args.now q) es) (flow_at old.ifaces old.entries old.sent.keys chosen old.clock) (flow_at old.ifaces (kept_at old.entries c.args.now) old.sent.keys chosen old.clock)
-          (is_needed old.ifaces old.entries old.sent.keys) (is_needed old.ifaces (kept_at old.entries c.args.now) old.sent.keys) sound.keeps c.mark_ended.ensures.each
+      keeps = subst (λ (entries : Entries). Keeps (get same_flow c.mark_ended.new.flows)
+          (flow_at c.args.self.now.ifaces entries c.args.self.now.sent.keys (chosen_for c.args.self.now.routes c.requires.sound.cost)
+          c.args.self.now.clock) (is_needed c.args.self.now.ifaces entries c.args.self.now.sent.keys)) (sym c.timers.ensures.kept)
+          (keeps-change (get same_flow old.flows) (get same_flow c.mark_ended.new.flows) (λ q. list_any (ended c.args.now q) es)
+          (flow_at old.ifaces old.entries old.sent.keys chosen old.clock)
+          (flow_at old.ifaces (kept_at old.entries c.args.now) old.sent.keys chosen old.clock)
+          (is_needed old.ifaces old.entries old.sent.keys) (is_needed old.ifaces (kept_at old.entries c.args.now) old.sent.keys) sound.keeps
+          c.mark_ended.ensures.each
           (λ q h. timers-same old.ifaces es old.entries old.sent.keys chosen old.clock c.args.now q c.expiries.ensures.entries h)
           (λ q h. sound.keeps.needed q (timers-needed old.ifaces old.entries old.sent.keys c.args.now q h))
           (λ q h. absent-none old.ifaces (kept_at old.entries c.args.now) old.sent.keys chosen old.clock q h));
@@ -34,5 +39,15 @@ returns-clause-sound c =
 pub returns-clause-kept : goal.returns-clause-kept
 returns-clause-kept c =
     let old = c.args.self.now in
-    let flows = flows-same old.flows c.mark_ended.new.flows c.requires.sound.unique c.mark_ended.ensures.unique (λ q. kept-change _ _ _ (c.mark_ended.ensures.each q)) in
-    λ i. record { ifaces = old.ifaces; entries = c.timers.ensures.kept i; notes = sets.from_list old.notes.keys; actives = sets.from_list old.actives.keys; routes = old.routes; flows = flows i }
+    let flows =
+    flows-same old.flows c.mark_ended.new.flows c.requires.sound.unique c.mark_ended.ensures.unique
+    (λ q. kept-change _ _ _ (c.mark_ended.ensures.each q)) in
+    λ i. record {
+      ifaces = old.ifaces;
+      entries = c.timers.ensures.kept i;
+      notes = sets.from_list old.notes.keys;
+      actives =
+          sets.from_list old.actives.keys;
+      routes = old.routes;
+      flows = flows i;
+    }

@@ -7,5 +7,14 @@ pub returns-clause-forgotten : goal.returns-clause-forgotten
 returns-clause-forgotten c =
     let old = c.args.self.now in
     let is = c.forget_peer.ensures in
-    let flows = flows-same old.flows c.mark.new.flows c.requires.sound.unique c.mark.ensures.unique (λ q. kept-change _ _ _ (c.mark.ensures.each q)) in
-    λ i. record { ifaces = old.ifaces; entries = old.entries; notes = sets.from_list old.notes.keys; actives = sets.from_list old.actives.keys; routes = is i; flows = flows i }
+    let flows =
+    flows-same old.flows c.mark.new.flows c.requires.sound.unique c.mark.ensures.unique (λ q. kept-change _ _ _ (c.mark.ensures.each q)) in
+    λ i. record {
+      ifaces = old.ifaces;
+      entries = old.entries;
+      notes = sets.from_list old.notes.keys;
+      actives =
+          sets.from_list old.actives.keys;
+      routes = is i;
+      flows = flows i;
+    }

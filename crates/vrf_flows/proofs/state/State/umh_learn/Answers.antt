@@ -17,7 +17,11 @@ pub returns-clause-sound : goal.returns-clause-sound
 returns-clause-sound c =
     let old = c.args.self.now in
     let sound = c.requires.sound in
-    let next : Routes = record c.args.self.now.routes { learned = maps.insert c.args.self.now.routes.learned (key_from c.args.peer c.args.route.rd c.args.route.prefix) (held_of c.args.route) } in
+    let next : Routes =
+    record c.args.self.now.routes {
+      learned = maps.insert c.args.self.now.routes.learned
+          (key_from c.args.peer c.args.route.rd c.args.route.prefix) (held_of c.args.route);
+    } in
     subst (λ (r : Routes). IsSound (record c.args.self.now { routes = r; flows = c.mark.new.flows })) (sym c.in_ok-learn.ensures.learned)
     (record {
       unique = c.mark.ensures.unique;
@@ -25,9 +29,11 @@ returns-clause-sound c =
       sent = sound.sent;
       cost = sound.cost;
       keeps = keeps-change (get same_flow old.flows) (get same_flow c.mark.new.flows) (λ q. covers c.args.route.prefix q.source)
-          (flow_at old.ifaces old.entries old.sent.keys (chosen_for old.routes sound.cost) old.clock) (flow_at old.ifaces old.entries old.sent.keys (chosen_for next sound.cost) old.clock)
+          (flow_at old.ifaces old.entries old.sent.keys (chosen_for old.routes sound.cost) old.clock)
+          (flow_at old.ifaces old.entries old.sent.keys (chosen_for next sound.cost) old.clock)
           (is_needed old.ifaces old.entries old.sent.keys) (is_needed old.ifaces old.entries old.sent.keys) sound.keeps c.mark.ensures.each
-          (λ q h. routes-same old.ifaces old.entries old.sent.keys (chosen_for old.routes sound.cost) (chosen_for next sound.cost) old.clock q (learned-apart old.routes sound.cost c.args.peer c.args.route.rd c.args.route.prefix (held_of c.args.route) q h))
+          (λ q h. routes-same old.ifaces old.entries old.sent.keys (chosen_for old.routes sound.cost) (chosen_for next sound.cost) old.clock q
+          (learned-apart old.routes sound.cost c.args.peer c.args.route.rd c.args.route.prefix (held_of c.args.route) q h))
           sound.keeps.needed (λ q h. absent-none old.ifaces old.entries old.sent.keys (chosen_for next sound.cost) old.clock q h);
     })
 
@@ -35,5 +41,14 @@ pub returns-clause-learned : goal.returns-clause-learned
 returns-clause-learned c =
     let old = c.args.self.now in
     let is = c.in_ok-learn.ensures.learned in
-    let flows = flows-same old.flows c.mark.new.flows c.requires.sound.unique c.mark.ensures.unique (λ q. kept-change _ _ _ (c.mark.ensures.each q)) in
-    λ i. record { ifaces = old.ifaces; entries = old.entries; notes = sets.from_list old.notes.keys; actives = sets.from_list old.actives.keys; routes = is i; flows = flows i }
+    let flows =
+    flows-same old.flows c.mark.new.flows c.requires.sound.unique c.mark.ensures.unique (λ q. kept-change _ _ _ (c.mark.ensures.each q)) in
+    λ i. record {
+      ifaces = old.ifaces;
+      entries = old.entries;
+      notes = sets.from_list old.notes.keys;
+      actives =
+          sets.from_list old.actives.keys;
+      routes = is i;
+      flows = flows i;
+    }

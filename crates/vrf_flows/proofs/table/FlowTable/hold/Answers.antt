@@ -7,5 +7,6 @@ use Rattle.vrf_flows.proofs.table.FlowTable.hold.Goals as goal
 
 pub invariant_of-self-2 : goal.invariant_of-self-2
 invariant_of-self-2 c =
-    put-lists is_stale (get same_flow c.self.inside.held) (get same_flow c.insert.new.self) c.args.flow (Some unknown) c.self.inside.stale c.add.new.self c.self.invariant (λ q. c.in_ok-insert.ensures.updates.0 q)
+    put-lists is_stale (get same_flow c.self.inside.held) (get same_flow c.insert.new.self) c.args.flow (Some unknown) c.self.inside.stale
+    c.add.new.self c.self.invariant (λ q. c.in_ok-insert.ensures.updates.0 q)
     (λ h. c.add.ensures.added) c.add.ensures.kept

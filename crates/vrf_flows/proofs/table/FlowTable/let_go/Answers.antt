@@ -7,4 +7,5 @@ use Rattle.vrf_flows.proofs.table.FlowTable.let_go.Goals as goal
 
 pub invariant_of-self : goal.invariant_of-self
 invariant_of-self c =
-    gone-lists is_stale (get same_flow c.self.inside.held) (get same_flow c.swap_remove.new.self) c.args.flow.now None c.self.inside.stale c.self.invariant (λ q. c.swap_remove.ensures.updates.0 q) refl
+    gone-lists is_stale (get same_flow c.self.inside.held) (get same_flow c.swap_remove.new.self) c.args.flow.now None c.self.inside.stale
+    c.self.invariant (λ q. c.swap_remove.ensures.updates.0 q) refl

@@ -14,12 +14,16 @@ pub invariant_of-self : goal.invariant_of-self
 invariant_of-self c = λ q.
     let old = c.self.inside.joins.keys in
     let left = c.swap_remove.new.self.keys in
-    less c.args.join.flow q (λ (p : Flow). list_any (is_for p) c.swap_remove.new.self.keys) (list_any (same_flow q) c.self.inside.flows.keys) _ c.is_joined-joined.result
+    less c.args.join.flow q (λ (p : Flow). list_any (is_for p) c.swap_remove.new.self.keys) (list_any (same_flow q) c.self.inside.flows.keys) _
+    c.is_joined-joined.result
     (c.is_joined-joined.ensures ∙ ap (list_any (is_for c.args.join.flow)) c.as_slice.ensures.keys) (c.drop_flow.ensures q)
-    (λ f. any-removed join_total join_exact same_join join_ties (is_for q) old left c.args.join (λ p. c.swap_remove.ensures.updates.0 p) f ∙ sym (c.self.invariant q))
-    (λ h. c.self.invariant q ∙ any-fewer join_total join_exact same_join join_ties (is_for q) old left c.args.join (λ p. c.swap_remove.ensures.updates.0 p) h)
+    (λ f. any-removed join_total join_exact same_join join_ties (is_for q) old left c.args.join (λ p. c.swap_remove.ensures.updates.0 p) f
+    ∙ sym (c.self.invariant q))
+    (λ h. c.self.invariant q ∙ any-fewer join_total join_exact same_join join_ties (is_for q) old left c.args.join
+    (λ p. c.swap_remove.ensures.updates.0 p) h)
 
 pub returns : goal.returns
 returns c =
-    removed join_total join_exact same_join join_ties c.self.inside.joins.keys c.swap_remove.new.self.keys c.args.join (λ p. c.swap_remove.ensures.updates.0 p)
+    removed join_total join_exact same_join join_ties c.self.inside.joins.keys c.swap_remove.new.self.keys c.args.join
+    (λ p. c.swap_remove.ensures.updates.0 p)
     ∙ ap (λ (joined : FinSet join_cmp). sets.remove joined c.args.join) c.self.view_is

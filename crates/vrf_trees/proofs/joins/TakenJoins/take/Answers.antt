@@ -20,9 +20,11 @@ invariant_of-self-2 c = λ q.
     ∙ (ap (λ (list : List Flow). cond (same_flow c.args.join.flow q) true (list_any (same_flow q) list)) c.reserve.ensures.keys
     ∙ (ap (λ (b : Bool). cond (same_flow c.args.join.flow q) true b) (c.self.invariant q)
     ∙ (either (same_flow c.args.join.flow q) (list_any (is_for q) c.self.inside.joins.keys)
-    ∙ sym (any-inserted join_total join_exact same_join join_ties (is_for q) c.self.inside.joins.keys c.insert.new.self.keys c.args.join (λ p. c.in_ok-insert.ensures.updates.0 p)))))
+    ∙ sym (any-inserted join_total join_exact same_join join_ties (is_for q) c.self.inside.joins.keys c.insert.new.self.keys c.args.join
+    (λ p. c.in_ok-insert.ensures.updates.0 p)))))
 
 pub returns-clause-taken : goal.returns-clause-taken
 returns-clause-taken c =
-    inserted join_total join_exact same_join join_ties c.self.inside.joins.keys c.insert.new.self.keys c.args.join (λ p. c.in_ok-insert.ensures.updates.0 p)
+    inserted join_total join_exact same_join join_ties c.self.inside.joins.keys c.insert.new.self.keys c.args.join
+    (λ p. c.in_ok-insert.ensures.updates.0 p)
     ∙ ap (λ (joined : FinSet join_cmp). sets.insert joined c.args.join) c.self.view_is

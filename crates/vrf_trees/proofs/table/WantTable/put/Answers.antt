@@ -7,5 +7,6 @@ use Rattle.vrf_trees.proofs.table.WantTable.put.Goals as goal
 
 pub invariant_of-self-2 : goal.invariant_of-self-2
 invariant_of-self-2 c =
-    put-lists is_stale (get same_flow c.self.inside.held) (get same_flow c.insert.new.self) c.args.flow (Some c.args.own) c.self.inside.stale c.add_if.new.self c.self.invariant (λ q. c.in_ok-insert.ensures.updates.0 q)
+    put-lists is_stale (get same_flow c.self.inside.held) (get same_flow c.insert.new.self) c.args.flow (Some c.args.own) c.self.inside.stale
+    c.add_if.new.self c.self.invariant (λ q. c.in_ok-insert.ensures.updates.0 q)
     c.add_if.ensures.added c.add_if.ensures.kept

@@ -14,11 +14,19 @@ use Rattle.bgp_messages.proofs.bgp_update.stream.Stream.feed.Goals as goal
 pub returns-clause-feeds : goal.returns-clause-feeds
 returns-clause-feeds c =
     let P : Fed Message StreamFault → Type 0 = λ d. Feeds SpellsMessage UnitFault 4096 d c.args.bytes.now c.accept.result c.accept.new.self in
-    let fed = fed_by_cutting c.self.inside.inbound c.append.new.self c.args.bytes.now c.held-len.result.now c.held.result.now c.in_ok-append.field-0 c.cut_messages-found.result c.accept.result c.accept.new.self c.in_ok-append.ensures c.held-len.ensures c.held.ensures c.cut_messages-found.ensures.octets c.cut_messages-found.ensures.exact c.accept.ensures in
-    subst P c.self.view_is (feeds message_front SpellsMessage UnitFault 4096 message_format c.self.inside.inbound c.args.bytes.now c.accept.result c.accept.new.self fed)
+    let fed =
+    fed_by_cutting c.self.inside.inbound c.append.new.self c.args.bytes.now c.held-len.result.now c.held.result.now c.in_ok-append.field-0
+    c.cut_messages-found.result c.accept.result c.accept.new.self c.in_ok-append.ensures c.held-len.ensures c.held.ensures
+    c.cut_messages-found.ensures.octets c.cut_messages-found.ensures.exact c.accept.ensures in
+    subst P c.self.view_is (feeds message_front SpellsMessage UnitFault 4096 message_format c.self.inside.inbound c.args.bytes.now c.accept.result
+    c.accept.new.self fed)
 
 pub returns-clause-first : goal.returns-clause-first
 returns-clause-first c =
     let P : Fed Message StreamFault → Type 0 = λ d. AnswersFirst SpellsMessage UnitFault d c.args.bytes.now c.accept.result in
-    let fed = fed_by_cutting c.self.inside.inbound c.append.new.self c.args.bytes.now c.held-len.result.now c.held.result.now c.in_ok-append.field-0 c.cut_messages-found.result c.accept.result c.accept.new.self c.in_ok-append.ensures c.held-len.ensures c.held.ensures c.cut_messages-found.ensures.octets c.cut_messages-found.ensures.exact c.accept.ensures in
-    subst P c.self.view_is (answers_first message_front SpellsMessage UnitFault 4096 message_format c.self.inside.inbound c.args.bytes.now c.accept.result c.accept.new.self fed)
+    let fed =
+    fed_by_cutting c.self.inside.inbound c.append.new.self c.args.bytes.now c.held-len.result.now c.held.result.now c.in_ok-append.field-0
+    c.cut_messages-found.result c.accept.result c.accept.new.self c.in_ok-append.ensures c.held-len.ensures c.held.ensures
+    c.cut_messages-found.ensures.octets c.cut_messages-found.ensures.exact c.accept.ensures in
+    subst P c.self.view_is (answers_first message_front SpellsMessage UnitFault 4096 message_format c.self.inside.inbound c.args.bytes.now
+    c.accept.result c.accept.new.self fed)

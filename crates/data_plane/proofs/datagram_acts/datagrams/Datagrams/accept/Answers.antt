@@ -9,6 +9,7 @@ pub returns-clause-accepted : goal.returns-clause-accepted
 returns-clause-accepted c = λ world datagram idle.
     let was = c.self.inside in
     let view : List Hop → DatagramsView = λ hops. record { copies = was.copies; count = was.count + 1; hops = hops } in
-    subst (λ (count : ℕ). IsSending (with_datagram datagram world) (count + 1) datagram (view c.clear.new.self.items)) (ap (λ (v : DatagramsView). v.count) c.self.view_is)
+    subst (λ (count : ℕ). IsSending (with_datagram datagram world) (count + 1) datagram (view c.clear.new.self.items))
+    (ap (λ (v : DatagramsView). v.count) c.self.view_is)
     (subst (λ (hops : List Hop). IsSending (with_datagram datagram world) (was.count + 1) datagram (view hops)) (sym c.clear.ensures.items)
     (accepted_sending world was.copies was.count was.hops.items datagram (subst (IsIdle world) (sym c.self.view_is) idle)))

@@ -11,5 +11,6 @@ returns c = λ world idle clock life.
     let was = c.self.inside.copies in
     aged_idle world was c.age.new.self c.self.inside.count c.self.inside.hops.items (subst (IsIdle world) (sym c.self.view_is) idle)
     (subst (λ (now : ℕ). (u n : NodeId) → kept_at c.age.new.self u n ≡ filter (is_recent now (scenario_of world).life) (kept_at was u n)) (sym clock)
-    (subst (λ (most : ℕ). (u n : NodeId) → kept_at c.age.new.self u n ≡ filter (is_recent c.args.now most) (kept_at was u n)) (sym life) c.age.ensures.ways))
+    (subst (λ (most : ℕ). (u n : NodeId) → kept_at c.age.new.self u n ≡ filter (is_recent c.args.now most) (kept_at was u n)) (sym life)
+    c.age.ensures.ways))
     c.age.ensures.current c.age.ensures.octets c.buffers_count_copies.ensures

@@ -5,5 +5,6 @@ use Rattle.data_plane.proofs.datagram_acts.datagrams.Datagrams.drop_copy.Goals a
 
 pub returns : goal.returns
 returns c = λ world idle.
-    dropped_idle world c.self.inside.copies c.drop_copy.new.self c.self.inside.count c.self.inside.hops.items c.args.from c.args.to c.args.place (subst (IsIdle world) (sym c.self.view_is) idle)
+    dropped_idle world c.self.inside.copies c.drop_copy.new.self c.self.inside.count c.self.inside.hops.items c.args.from c.args.to c.args.place
+    (subst (IsIdle world) (sym c.self.view_is) idle)
     c.drop_copy.ensures.ways c.drop_copy.ensures.current c.drop_copy.ensures.octets c.buffers_count_copies.ensures

@@ -13,6 +13,7 @@ returns-clause-left c = on_ok_weaker c.keep_hops.result (λ kept world number da
 
 pub returns-clause-lines : goal.returns-clause-lines
 returns-clause-lines c = on_ok_weaker c.keep_hops.result (λ _ world number datagram sending.
-    told_lines c.args.lines.now c.leave_at.new.lines c.tell_hops.new.lines c.args.node 255 number c.self.inside.count c.args.octets.now c.args.octets.now c.args.outs.now c.args.branches.now
+    told_lines c.args.lines.now c.leave_at.new.lines c.tell_hops.new.lines c.args.node 255 number c.self.inside.count c.args.octets.now
+    c.args.octets.now c.args.outs.now c.args.branches.now
     (sym (subst (IsSending world number datagram) (sym c.self.view_is) sending).number_is) refl
     c.in_ok-leave_at.ensures c.in_ok-tell_hops.ensures) c.keep_hops.ensures

@@ -5,5 +5,6 @@ use Rattle.data_plane.proofs.datagram_acts.datagrams.Datagrams.finish.Goals as g
 
 pub returns : goal.returns
 returns c = λ world number datagram own.
-    finished_idle world c.self.inside.copies c.finish.new.self c.self.inside.count number c.self.inside.hops.items datagram (subst (Handles world number datagram) (sym c.self.view_is) own)
+    finished_idle world c.self.inside.copies c.finish.new.self c.self.inside.count number c.self.inside.hops.items datagram
+    (subst (Handles world number datagram) (sym c.self.view_is) own)
     c.finish.ensures.current c.finish.ensures.ways c.finish.ensures.octets c.buffers_count_copies.ensures

@@ -15,8 +15,11 @@ pub returns-clause-sent : goal.returns-clause-sent
 returns-clause-sent c = on_ok_weaker c.send.result (λ goes world number datagram sending clock text.
     let was = c.self.inside in
     let own = subst (IsSending world number datagram) (sym c.self.view_is) sending in
-    let goes_on = subst (λ (hops : List Hop). 0 < length hops → IsSent was.count c.args.octets.now 255 c.args.now hops was.copies c.send.new.self) c.as_slice.ensures.value goes in
+    let goes_on =
+    subst (λ (hops : List Hop). 0 < length hops → IsSent was.count c.args.octets.now 255 c.args.now hops was.copies c.send.new.self)
+    c.as_slice.ensures.value goes in
     sent_idle world was.copies c.send.new.self was.count number was.hops.items datagram own c.send.ensures.current c.args.octets.now text
     (subst (λ (now : ℕ). 0 < length was.hops.items → IsSent number c.args.octets.now 255 now was.hops.items was.copies c.send.new.self) (sym clock)
-    (subst (λ (n : ℕ). 0 < length was.hops.items → IsSent n c.args.octets.now 255 c.args.now was.hops.items was.copies c.send.new.self) (sym own.number_is) goes_on))
+    (subst (λ (n : ℕ). 0 < length was.hops.items → IsSent n c.args.octets.now 255 c.args.now was.hops.items was.copies c.send.new.self)
+    (sym own.number_is) goes_on))
     (subst (λ (hops : List Hop). length hops ≡ 0 → c.send.new.self ≡ was.copies) c.as_slice.ensures.value c.send.ensures.none)) c.send.ensures.sent

@@ -5,5 +5,6 @@ use Rattle.data_plane.proofs.link_copies.copies.LinkCopies.forward_on_trees.Give
 
 abbrev pub invariant-loop-branch : goal.invariant-loop-branch
 invariant-loop-branch l =
-    ((u n : NodeId) → kept_at l.self u n ≡ kept_at l.fn.self u n ++ sent l.fn.self.current l.fn.from l.fn.ttl l.fn.now (map hop_of (take l.branch-index l.fn.branches)) u n)
+    ((u n : NodeId) → kept_at l.self u n ≡ kept_at l.fn.self u n
+    ++ sent l.fn.self.current l.fn.from l.fn.ttl l.fn.now (map hop_of (take l.branch-index l.fn.branches)) u n)
     × (l.self.current ≡ l.fn.self.current) × KeepsBuffers l.fn.self.buffers l.self.buffers

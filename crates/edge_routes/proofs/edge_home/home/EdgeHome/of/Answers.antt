@@ -16,7 +16,8 @@ invariant_of-result c =
       is,
       (
         subst HasPrefixes (sym c.in_ok-scenario.ensures)
-            (subst (All (λ (site : Site). All (λ (prefix : Prefix). IsOctets (addr_octets prefix.addr)) site.prefixes)) c.as_slice.ensures c.sites_have_octets.ensures),
+            (subst (All (λ (site : Site). All (λ (prefix : Prefix). IsOctets (addr_octets prefix.addr)) site.prefixes)) c.as_slice.ensures
+            c.sites_have_octets.ensures),
         are_own c.in_ok-scenario.scenario c.args.me c.own_octets-addr.result c.in_ok-vrfs.vrfs.items c.own_octets-addr.ensures
             (c.in_ok-vrfs.ensures ∙ ap (own_from c.own_octets-addr.result c.in_ok-scenario.scenario.system c.args.me 0) c.as_slice-2.ensures),
       ),

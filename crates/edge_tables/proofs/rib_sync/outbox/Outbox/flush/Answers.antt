@@ -7,7 +7,8 @@ use Rattle.edge_tables.proofs.rib_sync.outbox.Outbox.flush.Goals as goal
 pub returns-clause-changes : goal.returns-clause-changes
 returns-clause-changes g c =
     (λ i. changes_in (c.take-gone.ensures.gone i) (c.take-gone.ensures.news i))
-    ∙ handed_out g.K.Ord.cmp g.met.K.Ord.total c.requires.keys g.V.PartialEq.eq c.requires.values c.self.inside.kept c.self.invariant c.args.self.now c.self.view_is
+    ∙ handed_out g.K.Ord.cmp g.met.K.Ord.total c.requires.keys g.V.PartialEq.eq c.requires.values c.self.inside.kept c.self.invariant c.args.self.now
+    c.self.view_is
 
 pub returns-clause-told : goal.returns-clause-told
 returns-clause-told g c =

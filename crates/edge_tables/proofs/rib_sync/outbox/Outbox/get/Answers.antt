@@ -8,4 +8,5 @@ use Rattle.edge_tables.proofs.rib_sync.outbox.Outbox.get.Goals as goal
 pub returns : goal.returns
 returns g c =
     c.get.ensures.value ∙ sym (get-set g.K.Ord.cmp g.met.K.Ord.total c.self.inside.kept c.args.key.now)
-    ∙ ap (λ (rib : RibOut g.K.Ord.cmp g.row.V.Denot). get rib.set c.args.key.now) (sym (seen_as g.K.Ord.cmp g.met.K.Ord.total (kept_rib g.K.Ord.cmp c.self.inside.kept) c.args.self.now c.self.view_is))
+    ∙ ap (λ (rib : RibOut g.K.Ord.cmp g.row.V.Denot). get rib.set c.args.key.now)
+    (sym (seen_as g.K.Ord.cmp g.met.K.Ord.total (kept_rib g.K.Ord.cmp c.self.inside.kept) c.args.self.now c.self.view_is))

@@ -7,9 +7,11 @@ use Rattle.edge_tables.proofs.taken_tables.tables.TakenTables.entries.Goals as g
 
 pub returns-in-None-clause-entries : goal.returns-in-None-clause-entries
 returns-in-None-clause-entries c =
-    sym (ap (option_map (λ (taken : Taken). entries taken)) (none_there c.self.inside.slots.entries c.args.self.now c.args.peer c.self.view_is c.in-None.ensures.value))
+    sym (ap (option_map (λ (taken : Taken). entries taken))
+    (none_there c.self.inside.slots.entries c.args.self.now c.args.peer c.self.view_is c.in-None.ensures.value))
 
 pub returns-in-Some-clause-entries : goal.returns-in-Some-clause-entries
 returns-in-Some-clause-entries c =
     ap (λ rows. Some rows) c.iter.ensures
-    ∙ sym (ap (option_map (λ (taken : Taken). entries taken)) (some_there c.self.inside.slots.entries c.args.self.now c.args.peer c.self.view_is c.in-Some.table.now c.in-Some.ensures.value))
+    ∙ sym (ap (option_map (λ (taken : Taken). entries taken))
+    (some_there c.self.inside.slots.entries c.args.self.now c.args.peer c.self.view_is c.in-Some.table.now c.in-Some.ensures.value))

@@ -8,7 +8,8 @@ use Rattle.edge_tables.proofs.taken_tables.tables.TakenTables.lose.Goals as goal
 pub invariant_of-self : goal.invariant_of-self
 invariant_of-self c =
     let old = c.self.inside.slots.entries in
-    subst AreSpelled (sym (removed old c.remove.new.self.entries c.args.peer c.remove.ensures.updates.0)) (others_spelled (tables_of old) c.args.peer c.self.invariant)
+    subst AreSpelled (sym (removed old c.remove.new.self.entries c.args.peer c.remove.ensures.updates.0))
+    (others_spelled (tables_of old) c.args.peer c.self.invariant)
 
 pub returns : goal.returns
 returns c =

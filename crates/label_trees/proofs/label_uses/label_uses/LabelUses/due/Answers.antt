@@ -7,4 +7,5 @@ use Rattle.label_trees.proofs.label_uses.label_uses.LabelUses.due.Goals as goal
 
 pub returns : goal.returns
 returns c =
-    c.due.ensures ∙ (uses_rested c.args.now 16 c.self.inside.space.states (get nat_eq c.self.inside.held) ∙ ap (λ (u : Uses). count_by (is_rested c.args.now) u.labels) c.self.view_is)
+    c.due.ensures ∙ (uses_rested c.args.now 16 c.self.inside.space.states (get nat_eq c.self.inside.held)
+    ∙ ap (λ (u : Uses). count_by (is_rested c.args.now) u.labels) c.self.view_is)

@@ -8,4 +8,5 @@ use Rattle.label_trees.proofs.label_uses.label_uses.LabelUses.is_up.Goals as goa
 pub returns : goal.returns
 returns c =
     c.is_some.ensures ∙ (copied_some c.get.result
-    ∙ ap is_some (c.get.ensures.value ∙ (sym (session_seen c.self.inside.sessions c.args.peer) ∙ ap (λ (u : Uses). maps.get u.sessions c.args.peer) c.self.view_is)))
+    ∙ ap is_some (c.get.ensures.value ∙ (sym (session_seen c.self.inside.sessions c.args.peer)
+    ∙ ap (λ (u : Uses). maps.get u.sessions c.args.peer) c.self.view_is)))

@@ -11,5 +11,6 @@ use Rattle.label_trees.proofs.label_uses.label_uses.LabelUses.labels_toward.Goal
 pub returns : goal.returns
 returns c = IfOk-weaker c.labels_toward.result _ _ (λ labels own label.
     ap (list_any (λ l. nat_eq l label)) own
-    ∙ (toward_seen c.self.inside.space c.self.inside.held (maps.get c.self.inside.bindings.kept) (get is_node c.self.inside.sessions) (get is_fec c.self.inside.mapped) (get is_fec c.self.inside.waiting) c.self.invariant c.labels_toward.ensures.unique c.args.peer label
+    ∙ (toward_seen c.self.inside.space c.self.inside.held (maps.get c.self.inside.bindings.kept) (get is_node c.self.inside.sessions)
+    (get is_fec c.self.inside.mapped) (get is_fec c.self.inside.waiting) c.self.invariant c.labels_toward.ensures.unique c.args.peer label
     ∙ ap (λ (u : Uses). is_toward c.args.peer (use_in u.labels label)) c.self.view_is)) c.labels_toward.ensures.listed

@@ -18,11 +18,17 @@ invariant_of-self c =
     let labels = ap (λ (u : Uses). u.labels) (c.self-2.view_is ∙ c.lose_all.ensures)
     ∙ (ap (λ (ls : List ℕ). lost_all c.args.peer c.args.self.now.labels ls) listed
     ∙ (ap (λ (u : Uses). lost_all c.args.peer u.labels (labels_toward c.args.peer c.self.inside.held.entries)) (sym c.self.view_is)
-    ∙ lost_is c.self.inside.space c.self.inside.held (maps.get c.self.inside.bindings.kept) (get is_node c.self.inside.sessions) (get is_fec c.self.inside.mapped) (get is_fec c.self.inside.waiting) c.self.invariant c.args.peer)) in
-    holds_sessions (state_of c.self-2.inside.space) (get nat_eq c.self-2.inside.held) (maps.get c.self-2.inside.bindings.kept) (get is_node c.self-2.inside.sessions) (get is_node c.swap_remove.new.self) (get is_fec c.self-2.inside.mapped) (get is_fec c.self-2.inside.waiting) c.self-2.invariant
+    ∙ lost_is c.self.inside.space c.self.inside.held (maps.get c.self.inside.bindings.kept) (get is_node c.self.inside.sessions)
+    (get is_fec c.self.inside.mapped) (get is_fec c.self.inside.waiting) c.self.invariant c.args.peer)) in
+    holds_sessions (state_of c.self-2.inside.space) (get nat_eq c.self-2.inside.held) (maps.get c.self-2.inside.bindings.kept)
+    (get is_node c.self-2.inside.sessions) (get is_node c.swap_remove.new.self) (get is_fec c.self-2.inside.mapped)
+    (get is_fec c.self-2.inside.waiting) c.self-2.invariant
     (λ q o raise at up. elim (cases_Bool (is_node c.args.peer o.upstream)) [
-      | inl t ↦ absurd (none_toward c.self-2.inside.space c.self-2.inside.held (maps.get c.self-2.inside.bindings.kept) (get is_node c.self-2.inside.sessions) (get is_fec c.self-2.inside.mapped) (get is_fec c.self-2.inside.waiting) c.self-2.invariant c.args.peer _ labels q o at
-          (ap (λ (n : NodeId). is_node n c.args.peer) (sym (node_same c.args.peer o.upstream t)) ∙ (ap (is_node c.args.peer) (node_same c.args.peer o.upstream t) ∙ t)))
+      | inl t ↦ absurd (none_toward c.self-2.inside.space c.self-2.inside.held (maps.get c.self-2.inside.bindings.kept)
+          (get is_node c.self-2.inside.sessions) (get is_fec c.self-2.inside.mapped) (get is_fec c.self-2.inside.waiting) c.self-2.invariant
+          c.args.peer _ labels q o at
+          (ap (λ (n : NodeId). is_node n c.args.peer) (sym (node_same c.args.peer o.upstream t))
+          ∙ (ap (is_node c.args.peer) (node_same c.args.peer o.upstream t) ∙ t)))
       | inr f ↦ not_it c.self-2.inside.sessions c.swap_remove.new.self c.args.peer None c.swap_remove.ensures.updates.0 o.upstream f ∙ up
     ])
 
@@ -34,8 +40,11 @@ returns-clause-lost c =
     let labels = ap (λ (u : Uses). u.labels) behind
     ∙ (ap (λ (ls : List ℕ). lost_all c.args.peer c.args.self.now.labels ls) listed
     ∙ (ap (λ (u : Uses). lost_all c.args.peer u.labels (labels_toward c.args.peer c.self.inside.held.entries)) (sym c.self.view_is)
-    ∙ (lost_is c.self.inside.space c.self.inside.held (maps.get c.self.inside.bindings.kept) (get is_node c.self.inside.sessions) (get is_fec c.self.inside.mapped) (get is_fec c.self.inside.waiting) c.self.invariant c.args.peer
+    ∙ (lost_is c.self.inside.space c.self.inside.held (maps.get c.self.inside.bindings.kept) (get is_node c.self.inside.sessions)
+    (get is_fec c.self.inside.mapped) (get is_fec c.self.inside.waiting) c.self.invariant c.args.peer
     ∙ ap (λ (u : Uses). map (freed c.args.peer) u.labels) c.self.view_is))) in
-    let sessions = session_goes c.self-2.inside.sessions c.swap_remove.new.self c.args.peer c.swap_remove.ensures.updates.0 ∙ ap (λ (u : Uses). maps.remove u.sessions c.args.peer) behind in
+    let sessions =
+    session_goes c.self-2.inside.sessions c.swap_remove.new.self c.args.peer c.swap_remove.ensures.updates.0
+    ∙ ap (λ (u : Uses). maps.remove u.sessions c.args.peer) behind in
     let waiting = ap (λ (u : Uses). u.waiting) behind in
     λ i. record { life = life i; labels = labels i; waiting = waiting i; sessions = sessions i }

@@ -9,5 +9,6 @@ use Rattle.label_trees.proofs.label_uses.label_uses.LabelUses.mapped.Goals as go
 pub returns : goal.returns
 returns c =
     c.copied.ensures ∙ c.get.ensures.value
-    ∙ mapped_agrees c.self.inside.space (get nat_eq c.self.inside.held) (maps.get c.self.inside.bindings.kept) (get is_node c.self.inside.sessions) (get is_fec c.self.inside.mapped) (get is_fec c.self.inside.waiting) c.self.invariant c.args.fec.now
+    ∙ mapped_agrees c.self.inside.space (get nat_eq c.self.inside.held) (maps.get c.self.inside.bindings.kept) (get is_node c.self.inside.sessions)
+    (get is_fec c.self.inside.mapped) (get is_fec c.self.inside.waiting) c.self.invariant c.args.fec.now
     ∙ ap (λ (u : Uses). mapped_in u.labels c.args.fec.now) c.self.view_is

@@ -21,23 +21,32 @@ unwrap-binding-requires c =
 pub end-requires : goal.end-requires
 end-requires c =
     let at = sym c.get.ensures.value ∙ sym c.copied.ensures ∙ c.in-Some.is in
-    let is = same_own c.take.result c.unwrap-binding.result (waiting_binding c.args.fec.now c.in-Some.own) c.unwrap-binding.ensures (c.take.ensures.binding ∙ c.self.invariant.waits c.args.fec.now c.in-Some.own at) in
+    let is = same_own c.take.result c.unwrap-binding.result (waiting_binding c.args.fec.now c.in-Some.own) c.unwrap-binding.ensures
+    (c.take.ensures.binding ∙ c.self.invariant.waits c.args.fec.now c.in-Some.own at) in
     subst (λ (b : AnyBinding). IfSome (label_of b) (λ l. IsOwned c.self.inside.space l)) (sym is) tt
 
 pub invariant_of-self : goal.invariant_of-self
 invariant_of-self c =
     let at = sym c.get.ensures.value ∙ sym c.copied.ensures ∙ c.in-Some.is in
-    let is = same_own c.take.result c.unwrap-binding.result (waiting_binding c.args.fec.now c.in-Some.own) c.unwrap-binding.ensures (c.take.ensures.binding ∙ c.self.invariant.waits c.args.fec.now c.in-Some.own at) in
+    let is = same_own c.take.result c.unwrap-binding.result (waiting_binding c.args.fec.now c.in-Some.own) c.unwrap-binding.ensures
+    (c.take.ensures.binding ∙ c.self.invariant.waits c.args.fec.now c.in-Some.own at) in
     let space : c.end.new.space ≡ c.self.inside.space = c.end.ensures ∙ ap (λ (b : AnyBinding). with_free c.self.inside.space (label_of b)) is in
-    let names = subst (λ n. Sets (maps.get c.self.inside.bindings.kept) (maps.get n) c.in-Some.own.name None) (sym (ap (λ (n : Named). n.kept) c.take.ensures.taken)) (name_gone c.self.inside.bindings.kept c.in-Some.own.name) in
-    subst (λ (x : Space). HoldsOwned (state_of x) (get nat_eq c.self.inside.held) (maps.get c.take.new.self.kept) (get is_node c.self.inside.sessions) (get is_fec c.self.inside.mapped) (get is_fec c.forget_waiting.new.waiting)) (sym space)
-    (holds_unwait (state_of c.self.inside.space) (get nat_eq c.self.inside.held) (maps.get c.self.inside.bindings.kept) (maps.get c.take.new.self.kept) (get is_node c.self.inside.sessions) (get is_fec c.self.inside.mapped) (get is_fec c.self.inside.waiting) (get is_fec c.forget_waiting.new.waiting)
-    c.args.fec.now c.in-Some.own c.self.invariant at names (sets_tree (get is_fec c.self.inside.waiting) (get is_fec c.forget_waiting.new.waiting) c.args.fec.now None c.forget_waiting.ensures.each))
+    let names =
+    subst (λ n. Sets (maps.get c.self.inside.bindings.kept) (maps.get n) c.in-Some.own.name None)
+    (sym (ap (λ (n : Named). n.kept) c.take.ensures.taken)) (name_gone c.self.inside.bindings.kept c.in-Some.own.name) in
+    subst (λ (x : Space). HoldsOwned (state_of x) (get nat_eq c.self.inside.held) (maps.get c.take.new.self.kept) (get is_node c.self.inside.sessions)
+    (get is_fec c.self.inside.mapped) (get is_fec c.forget_waiting.new.waiting)) (sym space)
+    (holds_unwait (state_of c.self.inside.space) (get nat_eq c.self.inside.held) (maps.get c.self.inside.bindings.kept)
+    (maps.get c.take.new.self.kept) (get is_node c.self.inside.sessions) (get is_fec c.self.inside.mapped) (get is_fec c.self.inside.waiting)
+    (get is_fec c.forget_waiting.new.waiting)
+    c.args.fec.now c.in-Some.own c.self.invariant at names
+    (sets_tree (get is_fec c.self.inside.waiting) (get is_fec c.forget_waiting.new.waiting) c.args.fec.now None c.forget_waiting.ensures.each))
 
 pub returns-in-Some : goal.returns-in-Some
 returns-in-Some c =
     let at = sym c.get.ensures.value ∙ sym c.copied.ensures ∙ c.in-Some.is in
-    let is = same_own c.take.result c.unwrap-binding.result (waiting_binding c.args.fec.now c.in-Some.own) c.unwrap-binding.ensures (c.take.ensures.binding ∙ c.self.invariant.waits c.args.fec.now c.in-Some.own at) in
+    let is = same_own c.take.result c.unwrap-binding.result (waiting_binding c.args.fec.now c.in-Some.own) c.unwrap-binding.ensures
+    (c.take.ensures.binding ∙ c.self.invariant.waits c.args.fec.now c.in-Some.own at) in
     let space : c.end.new.space ≡ c.self.inside.space = c.end.ensures ∙ ap (λ (b : AnyBinding). with_free c.self.inside.space (label_of b)) is in
     let life = ap (λ (x : Space). x.life) space in
     let labels = ap (λ (x : Space). uses_from 16 (get nat_eq c.self.inside.held) x.states) space in
@@ -50,4 +59,10 @@ returns-in_default c =
     let none = sym c.get.ensures.value ∙ sym c.copied.ensures ∙ c.in_default.is in
     let waiting = waiting_none c.self.inside.waiting c.args.fec.now none in
     subst (λ (u : Uses). u ≡ record u { waiting = maps.remove u.waiting c.args.fec.now }) c.self.view_is
-    (λ i. record { life = c.self.inside.space.life; labels = uses_from 16 (get nat_eq c.self.inside.held) c.self.inside.space.states; waiting = waiting i; sessions = maps.from_entries c.self.inside.sessions.entries })
+    (λ i. record {
+      life = c.self.inside.space.life;
+      labels = uses_from 16 (get nat_eq c.self.inside.held) c.self.inside.space.states;
+      waiting =
+          waiting i;
+      sessions = maps.from_entries c.self.inside.sessions.entries;
+    })

@@ -11,11 +11,14 @@ use Rattle.label_trees.proofs.label_uses.label_uses.LabelUses.upstream.Goals as 
 
 pub returns-in-None : goal.returns-in-None
 returns-in-None c =
-    sym (idle_upstream (use_in (uses_from 16 (get nat_eq c.self.inside.held) c.self.inside.space.states) c.args.label) (idle c.self.inside.space (get nat_eq c.self.inside.held) c.args.label (sym c.in-None.ensures.value)))
+    sym (idle_upstream (use_in (uses_from 16 (get nat_eq c.self.inside.held) c.self.inside.space.states) c.args.label)
+    (idle c.self.inside.space (get nat_eq c.self.inside.held) c.args.label (sym c.in-None.ensures.value)))
     ∙ ap (λ (u : Uses). upstream_of (use_in u.labels c.args.label)) c.self.view_is
 
 pub returns-in-Some : goal.returns-in-Some
 returns-in-Some c =
     sym (held_upstream c.in-Some.own.now)
-    ∙ (sym (ap upstream_of (use_of_held c.self.inside.space (get nat_eq c.self.inside.held) (maps.get c.self.inside.bindings.kept) (get is_node c.self.inside.sessions) (get is_fec c.self.inside.mapped) (get is_fec c.self.inside.waiting) c.self.invariant c.args.label c.in-Some.own.now (sym c.in-Some.ensures.value)))
+    ∙ (sym (ap upstream_of (use_of_held c.self.inside.space (get nat_eq c.self.inside.held) (maps.get c.self.inside.bindings.kept)
+    (get is_node c.self.inside.sessions) (get is_fec c.self.inside.mapped) (get is_fec c.self.inside.waiting) c.self.invariant c.args.label
+    c.in-Some.own.now (sym c.in-Some.ensures.value)))
     ∙ ap (λ (u : Uses). upstream_of (use_in u.labels c.args.label)) c.self.view_is)

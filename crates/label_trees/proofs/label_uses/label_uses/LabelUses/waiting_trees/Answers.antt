@@ -8,4 +8,5 @@ use Rattle.label_trees.proofs.label_uses.label_uses.LabelUses.waiting_trees.Goal
 
 pub returns : goal.returns
 returns c = IfOk-weaker c.waiting_trees.result _ _ (λ fecs own.
-    all_waiting c.self.inside.waiting.entries fecs.items own ∙ ap (λ (u : Uses). sets.from_list (maps.keys u.waiting)) c.self.view_is) c.waiting_trees.ensures
+    all_waiting c.self.inside.waiting.entries fecs.items own ∙ ap (λ (u : Uses). sets.from_list (maps.keys u.waiting)) c.self.view_is)
+    c.waiting_trees.ensures

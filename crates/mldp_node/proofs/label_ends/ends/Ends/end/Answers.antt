@@ -5,4 +5,5 @@ use Rattle.mldp_node.proofs.label_ends.NodeMaps.{seen}
 use Rattle.mldp_node.proofs.label_ends.ends.Ends.end.Goals as goal
 
 pub returns : goal.returns
-returns c = c.copied.ensures ∙ c.get.ensures.value ∙ sym (seen c.self.inside.up c.args.peer) ∙ ap (λ (e : Ends). maps.get e.up c.args.peer) c.self.view_is
+returns c =
+    c.copied.ensures ∙ c.get.ensures.value ∙ sym (seen c.self.inside.up c.args.peer) ∙ ap (λ (e : Ends). maps.get e.up c.args.peer) c.self.view_is

@@ -6,7 +6,8 @@ use Rattle.mldp_node.proofs.label_ends.NodeMaps.{goes, octets_seen}
 use Rattle.mldp_node.proofs.label_ends.ends.Ends.take_out.Goals as goal
 
 pub returns-clause-octets : goal.returns-clause-octets
-returns-clause-octets c = c.take.ensures.value ∙ octets_seen c.self.inside.waiting c.args.peer ∙ ap (λ (e : Ends). waiting_for e.waiting c.args.peer) c.self.view_is
+returns-clause-octets c =
+    c.take.ensures.value ∙ octets_seen c.self.inside.waiting c.args.peer ∙ ap (λ (e : Ends). waiting_for e.waiting c.args.peer) c.self.view_is
 
 pub returns-clause-rest : goal.returns-clause-rest
 returns-clause-rest c =

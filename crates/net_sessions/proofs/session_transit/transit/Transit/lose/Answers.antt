@@ -11,5 +11,6 @@ returns c =
     subst (λ (t : TransitData). Loses (is_of_session c.args.kind c.args.a c.args.b) t (transit_of c.lose.new.sessions)) c.self.view_is
     (loses c.self.inside.sessions c.lose.new.sessions (is_of_session c.args.kind c.args.a c.args.b)
     (λ (k : Key). is_key c.key_of-one.result k || is_key c.key_of-other.result k)
-    (λ d. (λ i. is_key (c.key_of-one.ensures i) (key_of d) || is_key (c.key_of-other.ensures i) (key_of d)) ∙ session_keys c.args.kind c.args.a c.args.b d)
+    (λ d. (λ i. is_key (c.key_of-one.ensures i) (key_of d) || is_key (c.key_of-other.ensures i) (key_of d))
+    ∙ session_keys c.args.kind c.args.a c.args.b d)
     c.lose.ensures.lost)

@@ -15,7 +15,9 @@ pub returns-clause-rest : goal.returns-clause-rest
 returns-clause-rest c = on_ok_weaker c.take.result (λ each.
     subst (λ (t : TransitData). Takes c.args.over c.args.count t (transit_of c.take.new.sessions)) c.self.view_is
     (takes c.self.inside.sessions c.take.new.sessions c.args.over c.args.count
-    (changes_at c.self.inside.sessions c.take.new.sessions c.args.over c.key_of-at.result c.key_of-at.ensures (λ (d : List ℕ). drop c.args.count d) each))) c.take.ensures.rest
+    (changes_at c.self.inside.sessions c.take.new.sessions c.args.over c.key_of-at.result c.key_of-at.ensures (λ (d : List ℕ). drop c.args.count d)
+    each))) c.take.ensures.rest
 
 pub returns-clause-same : goal.returns-clause-same
-returns-clause-same c = on_err_weaker c.take.result (λ each. unchanged c.self.inside.sessions c.take.new.sessions each ∙ c.self.view_is) c.take.ensures.same
+returns-clause-same c =
+    on_err_weaker c.take.result (λ each. unchanged c.self.inside.sessions c.take.new.sessions each ∙ c.self.view_is) c.take.ensures.same

@@ -11,4 +11,5 @@ is_selected-requires c = record { own = own_vrf c.args.n c.args.vrf c.args.self.
 pub returns : goal.returns
 returns c = λ at own is.
     c.is_selected.ensures
-    ∙ ap (λ (s : NodeState). maps.contains_key (control_of s).selections (record { vrf = c.args.vrf; pattern = c.args.pattern })) (sym (c.node.ensures at own.node.within is).keeps)
+    ∙ ap (λ (s : NodeState). maps.contains_key (control_of s).selections (record { vrf = c.args.vrf; pattern = c.args.pattern }))
+    (sym (c.node.ensures at own.node.within is).keeps)

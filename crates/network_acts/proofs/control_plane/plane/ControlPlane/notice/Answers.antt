@@ -14,30 +14,37 @@ use Rattle.network_acts.proofs.control_plane.plane.ControlPlane.notice.Goals as 
 
 pub noticed-answer-requires-clause-nodes : goal.noticed-answer-requires-clause-nodes
 noticed-answer-requires-clause-nodes c =
-    count_here (IsLost c.args.kind c.args.a c.args.b) c.args.a (λ at fits. fits.within) _ (subst (IsSome (IsLost c.args.kind c.args.a c.args.b)) (sym c.self.view_is) c.requires.plane)
+    count_here (IsLost c.args.kind c.args.a c.args.b) c.args.a (λ at fits. fits.within) _
+    (subst (IsSome (IsLost c.args.kind c.args.a c.args.b)) (sym c.self.view_is) c.requires.plane)
     c.from.result c.from.ensures c.index_mut.result.now c.index_mut.result.now c.index_mut.ensures.value
 
 pub noticed-answer-requires-clause-peer : goal.noticed-answer-requires-clause-peer
 noticed-answer-requires-clause-peer c =
-    peer_here (IsLost c.args.kind c.args.a c.args.b) c.args.a (λ at fits. fits.within) _ (subst (IsSome (IsLost c.args.kind c.args.a c.args.b)) (sym c.self.view_is) c.requires.plane)
+    peer_here (IsLost c.args.kind c.args.a c.args.b) c.args.a (λ at fits. fits.within) _
+    (subst (IsSome (IsLost c.args.kind c.args.a c.args.b)) (sym c.self.view_is) c.requires.plane)
     c.from.result c.from.ensures c.index_mut.result.now c.index_mut.result.now c.index_mut.ensures.value c.args.kind c.args.b (λ at fits. fits.way)
 
 pub settle-requires-clause-midway : goal.settle-requires-clause-midway
 settle-requires-clause-midway c =
-    turn_midway (IsLost c.args.kind c.args.a c.args.b) same_moment _ c.args.self.now c.self.view_is c.requires.plane c.args.a (Noticed c.args.kind c.args.b)
+    turn_midway (IsLost c.args.kind c.args.a c.args.b) same_moment _ c.args.self.now c.self.view_is c.requires.plane c.args.a
+    (Noticed c.args.kind c.args.b)
     (Forget (is_from_peer c.args.kind c.args.a c.args.b) ∷ Call (Own c.args.a (Noticed c.args.kind c.args.b)) ∷ []) c.self.inside.transit
     (λ at fits is. notice_begins at _ is c.args.kind c.args.a c.args.b fits) (λ at fits. fits.within)
-    c.from.result c.from.ensures c.index_mut.result.now c.index_mut.result.now c.noticed-answer.new.self c.index_mut.ensures.value c.noticed-answer.result c.noticed-answer.ensures.answers
+    c.from.result c.from.ensures c.index_mut.result.now c.index_mut.result.now c.noticed-answer.new.self c.index_mut.ensures.value
+    c.noticed-answer.result c.noticed-answer.ensures.answers
 
 pub returns-clause-acts : goal.returns-clause-acts
 returns-clause-acts c =
-    turn_done (IsLost c.args.kind c.args.a c.args.b) same_moment _ c.args.self.now c.self.view_is c.requires.plane c.args.a (Noticed c.args.kind c.args.b)
+    turn_done (IsLost c.args.kind c.args.a c.args.b) same_moment _ c.args.self.now c.self.view_is c.requires.plane c.args.a
+    (Noticed c.args.kind c.args.b)
     (Forget (is_from_peer c.args.kind c.args.a c.args.b) ∷ Call (Own c.args.a (Noticed c.args.kind c.args.b)) ∷ []) c.self.inside.transit
     (λ at fits is. notice_begins at _ is c.args.kind c.args.a c.args.b fits) (λ at fits. fits.within)
-    c.from.result c.from.ensures c.index_mut.result.now c.index_mut.result.now c.noticed-answer.new.self c.index_mut.ensures.value c.noticed-answer.result c.noticed-answer.ensures.answers
+    c.from.result c.from.ensures c.index_mut.result.now c.index_mut.result.now c.noticed-answer.new.self c.index_mut.ensures.value
+    c.noticed-answer.result c.noticed-answer.ensures.answers
     c.settle.new.self c.args.lines.now c.settle.new.lines c.settle.result c.settle.ensures.acts
 
 pub returns-clause-places : goal.returns-clause-places
 returns-clause-places c =
-    act_places _ c.args.self.now c.self.view_is c.from.result c.index_mut.result.now c.index_mut.result.now c.noticed-answer.new.self c.index_mut.ensures.value c.noticed-answer.ensures.answers.placed _ c.settle.new.self refl
+    act_places _ c.args.self.now c.self.view_is c.from.result c.index_mut.result.now c.index_mut.result.now c.noticed-answer.new.self
+    c.index_mut.ensures.value c.noticed-answer.ensures.answers.placed _ c.settle.new.self refl
     c.settle.ensures.places

@@ -7,5 +7,6 @@ use Rattle.network_acts.proofs.control_plane.plane.ControlPlane.total.Goals as g
 pub returns : goal.returns
 returns c = λ at is.
     let inside = c.self.inside in
-    let plane : PlaneView = record { nodes = inside.nodes.items; ways = inside.ways; transit = inside.transit; core = inside.core; clock = inside.clock } in
+    let plane : PlaneView =
+    record { nodes = inside.nodes.items; ways = inside.ways; transit = inside.transit; core = inside.core; clock = inside.clock } in
     c.total.ensures ∙ in_transit at plane (subst (IsIn at) (sym c.self.view_is) is)

@@ -13,35 +13,51 @@ use Rattle.network_acts.proofs.control_plane.plane.ControlPlane.unselect.Goals a
 pub unselect-answer-requires-clause-own : goal.unselect-answer-requires-clause-own
 unselect-answer-requires-clause-own c =
     let inside = c.self.inside in
-    let plane : PlaneView = record { nodes = inside.nodes.items; ways = inside.ways; transit = inside.transit; core = inside.core; clock = inside.clock } in
+    let plane : PlaneView =
+    record { nodes = inside.nodes.items; ways = inside.ways; transit = inside.transit; core = inside.core; clock = inside.clock } in
     let some = subst (IsSome (IsVrfEdge c.args.n c.args.vrf)) (sym c.self.view_is) c.requires.plane in
-    let place = node_here (IsVrfEdge c.args.n c.args.vrf) c.args.n (λ at fits. fits.node.within) plane some c.from.result c.from.ensures c.index_mut.result.now c.index_mut.result.now c.index_mut.ensures.value in
+    let place =
+    node_here (IsVrfEdge c.args.n c.args.vrf) c.args.n (λ at fits. fits.node.within) plane some c.from.result c.from.ensures
+    c.index_mut.result.now c.index_mut.result.now c.index_mut.ensures.value in
     vrf_here plane c.args.n c.index_mut.result.now place some.0 some.2 (some.1.node) c.args.vrf (some.1.edge)
 
 pub settle-requires-clause-midway : goal.settle-requires-clause-midway
 settle-requires-clause-midway c =
     let inside = c.self.inside in
-    let plane : PlaneView = record { nodes = inside.nodes.items; ways = inside.ways; transit = inside.transit; core = inside.core; clock = inside.clock } in
+    let plane : PlaneView =
+    record { nodes = inside.nodes.items; ways = inside.ways; transit = inside.transit; core = inside.core; clock = inside.clock } in
     let some = subst (IsSome (IsVrfEdge c.args.n c.args.vrf)) (sym c.self.view_is) c.requires.plane in
-    let place = node_here (IsVrfEdge c.args.n c.args.vrf) c.args.n (λ at fits. fits.node.within) plane some c.from.result c.from.ensures c.index_mut.result.now c.index_mut.result.now c.index_mut.ensures.value in
-    subst (λ (k : ℕ). OnOk c.unselect-answer.result (IsSomeMidway c.args.n (record plane { nodes = slice_set plane.nodes k c.unselect-answer.new.self }))) (sym c.from.ensures)
-    (own_some plane c.args.n (Unselect c.args.vrf c.args.pattern) (λ kind peer. refl) tt c.index_mut.result.now c.unselect-answer.new.self place c.unselect-answer.result (c.unselect-answer.ensures.answers plane.core plane.clock)
+    let place =
+    node_here (IsVrfEdge c.args.n c.args.vrf) c.args.n (λ at fits. fits.node.within) plane some c.from.result c.from.ensures
+    c.index_mut.result.now c.index_mut.result.now c.index_mut.ensures.value in
+    subst (λ (k : ℕ). OnOk c.unselect-answer.result
+    (IsSomeMidway c.args.n (record plane { nodes = slice_set plane.nodes k c.unselect-answer.new.self }))) (sym c.from.ensures)
+    (own_some plane c.args.n (Unselect c.args.vrf c.args.pattern) (λ kind peer. refl) tt c.index_mut.result.now c.unselect-answer.new.self place
+    c.unselect-answer.result (c.unselect-answer.ensures.answers plane.core plane.clock)
     (some_where (IsCurrent c.args.n) (IsVrfEdge c.args.n c.args.vrf) (λ at fits. fits.node) plane some))
 
 pub returns-clause-acts : goal.returns-clause-acts
 returns-clause-acts c =
     let inside = c.self.inside in
-    let plane : PlaneView = record { nodes = inside.nodes.items; ways = inside.ways; transit = inside.transit; core = inside.core; clock = inside.clock } in
+    let plane : PlaneView =
+    record { nodes = inside.nodes.items; ways = inside.ways; transit = inside.transit; core = inside.core; clock = inside.clock } in
     let some = subst (IsSome (IsVrfEdge c.args.n c.args.vrf)) (sym c.self.view_is) c.requires.plane in
-    let place = node_here (IsVrfEdge c.args.n c.args.vrf) c.args.n (λ at fits. fits.node.within) plane some c.from.result c.from.ensures c.index_mut.result.now c.index_mut.result.now c.index_mut.ensures.value in
+    let place =
+    node_here (IsVrfEdge c.args.n c.args.vrf) c.args.n (λ at fits. fits.node.within) plane some c.from.result c.from.ensures
+    c.index_mut.result.now c.index_mut.result.now c.index_mut.ensures.value in
     let act = octets.Call (Own c.args.n (Unselect c.args.vrf c.args.pattern)) in
-    subst (λ (p : PlaneView). Acts (IsVrfEdge c.args.n c.args.vrf) same_moment (act ∷ []) no_lines p c.settle.new.self c.args.lines.now c.settle.new.lines c.settle.result) c.self.view_is
-    (acts_where (IsCurrent c.args.n) (IsVrfEdge c.args.n c.args.vrf) (λ at fits. fits.node) (act ∷ []) plane c.settle.new.self c.args.lines.now c.settle.new.lines c.settle.result
-    (own_acts plane c.args.n (Unselect c.args.vrf c.args.pattern) (λ kind peer. refl) tt c.index_mut.result.now c.unselect-answer.new.self place c.unselect-answer.result (c.unselect-answer.ensures.answers plane.core plane.clock)
+    subst (λ (p : PlaneView). Acts (IsVrfEdge c.args.n c.args.vrf) same_moment (act ∷ []) no_lines p c.settle.new.self c.args.lines.now
+    c.settle.new.lines c.settle.result) c.self.view_is
+    (acts_where (IsCurrent c.args.n) (IsVrfEdge c.args.n c.args.vrf) (λ at fits. fits.node) (act ∷ []) plane c.settle.new.self c.args.lines.now
+    c.settle.new.lines c.settle.result
+    (own_acts plane c.args.n (Unselect c.args.vrf c.args.pattern) (λ kind peer. refl) tt c.index_mut.result.now c.unselect-answer.new.self place
+    c.unselect-answer.result (c.unselect-answer.ensures.answers plane.core plane.clock)
     c.settle.new.self c.args.lines.now c.settle.new.lines c.settle.result
-    (subst (λ (k : ℕ). Settles c.args.n c.unselect-answer.result (record plane { nodes = slice_set plane.nodes k c.unselect-answer.new.self }) c.settle.new.self c.args.lines.now c.settle.new.lines c.settle.result) c.from.ensures c.settle.ensures.acts)))
+    (subst (λ (k : ℕ). Settles c.args.n c.unselect-answer.result (record plane { nodes = slice_set plane.nodes k c.unselect-answer.new.self })
+    c.settle.new.self c.args.lines.now c.settle.new.lines c.settle.result) c.from.ensures c.settle.ensures.acts)))
 
 pub returns-clause-places : goal.returns-clause-places
 returns-clause-places c =
-    act_places _ c.args.self.now c.self.view_is c.from.result c.index_mut.result.now c.index_mut.result.now c.unselect-answer.new.self c.index_mut.ensures.value (c.unselect-answer.ensures.answers c.self.inside.core c.self.inside.clock).placed _ c.settle.new.self refl
+    act_places _ c.args.self.now c.self.view_is c.from.result c.index_mut.result.now c.index_mut.result.now c.unselect-answer.new.self
+    c.index_mut.ensures.value (c.unselect-answer.ensures.answers c.self.inside.core c.self.inside.clock).placed _ c.settle.new.self refl
     c.settle.ensures.places

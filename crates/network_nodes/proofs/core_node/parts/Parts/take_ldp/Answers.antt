@@ -8,24 +8,33 @@ use Rattle.network_nodes.proofs.core_node.parts.Parts.take_ldp.Goals as goal
 pub drain_ldp-requires : goal.drain_ldp-requires
 drain_ldp-requires c =
     let old = c.args.self.now in
-    record { stream = fed_there (ldp_with c.args.peer) c.args.bytes.now old.streams c.feed_ldp.new.self (up_there c.args.peer old c.requires.live c.requires.up) c.in_ok-feed_ldp.ensures.fed }
+    record {
+      stream =
+          fed_there (ldp_with c.args.peer) c.args.bytes.now old.streams c.feed_ldp.new.self (up_there c.args.peer old c.requires.live c.requires.up)
+          c.in_ok-feed_ldp.ensures.fed;
+    }
 
 pub take_labels-requires-clause-live : goal.take_labels-requires-clause-live
 take_labels-requires-clause-live c =
     let old = c.args.self.now in
-    mid_live c.args.core.now c.args.now c.args.peer c.args.bytes.now old old c.feed_ldp.new.self c.drain_ldp.new.self c.requires.live (up_there c.args.peer old c.requires.live c.requires.up)
+    mid_live c.args.core.now c.args.now c.args.peer c.args.bytes.now old old c.feed_ldp.new.self c.drain_ldp.new.self c.requires.live
+    (up_there c.args.peer old c.requires.live c.requires.up)
     c.in_ok-feed_ldp.ensures.fed c.in_ok-messages.ensures.rest
 
 pub returns-in-Ok-clause-answers : goal.returns-in-Ok-clause-answers
 returns-in-Ok-clause-answers c =
     let old = c.args.self.now in
-    octets_taken c.args.core.now c.args.now c.args.peer c.args.bytes.now old c.take_labels.new.self c.feed_ldp.new.self c.drain_ldp.new.self c.requires.live (up_there c.args.peer old c.requires.live c.requires.up)
-    c.in_ok-feed_ldp.ensures.fed c.in_ok-messages.ensures.rest (map (λ message. Label message) c.in_ok-messages.messages.items) c.in_ok-messages.ensures.messages
+    octets_taken c.args.core.now c.args.now c.args.peer c.args.bytes.now old c.take_labels.new.self c.feed_ldp.new.self c.drain_ldp.new.self
+    c.requires.live (up_there c.args.peer old c.requires.live c.requires.up)
+    c.in_ok-feed_ldp.ensures.fed c.in_ok-messages.ensures.rest (map (λ message. Label message) c.in_ok-messages.messages.items)
+    c.in_ok-messages.ensures.messages
     c.sound.result c.sound.ensures.sound c.sound.ensures.fault c.in-Ok.ensures.settles
 
 pub returns-in-Err-clause-answers : goal.returns-in-Err-clause-answers
 returns-in-Err-clause-answers c =
     let old = c.args.self.now in
-    octets_stopped c.args.core.now c.args.now c.args.peer c.args.bytes.now old c.take_labels.new.self c.feed_ldp.new.self c.drain_ldp.new.self c.requires.live (up_there c.args.peer old c.requires.live c.requires.up)
-    c.in_ok-feed_ldp.ensures.fed c.in_ok-messages.ensures.rest (map (λ message. Label message) c.in_ok-messages.messages.items) c.in_ok-messages.ensures.messages
+    octets_stopped c.args.core.now c.args.now c.args.peer c.args.bytes.now old c.take_labels.new.self c.feed_ldp.new.self c.drain_ldp.new.self
+    c.requires.live (up_there c.args.peer old c.requires.live c.requires.up)
+    c.in_ok-feed_ldp.ensures.fed c.in_ok-messages.ensures.rest (map (λ message. Label message) c.in_ok-messages.messages.items)
+    c.in_ok-messages.ensures.messages
     c.in-Err.fault (c.in-Err.ensures.only c.in-Err.fault refl) c.in-Err.ensures.settles

@@ -1,6 +1,5 @@
 -- Addresses: when two are one, their octets, and how many they are.
-use Rattle.std.specs.Prelude.{◌≡◌, ℕ, Bool, true, false, nat_eq, List, ◌∷◌, length, refl}
-use Rattle.std.specs.Hash as fed
+use Rattle.std.specs.Prelude.{◌≡◌, ℕ, Bool, true, false, nat_eq, List, [], ◌∷◌, length, refl}
 use Rattle.std.specs.Cmp.{IsEquivalence}
 use Rattle.std.specs.Cmp.Lexicographic.{pointwise, same_text, nat_list_eq_equiv}
 use Rattle.std.proofs.Common.{ap, sym}
@@ -64,5 +63,5 @@ same_addr_equal (V4 a) (V6 b) h = absurd cc
 same_addr_equal (V6 a) (V4 b) h = absurd cc
 
 -- Addresses that are one are hashed alike.
-pub addr_alike : (a b : Addr) → same_addr a b ≡ true → fed.slice fed.u8 (addr_octets a) ≡ fed.slice fed.u8 (addr_octets b)
-addr_alike a b h = ap (λ (c : Addr). fed.slice fed.u8 (addr_octets c)) (same_addr_equal a b h)
+pub addr_alike : (a b : Addr) → same_addr a b ≡ true → addr_octets a ∷ [] ≡ addr_octets b ∷ []
+addr_alike a b h = ap (λ (c : Addr). addr_octets c ∷ []) (same_addr_equal a b h)

@@ -1,6 +1,5 @@
 -- Octets in an array that is longer than they are, with zeros behind them.
-use Rattle.std.specs.Prelude.{◌≡◌, ℕ, ◌-◌, ◌≤◌, List, ◌++◌, length, take, drop, replicate, true, nat_eq}
-use Rattle.std.specs.Hash as fed
+use Rattle.std.specs.Prelude.{◌≡◌, ℕ, ◌-◌, ◌≤◌, List, [], ◌∷◌, ◌++◌, length, take, drop, replicate, true, nat_eq}
 use Rattle.std.specs.Cmp.Lexicographic.{pointwise, same_text}
 use Rattle.std.proofs.Common.{arith, ap, sym, take-append-drop, length-take-le}
 
@@ -14,5 +13,5 @@ pub octets_back : (cap len : ℕ) (octets : List ℕ) → len ≤ cap → length
 octets_back cap len octets le all spare = rw (len_back cap len octets le all, ← spare) (take-append-drop len octets)
 
 -- Equal octets are hashed alike.
-pub octets_alike : (x y : List ℕ) → pointwise nat_eq x y ≡ true → fed.slice fed.u8 x ≡ fed.slice fed.u8 y
-octets_alike x y h = ap (fed.slice fed.u8) (same_text x y (sym h))
+pub octets_alike : (x y : List ℕ) → pointwise nat_eq x y ≡ true → x ∷ [] ≡ y ∷ []
+octets_alike x y h = ap (λ (octets : List ℕ). octets ∷ []) (same_text x y (sym h))

@@ -78,15 +78,15 @@ impl<const N: usize> Eq for Inline<N> {
 }
 
 impl<const N: usize> Hash for Inline<N> {
-    ghost use Rattle.std.specs.Hash as fed;
+    ghost use Rattle.std.specs.Prelude.{[], ◌∷◌};
     ghost use Rattle.mv_base.specs.Padding.{octets_alike};
 
-    ghost hash_input = { fed.slice fed.u8 };
+    // All in one write: octet by octet takes several times as long.
+    ghost hash_input = { λ octets. octets ∷ [] };
 
     ghost respects_eq = { octets_alike };
 
     fn hash<H: Hasher>(&self, state: &mut H) {
-        let octets: &[u8] = self.octets();
-        octets.hash(state);
+        state.write(self.octets());
     }
 }

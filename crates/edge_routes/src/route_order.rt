@@ -2,6 +2,7 @@
 
 mod key;
 mod octets;
+mod routes;
 mod value;
 
 pub use key::TableKey;

@@ -1,5 +1,5 @@
 -- The octets that spell keys, compared field by field.
-use Rattle.std.proofs.Common.{◌≡◌, ℕ, ◌+◌, ◌<◌, List, [], ◌∷◌, ◌++◌, length, take, arith, refl, sym, ap, subst, ◌∙◌}
+use Rattle.std.proofs.Common.{◌≡◌, ℕ, ◌+◌, ◌<◌, List, [], ◌∷◌, ◌++◌, length, take, length-append, arith, refl, sym, ap, subst, ◌∙◌}
 use Rattle.std.specs.declared.cmp.Ordering.{Ordering}
 use Rattle.std.specs.declared.cmp.Ordering.TheVariants.{Less, Equal, Greater}
 use Rattle.std.specs.Ordering.{nat_cmp, ordering_then, MatchOrdering}
@@ -20,6 +20,7 @@ use Rattle.edge_defs.specs.bgp_messages.declared.bgp_attributes.key.Key.TheVaria
 use Rattle.edge_defs.specs.bgp_messages.bgp_attributes.Spelling.{octets_for}
 use Rattle.edge_defs.specs.bgp_messages.bgp_update.Written.{IsVpn, vpn_text, afi_of}
 use Rattle.edge_defs.specs.Keys.{afi_number, key_cmp, parts_cmp, route_parts}
+use Rattle.edge_routes.specs.route_order.Compared.{AreCompared}
 
 -- ---- orderings
 
@@ -132,3 +133,13 @@ two_told r a b x y e h k = e ∙ λ i. ordering_then (h i) (k i)
 pub three_told : (r t a b d x y z : Ordering) → r ≡ ordering_then t d → t ≡ ordering_then a b → a ≡ x → b ≡ y → d ≡ z
     → r ≡ ordering_then (ordering_then x y) z
 three_told r t a b d x y z e f h k l = two_told r t d (ordering_then x y) z e (two_told t a b x y f h k) l
+
+-- ---- octets of one length
+
+-- What is made of two fields each is compared field by field, where the fields in front are of one length.
+pub compared : (a b c d : List ℕ) (x y r : Ordering) → AreCompared a b x → AreCompared c d y → r ≡ ordering_then x y → AreCompared (a ++ c) (b ++ d) r
+compared a b c d x y r h k e =
+    record {
+      lengths = length-append a c ∙ (λ i. h.lengths i + k.lengths i) ∙ sym (length-append b d);
+      is = e ∙ (λ i. ordering_then (h.is i) (k.is i)) ∙ sym (append_cmp a b c d h.lengths);
+    }

@@ -14,6 +14,7 @@ ghost use Rattle.edge_defs.specs.Keys.{afi_number, key_cmp};
 ghost use Rattle.edge_defs.proofs.KeyLemmas.{key_total};
 ghost use Rattle.bgp_values.specs.declared.mvpn_nlri.route.Afi.{Afi};
 
+use crate::route_order::routes::compare_alike;
 use bgp_values::mvpn_nlri::{Afi, Route};
 use edge_defs::of_bgp_messages::bgp_attributes::Key;
 use mv_base::{Addr, Prefix, Rd};
@@ -146,8 +147,8 @@ fn spelled(route: &Route) -> ([u8; 257], usize)
     (octets, len)
 }
 
-/// The order of the octets that spell two routes.
-fn compare_routes(own: &Route, other: &Route) -> Ordering
+/// The order of the octets that spell two routes, by spelling both.
+fn compare_spelled(own: &Route, other: &Route) -> Ordering
     requires own { (afi : Afi) × routes.Spells afi own.now (routes.written own.now) }
     requires other { (afi : Afi) × routes.Spells afi other.now (routes.written other.now) }
     ensures { result ≡ slice_cmp nat_cmp (routes.written own.now) (routes.written other.now) }
@@ -155,6 +156,18 @@ fn compare_routes(own: &Route, other: &Route) -> Ordering
     let (octets, len) = spelled(own);
     let (others, other_len) = spelled(other);
     octets[..len].cmp(&others[..other_len])
+}
+
+/// The order of the octets that spell two routes.
+fn compare_routes(own: &Route, other: &Route) -> Ordering
+    requires own { (afi : Afi) × routes.Spells afi own.now (routes.written own.now) }
+    requires other { (afi : Afi) × routes.Spells afi other.now (routes.written other.now) }
+    ensures { result ≡ slice_cmp nat_cmp (routes.written own.now) (routes.written other.now) }
+{
+    match compare_alike(own, other) {
+        Some(order) => order,
+        None => compare_spelled(own, other),
+    }
 }
 
 /// The order of multicast keys.

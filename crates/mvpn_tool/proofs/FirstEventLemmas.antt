@@ -26,7 +26,7 @@ module _ (timed : Timed) (view : WorldView) (at : IsReached timed view) where
   pub reached_clock : view.network.plane.clock + ticks_of timed.event < 9223372036854775808
   reached_clock = next_clock at.cores at.script at.behind.rules at.count at.trace at.world view at.behind.is timed at.next
 
-  -- the network is after the event too
+  -- the network is the one after the event too
   pub reached_more : (lines new_lines : List ReportLine) (now : WorldView)
       → (a : Advances at.cores at.script.scenario (take at.count at.script.events) at.trace at.world timed lines new_lines now)
       → IsBehindFirst at.cores at.script (at.count + 1) (at.trace ++ traced at.count a.acts) a.next now

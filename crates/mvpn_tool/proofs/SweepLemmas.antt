@@ -82,7 +82,7 @@ event_lacks_memory timed view now before after = record { made = tt; lacks = λ 
 
 -- ---- the events of a script
 
--- The first so many events run, the world is after them, and these are the counts of their lines.
+-- The first so many events run, the world is the one after them, and these are the counts of their lines.
 pub record SweptSoFar (script : Script) (count : ℕ) (view : WorldView) (counts : Counts) : Type 0 where
   pub cores : Cores
   pub trace : List Traced

@@ -83,7 +83,7 @@ pub record EventEnds (output : Output) (scenario : Scenario) (timed : Timed) (vi
 
 -- ---- a script
 
--- The first so many events were replayed: the world is after them, the lines of their report name what is of the scenario and keep
+-- The first so many events were replayed: the world is that after them, the lines of their report name what is of the scenario and keep
 -- to the bounds of their types, and what is to be written of it was written.
 pub record Replayed (output : Output) (script : Script) (count : ℕ) (old new : Option (List ℕ)) (view : WorldView) : Type 0 where
   pub cores : Cores
@@ -133,7 +133,7 @@ pub record IsRead (Holds : Script → Type 0) (left : Option (List ℕ)) : Type 
   pub said : script_of input ≡ Ok script
   pub holds : Holds script
 
--- All was read, replayed and written, and the world is after the last event.
+-- All was read, replayed and written, and the world is the one after the last event.
 abbrev pub EndsWell : Output → Option (List ℕ) → Option (List ℕ) → Option (List ℕ) → WorldView → Type 0
 EndsWell output left old new view = IsRead (λ script. ReplaysWhole output script old new view) left
 

@@ -72,7 +72,7 @@ sweep_text number sends counts =
 
 -- ---- an event
 
--- The event's acts are done, the world is after it, and its lines were counted.
+-- The event's acts are done, the world is the one after it, and its lines were counted.
 pub record CountsOn (timed : Timed) (view : WorldView) (at : IsReached timed view) (before after : Counts) (now : WorldView) : Type 0 where
   pub acts : List Happened
   pub state : World
@@ -93,7 +93,7 @@ pub record EventCounts (timed : Timed) (view now : WorldView) (before after : Co
 
 -- ---- a script
 
--- All events run, the world is after them, and these are the counts of the report.
+-- All events run, the world is the one after them, and these are the counts of the report.
 pub record SweepsWhole (script : Script) (swept : Swept) : Type 0 where
   pub cores : Cores
   pub trace : List Traced
@@ -119,7 +119,7 @@ pub record IsMade (Holds : Script → Type 0) (number : ℕ) : Type 0 where
   pub said : script_of (made number) ≡ Ok script
   pub holds : Holds script
 
--- All events of the script ran, with few labels at each node; this is written of their run, and the world is after it.
+-- All events of the script ran, with few labels at each node; this is written of their run, and the world is the one after it.
 pub record TellsNumbers (Written : List ℕ → Type 0) (number : ℕ) (view : WorldView) (script : Script) : Type 0 where
   pub counts : Counts
   pub whole : SweepsWhole script (record { world = view; counts = counts })

@@ -29,7 +29,7 @@ fn is_calm(line: &ReportLine) -> bool
     }
 }
 
-/// One more. A count that 64 bits do not hold is out of memory.
+/// One more. A count that 64 bits do not hold is answered as out of memory.
 fn count_up(count: &mut u64) -> Result<(), NoMemory>
     ensures { OnOk result (count.new ≡ count.old + 1) }
 {

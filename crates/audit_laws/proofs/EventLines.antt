@@ -47,7 +47,7 @@ special (lines.Refused line reason) = lines.Refused line reason ∷ []
 special (lines.Halt line node) = lines.Halt line node ∷ []
 special other = []
 
--- an act that does not tell the state
+-- an act that does not show the state
 abbrev pub IsOther : Act → Type 0
 IsOther Tell = ⊥
 IsOther other = ⊤
@@ -146,7 +146,7 @@ act_says_nothing Tell k world = absurd k
 act_says_nothing (SetCost a b cost) k world = node_says_nothing world a [] refl (octets.Call (Price a b cost) ∷ [])
 act_says_nothing (Reroute n) k world = node_says_nothing world n [] refl (octets.Call (Follow n) ∷ [])
 
--- ---- no event tells the state but `state`
+-- ---- no event shows the state but `state`
 
 raises_are_other : (list : List Session) (kind : Kind) (a b : NodeId) → AllByRecursion IsOther (raises list kind a b)
 raises_are_other list kind a b = by (find (is_session_of kind a b) list)

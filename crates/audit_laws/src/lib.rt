@@ -1,5 +1,5 @@
 //! Laws of the judgement of a finished report. Nothing comes in; each law is a function with an empty body (`laws.rt`).
-//! A report has no offence exactly where its markers fit, no node lacked a label, and the report as its markers cut it is
+//! A report has no offence exactly where its markers fit, no node ran out of labels, and the report as its markers cut it is
 //! safe and delivers once (`proofs/Fair.antt` over `Safety` and `Delivery`). The report of a run of all events has none,
 //! whole or plain (`RunsFair`): each of its lines is given to its own event or an earlier one (`Shapes`, `Origins`), since
 //! no event but `state` and a refused one gives a marker (`EventLines`). Markers that begin to fit begin a list that fits,

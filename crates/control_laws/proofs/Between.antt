@@ -1,4 +1,4 @@
--- Trees between two refreshes, trees with other routes of peers, and trees behind a refresh.
+-- Trees between two refreshes, trees with other routes of peers, and trees after a refresh.
 use Rattle.std.proofs.Common.{◌≡◌, ◌⊎◌, ℕ, ◌==◌, ◌&&◌, ◌||◌, Bool, true, false, cond, inl, inr, List, find, Option, Some, None, option_map, refl, sym, ap, subst, ◌∙◌}
 use Rattle.std.specs.List.{AllZip}
 use Rattle.std.specs.FinMap as maps
@@ -144,7 +144,7 @@ routes_make kept peers others between zip = record {
       (λ core it new a h. h.tree core);
 }
 
--- ---- trees behind a refresh
+-- ---- trees after a refresh
 
 upstream_again : (o : Option (Option Upstream)) → option_map upstream_by (option_map choice_of o) ≡ o
 upstream_again None = refl
@@ -259,7 +259,7 @@ module _ (kept : Kept) (core : Core) (now : ℕ) (others : List TreeData) (zip :
       let own = subst (Among it.own) full.all (among_map (λ (o : OwnTree). o.own) it (trees_of kept) a) in
       looked_up place now (control_of kept) it.own (as_wanted it.tree) flow own (between_at kept between core it a) rules nodes (whole it.own own))
 
--- a refresh behind the effect of a call is its step
+-- a refresh after the effect of a call is its step
 pub step_is : (old between new : Kept) (core : Core) (now : ℕ) (call : Call) → is_vrf_step call ≡ true
     → control_of between ≡ effect (place_of old.home core) now (control_of old) call
     → Makes new (refreshed (place_of old.home core) now (control_of between))

@@ -191,7 +191,7 @@ module _ (kept : Kept) (full : AreFull kept) (parts : AreParts kept) where
         ∙ ap (λ (delay : ℕ). count_by (is_waiting delay now) it.tree.root.selections) (sym ((parts it a).derived no_core).delay))
         ∙ sum-trees kept full (λ tree. count_by (is_waiting tree.root.delay now) tree.root.selections)
 
--- ---- behind a message
+-- ---- after a message
 
 pub sum-set : {X : Type 0} (f : X → ℕ) (xs : List X) (number : ℕ) (x y : X) → slice_get xs number ≡ Some x
     → sum_by f (slice_set xs number y) + f x ≡ sum_by f xs + f y
@@ -222,7 +222,7 @@ module _ (kept : Kept) (trees : AreTrees kept) (number : ℕ) (it : OwnTree) (at
   abbrev taken : TreeData
   taken = pim_taken iface message now it.tree
 
-  -- the entries behind a message are those of the changed tree and of the others
+  -- the entries after a message are those of the changed tree and of the others
   pub applied_counted : maps.len (applied (control_of kept).entries iface message now)
       ≡ sum_by (λ tree. maps.len tree.vrf.entries) (slice_set kept.trees number taken)
   applied_counted =
@@ -240,7 +240,7 @@ module _ (kept : Kept) (trees : AreTrees kept) (number : ℕ) (it : OwnTree) (at
       sum-set f kept.trees number it.tree taken (tree_there (vrfs_from kept.home.me 0 kept.home.scenario.vrfs) kept.trees number it at_number) in
       omega (arith, then, before, both)
 
--- ---- selections of which no pattern stands twice
+-- ---- selections of which no pattern is there twice
 
 single_found : (pattern : Pattern) (selections : List Selection) → (IsSelected pattern selections → ⊥) → find (is_of pattern) selections ≡ None
 single_found pattern selections new = by (find (is_of pattern) selections) refl

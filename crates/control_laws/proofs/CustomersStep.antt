@@ -49,7 +49,7 @@ other_iface scenario vrf iface other h k = by (other.0 == iface.0) refl
 
 -- ---- Join/Prune messages
 
--- the expiry behind a message, by the one before it
+-- the expiry after a message, by the one before it
 abbrev expiry_by : IfaceId → JoinPrune → ℕ → IfaceEntry → Option Expiry → Option Expiry
 expiry_by iface message now at old =
     cond (at.iface.0 == iface.0) (expiry_after at.entry (mention_of message at.entry) now message.holdtime old) old

@@ -94,7 +94,7 @@ sum-turned h (x ∷ xs) ys =
     ∙ sym (sum-both (h x) (λ y. sum_by (λ z. h z y) xs) ys)
     ∙ sum-alike (λ y. h x y + sum_by (λ z. h z y) xs) (λ y. sum_by (λ z. h z y) (x ∷ xs)) ys (λ y a. sym (sum_by-cons (λ z. h z y) x xs))
 
--- ---- lists in which no key stands twice
+-- ---- lists in which no key is there twice
 
 not_some : {X : Type 0} (o : Option X) (x : X) → o ≡ Some x → o ≡ None → ⊥
 not_some o x h k = absurd (let bad : Some x ≡ None = sym h ∙ k in cc)
@@ -179,7 +179,7 @@ module _ (place : EdgePlace) (control : Control) (own : OwnVrf) (writable : AreW
       among_flat_map told_by (told.peer, table.table) (x, learned) (maps.entries control.peers) table.of_peer
       (among_found (tell told.peer) (told.key, told.route) (x, learned) (maps.entries table.table) table.among told.tells)
 
-  -- ---- none stands twice
+  -- ---- none is there twice
 
   rds : (one other : Rd) → selective_kinds.Of one ≡ selective_kinds.Of other → one ≡ other
   rds one other h = cc

@@ -11,7 +11,7 @@ use Rattle.std.specs.FinSet as sets
 use Rattle.std.proofs.lemmas.List.Folds.{list_any-append}
 use Rattle.mv_base.specs.Lists.{Among}
 
--- the parts, one behind another
+-- the parts, one after another
 abbrev pub gathered : {A X : Type 0} → X → (X → X → X) → (A → X) → List A → X
 gathered none or part [] = none
 gathered none or part (x ∷ xs) = or (part x) (gathered none or part xs)

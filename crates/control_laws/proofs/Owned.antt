@@ -70,7 +70,7 @@ one_of_number (first ∷ more) apart it other (inr a) (inr b) e = one_of_number 
 abbrev pub with : OwnTree → TreeData → OwnTree
 with it tree = record { own = it.own; tree = tree }
 
--- It stands there, and another tree in its place changes nothing else.
+-- It is there, and another tree in its place changes nothing else.
 pub record IsOneOf (owns : List OwnVrf) (trees : List TreeData) (number : ℕ) (it : OwnTree) : Type 0 where
   pub before : List OwnTree
   pub after : List OwnTree
@@ -110,7 +110,7 @@ there (one ∷ owns) (first ∷ trees) zero own tree h k =
     λ i. Some (record { own = same i; tree = trees i })
 there (one ∷ owns) (first ∷ trees) (suc number) own tree h k = there owns trees number own tree h k
 
--- as many trees as before stand each at its VRF
+-- as many trees as before are each at its VRF
 pub paired : (owns : List OwnVrf) (trees others : List TreeData) → map (λ (it : OwnTree). it.own) (own_trees owns trees) ≡ owns
     → map (λ (it : OwnTree). it.tree) (own_trees owns trees) ≡ trees
     → length others ≡ length trees

@@ -87,7 +87,7 @@ pub record IsPart (home : Home) (peers : FinMap node_cmp Taken) (it : OwnTree) :
       IsDerived (place_of home core) peers it.own it.tree.vrf.ifaces it.tree.vrf.actives it.tree.vrf.routes it.tree.joined it.tree.root.number
       it.tree.root.delay it.tree.leaf
 
--- Behind a refresh it also keeps which tunnels its flows want.
+-- After a refresh it also keeps which tunnels its flows want.
 abbrev pub Wants : OwnTree → Type 0
 Wants it = it.tree.wants ≡ sets.from_list (wanted_by it.tree.leaf it.tree.vrf.flows)
 

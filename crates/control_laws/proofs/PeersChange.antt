@@ -1,4 +1,4 @@
--- What the tree of a VRF keeps behind a change of one route of one peer.
+-- What the tree of a VRF keeps after a change of one route of one peer.
 use Rattle.std.proofs.lemmas.Option.{same_Some}
 use Rattle.std.proofs.Common.{◌≡◌, ◌↔◌, ℕ, Bool, true, false, cond, inl, inr, is_some, fold, List, [], ◌∷◌, Option, Some, None, refl, sym, ap, subst, ◌∙◌}
 use Rattle.std.specs.FinMap as maps
@@ -50,7 +50,7 @@ use Rattle.control_laws.proofs.PeersParts.{Parts, customers_of, by_equal, flag, 
 use Rattle.control_laws.proofs.PeersTables.{AreSpelled, IsBehind, changed, is_behind, still_spelled, with_table}
 use Rattle.control_laws.proofs.PeersTold.{Changes, Here, here_or_not, Tables, Told, dropped, first_covers, first_harmless, first_of, put, silent_stays, told_iff}
 
--- ---- one route tells it
+-- ---- one route gives it
 
 one_rd : (a b : Rd) → selective_kinds.Of a ≡ selective_kinds.Of b → a ≡ b
 one_rd a b h = cc
@@ -108,7 +108,7 @@ module _ (place : EdgePlace) (own : OwnVrf) (tables : Tables) where
               rds (ap (λ (k : selective_keys.RouteKey). k.pattern.source) same) (ap (λ (k : selective_keys.RouteKey). k.pattern.group) same),
         )
 
--- ---- what is told is read in two steps
+-- ---- what is given is read in two steps
 
 in_two : {A B C : Type 0} (o : Option A) (f : A → Option B) (g : B → Option C) → (o >>? λ a. f a >>? g) ≡ ((o >>? f) >>? g)
 in_two None f g = refl
@@ -312,7 +312,7 @@ module _ (place : EdgePlace) (own : OwnVrf) (before after : Tables) (peer : Node
 
 -- ---- the tree of a VRF
 
--- What a route of the peer makes of the parts, behind the route that stood there before.
+-- What a route of the peer makes of the parts, after the route that was there before.
 pub parts_changed : (place : EdgePlace) (own : OwnVrf) (before after : Tables) (peer : NodeId) (now : ℕ) (key : Key) (old new : Option TakenRoute)
     → Changes before after peer key old new
     → IsBehind now old new → AreSpelled before → IsWritableKey key → (tree : TreeData) → Parts place own before tree
@@ -368,7 +368,7 @@ between_changed place control peers own peer now key old new tree is = by (same_
     by true parts = tree_of place own control peers tree _ _ _ _ is parts
     by false parts = between place control peers own peer now key old new tree is parts
 
--- The tree that takes the change keeps what the edge keeps behind it.
+-- The tree that takes the change keeps what the edge keeps after it.
 pub change_keeps : (place : EdgePlace) (control : Control) (own : OwnVrf) (peer : NodeId) (taken : Taken) (now : ℕ) (change : Change)
     (tree : TreeData)
     → maps.get control.peers peer ≡ Some taken → AreWritable control → IsWritableKey (key_of change) → IsTreeBetween place control own tree
@@ -451,7 +451,7 @@ put_twice peers peer one other =
 abbrev Keeps : EdgePlace → Control → OwnVrf → TreeData → Type 0
 Keeps place control own tree = IsTreeBetween place control own tree × AreWritable control
 
--- The tree that takes all changes keeps what the edge keeps behind them.
+-- The tree that takes all changes keeps what the edge keeps after them.
 pub changes_keep : (place : EdgePlace) (control : Control) (own : OwnVrf) (peer : NodeId) (taken : Taken) (now : ℕ) (changes : List Change)
     (tree : TreeData)
     → maps.get control.peers peer ≡ Some taken → AreWritable control → ((change : Change) → Among change changes → IsWritableKey (key_of change))

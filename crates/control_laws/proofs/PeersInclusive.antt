@@ -44,7 +44,7 @@ module _ (place : EdgePlace) (own : OwnVrf) where
   one_fec None = refl
   one_fec (Some fec) = refl
 
-  -- what is told is the tunnel, and the other way round
+  -- what is given is the tunnel, and the other way round
   is_fec : (peer : NodeId) (key : Key) (o : Option TakenRoute)
       → only_fec (o >>? tell_inclusive place own peer key) ≡ told_inclusive place own peer key o
   is_fec peer key None = refl
@@ -61,7 +61,7 @@ module _ (place : EdgePlace) (own : OwnVrf) where
       (λ taken is found. ap (λ (r : Option TakenRoute). r >>? tell_inclusive place own peer key) is
       ∙ ap (λ (f : Option Fec). f >>? λ fec. Some (fec, tt)) found)
 
-  -- ---- the tunnels are those that routes tell
+  -- ---- the tunnels are those that routes give
 
   module _ (control : Control) where
     has_told : (fec : Fec) → Among fec (inclusive_of place control own) → Told (tell_inclusive place own) (tables_of control) fec tt
@@ -101,7 +101,7 @@ module _ (place : EdgePlace) (own : OwnVrf) where
     changes : Changes (tables_of control) (tables_of next) peer (key_of change) old new
     changes = changed control peer taken up now change
 
-    -- A tunnel behind the change was one before it, or is that of the new route.
+    -- A tunnel after the change was one before it, or is that of the new route.
     pub fec_came : (fec : Fec) → Among fec (inclusive_of place next own)
         → (told_inclusive place own peer (key_of change) new ≡ Some fec) ⊎ Among fec (inclusive_of place control own)
     fec_came fec a = elim (came tell (tables_of control) (tables_of next) peer (key_of change) old new changes fec tt (has_told next fec a)) [
@@ -109,7 +109,7 @@ module _ (place : EdgePlace) (own : OwnVrf) where
       | inr told ↦ inr (told_has control fec told)
     ]
 
-    -- A tunnel before the change is one behind it, or was that of the old route.
+    -- A tunnel before the change is one after it, or was that of the old route.
     pub fec_went : (fec : Fec) → Among fec (inclusive_of place control own)
         → (told_inclusive place own peer (key_of change) old ≡ Some fec) ⊎ Among fec (inclusive_of place next own)
     fec_went fec a = elim (went tell (tables_of control) (tables_of next) peer (key_of change) old new changes fec tt (has_told control fec a)) [

@@ -23,7 +23,7 @@ use Rattle.edge_defs.specs.Imported.{FlowRoute, ImportedSelective, SelectiveRout
 use Rattle.edge_defs.specs.Originated.{import_target, own_import}
 use Rattle.edge_defs.specs.Place.{EdgePlace}
 
--- ---- the family of an address tells the AFI
+-- ---- the family of an address gives the AFI
 
 by_source : (own other : Afi) (addr : Addr) → IsSource own addr → IsSource other addr → own ≡ other
 by_source Ipv4 Ipv4 addr h k = refl

@@ -1,4 +1,4 @@
--- What each kind of route tells the tree of a VRF, and that the tree keeps just that.
+-- What each kind of route gives the tree of a VRF, and that the tree keeps just that.
 use Rattle.std.proofs.lemmas.Option.{same_Some}
 use Rattle.std.proofs.Common.{◌≡◌, Option, Some, None, refl, sym, ap, subst, ◌∙◌}
 use Rattle.std.specs.FinMap as maps
@@ -74,7 +74,7 @@ module _ (place : EdgePlace) (control : Control) (own : OwnVrf) where
       → held_at place control own x.prefix x.place ≡ Some held
   told_unicast x held told = told_from x held told.peer told.key told.route told.is told.tells
 
--- where a route stands that tells this
+-- where there is a route that gives this
 unicast_at : (place : EdgePlace) (own : OwnVrf) (x : RouteKey) (held : Held) (peer : NodeId) (key : Key) (taken : TakenRoute)
     → tell_unicast place own peer key taken ≡ Some (x, held)
     → (peer ≡ peer_of x.place) × (key ≡ Unicast (rd_of x.place) x.prefix)
@@ -106,7 +106,7 @@ active_told control own x is = record {
   tells = ap (λ (o : Option FlowRoute). o >>? λ flow. Some (x, tt)) is.imported;
 }
 
--- where a route stands that tells this
+-- where there is a route that gives this
 pub record ActiveAt (own : OwnVrf) (x : ActiveRoute) (peer : NodeId) (key : Key) (taken : TakenRoute) : Type 0 where
   pub of_peer : peer ≡ x.peer
   pub afi : _
@@ -249,7 +249,7 @@ module _ (place : EdgePlace) (control : Control) (own : OwnVrf) where
           subst (λ (e : selective_keys.RouteKey × Learned). IsSelectiveAt place control own e.0 e.1) (same_Some _ (x, learned) k)
           (record { key = key; taken = taken; imported = imported; at = is; is = found; of_rd = refl; learned_as = ap (as_learned taken) found }))
 
--- the imported route that tells this
+-- the imported route that gives this
 pub record SelectiveAt (place : EdgePlace) (own : OwnVrf) (x : selective_keys.RouteKey) (peer : NodeId) (key : Key) (taken : TakenRoute) : Type 0
   where
     pub imported : ImportedSelective

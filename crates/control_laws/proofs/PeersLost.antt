@@ -174,7 +174,7 @@ module _ (place : EdgePlace) (own : OwnVrf) (before after : Tables) (peer : Node
       by true e = absurd (ne (node_equal a b e))
       by false e = refl
 
-  -- a route that tells a key of a map is of the peer where the key is
+  -- a route that gives a key of a map is of the peer where the key is
   from_peer : (x : RouteKey) (held : Held) (q : NodeId) (k : Key) (t : TakenRoute) → tell_unicast place own q k t ≡ Some (x, held)
       → is_from peer x.place ≡ (q.0 == peer.0)
   from_peer x held q (Mcast afi route) t tells = absurd cc
@@ -218,7 +218,7 @@ module _ (place : EdgePlace) (own : OwnVrf) (before after : Tables) (peer : Node
           ≡ cond (not (x.peer.0 == peer.0)) (maps.get tree.leaf.routes x) None
       left x = get_where route_cmp route_exact (λ (key : selective_keys.RouteKey). not (key.peer.0 == peer.0)) tree.leaf.routes x
 
-  -- a route of the peer stands in its table
+  -- a route of the peer is in its table
   listed : (q : NodeId) (k : Key) (t : TakenRoute) → before q k ≡ Some t → q ≡ peer → Among (k, t) (maps.entries taken)
   listed q k t is same = get_entry key_exact taken k t (sym (at k) ∙ (λ i. before (sym same i) k) ∙ is)
 

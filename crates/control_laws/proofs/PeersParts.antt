@@ -1,4 +1,4 @@
--- What the tree of a VRF keeps of the routes of the peers, kind by kind, and behind a change of one route.
+-- What the tree of a VRF keeps of the routes of the peers, kind by kind, and after a change of one route.
 use Rattle.std.proofs.Common.{◌≡◌, ◌↔◌, Bool, true, false, List, Option, Some, None, refl, sym, ap, ◌∙◌}
 use Rattle.std.specs.FinMap as maps
 use Rattle.std.specs.FinMap.{FinMap}
@@ -59,7 +59,7 @@ customers_of tree = (tree.vrf.entries, tree.vrf.notes, tree.root.selections, tre
 
 -- ---- the parts that are of peers
 
--- The tree has what the routes of these tables tell the VRF, each kind for itself.
+-- The tree has what the routes of these tables give the VRF, each kind for itself.
 pub record Parts (place : EdgePlace) (own : OwnVrf) (tables : Tables) (tree : TreeData) : Type 0 where
   pub unicast : (x : RouteKey) (held : Held) → (maps.get tree.vrf.routes.learned x ≡ Some held) ↔ Told (tell_unicast place own) tables x held
   pub actives : (x : ActiveRoute) → (flag (sets.contains tree.vrf.actives x) ≡ Some tt) ↔ Told (tell_active own) tables x tt

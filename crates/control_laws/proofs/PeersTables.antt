@@ -1,4 +1,4 @@
--- The tables of the peers behind a change of one of them.
+-- The tables of the peers after a change of one of them.
 use Rattle.std.proofs.lemmas.Option.{same_Some}
 use Rattle.std.proofs.Common.{◌≡◌, ◌≢◌, ℕ, Bool, true, false, cond, inl, inr, is_some, Option, Some, None, refl, sym, ap, subst, ◌∙◌}
 use Rattle.std.specs.FinMap as maps
@@ -75,7 +75,7 @@ module _ (control : Control) (peer : NodeId) (taken : Taken) (up : maps.get cont
     ];
   }
 
--- the keys have spellings behind it too
+-- the keys have spellings after it too
 pub still_spelled : (before after : Tables) (peer : NodeId) (key : Key) (old new : Option TakenRoute) → Changes before after peer key old new
     → AreSpelled before → IsWritableKey key → AreSpelled after
 still_spelled before after peer key old new changes spelled writable q k h = elim (here_or_not peer key q k) [
@@ -116,7 +116,7 @@ is_behind now (updates.Unreach key) (Some old) = record { same = λ h. absurd cc
 
 -- ---- what an advertisement brings
 
--- the route says what was advertised, whether it was learned anew or stands as before
+-- the route says what was advertised, whether it was learned anew or is as before
 pub learned_value : (now : ℕ) (value : Value) (old : Option TakenRoute) → (learned now value old).value ≡ value
 learned_value now value None = refl
 learned_value now value (Some old) = by (same_value old.value value) refl

@@ -31,7 +31,7 @@ use Rattle.control_laws.proofs.PeersKinds.{tables_of, tell_active, tell_join, te
 use Rattle.control_laws.proofs.PeersParts.{Parts, joins, parts_of, tree_of}
 use Rattle.control_laws.proofs.PeersTold.{Tables, Told}
 
--- what is behind a change of what is there
+-- what is there after a change of what was there
 mapped : {A B P : Type 0} (f : A → B) (o : Option A) (b : B) → option_map f o ≡ Some b → ((a : A) → o ≡ Some a → f a ≡ b → P) → P
 mapped f None b h k = absurd cc
 mapped f (Some a) b h k = k a refl (same_Some (f a) b h)
@@ -77,7 +77,7 @@ pub run_spelled : (place : EdgePlace) (now : ℕ) (control : Control) → AreWri
 run_spelled place now control spelled q k h =
     spelled q k (run_there (run_at place now q k) (tables_of control q k) (ap is_some (sym (ran place now control q k)) ∙ h))
 
--- ---- what is told without a look at the time
+-- ---- what is given without a look at the time
 
 abbrev with_flag : Bool → TakenRoute → TakenRoute
 with_flag run route = record route { run = run }
@@ -225,7 +225,7 @@ module _ (place : EdgePlace) (now : ℕ) (control : Control) (own : OwnVrf) (min
             (selective_run place now before after is own mine tree.leaf.routes parts.selective);
       }
 
-  -- The tree whose selective routes are run keeps what the edge keeps behind its timers.
+  -- The tree whose selective routes are run keeps what the edge keeps after its timers.
   pub run_keeps : IsTreeBetween place control own tree → IsTreeBetween place (with_run place now control) own (tree_run now tree)
   run_keeps is =
       tree_of place own control (peers_run place now control.peers) tree _ _ _ _ is

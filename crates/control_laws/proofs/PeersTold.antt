@@ -35,9 +35,9 @@ here_or_not peer key q k = elim (node_cases q peer) [
   | inr apart ↦ inr (λ h. apart h.0)
 ]
 
--- ---- what is told
+-- ---- what is given
 
--- A route of the tables tells this.
+-- A route of the tables gives this.
 pub record Told {X V : Type 0} (tell : NodeId → Key → TakenRoute → Option (X × V)) (tables : Tables) (x : X) (v : V) : Type 0 where
   pub peer : NodeId
   pub key : Key
@@ -45,7 +45,7 @@ pub record Told {X V : Type 0} (tell : NodeId → Key → TakenRoute → Option 
   pub is : tables peer key ≡ Some route
   pub tells : tell peer key route ≡ Some (x, v)
 
--- At one key of one peer another route stands, and all else is as before.
+-- At one key of one peer is another route, and all else is as before.
 pub record Changes (before after : Tables) (peer : NodeId) (key : Key) (old new : Option TakenRoute) : Type 0 where
   pub was : before peer key ≡ old
   pub is : after peer key ≡ new
@@ -167,7 +167,7 @@ module _ {X V : Type 0} (same : X → X → Bool) (equal : (a b : X) → same a 
     pub told_iff : (x : X) (v : V) → (put same (new >>? tell peer key) x (dropped same drop x (kept x)) ≡ Some v) ↔ Told tell after x v
     told_iff x v = (to_told x v, from_told x v)
 
--- ---- a route that tells nothing, neither before nor behind
+-- ---- a route that gives nothing, neither before nor after
 
 module _ {X V : Type 0} (tell : NodeId → Key → TakenRoute → Option (X × V)) (peer : NodeId) (key : Key)
     (silent : (route : TakenRoute) → tell peer key route ≡ None) where
@@ -194,7 +194,7 @@ module _ {X V : Type 0} (tell : NodeId → Key → TakenRoute → Option (X × V
     },
   )
 
--- tables that are the same tell the same
+-- tables that are the same give the same
 pub same_told : {X V : Type 0} (tell : NodeId → Key → TakenRoute → Option (X × V)) (before after : Tables)
     → ((q : NodeId) (k : Key) → after q k ≡ before q k) → (x : X) (v : V)
     → Told tell before x v ↔ Told tell after x v
@@ -203,7 +203,7 @@ same_told tell before after same x v = (
   λ told. record { peer = told.peer; key = told.key; route = told.route; is = sym (same told.peer told.key) ∙ told.is; tells = told.tells },
 )
 
--- ---- what is dropped is what the old route told
+-- ---- what is dropped is what the old route gave
 
 abbrev pub first_of : {X V : Type 0} → Option (X × V) → Option X
 first_of None = None
@@ -227,7 +227,7 @@ first_harmless tell before peer key old was one x v h told =
 
 -- ---- all routes of a peer are lost
 
--- No route of the peer stands, and those of all others as before.
+-- The peer has no route, and those of all others are as before.
 pub record Loses (before after : Tables) (peer : NodeId) : Type 0 where
   pub gone : (key : Key) → after peer key ≡ None
   pub rest : (q : NodeId) (k : Key) → (q ≡ peer → ⊥) → after q k ≡ before q k
@@ -278,7 +278,7 @@ module _ {X V : Type 0} (tell : NodeId → Key → TakenRoute → Option (X × V
       ap (λ (r : Option TakenRoute). r >>? tell peer key) (sym is ∙ (λ i. tables (sym here.0 i) (sym here.1 i)) ∙ told.is)
       ∙ (λ i. tell (sym here.0 i) (sym here.1 i) told.route) ∙ told.tells
 
-  -- what is told behind the change was told before it, or the new route tells it
+  -- what is given after the change was given before it, or the new route gives it
   pub came : Told tell after x v → ((new >>? tell peer key) ≡ Some (x, v)) ⊎ Told tell before x v
   came told = elim (here_or_not peer key told.peer told.key) [
     | inl here ↦ inl (at_place after new changes.is told here)
@@ -291,7 +291,7 @@ module _ {X V : Type 0} (tell : NodeId → Key → TakenRoute → Option (X × V
     })
   ]
 
-  -- what was told before it is told behind it, or the old route told it
+  -- what was given before it is given after it, or the old route gave it
   pub went : Told tell before x v → ((old >>? tell peer key) ≡ Some (x, v)) ⊎ Told tell after x v
   went told = elim (here_or_not peer key told.peer told.key) [
     | inl here ↦ inl (at_place before old changes.was told here)

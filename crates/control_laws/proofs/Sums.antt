@@ -44,7 +44,7 @@ sum-alike f g [] h = refl
 sum-alike f g (x ∷ xs) h =
     sum_by-cons f x xs ∙ (λ i. h x (inl refl) i + sum-alike f g xs (λ y a. h y (inr a)) i) ∙ sym (sum_by-cons g x xs)
 
--- ---- lists in which no key stands twice
+-- ---- lists in which no key is there twice
 
 module _ {K V : Type 0} (R : K → K → Ordering) where
   abbrev pub StandOnce : List (K × V) → Type 0

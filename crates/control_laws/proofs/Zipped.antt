@@ -1,4 +1,4 @@
--- What an edge keeps where each tree is another one, as it stands to the one before.
+-- What an edge keeps where each tree is another one, by its relation to the one before.
 use Rattle.std.proofs.Common.{◌≡◌, suc, inl, inr, List, [], ◌∷◌, map, length, refl, sym, ap, subst, ◌∙◌}
 use Rattle.std.specs.List.{AllZip}
 use Rattle.std.proofs.lemmas.List.{length-map}
@@ -10,7 +10,7 @@ use Rattle.control_laws.proofs.Gathered.{gathered}
 use Rattle.control_laws.proofs.Parts.{AreFull}
 use Rattle.control_laws.proofs.Replaced.{still_full}
 
--- the second is a tree of the same VRF, and stands so to the first
+-- the second is a tree of the same VRF, and is so related to the first
 pub record Stands (R : OwnTree → TreeData → Type 0) (it new : OwnTree) : Type 0 where
   pub own : new.own ≡ it.own
   pub is : R it new.tree

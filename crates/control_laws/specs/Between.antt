@@ -1,4 +1,4 @@
--- What an edge keeps between two refreshes of its flows, and behind one (RFC 6513 section 5.1; RFC 6514 section 12.3).
+-- What an edge keeps between two refreshes of its flows, and after one (RFC 6513 section 5.1; RFC 6514 section 12.3).
 use Rattle.std.specs.Prelude.{◌≡◌, ℕ, ◌+◌, count_by, map}
 use Rattle.std.specs.List.{AllByRecursion}
 use Rattle.std.specs.FinMap as maps
@@ -31,7 +31,7 @@ pub record MakesBetween (kept : Kept) (control : Control) : Type 0 where
   pub is : control_of kept ≡ control
   pub trees : AreTreesBetween kept
 
--- The second tree is the first one behind a refresh at the clock: it has the flows for which some interface asks, each with its choice by
+-- The second tree is the first one after a refresh at the clock: it has the flows for which some interface asks, each with its choice by
 -- what it costs to reach each edge, and wants what these want. All else is as it was.
 pub record IsRefreshed (cost : NodeId → ℕ) (now : ℕ) (old new : TreeData) : Type 0 where
   pub flows : (flow : Flow) → maps.get new.vrf.flows flow ≡ flow_of old.vrf cost now flow

@@ -17,7 +17,7 @@ use Rattle.vrf_words.specs.declared.tree_defs.flow.Flow.{Flow}
 use Rattle.vrf_words.specs.tree_defs.Trees.{TreeData}
 use Rattle.vrf_words.specs.tree_laws.TreeOf.{IsTreeOf, edge_note, flow_in}
 
--- What is kept: where the edge stands, a tree for each of its VRFs, in their order, and the peers whose session is up, each with the table
+-- What is kept: where the edge is, a tree for each of its VRFs, in their order, and the peers whose session is up, each with the table
 -- that was taken from it.
 pub record Kept : Type 0 where
   pub home : Home

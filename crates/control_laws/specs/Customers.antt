@@ -55,7 +55,7 @@ timers_run now tree =
       root = record tree.root { selections = map (run_due tree.root.delay now) tree.root.selections };
     }
 
--- no pattern stands twice
+-- no pattern is there twice
 abbrev pub AreSingle : List Selection → Type 0
 AreSingle [] = Unit {0}
 AreSingle (selection ∷ more) = (find (is_of selection.pattern) more ≡ None) × AreSingle more

@@ -46,7 +46,7 @@ use Rattle.control_laws.specs.Control.{Kept, control_of, trees_of}
 abbrev pub AreWritable : Control → Type 0
 AreWritable control = (peer : NodeId) (key : Key) → is_some (maps.get (taken_from control peer) key) ≡ true → IsWritableKey key
 
--- the key of a change, and what stands there behind it where that stood there before
+-- the key of a change, and what is there after it where that was there before
 abbrev pub key_of : Change → Key
 key_of (updates.Reach advert) = advert.key
 key_of (updates.Unreach key) = key
@@ -135,7 +135,7 @@ selective_with peer now None routes = routes
 selective_with peer now (Some new) routes =
     maps.insert routes (leaves.key_of peer new.route.rd (pattern_of new.route.source new.route.group)) (learned_now new.fec now)
 
--- What the tree of a VRF becomes where another route stands at the key of the peer, or none, by the kind of the key.
+-- What the tree of a VRF becomes where another route is at the key of the peer, or none, by the kind of the key.
 abbrev pub tree_with : EdgePlace → OwnVrf → NodeId → ℕ → Key → Option TakenRoute → Option TakenRoute → TreeData → TreeData
 tree_with place own peer now (Unicast rd prefix) old new tree =
     with_learned (learned_with (key_from peer rd prefix) (told_unicast place own peer new) tree.vrf.routes.learned) tree

@@ -68,7 +68,7 @@ pub fn pattern_is_unselected()
 {}
 
 /// The entries, the notes and the selections of an edge are as many as those of the trees of its VRFs together, and so are the entries and
-/// the selections that are due. Of the selections this asks that no pattern stands twice in a tree.
+/// the selections that are due. Of the selections this asks that no pattern is there twice in a tree.
 pub fn customers_are_counted()
     ensures entries { (kept : Kept) → AreTrees kept →
         maps.len (control_of kept).entries ≡ sum_by (λ tree. maps.len tree.vrf.entries) kept.trees }
@@ -85,7 +85,7 @@ pub fn customers_are_counted()
         ≡ sum_by (λ tree. count_by (is_waiting tree.root.delay now) tree.root.selections) kept.trees }
 {}
 
-/// The entries of an edge behind a Join/Prune message are those of the tree that takes it and of the other trees: as many more or fewer
+/// The entries of an edge after a Join/Prune message are those of the tree that takes it and of the other trees: as many more or fewer
 /// than before as there are in that tree.
 pub fn join_prune_is_counted()
     ensures trees { (kept : Kept) (number : ℕ) (it : OwnTree) (iface : IfaceId) (message : JoinPrune) (now : ℕ) →
@@ -98,7 +98,7 @@ pub fn join_prune_is_counted()
         ≡ maps.len (control_of kept).entries + maps.len (applied it.tree.vrf.entries iface message now) }
 {}
 
-/// No pattern stands twice behind a selection of one that was not selected, behind the end of one, and behind the timers.
+/// No pattern is there twice after a selection of one that was not selected, after the end of one, and after the timers.
 pub fn selections_stay_single()
     ensures selected { (pattern : Pattern) (now : ℕ) (selections : List Selection) → AreSingle selections →
         ¬ (IsSelected pattern selections) → AreSingle (selections ++ selected_now pattern now selections ∷ []) }

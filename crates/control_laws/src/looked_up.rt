@@ -18,7 +18,7 @@ ghost use Rattle.control_laws.specs.Control.{AreTrees, Kept, OwnTree, control_of
 ghost use Rattle.control_laws.specs.Customers.{Makes};
 ghost use Rattle.control_laws.specs.Start.{AreFirst};
 
-/// The tree of a VRF of an edge stands at the VRF's place, and no two of the VRFs have one number.
+/// The tree of a VRF of an edge is at the VRF's place, and no two of the VRFs have one number.
 pub fn vrfs_are_apart()
     ensures there { (kept : Kept) (number : ℕ) (own : OwnVrf) (tree : TreeData) →
         slice_get (vrfs_from kept.home.me 0 kept.home.scenario.vrfs) number ≡ Some own → slice_get kept.trees number ≡ Some tree →

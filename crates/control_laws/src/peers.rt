@@ -22,8 +22,8 @@ ghost use Rattle.control_laws.specs.Peers.{AreWritable, IsTreeBetween, changed_t
 ghost use Rattle.control_laws.specs.Peers.{route_behind, told_inclusive, tree_change, tree_losses, tree_updates};
 ghost use Rattle.control_laws.specs.Peers.{tree_lost, tree_run, tree_taking, tree_updated};
 
-/// The tree that takes a change of one route of a peer keeps of its VRF what the edge keeps behind the change, but for what its flows
-/// want: flows and wants stay as the last refresh left them. The keys of all tables have spellings, and still have them behind it.
+/// The tree that takes a change of one route of a peer keeps of its VRF what the edge keeps after the change, but for what its flows
+/// want: flows and wants stay as the last refresh left them. The keys of all tables have spellings, and still have them after it.
 pub fn a_changed_route_is_taken()
     ensures kept { (place : EdgePlace) (control : Control) (own : OwnVrf) (peer : NodeId) (taken : Taken) (now : ℕ) (change : Change)
         (tree : TreeData) → maps.get control.peers peer ≡ Some taken → AreWritable control → IsWritableKey (key_of change) →
@@ -73,7 +73,7 @@ pub fn a_raised_peer_has_no_route()
         AreWritable (record control { peers = maps.insert control.peers peer maps.empty }) }
 {}
 
-/// The tree whose delays of selective routes are run keeps of its VRF what the edge keeps behind its timers of taken routes: a route that
+/// The tree whose delays of selective routes are run keeps of its VRF what the edge keeps after its timers of taken routes: a route that
 /// the VRF imports is run in the whole exactly where it is due.
 pub fn delays_are_run()
     ensures kept { (place : EdgePlace) (now : ℕ) (control : Control) (own : OwnVrf) → Among own (own_vrfs place) → (tree : TreeData) →
@@ -87,7 +87,7 @@ pub fn delays_are_run()
 {}
 
 /// Which inclusive tunnels of a VRF come and go where one route of a peer changes: none but that of the new route comes, and that is one
-/// behind the change; none but that of the old route goes. A key that is none of an inclusive route changes none.
+/// after the change; none but that of the old route goes. A key that is none of an inclusive route changes none.
 pub fn inclusive_tunnels_come_and_go()
     ensures came { (place : EdgePlace) (own : OwnVrf) (control : Control) (peer : NodeId) (taken : Taken) →
         maps.get control.peers peer ≡ Some taken → (now : ℕ) (change : Change) (fec : Fec) →

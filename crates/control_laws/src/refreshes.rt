@@ -1,4 +1,4 @@
-//! Laws of what an edge keeps between two refreshes of its flows, and behind one.
+//! Laws of what an edge keeps between two refreshes of its flows, and after one.
 ghost use Rattle.std.specs.Prelude.{◌≡◌, ◌+◌, ℕ, true, List, count_by, sum_by};
 ghost use Rattle.std.specs.FinMap as maps;
 ghost use Rattle.std.specs.FinMap.{FinMap};
@@ -35,7 +35,7 @@ pub fn routes_leave_customers()
 
 /// Where each tree is refreshed at the clock, the edge is: its flows are those that some interface asks for, each with its upstream (RFC
 /// 7761 section 4.1.6; RFC 6513 section 5.1). This asks that the scenario meets its rules, that the peers are nodes of it, and that
-/// prefixes are whole. Behind an own effect of a call that is a step of each VRF, this is the step.
+/// prefixes are whole. After an own effect of a call that is a step of each VRF, this is the step.
 pub fn flows_are_refreshed()
     ensures trees { (kept : Kept) (core : Core) (now : ℕ) (others : List TreeData) →
         AllZip (IsRefreshed (core.cost kept.home.me) now) kept.trees others → AreTreesBetween kept → Rules kept.home.scenario →
@@ -58,7 +58,7 @@ pub fn delays_are_counted()
 {}
 
 /// The timers that are due at an edge are those of its label part, and those of its trees: of entries, of selections and of the selective
-/// routes that they learned. Of the selections this asks that no pattern stands twice in a tree.
+/// routes that they learned. Of the selections this asks that no pattern is there twice in a tree.
 pub fn timers_are_counted()
     ensures { (kept : Kept) (core : Core) (now : ℕ) (part : LabelData) → AreTrees kept → AreWritable (control_of kept) →
         AllByRecursion (λ (tree : TreeData). AreSingle tree.root.selections) kept.trees →

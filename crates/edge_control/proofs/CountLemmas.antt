@@ -17,7 +17,7 @@ pub count_more : {X : Type 0} (f : X → ℕ) (xs : List X) (i : ℕ) (d : X) (c
 count_more f xs i d count size lt h k =
     (λ j. min (h j + k j) most) ∙ min_more (sum_by f (take i xs)) (f (get_or xs i d)) ∙ ap (λ (n : ℕ). min n most) (sym (sum_by_more f xs i d lt))
 
--- whether they are too many behind a change of one part
+-- whether they are too many after a change of one part
 pub over_told : (sum behind own part all : ℕ) → behind + own ≡ sum + part → own ≤ sum → own ≤ 1024 → all ≡ min sum most
     → nat_lt (own + 1024) (all + part) ≡ nat_lt 1024 behind
 over_told sum behind own part all total le few is =

@@ -1,4 +1,4 @@
--- What an edge keeps behind a route that a peer announces.
+-- What an edge keeps after a route that a peer announces.
 use Rattle.std.proofs.Common.{◌≡◌, ℕ, not, Bool, true, false, cond, inl, inr, List, [], ◌∷◌, length, is_some, Option, Some, None, refl, sym, ap, subst, ◌∙◌}
 use Rattle.std.specs.Ordering.{eq_by_cmp}
 use Rattle.std.specs.FinMap as maps
@@ -63,7 +63,7 @@ own_table peers peer taken =
     maps.get-insert node_cmp_total peers peer taken peer
     ∙ ap (λ b. cond b (Some taken) (maps.get peers peer)) (itself_by node_cmp node_cmp_total peer)
 
--- the table that is put last stands
+-- the table that is put last stays
 last_table : (peers : FinMap node_cmp Taken) (peer : NodeId) (one other : Taken)
     → maps.insert (maps.insert peers peer one) peer other ≡ maps.insert peers peer other
 last_table peers peer one other =
@@ -150,7 +150,7 @@ module _ (tables : FinMap node_cmp Taken) (peer : NodeId) (key : Key) (value : V
       ∙ ap (maps.insert tables peer) (absent taken key (learned now value (maps.get taken key)) none)
       ∙ put_itself node_cmp_total node_cmp_exact tables peer taken up
 
-  -- one that comes where none stood, and goes
+  -- one that comes where there was none, and goes
   pub table_back : route_at tables peer key ≡ None → changed_at peer unreached (changed_at peer reached tables) ≡ tables
   table_back = back_of (maps.get tables peer) refl
 

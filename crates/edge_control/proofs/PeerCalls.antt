@@ -1,4 +1,4 @@
--- What an edge keeps behind a session that is lost, and behind one that comes up.
+-- What an edge keeps after a session that is lost, and after one that comes up.
 use Rattle.std.proofs.Common.{◌≡◌, ◌<◌, Bool, true, false, cond, List, [], length, is_some, Option, Some, None, option_map, Result, Ok, Err, OnOk, OnErr, refl, sym, ap, subst, ◌∙◌}
 use Rattle.std.specs.Ordering.{eq_by_cmp}
 use Rattle.std.specs.FinMap as maps

@@ -1,4 +1,4 @@
--- A route that comes where none stood; and one that came and goes leaves the tree as one that only goes.
+-- A route that comes where there was none; and one that came and goes leaves the tree as one that only goes.
 use Rattle.std.proofs.Common.{◌≡◌, ℕ, ◌&&◌, ◌||◌, not, Bool, true, false, cond, Option, Some, None, refl, sym, ap, ◌∙◌}
 use Rattle.std.specs.declared.cmp.Ordering.{Ordering}
 use Rattle.std.specs.Cmp.{IsTotalOrder}
@@ -32,7 +32,7 @@ use Rattle.control_laws.specs.Peers.{told_active, told_join, told_selective, tol
 use Rattle.control_laws.proofs.PeersMaps.{join_exact, join_total}
 use Rattle.edge_control.specs.Taking.{more_actives, more_learned, tree_learning, tree_losing}
 
--- What stands at a key counts for nothing where another value is put there, or where the key is removed.
+-- What is at a key counts for nothing where another value is put there, or where the key is removed.
 module _ {K X : Type 0} {R : K → K → Ordering} (total : IsTotalOrder R) (exact : IsAntisymmetric R) (m : FinMap R X) (k : K) where
   pub put_map : (x : X) → maps.insert (maps.remove m k) k x ≡ maps.insert m k x
   put_map x = maps.same_map total exact (maps.insert (maps.remove m k) k x) (maps.insert m k x)
@@ -89,7 +89,7 @@ module _ {K : Type 0} {R : K → K → Ordering} (total : IsTotalOrder R) (exact
       by true o = refl
       by false o = refl
 
--- ---- a route that comes where none stood
+-- ---- a route that comes where there was none
 
 learned_split : (key : RouteKey) (told : Option Held) (learned : FinMap unicast_order.key_cmp Held)
     → learned_with key told learned ≡ more_learned key told learned

@@ -1,4 +1,4 @@
--- What an edge keeps behind a route that a peer withdraws.
+-- What an edge keeps after a route that a peer withdraws.
 use Rattle.std.proofs.Common.{◌≡◌, ℕ, inl, inr, List, [], ◌∷◌, length, is_some, Option, Some, None, refl, sym, ap, subst, ◌∙◌, arith}
 use Rattle.std.specs.FinMap as maps
 use Rattle.std.specs.FinMap.{FinMap}

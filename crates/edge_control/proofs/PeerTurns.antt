@@ -48,7 +48,7 @@ turned_end change (suc n) (own ∷ owns) [] le same = refl
 turned_end change (suc n) (own ∷ owns) (tree ∷ trees) le same =
     ap (λ xs. change own tree ∷ xs) (turned_end change n owns trees (omega (arith, le)) (omega (arith, same)))
 
--- a place that is set to what stands there
+-- a place that is set to what is there
 pub set_itself : {A : Type 0} (xs : List A) (i : ℕ) (d : A) → d ≡ get_or xs i d → set xs i d ≡ xs
 set_itself [] i d is = refl
 set_itself (x ∷ xs) zero d is = ap (λ y. y ∷ xs) is
@@ -66,7 +66,7 @@ turned_back second first same (suc n) [] trees = refl
 turned_back second first same (suc n) (own ∷ owns) [] = refl
 turned_back second first same (suc n) (own ∷ owns) (tree ∷ trees) = λ i. same own tree i ∷ turned_back second first same n owns trees i
 
--- what each change keeps holds of each tree behind them
+-- what each change keeps holds of each tree after them
 pub turned_each : (P : TreeData → Type 0) (change : OwnVrf → TreeData → TreeData) → ((own : OwnVrf) (tree : TreeData) → P tree → P (change own tree))
     → (owns : List OwnVrf) (trees : List TreeData) → AllByRecursion P trees → AllByRecursion P (turned_all change owns trees)
 turned_each P change keeps [] trees h = tt

@@ -1,4 +1,4 @@
--- The place of a VRF among those of the edge, and the tree that stands there.
+-- The place of a VRF among those of the edge, and the tree that is there.
 use Rattle.std.proofs.Common.{◌≡◌, ℕ, zero, suc, ◌+◌, ◌<◌, ◌==◌, Bool, true, false, cond, not, ◌||◌, nat_lt, List, [], ◌∷◌, map, length, get_or, Option, Some, None, slice_get, slice_set, position, refl, sym, ap, subst, ◌∙◌, arith}
 use Rattle.std.specs.List.{AllByRecursion, list_any, position_or_len}
 use Rattle.std.proofs.lemmas.Bool.{eqb-true, lt-ltb}

@@ -1,4 +1,4 @@
--- What the refresh of one tree tells is what changed of it.
+-- What the refresh of one tree answers is what changed of it.
 use Rattle.std.proofs.Common.{◌≡◌, ◌⊎◌, ◌&&◌, not, Bool, true, false, cond, inl, inr, List, [], ◌∷◌, ◌++◌, map, option_map, Option, None, Some, refl, sym, ap, subst, ◌∙◌}
 use Rattle.std.specs.List.{IsDistinct, list_any}
 use Rattle.std.specs.FinMap.{get}
@@ -38,7 +38,7 @@ first_joined join more q up rest true e h =
     inl (λ i. join_of (flow i, sym same i))
 first_joined join more q up rest false e h = inr (rest h)
 
--- the join of a flow that has one stands in the list
+-- the join of a flow that has one is in the list
 joined_among : (joins : List TreeJoin) (q : Flow) (up : Upstream) → joined_at joins q ≡ Some up → Among (join_of (q, up)) joins
 joined_among [] q up h = absurd cc
 joined_among (join ∷ more) q up h = first_joined join more q up (joined_among more q up) (same_flow q (flow_in join)) refl h
@@ -77,7 +77,7 @@ kept_or_gained (Some own) up = by (same_upstream (Some own) (Some up)) refl
 abbrev join_by : Flow → Option Upstream → Option TreeJoin
 join_by flow up = option_map (λ u. join_of (flow, u)) up
 
--- A join that is there behind was there before, or it is listed.
+-- A join that is there afterwards was there before, or it is listed.
 moved : (flow : Flow) (before after : Option Upstream) (joins : List TreeJoin) → joined_at joins flow ≡ gained before after → (join : TreeJoin)
     → join_by flow after ≡ Some join
     → (join_by flow before ≡ Some join) ⊎ Among join joins
@@ -106,7 +106,7 @@ module _ (old new : TreeData) (after : Flow → Option Choice) (flows : (q : Flo
   told_left : (q : Flow) → joined_at leaves q ≡ gained (up_then q) (up_before q)
   told_left q = left.each q ∙ ap (λ (c : Option Choice). lost (up_before q) (upstream_of c)) (sym (flows q))
 
-  -- behind those that are listed already
+  -- after those that are listed already
   pub moved_here : (all : List TreeJoin) → AreMoved ((all ++ joins) ++ leaves) old new
   moved_here all = record {
     made = λ flow join h. elim (moved flow (up_before flow) (up_then flow) joins (told_made flow) join h) [
@@ -137,14 +137,14 @@ agree true false h k = k
 agree false true h k = sym h
 agree false false h k = refl
 
--- The tunnels are wanted before as behind that are not listed.
+-- The tunnels that are not listed are wanted after as before.
 abbrev pub Tells : List Fec → TreeData → TreeData → Type 0
 Tells fecs old new = (fec : Fec) → list_any (same_fec fec) fecs ≡ false → sets.contains old.wants fec ≡ sets.contains new.wants fec
 
 any_is : (fec : Fec) (fecs : List Fec) → is_in fec fecs ≡ list_any (same_fec fec) fecs
 any_is fec fecs = λ i. list_any (λ other. fec_ties fec other i) fecs
 
--- behind those that are listed already
+-- after those that are listed already
 pub told_here : (old new : TreeData) (all wants unwants : List Fec) → AreNew wants old.wants new.wants → AreNew unwants new.wants old.wants
     → Tells ((all ++ wants) ++ unwants) old new
 told_here old new all wants unwants came went fec h =

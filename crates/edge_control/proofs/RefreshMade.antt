@@ -1,4 +1,4 @@
--- What an edge keeps behind a refresh of its trees.
+-- What an edge keeps after a refresh of its trees.
 use Rattle.std.proofs.Common.{◌≡◌, ◌⊎◌, ℕ, ◌<◌, ◌==◌, ◌||◌, true, false, cond, inl, inr, List, [], ◌∷◌, find, length, is_some, Option, None, Some, option_map, refl, sym, ap, subst, ◌∙◌}
 use Rattle.std.specs.List.{AllByRecursion, AllZip}
 use Rattle.std.specs.Option.{option_or}
@@ -116,7 +116,7 @@ module _ (kept : Kept) (full : AreFull kept) (R : TreeData → TreeData → Type
   by_trees =
       zip_map R (λ (it : OwnTree). it.tree) (trees_of kept) others (subst (λ (trees : List TreeData). AllZip R trees others) (sym full.full) zip)
 
-  -- each of the VRFs has a tree still, that stands so to its own
+  -- each of the VRFs still has a tree, which is so related to its own
   pub still_full : AreFull (record kept { trees = others })
   still_full = zip_full kept By others full by_trees
 
@@ -204,7 +204,7 @@ module _ (kept : Kept) (full : AreFull kept) (parts : AreParts kept) where
       let key : VrfFlow = flow_in found.0.own.id h.flow in
       (key, own_join found.0 found.1 key refl ∙ ap (λ (t : TreeData). tree_join t h.flow) (sym found.2) ∙ h.has)
 
--- A flow is one of a VRF, with the joins of the VRF's tree before and behind; or it is none, before and behind.
+-- A flow is one of a VRF, with the joins of the VRF's tree before and after; or it is none, before and after.
 record IsFlowOf (joins : List TreeJoin) (old new : Control) (key : VrfFlow) : Type 0 where
   before : TreeData
   then_tree : TreeData
@@ -291,7 +291,7 @@ have_spellings : (kept : Kept) → AreSpelled kept.peers → HaveSpellings (cont
 have_spellings kept spelled peer key route h =
     let is = spelled_in (maps.get kept.peers peer) key route h (spelled peer) in (writable_key key is, octets_key key is)
 
--- Behind a refresh of each tree the flows are those of the edge at the clock.
+-- After a refresh of each tree the flows are those of the edge at the clock.
 pub refresh_makes : (kept : Kept) → IsSound kept → HasPrefixes kept.home.scenario → AreSpelled kept.peers
     → (core : Core) (now : ℕ) (others : List TreeData)
     → AllZip (IsRefreshed (core.cost kept.home.me) now) kept.trees others

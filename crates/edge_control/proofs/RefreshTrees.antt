@@ -21,7 +21,7 @@ use Rattle.edge_control.proofs.RefreshJoins.{Tells, moved_more, tells_more, told
 
 -- ---- lists of which some elements are others
 
--- the first so many have become others, and what is behind them is as before
+-- the first so many have become others, and what is after them is as before
 abbrev pub OnWay : {A : Type 0} → (A → A → Type 0) → ℕ → List A → List A → Type 0
 OnWay Is zero old new = new ≡ old
 OnWay Is (suc n) [] [] = ⊤
@@ -63,7 +63,7 @@ module _ {A : Type 0} (Is : A → A → Type 0) where
   zip_itself same [] = tt
   zip_itself same (x ∷ xs) = (same x, zip_itself same xs)
 
-  -- one element becomes another one, that stands so to the one that was there first
+  -- one element becomes another one, which is so related to the one that was there first
   pub zip_set : (n : ℕ) (xs ys : List A) (d s : A) → n < length ys → AllZip Is xs ys → Is (get_or xs n d) s → AllZip Is xs (set ys n s)
   zip_set n [] [] d s lt h k = absurd (omega (arith, lt))
   zip_set n [] (y ∷ ys) d s lt h k = absurd h
@@ -103,7 +103,7 @@ set_among [] n s lt = absurd (omega (arith, lt))
 set_among (x ∷ xs) zero s lt = inl refl
 set_among (x ∷ xs) (suc n) s lt = inr (set_among xs n s (omega (arith, lt)))
 
--- what stood in the list stands there still, or is the one that was changed
+-- what was in the list is there still, or is the one that was changed
 still_among : {A : Type 0} (xs : List A) (n : ℕ) (d s x : A) → Among x xs → Among x (set xs n s) ⊎ (x ≡ get_or xs n d)
 still_among [] n d s x a = absurd a
 still_among (y ∷ xs) zero d s x (inl e) = inr e
@@ -194,7 +194,7 @@ told_on old now all wants unwants n d s lt same before came went =
 
 -- ---- the loop
 
--- The second tree is the first one behind a refresh, in that core as the node knows it.
+-- The second tree is the first one after a refresh, in that core as the node knows it.
 pub record IsTurned (core : Topology) (me : NodeId) (now : ℕ) (old new : TreeData) : Type 0 where
   pub refreshed : (cost : NodeId → ℕ) → AreCosts core me cost → IsRefreshed cost now old new
   pub rest : IsRestOf old new

@@ -27,7 +27,7 @@ is_own_iface home iface = list_any (λ own. is_iface_of home.scenario own.id ifa
 abbrev pub is_own_vrf : Home → VrfId → Bool
 is_own_vrf home vrf = list_any (λ own. own.id.0 == vrf.0) (vrfs_of home)
 
--- At that place of the edge's VRFs stands one that passes the test.
+-- At that place of the edge's VRFs is one that passes the test.
 pub record IsPlace (home : Home) (place : ℕ) (test : OwnVrf → Bool) : Type 0 where
   pub own : OwnVrf
   pub at : slice_get (vrfs_of home) place ≡ Some own

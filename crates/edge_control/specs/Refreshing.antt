@@ -28,8 +28,8 @@ join_at flow (Some (Some (Remote edge rd import source_as))) =
     })
 join_at flow other = None
 
--- Each join that a flow has behind the refresh and had not before is listed, and so is each that it had and has no more; and each that is
--- listed is one of a flow before or behind.
+-- Each join that a flow has after the refresh and had not before is listed, and so is each that it had and has no more; and each that is
+-- listed is one of a flow before or after.
 pub record AreChanged (old new : FinMap flow_cmp (Option Upstream)) (joins : List TreeJoin) : Type 0 where
   pub made : (flow : VrfFlow) (join : TreeJoin) → join_at flow (get new flow) ≡ Some join
       → (join_at flow (get old flow) ≡ Some join) ⊎ Among join joins
@@ -38,7 +38,7 @@ pub record AreChanged (old new : FinMap flow_cmp (Option Upstream)) (joins : Lis
   pub each : (join : TreeJoin) → Among join joins
       → (flow : VrfFlow) × ((join_at flow (get old flow) ≡ Some join) ⊎ (join_at flow (get new flow) ≡ Some join))
 
--- Each tunnel that one of the trees wants before and none behind, or the other way round, is listed.
+-- Each tunnel that one of the trees wants before and none after, or the other way round, is listed.
 abbrev pub AreTold : List TreeData → List TreeData → List Fec → Type 0
 AreTold old new fecs = (fec : Fec) → list_any (same_fec fec) fecs ≡ false
     → list_any (λ tree. sets.contains tree.wants fec) old ≡ list_any (λ tree. sets.contains tree.wants fec) new
@@ -61,7 +61,7 @@ pub record HasJoin (trees : List TreeData) (join : TreeJoin) : Type 0 where
   pub flow : Flow
   pub has : tree_join tree flow ≡ Some join
 
--- So of the trees one by one; and each join that is listed is one of them before or behind.
+-- So of the trees one by one; and each join that is listed is one of them before or after.
 pub record AreAllMoved (old new : List TreeData) (joins : List TreeJoin) : Type 0 where
   pub moved : AllZip (AreMoved joins) old new
   pub each : (join : TreeJoin) → Among join joins → HasJoin old join ⊎ HasJoin new join

@@ -52,7 +52,7 @@ abbrev pub more_actives : ActiveRoute → Option FlowRoute → FinSet active_cmp
 more_actives route None actives = sets.remove actives route
 more_actives route (Some flow) actives = sets.insert actives route
 
--- What the tree becomes where a route stands at a key at which none stood, by the kind of the key.
+-- What the tree becomes where a route comes to a key at which there was none, by the kind of the key.
 abbrev pub tree_learning : EdgePlace → OwnVrf → NodeId → ℕ → Key → Option TakenRoute → TreeData → TreeData
 tree_learning place own peer now (Unicast rd prefix) new tree =
     with_learned (more_learned (key_from peer rd prefix) (told_unicast place own peer new) tree.vrf.routes.learned) tree

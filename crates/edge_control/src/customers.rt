@@ -29,7 +29,7 @@ fn is_one_too_many(noted: bool, count: u32) -> bool
 }
 
 impl EdgeControl {
-    /// Whether the entries would be too many behind the message, which the tree at that place takes.
+    /// Whether the entries would be too many after the message, which the tree at that place takes.
     fn is_over_behind(
         &self,
         place: usize,
@@ -46,7 +46,7 @@ impl EdgeControl {
         Ok(is_over(entries_in(&self.trees), own, behind))
     }
 
-    /// The tree at that place takes the message, behind which the entries are not too many.
+    /// The tree at that place takes the message, after which the entries are not too many.
     fn take_fitting(
         &mut self,
         place: usize,

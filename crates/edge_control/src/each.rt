@@ -43,7 +43,7 @@ pub(crate) fn forget_in(
     }
 }
 
-/// A route of that value stands at the key, at which none stood: each tree takes what its VRF uses of it. Where memory runs out, the
+/// A route of that value is at the key, where there was none: each tree takes what its VRF uses of it. Where memory runs out, the
 /// first ones have taken it, and the others are as before.
 pub(crate) fn learn_in(
     home: &EdgeHome,

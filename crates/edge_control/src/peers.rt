@@ -224,7 +224,7 @@ fn learn_selective(
     }
 }
 
-/// A route of that value stands at the key, at which none stood: the tree takes what the VRF imports and uses of it.
+/// A route of that value is at the key, where there was none: the tree takes what the VRF imports and uses of it.
 pub(crate) fn learn_route(
     tree: &mut VrfTree,
     own: &OwnVrf,

@@ -23,7 +23,7 @@ use std::alloc::Global;
 use vrf_trees::{TreeChanges, TreeJoin, VrfTree};
 
 /// What a refresh of all flows changes: the joins of flows towards other edges that are made or left, and the selective tunnels
-/// that some VRF wants from now on, or wants no more. In no order; one may stand more than once.
+/// that some VRF wants from now on, or wants no more. In no order; one may be there more than once.
 #[derive(Drop)]
 pub struct ControlChanges {
     pub joins: Vec<TreeJoin>,
@@ -93,7 +93,7 @@ fn have_octets(home: &EdgeHome)
 
 impl EdgeControl {
     /// Brings the flows of all VRFs up to date at the clock, in the core as the edge knows it (RFC 7761 section 4.1.6; RFC 6513
-    /// section 5.1). After want of memory nothing is known of the flows, and all else is as before.
+    /// section 5.1). After memory runs out nothing is known of the flows, and all else is as before.
     pub fn refresh(&mut self, now: u64, core: &Core) -> Result<ControlChanges, NoMemory>
         requires { core.now.nodes ≡ length self.old.home.scenario.nodes }
         ensures refreshed { (own : Walks) → IsCoreOf core.now.nodes core.now.links own → OnOk result (

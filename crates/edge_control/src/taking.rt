@@ -60,7 +60,7 @@ fn spelled(key: &TableKey)
     let _key = key.key();
 }
 
-/// The trees take what their VRFs use of the route of the key, where the peer's table has one, and none stood there before. Where
+/// The trees take what their VRFs use of the route of the key, where the peer's table has one, and there was none before. Where
 /// memory runs out, they forget it again.
 fn learn_said(
     home: &EdgeHome,
@@ -102,7 +102,7 @@ impl EdgeControl {
         self.taken.forget(peer, key);
     }
 
-    /// The peer announces a route at a key at which none of its stands. Where memory runs out, none stands there.
+    /// The peer announces a route at a key at which it has none. Where memory runs out, there is none.
     fn announce_fresh(
         &mut self,
         peer: NodeId,

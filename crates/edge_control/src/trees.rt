@@ -70,7 +70,7 @@ pub(crate) fn unnote_at(
     trees[place].unnote(iface, source, group);
 }
 
-/// The tree selects the pattern, and tells the number of its tunnel.
+/// The tree selects the pattern, and answers the number of its tunnel.
 pub(crate) fn select_at(
     trees: &mut Vec<VrfTree>,
     place: usize,

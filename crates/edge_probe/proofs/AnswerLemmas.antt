@@ -34,7 +34,7 @@ use Rattle.probe_defs.specs.declared.probe.ProbeLine.TheVariants.{Join, Piece}
 use Rattle.edge_probe.specs.Behind.{IsGiven, IsPeerFault, IsTold, stream_fault}
 use Rattle.edge_probe.proofs.GivenLemmas.{both_octets, fits_join, fits_piece, has_room, never_lacks, next, none_given, none_some, told_given}
 
--- the fault of the session that was answered is the one that was told
+-- the fault of the session that was answered is the one that the stream has
 pub session_of : (session : PeerSession) (new : EdgeView) (peer : NodeId) (place : ℕ) (reason : SessionReason)
     → Among (faults.Session peer place reason) (faults.NoLabel ∷ faults.NoMemory ∷ []) ⊎ IsSessionFault session new (faults.Session peer place reason)
     → told_fault (fault_at new.streams session) ≡ Some (place, reason)

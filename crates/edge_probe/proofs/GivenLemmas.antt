@@ -93,7 +93,7 @@ in_core_still core old new same is = record {
   told = is.told;
 }
 
--- it lacks no label at a step behind which it is not spent
+-- it does not run out of labels at a step after which it is not spent
 pub not_lacking : (core : Topology) (old : EdgeView) (step : Core → EdgeState → EdgeState) → IsInCore core old
     → ((own : Core) → IsCoreOf core.nodes core.links own → (state : EdgeState) × IsIn state old × ((step own state).spent ≡ None))
     → Lacks core step old → ⊥
@@ -179,7 +179,7 @@ fault_given core peer done edge g =
     ap (λ (streams : _). fault_at streams (peer_session peer)) (sym (g.is t.0 t.1).streams)
     ∙ (comes (place_of (home_of edge) t.0) peer done g.octets).stream
 
--- what was told of it is a fault of BGP
+-- what was said of it is a fault of BGP
 told_as : (fault : Option (ℕ × StreamFault)) (place : ℕ) (reason : SessionReason)
     → told_fault (fault_as (λ f. BgpFault f) fault) ≡ Some (place, reason)
     → (own : StreamFault) × (reason ≡ reasons.Bgp own) × (fault ≡ Some (place, own))

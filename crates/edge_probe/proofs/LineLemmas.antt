@@ -34,7 +34,7 @@ all_at P [] h i d lt = absurd (omega (arith, lt))
 all_at P (y ∷ xs) h zero d lt = h.0
 all_at P (y ∷ xs) h (suc i) d lt = all_at P xs h.1 i d (omega (arith, lt))
 
--- a join behind others is one more
+-- a join after others is one more
 joins_before : (lines : List ProbeLine) (i : ℕ) (d : ProbeLine) (iface : IfaceId) (source group : Addr) → i < length lines
     → get_or lines i d ≡ Join iface source group → length (joins_of (take i lines)) < length (joins_of lines)
 joins_before [] i d iface source group lt e = absurd (omega (arith, lt))

@@ -25,7 +25,7 @@ use Rattle.edge_streams.specs.declared.reason.SessionReason.TheVariants as reaso
 use Rattle.edge_core.specs.State.{IsIn, home_of}
 use Rattle.edge_core.specs.View.{EdgeView}
 
--- The core is that of the scenario of the edge, which meets its rules, and can be told.
+-- The core is that of the scenario of the edge, which meets its rules, and has a core of the definitions.
 pub record IsInCore (core : Topology) (edge : EdgeView) : Type 0 where
   pub rules : Rules (home_of edge).scenario
   pub nodes : core.nodes ≡ length (home_of edge).scenario.nodes
@@ -38,8 +38,7 @@ pub record IsFresh (core : Topology) (edge : EdgeView) : Type 0 where
   pub unspent : edge.spent ≡ None
   pub is : IsIn (fresh_state (home_of edge).scenario.labels) edge
 
--- An edge in its core that was given these lines: it is not spent, and is that of the definitions behind them, whichever way the core is
--- told.
+-- An edge in its core that was given these lines: it is not spent, and is that of the definitions after them, for each core of the definitions.
 pub record IsGiven (core : Topology) (peer : NodeId) (lines : List ProbeLine) (edge : EdgeView) : Type 0 where
   pub in_core : IsInCore core edge
   pub unspent : edge.spent ≡ None
@@ -52,7 +51,7 @@ pub record IsTold (core : Topology) (peer : NodeId) (lines : List ProbeLine) (fa
   pub given : IsGiven core peer lines edge
   pub fault_is : fault ≡ fault_in (octets_of lines)
 
--- behind these lines there is room for the join, which fits the edge
+-- after these lines there is room for the join, which fits the edge
 pub record MayJoin (lines : List ProbeLine) (iface : IfaceId) (source group : Addr) (edge : EdgeView) : Type 0 where
   pub fits : IsJoinAt (home_of edge).scenario (home_of edge).me iface source group
   pub room : length (joins_of lines) < join_limit
@@ -72,7 +71,7 @@ abbrev pub stream_fault : EdgeFault → Option (ℕ × StreamFault)
 stream_fault (faults.Session peer place (reasons.Bgp fault)) = Some (place, fault)
 stream_fault other = None
 
--- the edge wants memory, or answers such a fault
+-- the edge is out of memory, or answers such a fault
 abbrev pub IsPeerFault : EdgeFault → Type 0
 IsPeerFault fault = (fault ≡ faults.NoMemory) ⊎ IsSome (stream_fault fault)
 

@@ -23,14 +23,14 @@ use std::alloc::Global;
 /// The first fault of octets that came from a peer, with its place, if they have one.
 pub(crate) type PeerFault = Option<(u64, StreamFault)>;
 
-/// The edge wants memory, as its fault says.
+/// The edge is out of memory, as its fault says.
 fn memory(_fault: EdgeFault) -> NoMemory
     requires { _fault ≡ faults.NoMemory }
 {
     NoMemory
 }
 
-/// The first fault of the peer's octets, as the edge answers it, unless it wants memory.
+/// The first fault of the peer's octets, as the edge answers it, unless it is out of memory.
 fn first_fault(fault: EdgeFault) -> Result<PeerFault, NoMemory>
     requires { IsPeerFault fault }
     ensures first { IfOk result (λ first. first ≡ stream_fault fault) }

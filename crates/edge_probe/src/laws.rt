@@ -1,4 +1,4 @@
-//! Laws of what is told of a probe.
+//! Laws of what is reported of a probe.
 ghost use Rattle.std.specs.Prelude.{◌≡◌, List};
 ghost use Rattle.mv_base.specs.Lists.{Among};
 ghost use Rattle.mv_base.specs.declared.ids.NodeId.{NodeId};

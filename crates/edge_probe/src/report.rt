@@ -30,7 +30,7 @@ fn first_core(alloc: Global, scenario: &Scenario) -> Result<Core, NoMemory>
     }
 }
 
-/// What is told of an edge in which nothing has happened: its session with the peer comes up, it is given the lines, and is asked.
+/// What is reported of an edge in which nothing has happened: its session with the peer comes up, it is given the lines, and is asked.
 fn tell(
     own: &mut Edge,
     alloc: Global,

@@ -1,4 +1,4 @@
-//! What is told of an edge that was given the lines of a probe.
+//! What is reported of an edge that was given the lines of a probe.
 ghost use Rattle.std.specs.Prelude.{◌≡◌, ◌++◌, ◌≤◌, ◌<◌, length, map, slice_get, List, Some, IfOk, OnOk};
 ghost use Rattle.mv_base.specs.Lists.{Among};
 ghost use Rattle.mv_base.specs.core_walks.Topology.{Topology};

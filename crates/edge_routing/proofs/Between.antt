@@ -1,4 +1,4 @@
--- What peers are to have and were told, between the parts of a step.
+-- What peers are to have and were sent, between the parts of a step.
 use Rattle.std.proofs.Common.{◌≡◌, ◌++◌, Bool, true, false, cond, List, [], Option, None, Some, is_some, refl, sym, ap, subst, ◌∙◌}
 use Rattle.std.specs.FinMap as maps
 use Rattle.mv_base.specs.declared.ids.NodeId.{NodeId}
@@ -11,11 +11,11 @@ use Rattle.edge_control.specs.edge_tables.Tables.{Both, EachPeer, IsBetween, Pee
 use Rattle.held_tables.specs.Holding.{AreToldAlike, HoldAll, IsToldAlike}
 use Rattle.edge_routing.specs.Routing.{AreBetween}
 
--- the tables that are between hold what the edge holds behind
+-- the tables that are between hold what the edge holds afterwards
 pub holds : (place : EdgePlace) (old new : Control) (tables : Tables) → AreBetween place old new tables → HoldAll place new tables
 holds place old new tables are peer table at = (are peer table at).set
 
--- ---- tables of which nothing was told
+-- ---- tables of which nothing was sent
 
 module _ (before after : Tables) (alike : AreToldAlike before after) where
   pub told_at : (peer : NodeId) (table : PeerTable) → maps.get after peer ≡ Some table
@@ -45,7 +45,7 @@ module _ (before after : Tables) (alike : AreToldAlike before after) where
       by (Some t) None b = absurd b
       by (Some t) (Some u) b = b.waiting
 
-  -- Where the peers that are up stay, and each is to have what the edge holds behind a call, the tables are between.
+  -- Where the peers that are up stay, and each is to have what the edge holds after a call, the tables are between.
   pub still_between : (place : EdgePlace) (old middle new : Control) → AreBetween place old middle before → HoldAll place new after
       → ((peer : NodeId) → is_some (maps.get new.peers peer) ≡ is_some (maps.get middle.peers peer)) → AreBetween place old new after
   still_between place old middle new are hold same peer table at =

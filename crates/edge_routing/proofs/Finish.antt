@@ -1,4 +1,4 @@
--- The rest of a step of each VRF, behind the effect of the call itself.
+-- The rest of a step of each VRF, after the effect of the call itself.
 use Rattle.std.proofs.Common.{◌≡◌, ◌↔◌, ◌++◌, ℕ, Bool, true, false, cond, List, is_some, sym, ap, subst, subst₂, ◌∙◌}
 use Rattle.std.specs.List.{list_any}
 use Rattle.std.specs.FinMap as maps
@@ -41,7 +41,7 @@ kept_trees kept core are =
     subst₂ (AreTreesOf (place_of kept.home core) (control_of kept)) are.all are.full
     (one_by_one (place_of kept.home core) (control_of kept) (trees_of kept) (are.each core))
 
--- ---- what is kept behind a refresh
+-- ---- what is kept after a refresh
 
 module _ (core : Topology) (now : ℕ) (old new : Kept) (own : Core) (is_core : IsCoreOf core.nodes core.links own)
     (is : IsRefreshedTo core now old new) where

@@ -68,7 +68,7 @@ join_groups old new joins old_have new_have changed =
     by join (flow, inl h) = flow_group old old_have flow join h
     by join (flow, inr h) = flow_group new new_have flow join h
 
--- The groups behind a refresh.
+-- The groups after a refresh.
 pub groups_behind : (now : ℕ) (old new : Kept) (own : Core) → HaveGroups (control_of old) → IsSound old
     → control_of new ≡ refreshed (place_of old.home own) now (control_of old) → HaveGroups (control_of new)
 groups_behind now old new own have sound is =
@@ -76,7 +76,7 @@ groups_behind now old new own have sound is =
 
 -- ---- joins
 
--- Tables that held the joins of the flows before a refresh hold those of the flows behind it, once the joins that it lists were gone through.
+-- Tables that held the joins of the flows before a refresh hold those of the flows after it, once the joins that it lists were gone through.
 pub held_behind : (old new : Kept) (own any : Core) (now : ℕ) (joins gone_through : List TreeJoin) (before after : Tables) → new.home ≡ old.home
     → control_of new ≡ refreshed (place_of old.home own) now (control_of old) → AreOfVrfs (place_of old.home any) (control_of old)
     → AreChanged (control_of old).flows (control_of new).flows joins → HoldAll (place_of old.home any) (control_of old) before → gone_through ≡ joins

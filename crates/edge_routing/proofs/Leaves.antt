@@ -1,4 +1,4 @@
--- Of which trees an edge is to be a leaf before and behind a step.
+-- Of which trees an edge is to be a leaf before and after a step.
 use Rattle.std.proofs.Common.{◌≡◌, ◌↔◌, ◌++◌, ◌||◌, inl, inr, Bool, true, false, List, [], ◌∷◌, refl, sym, ap, subst, ◌∙◌}
 use Rattle.std.specs.Cmp.{both_ways}
 use Rattle.std.specs.List.{list_any}

@@ -1,4 +1,4 @@
--- The notes of a source and a group at the interfaces of a VRF, and what peers are to have behind the end of one.
+-- The notes of a source and a group at the interfaces of a VRF, and what peers are to have after the end of one.
 use Rattle.std.proofs.Common.{◌≡◌, ◌&&◌, Bool, true, false, not, refl, sym, ap, subst, ◌∙◌}
 use Rattle.std.specs.Ordering.{eq_by_cmp}
 use Rattle.std.specs.FinSet as sets
@@ -35,7 +35,7 @@ use Rattle.edge_control.specs.Sound.{IsSound}
 use Rattle.edge_control.proofs.SoundLemmas.{tree_between}
 use Rattle.held_tables.specs.Holding.{HoldAll}
 
--- ---- notes behind the end of one
+-- ---- notes after the end of one
 
 not_tied : (b : Bool) → not b ≡ true → b ≡ true → ⊥
 not_tied true h k = absurd (let bad : false ≡ true = h in cc)
@@ -97,7 +97,7 @@ module _ (place : EdgePlace) (old now : Control) (own : OwnVrf) (tree : TreeData
       subst (λ (c : Control). HoldAll place c tables) (sym ended)
       (λ peer table at. hold peer table at ∙ sym (unnoted_beside place rules peer old own a iface source group of (noted_beside h)))
 
--- ---- what is kept behind the end of a note
+-- ---- what is kept after the end of a note
 
 module _ (kept : Kept) (shown : Home) (own : homes.OwnVrf) (tree : TreeData) (same : shown ≡ kept.home) (sound : IsSound kept)
     (at : IsTreeAt kept own.id tree)

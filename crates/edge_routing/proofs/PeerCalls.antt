@@ -166,7 +166,7 @@ both_keys f None (Some table) b = absurd b
 both_keys f (Some table) None b = absurd b
 both_keys f (Some table) (Some next) b = refl
 
--- a table behind is that of one before
+-- a table after the call is that of one before it
 both_there : (f : PeerTable → PeerTable) (o n : Option PeerTable) (table : PeerTable) → Both (λ own next. next ≡ f own) o n → n ≡ Some table
     → (t : PeerTable) × (o ≡ Some t) × (table ≡ f t)
 both_there f None None table b e = absurd cc

@@ -1,4 +1,4 @@
--- What calls of the operator make, behind which no flow is refreshed.
+-- What calls of the operator make, after which no flow is refreshed.
 use Rattle.std.proofs.Common.{◌≡◌, ◌++◌, ℕ, ◌≤◌, Bool, true, false, cond, List, [], is_some, refl, sym, ap, subst, ◌∙◌, arith}
 use Rattle.std.specs.List.{list_any}
 use Rattle.std.specs.FinMap as maps

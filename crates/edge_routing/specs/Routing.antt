@@ -1,4 +1,4 @@
--- What an edge keeps of its customers and of its peers, and what it tells the peers: both in step, and the steps that they make together.
+-- What an edge keeps of its customers and of its peers, and what it sends the peers: both in step, and the steps that they make together.
 use Rattle.std.specs.Prelude.{◌≡◌, ◌↔◌, ℕ, ◌++◌, true, List, Some, is_some}
 use Rattle.std.specs.FinMap as maps
 use Rattle.mv_base.specs.Lists.{Among}
@@ -25,12 +25,12 @@ use Rattle.edge_labels.specs.node_laws.Waits.{kept_for}
 use Rattle.edge_routing.specs.declared.routing.EdgeRouting.{EdgeRouting}
 use Rattle.edge_routing.specs.declared.routing.LeafCandidates.{LeafCandidates}
 
--- Each peer is to have what the edge holds for it now, and was told what it held before.
+-- Each peer is to have what the edge holds for it now, and was sent what it held before.
 abbrev pub AreBetween : EdgePlace → Control → Control → Tables → Type 0
 AreBetween place old new tables = (peer : NodeId) (table : PeerTable) → maps.get tables peer ≡ Some table → IsBetween place old new peer table
 
 -- Between two steps: the trees of the VRFs want what their flows want; the groups are multicast groups; each flow is one of a VRF of the
--- edge; each peer was told what the edge holds for it; the peers are the other edges, and none but these is up.
+-- edge; each peer was sent what the edge holds for it; the peers are the other edges, and none but these is up.
 pub record IsInStep (routing : EdgeRouting) : Type 0 where
   pub trees : AreTrees routing.control
   pub groups : HaveGroups (control_of routing.control)
@@ -57,13 +57,13 @@ pub record IsOnWay (call : Call) (now : ℕ) (old between : EdgeRouting) (listed
   pub tunnels : (core : Core) →
       AreTunnels (place_of between.control.home core) (control_of old.control) (control_of between.control) listed
 
--- What is kept behind a refresh is the same with its flows refreshed.
+-- What is kept after a refresh is the same with its flows refreshed.
 pub record IsRefreshedTo (core : Topology) (now : ℕ) (old new : Kept) : Type 0 where
   pub home : new.home ≡ old.home
   pub control : (own : Core) → IsCoreOf core.nodes core.links own →
       control_of new ≡ refreshed (place_of old.home own) now (control_of old)
 
--- Flows were refreshed, and each peer is to have the joins of the flows as they are; no peer was told anything. The selective tunnels that
+-- Flows were refreshed, and each peer is to have the joins of the flows as they are; no peer was sent anything. The selective tunnels that
 -- some VRF wants from now on, or no more, are among those that are listed.
 pub record HasRefreshed (core : Topology) (now : ℕ) (old new : EdgeRouting) (changed : List Fec) : Type 0 where
   pub own : Core

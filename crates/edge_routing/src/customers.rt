@@ -24,7 +24,7 @@ use mv_base::{Addr, IfaceId, NoMemory};
 use pim_joinprune::JoinPrune;
 use std::alloc::Global;
 
-/// No peer is to have the Source Active A-D route of the source and the group, behind the end of a note of them, where no interface of
+/// No peer is to have the Source Active A-D route of the source and the group, after the end of a note of them, where no interface of
 /// its VRF has another one.
 fn drop_unnoted(
     tables: &mut EdgeTables,

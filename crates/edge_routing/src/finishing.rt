@@ -40,8 +40,8 @@ impl EdgeRouting {
         Ok(changes)
     }
 
-    /// The rest of a step of each VRF, behind the effect of the call itself: flows are refreshed; each peer is to have the joins of the
-    /// flows as they are, and is told what changed; and the trees of which the edge is to be a leaf are told.
+    /// The rest of a step of each VRF, after the effect of the call itself: flows are refreshed; each peer is to have the joins of the
+    /// flows as they are, and is sent what changed; and the trees of which the edge is to be a leaf are answered.
     pub(crate) fn finish(
         &mut self,
         alloc: Global,

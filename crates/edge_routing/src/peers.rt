@@ -35,7 +35,7 @@ impl EdgeRouting {
         self.finish(alloc, tunnels, now, core)
     }
 
-    /// The end of the session with the peer comes up: it is told all that the edge holds for it.
+    /// The end of the session with the peer comes up: it is sent all that the edge holds for it.
     pub fn raise(
         &mut self,
         alloc: Global,

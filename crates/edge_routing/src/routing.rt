@@ -1,4 +1,4 @@
-//! What an edge keeps, and what it tells its peers.
+//! What an edge keeps, and what it sends its peers.
 ghost use Rattle.std.specs.Prelude.{◌≡◌, IfOk, [], map};
 ghost use Rattle.mv_base.specs.declared.ids.NodeId.{NodeId};
 ghost use Rattle.edge_defs.specs.Edge.{no_control};

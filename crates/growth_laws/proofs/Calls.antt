@@ -1,4 +1,4 @@
--- Each call that takes nothing back leaves a growing node growing, and it never lacks a label.
+-- Each call that takes nothing back leaves a growing node growing, and it never runs out of labels.
 use Rattle.std.proofs.Common.{◌≡◌, ℕ, ◌<◌, Bool, true, false, cond, ◌||◌, List, length, replicate, Option, Some, None, option_map, ◌⊎◌, inl, inr, refl, sym, ap, subst, ◌∙◌}
 use Rattle.std.specs.Ordering.{eq_by_cmp}
 use Rattle.std.specs.FinMap as maps

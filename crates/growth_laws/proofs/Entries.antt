@@ -1,4 +1,4 @@
--- Entries behind an (S,G) join, and behind the timers: they stay, and last.
+-- Entries after an (S,G) join, and after the timers: they stay, and last.
 use Rattle.std.specs.Prelude.{max}
 use Rattle.std.proofs.Common.{◌≡◌, ℕ, ◌+◌, ◌<◌, ◌≤◌, ◌==◌, Bool, true, false, cond, Option, Some, None, refl, sym, ap, subst, ◌∙◌, arith}
 use Rattle.std.specs.FinMap as maps
@@ -53,7 +53,7 @@ joined_by clock horizon source group old true lt lasts =
     extended_by clock horizon source group old (is_after (latest clock 210 old) clock) (latest_lasts clock clock old (omega arith))
     (latest_lasts clock horizon old lt)
 
--- an entry behind an (S,G) join
+-- an entry after an (S,G) join
 after_join : (clock horizon : ℕ) (neighbour source group : Addr) (entry : JoinEntry) (old : Option Expiry) → horizon < clock + 210
     → Lasts horizon entry old
     → let new : Option Expiry = expiry_after entry (mention_of (join_of neighbour (entries.Source source group)) entry) clock 210 old in

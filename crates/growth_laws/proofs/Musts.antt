@@ -8,7 +8,7 @@ use Rattle.network_defs.specs.Events.{Outcome, Done, Halted, and_then, one_act, 
 use Rattle.network_defs.specs.World.{World}
 use Rattle.growth_laws.proofs.Worlds.{Must}
 
--- all acts are done, and the world behind them has the property
+-- all acts are done, and the world after them has the property
 abbrev pub Comes : (World → Type 0) → Outcome → Type 0
 Comes P (Halted acts node) = ⊥
 Comes P (Done acts new) = P new
@@ -35,7 +35,7 @@ one_comes P world first g = by (act world first) g
     by (Err node) h = h
     by (Ok new) h = h
 
--- a first act, and the row behind it
+-- a first act, and the row after it
 pub first_comes : (P Q : World → Type 0) (first : Act) (more : List Act) (world : World) → Must P (act world first)
     → ((next : World) → P next → Comes Q (row more next)) → Comes Q (row (first ∷ more) world)
 first_comes P Q first more world g rest = then_comes P Q (one_act world first) (row more) (one_comes P world first g) rest

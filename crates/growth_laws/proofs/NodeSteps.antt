@@ -1,4 +1,4 @@
--- A call of a node that takes nothing back has a step, behind which all nodes are growing again.
+-- A call of a node that takes nothing back has a step, after which all nodes are growing again.
 use Rattle.std.proofs.Common.{◌≡◌, ℕ, ◌≤◌, ◌==◌, Bool, true, false, cond, List, [], ◌∷◌, ◌++◌, map, flat_map, length, is_some, Option, Some, None, ◌⊎◌, inl, inr, refl, sym, ap, subst, ◌∙◌}
 use Rattle.std.specs.List.{AllByRecursion}
 use Rattle.std.specs.FinMap as maps

@@ -39,7 +39,7 @@ raised_up part peer to end h = by (eq_by_cmp node_cmp to peer) refl (ap is_some 
     by true e k = inr (ap (λ (n : NodeId). labels.Raised n) (sym (node_cmp_exact to peer ((Equal-is (node_cmp to peer)).0 e))))
     by false e k = inl k
 
--- an end that is up behind a call's own effect was up, or comes up by it
+-- an end that is up after a call's own effect was up, or comes up by it
 effect_up : (place : Place) (now : ℕ) (trees : List Fec) (part : LabelData) (call : labels.Call) (to : NodeId) → TakesNothingBack place trees call
     → is_up (effect place now part call).0.part to ≡ true → (is_up part to ≡ true) ⊎ (call ≡ labels.Raised to)
 effect_up place now trees part (labels.Taken from message) to may h =
@@ -66,7 +66,7 @@ step_up place now trees part call new to may e h =
 abbrev pub own_place : EdgePlace → Place
 own_place place = label_place place.scenario place.core place.me
 
--- There is a row of steps, and behind it the label part is growing again. All that is put is mappings, and an end that is up was up or
+-- There is a row of steps, and after it the label part is growing again. All that is put is mappings, and an end that is up was up or
 -- came up by one of the calls.
 pub record RowGrows (place : EdgePlace) (now : ℕ) (trees : List Fec) (part : LabelData) (calls : List labels.Call) : Type 0 where
   pub row : List LabelStep

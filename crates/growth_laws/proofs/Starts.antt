@@ -193,7 +193,7 @@ growing_never_halt cores script report node rules octets grows halt =
     (script_starts cores script horizon rules octets grows) (subst (Left scenario horizon 0 trees) halt.events (all_left script rules octets grows))
     halt.run halt.lacks
 
--- behind first events a node holds a label for each tree at most
+-- after first events a node holds a label for each tree at most
 pub growing_holds_few : (cores : Cores) (script : Script) (count : ℕ) (trace : List Traced) (world : World) (node : NodeId) → ScriptRules script
     → ScriptHasOctets script → OnlyGrows script
     → Run cores script (take count script.events) trace world

@@ -129,7 +129,7 @@ join_cases (keys.Mcast afi (routes.SourceJoin rd source_as source group)) = inl 
 join_cases (keys.Mcast afi (routes.Other kind octets)) = inr (λ h. h)
 
 module _ (place : EdgePlace) (old new : Control) (rules : Rules place.scenario) (on : SaysOn old new) (peer : NodeId) where
-  -- what is told is originated
+  -- what is sent is originated
   told_is : (control : Control) (b : Bool) (key : Key) (value : Value) → (IsJoinKey key → ⊥)
       → maps.get (cond b (held_for place control peer) maps.empty) key ≡ Some value → Originates place control key value
   told_is control true key value not h = (held_both place control peer key value rules not).0 h

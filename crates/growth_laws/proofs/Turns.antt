@@ -110,7 +110,7 @@ module _ (place : Place) (trees : List Fec) (old new : LabelData) (fec : Fec) (p
 
 -- ---- a turn
 
--- behind a turn the node is still growing, and what is put is mappings
+-- after a turn the node is still growing, and what is put is mappings
 turn_grows : (place : Place) (trees : List Fec) (old : LabelData) (fec : Fec) (new : LabelData) (puts : List Put) → Growing place trees old
     → Turn place old fec new puts → Growing place trees new × AreMappings trees puts × (length new.labels ≡ length old.labels)
 turn_grows place trees old fec new puts g t = by t.how

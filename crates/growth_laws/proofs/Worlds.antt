@@ -1,4 +1,4 @@
--- Each act that takes nothing back is done, in octets, and never lacks a label.
+-- Each act that takes nothing back is done, in octets, and never runs out of labels.
 use Rattle.std.specs.Prelude.{take, drop, Result, Ok, Err}
 use Rattle.std.proofs.Common.{◌≡◌, ◌≢◌, ℕ, ◌+◌, ◌<◌, ◌≤◌, ◌==◌, ◌&&◌, ◌||◌, Bool, true, false, cond, List, [], ◌∷◌, ◌++◌, length, Option, Some, None, ◌⊎◌, inl, inr, refl, sym, ap, subst, ◌∙◌, arith}
 use Rattle.std.specs.List.{AllByRecursion}
@@ -48,12 +48,12 @@ OctetsGrown scenario horizon now trees network =
     (pending : Direction → List SessionMessage) × AreLines network pending × Sound scenario network.state
     × NetworkGrown horizon now trees (seen network pending)
 
--- there is a network behind acts, and it has the property
+-- there is a network after acts, and it has the property
 abbrev pub MustBe : (OctetNetwork Nodes → Type 0) → Option (Behind (OctetNetwork Nodes)) → Type 0
 MustBe P None = ⊥
 MustBe P (Some new) = P new.network
 
--- the act is done, and the world behind it has the property
+-- the act is done, and the world after it has the property
 abbrev pub Must : (World → Type 0) → Result Acted NodeId → Type 0
 Must P (Err node) = ⊥
 Must P (Ok new) = P new.world
@@ -75,7 +75,7 @@ earlier_must P puts (Some next) h = h
 
 -- ---- a call
 
--- behind a call of a node the sessions are as before, and an end that is up was up, or came up by it
+-- after a call of a node the sessions are as before, and an end that is up was up, or came up by it
 pub record Called (scenario : Scenario) (horizon now : ℕ) (trees : List Fec) (old : OctetNetwork Nodes) (n : NodeId) (call : steps.Call)
     (new : OctetNetwork Nodes) : Type 0 where
   pub grown : OctetsGrown scenario horizon now trees new

@@ -54,7 +54,7 @@ abbrev pub IsMappingOf : List Fec → LabelMessage → Type 0
 IsMappingOf trees (messages.Mapping fec label) = Among fec trees
 IsMappingOf trees other = ⊥
 
--- There is a step, and behind it the node is so again, with as many labels. What was mapped stays mapped, and all that is put is mappings
+-- There is a step, and after it the node is so again, with as many labels. What was mapped stays mapped, and all that is put is mappings
 -- of the trees.
 pub record GrowsOn (place : Place) (now : ℕ) (trees : List Fec) (part : LabelData) (call : Call) : Type 0 where
   pub new : Stepped

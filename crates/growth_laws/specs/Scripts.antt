@@ -61,7 +61,7 @@ pub record OnlyGrows (script : Script) : Type 0 where
   pub home : HasOneHome script.scenario
   pub labels : length script.scenario.vrfs + count_by (λ (timed : Timed). is_selection timed.event) script.events < script.scenario.labels
 
--- A script that takes nothing back never lacks a label at any node.
+-- A script that takes nothing back never runs out of labels at any node.
 abbrev pub GrowingRunsNeverHalt : Type 0
 GrowingRunsNeverHalt = (cores : Cores) (script : Script) (report : List Entry) (node : NodeId)
     → ScriptRules script → ScriptHasOctets script → OnlyGrows script → Halts cores script report node → ⊥

@@ -23,7 +23,7 @@ ghost use Rattle.growth_laws.specs.Scripts.{HasOneHome, OnlyGrows, GrowingRunsNe
 ghost use Rattle.growth_laws.specs.Labels.{Growing, TakesNothingBack, GrowsOn, AreAmong, labels_held};
 
 /// A node that was never asked to take anything back has a label for each tree that needs one, as long as it has more labels than
-/// there are trees. It is so in a node in which nothing has happened, behind each step that takes nothing back, and with more trees,
+/// there are trees. It is so in a node in which nothing has happened, after each step that takes nothing back, and with more trees,
 /// as long as the labels are more. It holds no more labels than there are trees.
 pub fn growing_nodes_never_lack_a_label()
     ensures fresh { (place : Place) (trees : List Fec) (count : ℕ) → length trees < count → Growing place trees (fresh count) }
@@ -42,15 +42,15 @@ pub fn growing_edges_stay_leaves()
         LeavesStay place old new }
 {}
 
-/// A script that takes nothing back never lacks a label at any node. So all its events run, by the cores of its scenario.
+/// A script that takes nothing back never runs out of labels at any node. So all its events run, by the cores of its scenario.
 pub fn growing_runs_never_halt()
     ensures no_halt { GrowingRunsNeverHalt }
     ensures run { (cores : Cores) (script : Script) → AreCoresOf script.scenario cores → ScriptRules script → ScriptHasOctets script →
         OnlyGrows script → (trace : List Traced) × (new : World) × Run cores script script.events trace new }
 {}
 
-/// Behind first events of such a script each node holds no more labels than there are VRFs in the network and selections among these
-/// events. Within an event no label is given back, so it never holds more than behind it.
+/// After first events of such a script each node holds no more labels than there are VRFs in the network and selections among these
+/// events. Within an event no label is given back, so it never holds more than after the event.
 pub fn growing_nodes_hold_few_labels()
     ensures { (cores : Cores) (script : Script) (count : ℕ) (trace : List Traced) (new : World) (node : NodeId) →
         ScriptRules script → ScriptHasOctets script → OnlyGrows script → Run cores script (take count script.events) trace new →

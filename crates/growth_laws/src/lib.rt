@@ -1,5 +1,5 @@
 //! Laws of runs in which nothing is ever taken back: where each node has more labels than there are trees, it never
-//! lacks one. Nothing comes in; each law is a function with an empty body (`laws.rt`). A node that was never asked to
+//! runs out. Nothing comes in; each law is a function with an empty body (`laws.rt`). A node that was never asked to
 //! take anything back has a label for each tree that needs one (`specs/Labels.antt`); where a call's own effect takes
 //! nothing back, the flows of an edge keep their upstreams, and it stays a leaf of each tunnel (`Edges`); so a script
 //! that takes nothing back never halts (`Scripts`). `Tests` has this as tests of a scenario and a script, among them

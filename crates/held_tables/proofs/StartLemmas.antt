@@ -39,7 +39,7 @@ use Rattle.held_tables.specs.Holding.{HavePartly, HoldAll, IsToldAlike}
 use Rattle.held_tables.specs.Starting.{AreEmpty, HasFront, all_start_routes, home_place, prefix_routes, start_routes, with_routes}
 use Rattle.held_tables.proofs.HoldLemmas.{each_as, each_weaker, partly_as}
 
--- ---- tables one behind another
+-- ---- tables one after another
 
 both_then : {A : Type 0} (P Q R : A → A → Type 0) → ((a b c : A) → P a b → Q b c → R a c) → (o p q : Option A) → Both P o p → Both Q p q → Both R o q
 both_then P Q R f None None None h k = tt
@@ -60,7 +60,7 @@ both_itself P f (Some a) = f a
 pub each_itself : (P : PeerTable → PeerTable → Type 0) → ((a : PeerTable) → P a a) → (t : Tables) → EachPeer P t t
 each_itself P f t peer = both_itself P f (get t peer)
 
--- ---- routes one behind another
+-- ---- routes one after another
 
 abbrev pub Given : List Entry → PeerTable → PeerTable → Type 0
 Given list before behind = behind ≡ with_routes list before

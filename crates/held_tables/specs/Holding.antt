@@ -24,7 +24,7 @@ pub record IsOwnAt (place : EdgePlace) (own : OwnVrf) : Type 0 where
 abbrev pub HoldAll : EdgePlace → Control → Tables → Type 0
 HoldAll place control tables = (peer : NodeId) (table : PeerTable) → get tables peer ≡ Some table → table.set ≡ held_for place control peer
 
--- the state of the session, what the peer was told and what waits for it are as before
+-- the state of the session, what the peer was sent and what waits for it are as before
 pub record IsToldAlike (old new : PeerTable) : Type 0 where
   pub up : new.up ≡ old.up
   pub told : new.told ≡ old.told

@@ -38,7 +38,7 @@ prefix_routes rd value routes = map (λ route. (Unicast rd route.prefix, value))
 abbrev pub AreEmpty : Tables → Type 0
 AreEmpty tables = (peer : NodeId) (table : PeerTable) → get tables peer ≡ Some table → table.set ≡ empty
 
--- the peer is to have these routes besides; of several of one key the last one stands
+-- the peer is to have these routes besides; of several of one key the last one counts
 abbrev pub with_routes : List (Key × Value) → PeerTable → PeerTable
 with_routes [] table = table
 with_routes (route ∷ more) table = with_routes more (with_route route.0 route.1 table)

@@ -25,7 +25,7 @@ ghost use Rattle.held_tables.specs.Holding.{HoldAll};
 ghost use Rattle.held_tables.specs.Starting.{AreEmpty};
 ghost use Rattle.held_tables.specs.Joins.{AreOthersAlike, HoldAllBut, join_to, joins_of_changed, with_flows};
 
-/// Where another note of a source and a group stays at the interfaces of the VRF, nothing is to be done behind the end of one.
+/// Where another note of a source and a group stays at the interfaces of the VRF, nothing is to be done after the end of one.
 pub fn another_note_holds()
     ensures { (place : EdgePlace) (control : Control) (own : OwnVrf) (iface : IfaceId) (source group : Addr) (tables : Tables) →
         Rules place.scenario → Among own (own_vrfs place) → is_iface_of place.scenario own.id iface ≡ true →

@@ -35,7 +35,7 @@ pub fn hold_selection(
     tables.set(&key, &value)
 }
 
-/// No peer is to have that route, as is due behind the end of the selection. Where memory runs out, some of the tables have the
+/// No peer is to have that route, as is due after the end of the selection. Where memory runs out, some of the tables have the
 /// change and the others are as before.
 pub fn drop_selection(
     tables: &mut EdgeTables,

@@ -16,7 +16,7 @@ use edge_routes::plain_value;
 use edge_tables::EdgeTables;
 use mv_base::{Addr, NoMemory};
 
-/// Each peer is to have the Source Active A-D route for a source that sends to the group, as is due behind a note of them at an
+/// Each peer is to have the Source Active A-D route for a source that sends to the group, as is due after a note of them at an
 /// interface of the VRF. Where memory runs out, some of the tables have the change and the others are as before.
 pub fn hold_source(
     tables: &mut EdgeTables,
@@ -37,7 +37,7 @@ pub fn hold_source(
     tables.set(&key, &value)
 }
 
-/// No peer is to have that route, as is due behind the end of the last note of them at an interface of the VRF. Where memory runs
+/// No peer is to have that route, as is due after the end of the last note of them at an interface of the VRF. Where memory runs
 /// out, some of the tables have the change and the others are as before.
 pub fn drop_source(
     tables: &mut EdgeTables,

@@ -1,4 +1,4 @@
--- The hops of a report behind one event more, behind the later events of a run, and at a halt.
+-- The hops of a report after one event more, after the later events of a run, and at a halt.
 use Rattle.std.proofs.Common.{◌≡◌, ℕ, zero, suc, ◌+◌, ◌<◌, ◌≤◌, ◌++◌, take, drop, length, slice_get, List, [], ◌∷◌, Some, refl, sym, ap, subst, ◌∙◌, append-nil, append_assoc, arith}
 use Rattle.std.specs.List.{flat_map, AllByRecursion}
 use Rattle.std.proofs.lemmas.List.{map-append, take-append-drop}
@@ -69,7 +69,7 @@ quiet_lines : (acts : List Happened) → AllByRecursion IsQuiet acts → AllByRe
 quiet_lines [] quiet = tt
 quiet_lines (happened ∷ more) quiet = each_append IsPlainLine happened.lines (lines_in more) quiet.0.lines (quiet_lines more quiet.1)
 
--- An event that lacks a label puts no copy.
+-- An event that runs out of labels puts no copy.
 module _ (state : World) (timed : Timed) (acts : List Happened) (node : NodeId) (is : outcome state timed ≡ Halted acts node) where
   plain_acts : AllByRecursion IsPlainLine (lines_in acts)
   plain_acts = quiet_lines acts (halts_quiet state timed acts node is)
@@ -81,7 +81,7 @@ module _ (state : World) (timed : Timed) (acts : List Happened) (node : NodeId) 
       flat_map-append hops (lines_in acts) (lines.Halt timed.line node ∷ []) ∙ append-nil (flat_map hops (lines_in acts))
       ∙ plain_hops _ _ (lines_in acts) plain_acts
 
--- ---- behind the first events
+-- ---- after the first events
 
 module _ (cores : Cores) (script : Script) (count : ℕ) (trace : List Traced) (state : World)
     (run : Run cores script (take count script.events) trace state) where
@@ -116,7 +116,7 @@ module _ (cores : Cores) (script : Script) (count : ℕ) (trace : List Traced) (
         (tells_accepted first (start script.scenario cores) 0 trace state 0 [] refused (rises_first 0 first more rises) (λ line less. refl) refl run)
         run
 
-    -- The hops of later events come behind those of the first ones.
+    -- The hops of later events come after those of the first ones.
     pub hops_go_on : hops_of script.events (report_of (trace ++ late)) ≡ hops_of script.events (report_of trace)
         ++ flat_map (hops_in script.events all_refused) (report_of late)
     hops_go_on =
@@ -170,7 +170,7 @@ module _ (cores : Cores) (script : Script) (count : ℕ) (trace : List Traced) (
         ∙ append-nil (flat_map (hops_in script.events refused) (report_of (traced count acts)))
         ∙ acts_hops script.events refused count acts ∙ plain_hops _ _ (lines_in acts) (plain_acts state timed acts node is)
 
-    -- The acts of an event that lacks a label, and the line of the halt, have no hops.
+    -- The acts of an event that runs out of labels, and the line of the halt, have no hops.
     pub hops_at_halt : hops_of script.events (report_of (trace ++ traced count acts) ++ halt ∷ []) ≡ hops_of script.events (report_of trace)
     hops_at_halt =
         let behind : List Entry = report_of (traced count acts) ++ halt ∷ [] in

@@ -30,7 +30,7 @@ alive_kept : (count : ℕ) (world : World) → Alive count world → IsKept worl
 alive_kept count world a = subst (λ (n : ℕ). EachCopy (IsCopy n) world.copies) (sym a.datagrams) a.copies
 
 module _ (old : World) (k : IsKept old) where
-  -- the datagrams behind an event
+  -- the datagrams after an event
   abbrev behind : Event → ℕ
   behind event = length (old.datagrams ++ brought_by event)
 

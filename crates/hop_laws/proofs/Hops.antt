@@ -15,7 +15,7 @@ use Rattle.hop_laws.specs.Hops.{hop_by, hops_in, hops_of, sent_in}
 
 -- ---- later refusals change no earlier hop
 
--- Both tell the same of each event.
+-- Both say the same of each event.
 abbrev pub AreAlike : List ℕ → List ℕ → List Timed → Type 0
 AreAlike a b events = AllByRecursion (λ (timed : Timed). is_accepted a timed ≡ is_accepted b timed) events
 
@@ -57,7 +57,7 @@ lines-append first more = flat_map-append (λ (entry : Entry). entry.lines) firs
 pub refused-append : (first more : List Entry) → refused_lines (first ++ more) ≡ refused_lines first ++ refused_lines more
 refused-append first more = ap (flat_map refused_line) (lines-append first more) ∙ flat_map-append refused_line (lines_of first) (lines_of more)
 
--- Entries of later events come behind the hops of those before, which stay as they are.
+-- Entries of later events come after the hops of those before, which stay as they are.
 pub hops_more : (events : List Timed) (count : ℕ) (report more : List Entry) → AllByRecursion (IsBefore count) report →
     AreAlike (refused_lines report ++ refused_lines more) (refused_lines report) (take count events) →
     hops_of events (report ++ more) ≡ hops_of events report ++ flat_map (hops_in events (refused_lines report ++ refused_lines more)) more

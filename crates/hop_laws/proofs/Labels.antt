@@ -29,7 +29,7 @@ IsOfLabel other = ⊤
 abbrev AreOfLabels : List LabelMessage → Type 0
 AreOfLabels ms = AllByRecursion IsOfLabel ms
 
--- parts that stand end to end are spelled
+-- parts that lie end to end are spelled
 spelled : {M : Type 0} (Spells : M → List ℕ → Type 0) (Fits : List M → M → Type 0) (before : List M) (octets : List ℕ) (ms : List M)
     → ArePartsAfter Spells Fits before octets ms []
     → AllByRecursion (λ m. (text : List ℕ) × Spells m text) ms

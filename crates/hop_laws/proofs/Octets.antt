@@ -21,7 +21,7 @@ use Rattle.hop_laws.specs.Hops.{datagram_octets, sent_in}
 
 -- ---- datagrams
 
--- octets that fit into a frame behind its 18
+-- octets that fit into a frame after its 18
 abbrev pub FitFrame : List ℕ → Type 0
 FitFrame octets = length octets + 18 ≤ 65535
 

@@ -74,7 +74,7 @@ module _ (cores : Cores) (script : Script) (sound : SoundScenario script.scenari
         ∙ ap (λ (l : List Timed). length (datagrams refused 0 l)) (sym taken)
         ∙ sym (length_map (λ (datagram : Accepted). datagram.octets) (datagrams refused 0 (take count script.events)))
 
-    -- the lines of later events, behind a run of the first ones
+    -- the lines of later events, after a run of the first ones
     runs_said : (more before rest : List Timed) → script.events ≡ (before ++ more) ++ rest → AreSoundEvents (before ++ more)
         → TellsAccepted refused begin (before ++ more) → (early : List Traced) (old : World) → Run cores script before early old
         → IsKept old → (number : ℕ) → number ≡ length before → (trace : List Traced) (new : World) → Runs old number more trace new

@@ -1,4 +1,4 @@
--- The octets of the datagrams that were sent, behind one event more.
+-- The octets of the datagrams that were sent, after one event more.
 use Rattle.std.proofs.Common.{◌≡◌, ℕ, suc, ◌+◌, ◌==◌, ◌||◌, Bool, true, false, not, ◌++◌, map, take, length, slice_get, List, [], ◌∷◌, Option, None, Some, refl, sym, ap, subst, ◌∙◌, append-nil, arith}
 use Rattle.std.specs.Prelude.{if◌then◌else◌}
 use Rattle.std.specs.List.{flat_map, list_any}
@@ -86,7 +86,7 @@ module _ (old : World) (timed : Timed) (acts : List Happened) (next : World) (is
   pub lines_accept : accepts (refusal old timed.event) ≡ not (list_any (refuses timed.line) (lines_in acts))
   lines_accept = by_refusal (refusal old timed.event) refl is
 
--- ---- behind the first events
+-- ---- after the first events
 
 module _ (cores : Cores) (script : Script) (count : ℕ) (trace : List Traced) (state : World)
     (run : Run cores script (take count script.events) trace state) (rules : ScriptRules script)

@@ -1,4 +1,4 @@
--- What is declared behind the first lines of each block of the text.
+-- What is declared after the first lines of each block of the text.
 use Rattle.std.proofs.Common.{◌≡◌, ◌⊎◌, ℕ, zero, suc, ◌<◌, ◌≤◌, Bool, false, List, [], ◌∷◌, ◌++◌, Some, None, refl, subst, arith, inl, inr}
 use Rattle.std.specs.Prelude.{codes, decimal, nat_eq}
 use Rattle.std.specs.Map.{lookup}
@@ -77,7 +77,7 @@ behind_ring edges cores ring = with_lists (made_nodes edges cores) (behind [] ri
 abbrev pub behind_spurs : ℕ → ℕ → ℕ → Drafted
 behind_spurs edges cores spurs = with_lists (made_nodes edges cores) (made_links cores spurs) [] [] [] (node_names edges cores)
 
--- behind what all VPNs have at so many edges, and so many VPNs at the next one
+-- after what all VPNs have at so many edges, and so many VPNs at the next one
 abbrev pub behind_vpns : ℕ → ℕ → ℕ → ℕ → ℕ → Drafted
 behind_vpns edges cores vpns edge vpn =
     with_lists (made_nodes edges cores) (made_links cores edges) (behind (rows vpns vrf edge) (vrf (suc edge)) vpn)
@@ -138,7 +138,7 @@ edges_none test vpns old (suc edge) h none =
     at_none test (named_edges vpns old edge) (suc edge) vpns (edges_none test vpns old edge h (λ letter r k a b. none letter r k (omega arith) b))
     (λ letter k b. none letter edge k (omega arith) b)
 
--- A name of a VPN at an edge is new behind those before it.
+-- A name of a VPN at an edge is new after those before it.
 pair_free : (letter vpns : ℕ) (old : List (List ℕ × Thing)) (edge vpn : ℕ) → vpns ≡ 8 → edge < 32 → vpn < 8
     → IsNone old (name_at (letter ∷ []) (suc edge) (suc vpn))
     → IsNone (named_at (named_edges vpns old edge) (suc edge) vpn) (name_at (letter ∷ []) (suc edge) (suc vpn))
@@ -179,7 +179,7 @@ module _ (edges cores vpns edge vpn : ℕ) (all : vpns ≡ 8) (h : edge < 32) (k
       refl)
       refl
 
-  -- They stand behind their own lines.
+  -- They are there after their own lines.
   pub vrf_stands : Stands (earlier ++ vrf_entry (suc edge) (suc vpn) ∷ [] ++ site_entry (suc edge) (suc vpn) ∷ []) (vrf_entry (suc edge) (suc vpn))
   vrf_stands =
       lookup_more (pointwise nat_eq (name_at (codes "V") (suc edge) (suc vpn))) (earlier ++ vrf_entry (suc edge) (suc vpn) ∷ [])
@@ -208,7 +208,7 @@ module _ (edges cores vpns edge vpn : ℕ) (all : vpns ≡ 8) (h : edge < 32) (k
         (things.Iface (iface_id (suc edge) (suc vpn))) iface_free (same_name (name_at (codes "I") (suc edge) (suc vpn))),
   )
 
--- ---- what stands goes on standing
+-- ---- what is there stays there
 
 pub at_kept : (test : List ℕ → Bool) (old : List (List ℕ × Thing)) (edge count : ℕ) (v : Thing) → lookup test old ≡ Some v
     → lookup test (named_at old edge count) ≡ Some v
@@ -224,7 +224,7 @@ pub edges_kept : (test : List ℕ → Bool) (vpns : ℕ) (old : List (List ℕ �
 edges_kept test vpns old zero v h = h
 edges_kept test vpns old (suc edge) v h = at_kept test (named_edges vpns old edge) (suc edge) vpns v (edges_kept test vpns old edge v h)
 
--- What stands behind one VPN stands behind all of them at the edge, and behind all edges.
+-- What is there after one VPN is there after all of them at the edge, and after all edges.
 at_later : (test : List ℕ → Bool) (old : List (List ℕ × Thing)) (edge count vpn : ℕ) (v : Thing) → vpn < count
     → lookup test (named_at old edge (suc vpn)) ≡ Some v → lookup test (named_at old edge count) ≡ Some v
 at_later test old edge zero vpn v within h = absurd (omega arith)

@@ -1,4 +1,4 @@
--- The blocks of events, line by line, behind any scenario that has the things that they name.
+-- The blocks of events, line by line, after any scenario that has the things that they name.
 use Rattle.std.proofs.Common.{◌≡◌, ℕ, zero, suc, ◌+◌, ◌%◌, ◌<◌, ◌≤◌, ◌==◌, ◌&&◌, Bool, true, false, cond, not, List, [], ◌∷◌, ◌++◌, length, Some, refl, sym, ap, subst, ◌∙◌, arith, append_assoc, append-nil, length-append}
 use Rattle.std.specs.Prelude.{codes, decimal, Ok}
 use Rattle.std.specs.List.{slice_get}
@@ -38,13 +38,13 @@ length_from_line : (line : ℕ) (done : List Event) → length (from_line line d
 length_from_line line [] = refl
 length_from_line line (first ∷ done) = omega (arith, length_from_line (line + 1) done)
 
--- ---- lines that tell events
+-- ---- lines that say events
 
 -- what is declared, with the events from line 866 on
 abbrev pub telling : Drafted → List Event → Drafted
 telling base done = record { scenario = base.scenario; given = base.given; begun = true; events = from_line 866 done; names = base.names }
 
--- The text tells the events, one a line, whatever was told before.
+-- The text says the events, one a line, whatever was said before.
 abbrev pub Tells : Drafted → List ℕ → List Event → Type 0
 Tells base text told =
     (done : List Event) → length done + length told ≤ 200000

@@ -43,7 +43,7 @@ among_all of count x a = by (among_each (λ number. of number ∷ []) count x a)
 
 -- ---- the routes of sites
 
--- a route of the front, or of the sites behind it
+-- a route of the front, or of the sites after it
 routes_either : (passes : SiteId → Bool) (number : ℕ) (front back : List Site) (route : Route)
     → Among route (routes_from passes number (front ++ back))
     → Among route (routes_from passes number front) ⊎ Among route (routes_from passes (number + length front) back)
@@ -68,7 +68,7 @@ routes_either passes number (site ∷ front) back route a =
           inr (subst (λ (n : ℕ). Among route (routes_from passes n back)) same c)
     ]
 
--- it is of the sites of one number, and behind those of the numbers before it
+-- it is of the sites of one number, and after those of the numbers before it
 routes_each : (passes : SiteId → Bool) (number : ℕ) (of : ℕ → List Site) (count : ℕ) (route : Route)
     → Among route (routes_from passes number (each of count))
     → (before : ℕ) × (before < count) × Among route (routes_from passes (number + length (each of before)) (of (suc before)))
@@ -80,11 +80,11 @@ routes_each passes number of (suc count) route a = elim (routes_either passes nu
 
 -- ---- the routes of a VRF
 
--- the route to the only prefix of the site behind so many edges and VPNs
+-- the route to the only prefix of the site after so many edges and VPNs
 abbrev route_at : ℕ → ℕ → Route
 route_at edges vpns = record { prefix = record { addr = ipv4 10 (suc edges) (suc vpns) 0; bits = 24 }; site = record { 0 = 8 * edges + vpns } }
 
--- The route is that of the VRF behind so many edges and VPNs.
+-- The route is that of the VRF after so many edges and VPNs.
 record IsAt (id : VrfId) (route : Route) : Type 0 where
   edges : ℕ
   vpns : ℕ

@@ -7,7 +7,7 @@ use Rattle.std.proofs.lemmas.Option.{none-some}
 use Rattle.std.proofs.lemmas.List.Folds.{list_any-append}
 use Rattle.made_laws.specs.MadeScript.{each, all}
 
--- the list, and behind it what each number from 1 on has, up to that one
+-- the list, and after it what each number from 1 on has, up to that one
 abbrev pub behind : {A : Type 0} → List A → (ℕ → A) → ℕ → List A
 behind old of zero = old
 behind old of (suc count) = behind old of count ++ of (suc count) ∷ []

@@ -1,4 +1,4 @@
--- The numbers, addresses and names that stand in the lines.
+-- The numbers, addresses and names that are in the lines.
 use Rattle.std.proofs.Common.{◌≡◌, ◌≢◌, ◌⊎◌, inl, inr, ℕ, zero, suc, ◌+◌, ◌<◌, ◌≤◌, ◌==◌, ◌&&◌, ◌||◌, Bool, true, false, nat_lt, nat_le, List, [], ◌∷◌, ◌++◌, length, take, drop, Option, Some, None, refl, sym, ap, ap₂, ◌∙◌, arith, append_assoc, length-append, take_at, drop_at, get_or, eq-eqb}
 use Rattle.std.specs.Prelude.{codes, decimal, nat_eq, position}
 use Rattle.std.specs.Fmt.{digits}
@@ -74,7 +74,7 @@ word_of front more some h k = record {
 weaker_piece : (m n : ℕ) (text : List ℕ) → m ≤ n → IsPiece m text → IsPiece n text
 weaker_piece m n text le h = record { few = omega (arith, h.few); plain = h.plain }
 
--- Some octets that are known, and a number behind them.
+-- Some octets that are known, and a number after them.
 pub numbered_word : (front : List ℕ) (n : ℕ) → n < 33 → 0 < length front → length front ≤ 10 → list_all is_word_octet front ≡ true
     → IsWord (front ++ decimal n)
 numbered_word front n h some few plain =
@@ -83,7 +83,7 @@ numbered_word front n h some few plain =
 pub number_word : (n : ℕ) → n < 33 → IsWord (decimal n)
 number_word n h = record { some = some_digits n h; few = omega (arith, few_digits n h); plain = plain_digits n h }
 
--- Two numbers, with octets that are known before, between and behind them.
+-- Two numbers, with octets that are known before, between and after them.
 pub paired_word : (front between end : List ℕ) (m n : ℕ) → m < 33 → n < 33 → 0 < length front → length front ≤ 10 → length between ≤ 10
     → length end ≤ 10
     → list_all is_word_octet front ≡ true → list_all is_word_octet between ≡ true → list_all is_word_octet end ≡ true
@@ -200,7 +200,7 @@ group_dotted n h =
     dotted_read (codes "232.1.1." ++ decimal n) 232 1 1 n (omega arith) (omega arith) (omega arith) (omega arith)
     (ap (λ (l : List ℕ). l ++ decimal n) group_front)
 
--- 10.EDGE.VPN, and a point and one digit behind
+-- 10.EDGE.VPN, and a point and one digit after it
 abbrev pub host : ℕ → ℕ → List ℕ → List ℕ
 host edge vpn last = codes "10." ++ decimal edge ++ codes "." ++ decimal vpn ++ (46 ∷ last)
 

@@ -21,7 +21,7 @@ use Rattle.scenario_text.specs.Faults.{Says}
 
 -- ---- words
 
--- whether the octet is one of a word: from behind the space to the tilde
+-- whether the octet is one of a word: from the octet after the space to the tilde
 abbrev pub is_word_octet : ℕ → Bool
 is_word_octet b = nat_lt 32 b && nat_le b 126
 
@@ -41,7 +41,7 @@ joined [] = []
 joined (word ∷ []) = word
 joined (word ∷ next ∷ more) = word ++ 32 ∷ joined (next ∷ more)
 
--- the same with a line feed behind
+-- the same with a line feed after it
 abbrev pub row_text : List (List ℕ) → List ℕ
 row_text [] = 10 ∷ []
 row_text (word ∷ []) = word ++ 10 ∷ []
@@ -52,7 +52,7 @@ abbrev pub with_columns : ℕ → List (List ℕ) → List Placed
 with_columns column [] = []
 with_columns column (word ∷ more) = (record { column = column; text = word }) ∷ with_columns (column + (length word + 1)) more
 
--- texts one behind another, put together from the front, and from the end
+-- texts one after another, put together from the front, and from the end
 abbrev pub glued : List ℕ → List (List ℕ) → List ℕ
 glued first [] = first
 glued first (next ∷ more) = glued (first ++ next) more
@@ -69,7 +69,7 @@ pub glued_strung : (first : List ℕ) (more : List (List ℕ)) → glued first m
 glued_strung first [] = refl
 glued_strung first (next ∷ more) = glued_strung (first ++ next) more ∙ strung_first first next more
 
--- the line feed stands behind the words
+-- the line feed comes after the words
 row_text_is : (words : List (List ℕ)) (rest : List ℕ) → row_text words ++ rest ≡ joined words ++ 10 ∷ rest
 row_text_is [] rest = refl
 row_text_is (word ∷ []) rest = append_assoc word (10 ∷ []) rest
@@ -120,7 +120,7 @@ none_of p q none (x ∷ xs) h =
     let parts = and_parts (p x) (list_all p xs) h in
     All-cons (λ x. q x ≡ false) x xs (none x parts.0) (none_of p q none xs parts.1)
 
--- parts behind the first one
+-- parts after the first one
 more_parts : (x : List ℕ) (parts : List (List ℕ)) → 0 < length parts → lines_of_parts (x ∷ parts) ≡ strip_carriage_return x ∷ lines_of_parts parts
 more_parts x [] h = absurd (omega arith)
 more_parts x (y ∷ more) h = refl
@@ -140,7 +140,7 @@ no_return line h =
     rw (last_octet (λ b. b == 13) line (length line - 1) refl (none_of is_line_octet (λ b. b == 13) (λ b. not_octet 13 b (inl (omega arith))) line h))
     refl
 
--- Octets of a line with a line feed behind are the first line.
+-- Octets of a line with a line feed after them are the first line.
 first_line : (line rest : List ℕ) → list_all is_line_octet line ≡ true → lines (line ++ 10 ∷ rest) ≡ line ∷ lines rest
 first_line line rest h =
     ap lines_of_parts (slice_split_at (λ b. b == 10) line 10 rest
@@ -240,7 +240,7 @@ says_then old middle new number (row ∷ front) back a b =
     let n : number + length (row ∷ front) ≡ (number + 1) + length front = omega arith in
     (a.0, a.1, says_then (added old number a.0) middle new (number + 1) front back a.2 (subst (λ (k : ℕ). Says middle k back new) n b))
 
--- One text behind another.
+-- One text after another.
 pub reads_then : (old middle new : Drafted) (number between after : ℕ) (first second : List ℕ) → Reads old number first middle between
     → Reads middle between second new after → Reads old number (first ++ second) new after
 reads_then old middle new number between after first second a b = record {

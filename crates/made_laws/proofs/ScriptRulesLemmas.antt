@@ -29,7 +29,7 @@ end_rules draft number script holds true begun e =
     subst ScriptRules (one_said (script_at draft number) script e) (script_rules draft number holds begun)
 end_rules draft number script holds false begun e = absurd cc
 
--- what lines say, behind what is declared
+-- what lines say, after what is declared
 lines_rules : (draft : Drafted) (number : ℕ) (rows : List (List ℕ)) (script : Script) → Holds draft number
     → script_from draft number rows ≡ said script → ScriptRules script
 lines_rules draft number [] script holds e = end_rules draft number script holds draft.begun refl e

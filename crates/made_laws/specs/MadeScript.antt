@@ -36,7 +36,7 @@ all of count = each (λ number. of number ∷ []) count
 abbrev pub ipv4 : ℕ → ℕ → ℕ → ℕ → Addr
 ipv4 a b c d = V4 (a ∷ b ∷ c ∷ d ∷ [])
 
--- edges have the first numbers of nodes, and core nodes those behind them
+-- edges have the first numbers of nodes, and core nodes those after them
 abbrev pub edge_id : ℕ → NodeId
 edge_id edge = record { 0 = edge - 1 }
 
@@ -157,7 +157,7 @@ first_events number =
     ++ all (send number 1) 8
     ++ (events.Drain ∷ [])
 
--- the selections, and a datagram of each flow before and behind their delay
+-- the selections, and a datagram of each flow before and after their delay
 abbrev pub last_events : ℕ → List Event
 last_events number =
     each (selection number) 8

@@ -25,7 +25,7 @@ pub fn made_scripts_only_grow()
     ensures { (number : ℕ) → OnlyGrows (made_script number) }
 {}
 
-/// The script of each number never lacks a label at any node.
+/// The script of each number never runs out of labels at any node.
 pub fn made_runs_never_halt()
     ensures { (cores : Cores) (number : ℕ) (report : List Entry) (node : NodeId) → Halts cores (made_script number) report node → ⊥ }
 {
@@ -34,7 +34,7 @@ pub fn made_runs_never_halt()
     made_scripts_only_grow();
 }
 
-/// Behind first events of the script of a number each node holds at most 260 of its 4,096 labels: as many as there are VRFs and
+/// After first events of the script of a number each node holds at most 260 of its 4,096 labels: as many as there are VRFs and
 /// selections.
 pub fn made_nodes_hold_few_labels()
     ensures { (cores : Cores) (number count : ℕ) (trace : List Traced) (new : World) (node : NodeId) →

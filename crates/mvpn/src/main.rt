@@ -13,7 +13,7 @@ use std::io;
 use std::process::ExitCode;
 use std::rt::Env;
 
-/// The octets of the word at that place, or none behind the last word. The program's name is at place 0.
+/// The octets of the word at that place, or none after the last word. The program's name is at place 0.
 fn octets_at(rt: &(impl Env + AllocGlobal), place: usize) -> io::Result<Option<Vec<u8>>> {
     let mut octets = Vec::new(rt.alloc());
     let mut room: usize = 256;
@@ -39,7 +39,7 @@ fn word_of(alloc: Global, octets: Vec<u8>) -> io::Result<String> {
     }
 }
 
-/// The words behind the program's name.
+/// The words after the program's name.
 fn words(rt: &(impl Env + AllocGlobal)) -> io::Result<Vec<String>> {
     let mut words = Vec::new(rt.alloc());
     for place in 1..usize::MAX {

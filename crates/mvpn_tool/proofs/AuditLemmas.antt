@@ -32,7 +32,7 @@ use Rattle.mvpn_tool.specs.Runs.{AuditRun, Ending}
 
 -- ---- what was read
 
--- Too long a text has that fault whatever stands behind.
+-- Too long a text has that fault whatever follows it.
 long_fault : (octets more : List ℕ) (fault : TextFault) → 16777216 < length octets → HasFault octets fault → HasFault (octets ++ more) fault
 long_fault octets more fault long (IsLong l is) = IsLong (omega (arith, long, length-append octets more)) is
 long_fault octets more fault long (IsUnmarked short none is) = absurd (omega (arith, long, short))
@@ -143,7 +143,7 @@ ends_judged left old new found (Err stops.Source) r v (inr t) = absurd cc
 some_is : (x y : List ℕ) → Some x ≡ Some y → x ≡ y
 some_is x y e = cc
 
--- What was read is what the source tells that it had left.
+-- What was read is what the source says that it had left.
 read_is : (left : Option (List ℕ)) (read input : List ℕ) → IsInput left read → left ≡ Some input → read ≡ input
 read_is None read input is tells = absurd cc
 read_is (Some xs) read input is tells = sym is ∙ some_is xs input tells
@@ -163,7 +163,7 @@ module _ (left rest old new : Option (List ℕ)) (source_before source_now sink_
     sink_now = sink_now;
   }
 
-  -- The script and the report that were judged are those that the source tells.
+  -- The script and the report that were judged are those that the source says.
   same_report : (verdict : Verdict) (input : List ℕ) (script : Script) (report : ReportLines) → (j : Judged left old new verdict) → left ≡ Some input
       → Says input script report → (j.script ≡ script) × (j.report ≡ report)
   same_report verdict input script report j tells said =

@@ -6,7 +6,7 @@ use Rattle.scenario_defs.specs.declared.report.ReportLine.{ReportLine}
 use Rattle.mvpn_tool.specs.declared.counts.Counts.{Counts}
 use Rattle.mvpn_tool.specs.Sweep.{counts_in, is_calm, is_out, is_refused, no_counts, with_line}
 
--- one number behind a line, by whether the line is of its kind
+-- one number after a line, by whether the line is of its kind
 abbrev bumped : (ReportLine → Bool) → ℕ → ReportLine → ℕ
 bumped p number line = cond (p line) (number + 1) number
 

@@ -33,7 +33,7 @@ IsBounded says = (octets : List ℕ) → 16777216 < length octets → (more : Li
 both_true : {A : Type 0} (b c : Bool) (x y z : A) → b ≡ true → c ≡ true → cond b x y ≡ cond c x z
 both_true b c x y z h k = rw (h, k) refl
 
--- A text that is too long says the same whatever is behind it.
+-- A text that is too long says the same whatever follows it.
 long_alike : {X : Type 0} (octets more : List ℕ) (long x y : X) → 16777216 < length octets
     → cond (nat_lt 16777216 (length (octets ++ more))) long x ≡ cond (nat_lt 16777216 (length octets)) long y
 long_alike octets more long x y h =

@@ -176,7 +176,7 @@ module _ (output : Output) (scenario : Scenario) (timed : Timed) (view : WorldVi
           ∙ written_halted scenario timed view so_far output place a.acts n a.is
           ∙ ap (written place) (sym (halt_lines n place a) ∙ lacking_lines n place a)
 
-      -- The event lacks a label, and what is to be written of it was written.
+      -- The event runs out of labels, and what is to be written of it was written.
       pub event_lacks : (kept_now : SoFar) (old new : Option (List ℕ)) (stop : Stop)
           → (stop ≡ stops.Label → Appended old new (halt_output output scenario (new_lines ++ lines.Halt timed.line n ∷ []))) →
           AppendedPart old new (halt_output output scenario (new_lines ++ lines.Halt timed.line n ∷ []))

@@ -1,4 +1,4 @@
--- A world behind the first events of a script: what is true of the next one, and what a step with it leaves.
+-- A world after the first events of a script: what is true of the next one, and what a step with it leaves.
 use Rattle.std.proofs.Common.{◌≡◌, ℕ, ◌+◌, ◌<◌, ◌++◌, List, [], slice_get, take, Some}
 use Rattle.scenario_defs.specs.Rules.{IsEventOf, ScriptRules}
 use Rattle.scenario_defs.specs.declared.event.Script.{Script}
@@ -26,7 +26,7 @@ module _ (timed : Timed) (view : WorldView) (at : IsReached timed view) where
   pub reached_clock : view.network.plane.clock + ticks_of timed.event < 9223372036854775808
   reached_clock = next_clock at.cores at.script at.behind.rules at.count at.trace at.world view at.behind.is timed at.next
 
-  -- the network is behind the event too
+  -- the network is the one after the event too
   pub reached_more : (lines new_lines : List ReportLine) (now : WorldView)
       → (a : Advances at.cores at.script.scenario (take at.count at.script.events) at.trace at.world timed lines new_lines now)
       → IsBehindFirst at.cores at.script (at.count + 1) (at.trace ++ traced at.count a.acts) a.next now

@@ -17,7 +17,7 @@ reads octets = Ok octets
 
 -- ---- the lines of a file
 
--- The hops and the fault that a file tells have these lines.
+-- The hops and the fault that a file has have these lines.
 pub tells_of : (r : Result FileLines NoMemory) (hops read : List CoreHop) (fault : Option (ℕ × PcapFault)) (octets text : List ℕ)
     → Tells hops fault octets → text ≡ hop_lines read → read ≡ hops
     → IfOk r (λ lines. TellsFault fault text lines.refused lines.text) → IfOk r (λ lines. TellsHops lines.refused octets lines.text)

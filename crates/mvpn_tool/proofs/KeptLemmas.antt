@@ -111,7 +111,7 @@ module _ (scenario : Scenario) (timed : Timed) (view : WorldView) (so_far : SoFa
   kept_then (outputs.Report detail) place acts next is = tt
   kept_then outputs.Hops place acts next is = kept_hops scenario timed view so_far place acts next is
 
-  -- An event that lacks a label has no hops.
+  -- An event that runs out of labels has no hops.
   pub written_halted : (output : Output) (place : Place output scenario timed view so_far) (acts : List Happened) (node : NodeId)
       → outcome place.state timed ≡ Halted acts node →
       halt_output output scenario (lines_in acts ++ lines.Halt timed.line node ∷ [])

@@ -244,7 +244,7 @@ module _ (readable_runs : ReadableRuns) (named : NamedHops) (spelled : SpelledHo
         spelled = spelled cores script (length script.events) trace state rules first;
       }
 
--- the first events of a script, cut off before the one that lacks a label
+-- the first events of a script, cut off before the one that runs out of labels
 halt_cut : (script : Script) (before after : List Timed) → script.events ≡ before ++ after → take (length before) script.events ≡ before
 halt_cut script before after parts =
     ap (take (length before)) parts ∙ take-append-le (length before) before after (omega arith) ∙ take_all (length before) before (omega arith)
@@ -366,7 +366,7 @@ module _ (whole : (cores : Cores) (script : Script) (trace : List Traced) (state
           whole = halt.whole;
         })
 
-    -- Those of a run that halts are those of the run before the event that lacks a label.
+    -- Those of a run that halts are those of the run before the event that runs out of labels.
     halt_hops : halt.before ≡ first ++ drop count halt.before
         → (hops : List CoreHop) × (hops_of script.events report ≡ hops_of script.events (report_of trace) ++ hops)
     halt_hops cut =

@@ -50,7 +50,7 @@ length_first (y ∷ xs) (suc place) x e = ap suc (length_first xs place x e)
 abbrev pub halted_report : List Traced → ℕ → ℕ → List Happened → NodeId → List Entry
 halted_report trace count line acts node = report_of (trace ++ traced count acts) ++ record { event = count; lines = lines.Halt line node ∷ [] } ∷ []
 
--- Where the event at that place lacks a label, the run halts there.
+-- Where the event at that place runs out of labels, the run halts there.
 pub halts_at : (cores : Cores) (script : Script) (count : ℕ) (trace : List Traced) (state : World) (timed : Timed) (acts : List Happened)
     (node : NodeId) → AreCoresOf script.scenario cores →
     Run cores script (take count script.events) trace state → slice_get script.events count ≡ Some timed → outcome state timed ≡ Halted acts node →
@@ -180,7 +180,7 @@ module _ (known : KnownRuns) (output : Output) (script : Script) (rules : Script
       kept = g.kept;
     }
 
-    -- ---- where the event lacks a label
+    -- ---- where the event runs out of labels
 
     abbrev own_report : List Happened → NodeId → List Entry
     own_report acts node = halted_report r.trace count timed.line acts node

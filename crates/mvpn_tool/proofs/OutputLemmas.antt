@@ -89,7 +89,7 @@ module _ (texts : (detail : Detail) (scenario : Scenario) (report : List Entry)
           ∙ ap (λ (hops : List CoreHop). so_far ++ flat_map (hop_text BigEndian) hops)
           (sym (halting_hops state timed acts node is script.events (refused_lines (report_of trace) ++ flat_map refused_line own) count))
 
-      -- Those of an event that lacks a label, and the line that says so.
+      -- Those of an event that runs out of labels, and the line that says so.
       pub output_halted : (output : Output) → output_of output script halted ≡ output_of output script (report_of trace)
           ++ own_output output (lines_in acts ++ lines.Halt timed.line node ∷ [])
       output_halted output =

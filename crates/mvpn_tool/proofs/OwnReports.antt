@@ -1,4 +1,4 @@
--- What is told of a whole run, behind its script and the line `report`, says that report, and it has no offence.
+-- What is shown of a whole run, after its script and the line `report`, says that report, and it has no offence.
 use Rattle.std.proofs.Common.{◌≡◌, ◌⊎◌, ℕ, ◌≤◌, Bool, true, false, cond, List, [], ◌∷◌, ◌++◌, length, filter, refl, inl, inr, sym, ap, subst, ◌∙◌}
 use Rattle.std.specs.Prelude.{Option, Ok, codes}
 use Rattle.std.specs.List.{AllByRecursion}
@@ -36,7 +36,7 @@ module _ (plain_lines : (report : List Entry) → lines_of (plain report) ≡ fi
     → AllByRecursion (IsKnown script.scenario) all →
     length (with_report script.scenario (front ++ 10 ∷ []) all) ≤ 16777216 →
     (report : ReportLines) × Says (with_report script.scenario (front ++ 10 ∷ []) all) script report × (values report.lines ≡ all)) where
-  -- the lines that are told are those of the report, or of the plain one
+  -- the lines that are shown are those of the report, or of the plain one
   told_lines : (detail : Detail) (report : List Entry) (own : ReportLines) → values own.lines ≡ filter (is_told detail) (lines_of report) →
       (values own.lines ≡ lines_of report) ⊎ (values own.lines ≡ lines_of (plain report))
   told_lines details.Wire report own e = inl (e ∙ sym (all_told (lines_of report)))

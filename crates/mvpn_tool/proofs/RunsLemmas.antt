@@ -44,7 +44,7 @@ some_is x y e = cc
 one_script : (x y : Script) → read_as x ≡ read_as y → x ≡ y
 one_script x y e = cc
 
--- What was read is what the source tells that it had left.
+-- What was read is what the source says that it had left.
 same_script : (left : Option (List ℕ)) (read input : List ℕ) (script other : Script) → IsInput left read → script_of read ≡ Ok script
     → left ≡ Some input → script_of input ≡ Ok other → script ≡ other
 same_script None read input script other is said tells says = absurd cc
@@ -128,7 +128,7 @@ module _ (never_both : (cores : Cores) (script : Script) (events : List Timed) (
       only = inl refl;
     }
 
-    -- An event lacks a label.
+    -- An event runs out of labels.
     pub halt_ended : EndsHalted output left old new → ReplayRun output (ending 7 None)
     halt_ended ends = record {
       zero = λ e. absurd (omega (arith, e));

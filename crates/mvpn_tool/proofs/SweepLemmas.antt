@@ -66,7 +66,7 @@ module _ (timed : Timed) (view now : WorldView) (before after : Counts) (own new
     lacks = λ e. absurd cc;
   }
 
-  -- A label is lacking.
+  -- Labels ran out.
   pub event_lacks_label : (n : NodeId) → Steps timed.line timed.event view now own new_lines (Err (halts.NoLabel n))
       → EventCounts timed view now before after (Err stops.Label)
   event_lacks_label n steps = record {
@@ -76,13 +76,13 @@ module _ (timed : Timed) (view now : WorldView) (before after : Counts) (own new
         record { acts = a.acts; node = n; is = a.is };
   }
 
--- Memory is lacking.
+-- Memory ran out.
 pub event_lacks_memory : (timed : Timed) (view now : WorldView) (before after : Counts) → EventCounts timed view now before after (Err stops.Memory)
 event_lacks_memory timed view now before after = record { made = tt; lacks = λ e. absurd cc }
 
 -- ---- the events of a script
 
--- The first so many events run, the world is behind them, and these are the counts of their lines.
+-- The first so many events run, the world is the one after them, and these are the counts of their lines.
 pub record SweptSoFar (script : Script) (count : ℕ) (view : WorldView) (counts : Counts) : Type 0 where
   pub cores : Cores
   pub trace : List Traced
@@ -90,7 +90,7 @@ pub record SweptSoFar (script : Script) (count : ℕ) (view : WorldView) (counts
   pub behind : IsBehindFirst cores script count trace state view
   pub told : counts ≡ fold with_line no_counts (lines_of (report_of trace))
 
--- the counts behind the acts of one event more
+-- the counts after the acts of one event more
 more_counts : (counts after : Counts) (trace : List Traced) (number : ℕ) (acts : List Happened)
     → counts ≡ fold with_line no_counts (lines_of (report_of trace)) →
     after ≡ fold with_line counts (lines_in acts) → after ≡ fold with_line no_counts (lines_of (report_of (trace ++ traced number acts)))
@@ -128,7 +128,7 @@ module _ (known : KnownRuns) (script : Script) (rules : ScriptRules script) (oct
           told = more_counts counts after so_far.trace count on.acts so_far.told on.told;
         }
 
-    -- The event lacks memory.
+    -- The event runs out of memory.
     pub swept_stops : (now : WorldView) (after : Counts) (stop : Stop) → NeverHalts script → EventCounts timed view now counts after (Err stop)
         → (stop ≡ stops.Label) ⊎ (stop ≡ stops.Memory) → stop ≡ stops.Memory
     swept_stops now after stop never ends (inl label) =

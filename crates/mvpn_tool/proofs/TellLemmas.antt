@@ -1,4 +1,4 @@
--- Laws of how a command ends that reads a text and tells of it.
+-- Laws of how a command ends that reads a text and shows what is in it.
 use Rattle.std.proofs.Common.{◌≡◌, ◌≢◌, ℕ, ◌⊎◌, List, refl, inl, inr, sym, ap, subst, ◌∙◌, arith}
 use Rattle.std.specs.Prelude.{Option, None, Some, Result, Ok, Err, IfErr, IsErrOf, Bool, true, false}
 use Rattle.mv_io.specs.Causes.{Rose}
@@ -36,7 +36,7 @@ tell_takes left new (Err stops.Sink) t n = t
 tell_takes left new (Err stops.Memory) t n = tt
 tell_takes left new (Err stops.Label) t n = absurd (n refl)
 
--- Telling ends by no label, nor does a fault.
+-- Showing does not run out of labels, nor does a fault.
 pub not_label : (result : Result Bool Stop) → IfErr result (λ e. (e ≡ stops.Sink) ⊎ (e ≡ stops.Memory)) → result ≢ Err stops.Label
 not_label (Ok refused) o e = absurd cc
 not_label (Err stop) (inl t) e = absurd cc
@@ -48,7 +48,7 @@ fault_not_label stop n e = n cc
 some_is : (x y : List ℕ) → Some x ≡ Some y → x ≡ y
 some_is x y e = cc
 
--- A prefix of what is told was written.
+-- A prefix of what is shown was written.
 pub part_told : {X : Type 0} (Tells : Bool → X → List ℕ → Type 0) (result : Result Bool Stop) (stop : Stop) (what : X) (written text : List ℕ)
     (refused : Bool) (old new : Option (List ℕ)) → result ≡ Err stop → stop ≡ stops.Sink → Tells refused what text
     → written ≡ text → AppendedPart old new written → TellEnd Tells what result old new
@@ -64,7 +64,7 @@ module _ {X : Type 0} (read : List ℕ → Result X TextFault) where
   one_value : (x y : X) → says x ≡ says y → x ≡ y
   one_value x y e = cc
 
-  -- What the input says is what was read, where the source told it.
+  -- What the input says is what was read, where the source said it.
   pub one_reading : (left : Option (List ℕ)) (text input : List ℕ) (what other : X) → SaysAlike read left text → read text ≡ Ok what
       → left ≡ Some input → read input ≡ Ok other → what ≡ other
   one_reading None text input what other a e l h = absurd cc
@@ -103,7 +103,7 @@ module _ {X : Type 0} (read : List ℕ → Result X TextFault) where
         inr (record { input = a.input; is_input = a.is_input; part = rw (a.same, e) p })
     tell_faulty left old new octets fault stops.Label w p n a e = absurd (n.1 refl)
 
-    -- What is told was written.
+    -- What is shown was written.
     pub tell_ends : (left old new : Option (List ℕ)) (text : List ℕ) (what : X) (result : Result Bool Stop) → SaysAlike read left text
         → read text ≡ Ok what →
         TellEnd Tells what result old new → IfErr result (λ e. (e ≡ stops.Sink) ⊎ (e ≡ stops.Memory)) → TellEnds read Tells left result old new

@@ -22,14 +22,14 @@ pub all_told : (all : List ReportLine) → all ≡ filter (is_told details.Wire)
 all_told [] = refl
 all_told (line ∷ more) = ap (λ (l : List ReportLine). line ∷ l) (all_told more)
 
--- The text of a report is that of those of its lines that are told.
+-- The text of a report is that of those of its lines that are shown.
 pub text_by_lines : ((report : List Entry) → lines_of (plain report) ≡ filter is_plain (lines_of report))
     → (detail : Detail) (scenario : Scenario) (report : List Entry) →
     text_of detail scenario report ≡ lines_text detail scenario (lines_of report)
 text_by_lines plain_lines details.Wire scenario report = ap (flat_map (line_text scenario)) (all_told (lines_of report))
 text_by_lines plain_lines details.Plain scenario report = ap (flat_map (line_text scenario)) (plain_lines report)
 
--- Lines behind lines.
+-- Lines after lines.
 pub lines_text-append : (detail : Detail) (scenario : Scenario) (first more : List ReportLine)
     → lines_text detail scenario (first ++ more) ≡ lines_text detail scenario first ++ lines_text detail scenario more
 lines_text-append detail scenario first more =
@@ -56,7 +56,7 @@ report_of-append first more = map-append entry_of first more
 
 module _ (texts : (detail : Detail) (scenario : Scenario) (report : List Entry)
     → text_of detail scenario report ≡ lines_text detail scenario (lines_of report)) where
-  -- Entries behind entries.
+  -- Entries after entries.
   pub text_of-append : (detail : Detail) (scenario : Scenario) (first more : List Entry)
       → text_of detail scenario (first ++ more) ≡ text_of detail scenario first ++ text_of detail scenario more
   text_of-append detail scenario first more =
@@ -74,7 +74,7 @@ module _ (texts : (detail : Detail) (scenario : Scenario) (report : List Entry)
       ∙ ap (λ (l : List ℕ). text_of detail scenario (report_of trace) ++ l)
       (texts detail scenario (report_of (traced number acts)) ∙ ap (lines_text detail scenario) (lines_at number acts))
 
-  -- Those of an event that lacks a label, and the line that says so.
+  -- Those of an event that runs out of labels, and the line that says so.
   pub text_halted : (detail : Detail) (scenario : Scenario) (trace : List Traced) (number : ℕ) (acts : List Happened) (line : ReportLine) →
       text_of detail scenario (report_of (trace ++ traced number acts) ++ record { event = number; lines = line ∷ [] } ∷ [])
       ≡ text_of detail scenario (report_of trace) ++ lines_text detail scenario (lines_in acts ++ line ∷ [])
@@ -86,6 +86,6 @@ module _ (texts : (detail : Detail) (scenario : Scenario) (report : List Entry)
       ∙ append_assoc parts (lines_text detail scenario (lines_in acts)) (lines_text detail scenario (line ∷ []))
       ∙ ap (λ (l : List ℕ). parts ++ l) (sym (lines_text-append detail scenario (lines_in acts) (line ∷ [])))
 
-  -- Nothing is told of an empty report.
+  -- Nothing is shown of an empty report.
   pub text_none : (detail : Detail) (scenario : Scenario) → text_of detail scenario [] ≡ []
   text_none detail scenario = texts detail scenario []

@@ -29,7 +29,7 @@ offence_word offences.Again = codes "again"
 offence_word offences.Asked = codes "asked"
 offence_word offences.Missing = codes "missing"
 
--- the line that tells a verdict
+-- the line that says a verdict
 abbrev pub verdict_text : Verdict → List ℕ
 verdict_text verdicts.Yes = codes "yes\n"
 verdict_text (verdicts.No line reason) = codes "no " ++ decimal line ++ codes " " ++ offence_word reason ++ codes "\n"
@@ -50,7 +50,7 @@ VerdictEnds script report (Err other) old new = VerdictPart script report old ne
 
 -- ---- a source
 
--- The input says a script and a report with that verdict, and the line that tells it was written.
+-- The input says a script and a report with that verdict, and the line that says it was written.
 pub record Judged (left old new : Option (List ℕ)) (verdict : Verdict) : Type 0 where
   pub input : List ℕ
   pub is_input : IsInput left input
@@ -60,7 +60,7 @@ pub record Judged (left old new : Option (List ℕ)) (verdict : Verdict) : Type 
   pub is : IsVerdict script report verdict
   pub text : Appended old new (verdict_text verdict)
 
--- The text has a fault, and the line that tells it was written alone.
+-- The text has a fault, and the line that shows it was written alone.
 pub record AuditsFaulty (left old new : Option (List ℕ)) : Type 0 where
   pub input : List ℕ
   pub is_input : IsInput left input

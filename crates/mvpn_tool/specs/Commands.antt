@@ -23,7 +23,7 @@ format_of word =
 unfoldable pub made_number_of : List ℕ → Option ℕ
 made_number_of word = number_of word >>? λ number. only_if (nat_le 1 number && nat_le number 1000000) number
 
--- the detail that a word behind `replay` asks for
+-- the detail that a word after `replay` asks for
 abbrev pub detail_of : List ℕ → Option Detail
 detail_of word = if pointwise nat_eq word (codes "--wire") then Some details.Wire else None
 
@@ -53,6 +53,6 @@ command_of (a ∷ []) = command_alone a
 command_of (a ∷ b ∷ []) = command_with a b
 command_of (a ∷ b ∷ c ∷ more) = None
 
--- the line that tells the forms of a command
+-- the line that shows the forms of a command
 abbrev pub usage_line : List ℕ
 usage_line = codes "usage: mvpn replay [--wire] | decode nlri|pmsi|fec|bgp|ldp|pim | make NUMBER | sweep NUMBER | audit | probe | ingress | pcap | hops\n"

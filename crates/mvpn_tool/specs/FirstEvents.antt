@@ -1,4 +1,4 @@
--- A world behind the first events of a script.
+-- A world after the first events of a script.
 use Rattle.std.specs.Prelude.{◌≡◌, ℕ, List, slice_get, take, Some}
 use Rattle.scenario_defs.specs.Rules.{ScriptRules}
 use Rattle.scenario_defs.specs.declared.event.Script.{Script}
@@ -9,13 +9,13 @@ use Rattle.network_defs.specs.World.{World}
 use Rattle.network_events.specs.Behind.{IsBehind}
 use Rattle.network_events.specs.WorldView.{WorldView}
 
--- The script is one that can be read, and the network is behind its first so many events.
+-- The script is one that can be read, and the network is the one after its first so many events.
 pub record IsBehindFirst (cores : Cores) (script : Script) (count : ℕ) (trace : List Traced) (world : World) (view : WorldView)
     : Type 0 where
   pub rules : ScriptRules script
   pub is : IsBehind cores script.scenario (take count script.events) trace world view
 
--- The network is behind the events before this one, in some script.
+-- The network is the one after the events before this one, in some script.
 pub record IsReached (timed : Timed) (view : WorldView) : Type 0 where
   pub cores : Cores
   pub script : Script

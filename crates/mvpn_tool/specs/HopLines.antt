@@ -40,7 +40,7 @@ hop_line hop =
 abbrev pub hop_lines : List CoreHop → List ℕ
 hop_lines hops = flat_map hop_line hops
 
--- A text and a fault, if there is one, make these lines: the line of the fault stands behind the text.
+-- A text and a fault, if there is one, make these lines: the line of the fault comes after the text.
 abbrev pub TellsFault : Option (ℕ × PcapFault) → List ℕ → Bool → List ℕ → Type 0
 TellsFault None text refused lines = (lines ≡ text) × (refused ≡ false)
 TellsFault (Some f) text refused lines = (lines ≡ text ++ refused_line f.0 (pcap_word f.1)) × (refused ≡ true)

@@ -8,12 +8,12 @@ pub record IsReadUpTo (limit : ℕ) (old new : Option (List ℕ)) (octets : List
   pub whole : length octets ≤ limit → IsAtEnd new
   pub within : length octets ≤ limit + 1
 
--- The input is what the source had left, where it told that.
+-- The input is what the source had left, where it said that.
 abbrev pub IsInput : Option (List ℕ) → List ℕ → Type 0
 IsInput None input = ⊤
 IsInput (Some left) input = left ≡ input
 
--- A source that tells what is left has given all of it, or 16,777,217 octets of it.
+-- A source that says what is left has given all of it, or 16,777,217 octets of it.
 abbrev pub Taken : Option (List ℕ) → Option (List ℕ) → Type 0
 Taken None new = ⊤
 Taken (Some left) None = ⊤

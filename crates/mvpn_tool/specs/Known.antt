@@ -24,7 +24,7 @@ pub record ReportGoesOn (script : Script) (first : List Entry) : Type 0 where
   pub hops : hops_of script.events report ≡ hops_of script.events first ++ more_hops
 
 -- A scenario has cores. A run of all events of a script is as a whole run is to be, and one that halts as it is to be; and a report of the
--- script begins with what happens in first events of it. The text of a report is that of those of its lines that are told.
+-- script begins with what happens in first events of it. The text of a report is that of those of its lines that are shown.
 pub record KnownRuns : Type 0 where
   pub cores : (scenario : Scenario) → Rules scenario → (own : Cores) × AreCoresOf scenario own
   pub whole : (cores : Cores) (script : Script) (trace : List Traced) (state : World) → ScriptRules script → ScriptHasOctets script →

@@ -65,7 +65,7 @@ pub record GoesOn (output : Output) (scenario : Scenario) (timed : Timed) (view 
   pub text : Appended old new (written_at output scenario timed view so_far place)
   pub kept : IsKept output place.script.events (report_of (place.trace ++ traced place.count acts)) (place.count + 1) kept_now
 
--- The event lacks a label, and what is to be written of it was written.
+-- The event runs out of labels, and what is to be written of it was written.
 pub record Lacks (output : Output) (scenario : Scenario) (timed : Timed) (view : WorldView) (so_far : SoFar)
     (place : Place output scenario timed view so_far) (old new : Option (List ℕ)) : Type 0 where
   pub acts : List Happened
@@ -83,7 +83,7 @@ pub record EventEnds (output : Output) (scenario : Scenario) (timed : Timed) (vi
 
 -- ---- a script
 
--- The first so many events were replayed: the world is behind them, the lines of their report name what is of the scenario and keep
+-- The first so many events were replayed: the world is that after them, the lines of their report name what is of the scenario and keep
 -- to the bounds of their types, and what is to be written of it was written.
 pub record Replayed (output : Output) (script : Script) (count : ℕ) (old new : Option (List ℕ)) (view : WorldView) : Type 0 where
   pub cores : Cores
@@ -103,7 +103,7 @@ pub record ReplaysWhole (output : Output) (script : Script) (old new : Option (L
   pub replayed : Replayed output script (length script.events) old new view
   pub whole : IsWholeRun replayed.cores script replayed.trace replayed.state
 
--- An event lacks a label, and the output of the report up to there was written.
+-- An event runs out of labels, and the output of the report up to there was written.
 pub record ReplaysUpToHalt (output : Output) (script : Script) (old new : Option (List ℕ)) : Type 0 where
   pub cores : Cores
   pub report : List Entry
@@ -133,15 +133,15 @@ pub record IsRead (Holds : Script → Type 0) (left : Option (List ℕ)) : Type 
   pub said : script_of input ≡ Ok script
   pub holds : Holds script
 
--- All was read, replayed and written, and the world is behind the last event.
+-- All was read, replayed and written, and the world is the one after the last event.
 abbrev pub EndsWell : Output → Option (List ℕ) → Option (List ℕ) → Option (List ℕ) → WorldView → Type 0
 EndsWell output left old new view = IsRead (λ script. ReplaysWhole output script old new view) left
 
--- All was read, and an event lacks a label: all was replayed and written up to there.
+-- All was read, and an event runs out of labels: all was replayed and written up to there.
 abbrev pub EndsHalted : Output → Option (List ℕ) → Option (List ℕ) → Option (List ℕ) → Type 0
 EndsHalted output left old new = IsRead (λ script. ReplaysUpToHalt output script old new) left
 
--- The text has a fault, and the line that tells it was written alone.
+-- The text has a fault, and the line that shows it was written alone.
 pub record EndsFaulty (left old new : Option (List ℕ)) : Type 0 where
   pub input : List ℕ
   pub is_input : IsInput left input
@@ -149,7 +149,7 @@ pub record EndsFaulty (left old new : Option (List ℕ)) : Type 0 where
   pub said : script_of input ≡ Err fault
   pub text : Appended old new (fault_text fault)
 
--- A prefix of the output of a report, or of the line that tells a fault, was written.
+-- A prefix of the output of a report, or of the line that shows a fault, was written.
 pub record EndsEarly (output : Output) (left old new : Option (List ℕ)) : Type 0 where
   pub input : List ℕ
   pub is_input : IsInput left input

@@ -46,7 +46,7 @@ abbrev pub event_output : Output → Scenario → List Timed → List Entry → 
 event_output (outputs.Report detail) scenario events before number own = lines_text detail scenario own
 event_output outputs.Hops scenario events before number own = flat_map (hop_text BigEndian) (event_hops events before number own)
 
--- what is written of an event that lacks a label: its lines, with that of the halt; it has no hops
+-- what is written of an event that runs out of labels: its lines, with that of the halt; it has no hops
 abbrev pub halt_output : Output → Scenario → List ReportLine → List ℕ
 halt_output (outputs.Report detail) scenario own = lines_text detail scenario own
 halt_output outputs.Hops scenario own = []

@@ -36,7 +36,7 @@ refused_text (Some fault) = refused_line fault.0 (bgp_word fault.1)
 abbrev pub report_text : Scenario → ProbeReport → List ℕ
 report_text scenario report = flat_map (import_line scenario) report.imports ++ flat_map want_line report.wants ++ refused_text report.fault
 
--- These are the lines of what the edge makes of what it is given; the last one tells a fault of the peer's octets where it says so.
+-- These are the lines of what the edge makes of what it is given; the last one shows a fault of the peer's octets where it says so.
 pub record TellsProbe (refused : Bool) (what : ProbeText) (text : List ℕ) : Type 0 where
   pub report : ProbeReport
   pub probed : Probed what.scenario what.ends.edge what.ends.peer what.lines report

@@ -50,7 +50,7 @@ pub record IsWholeRun (cores : Cores) (script : Script) (trace : List Traced) (w
   pub named : NameDatagrams script.events (report_of trace)
   pub spelled : All IsHop (hops_of script.events (report_of trace))
 
--- The run halts at that node, for want of a label, with this report, whose last line says so. It is safe and local up to there, and the
+-- The run halts at that node, which ran out of labels, with this report, whose last line says so. It is safe and local up to there, and the
 -- label rule holds after each act. Of the events before the one that halts each datagram of a calm network was delivered once, and what is
 -- said of `state`, `settle`, `drain` and hops holds as in a whole run.
 pub record IsHaltedRun (cores : Cores) (script : Script) (report : List Entry) (node : NodeId) : Type 0 where
@@ -78,7 +78,7 @@ pub record AllRun (script : Script) : Type 0 where
   pub state : World
   pub run : Run cores script script.events trace state
 
--- One of them lacks a label.
+-- One of them runs out of labels.
 pub record OneHalts (script : Script) : Type 0 where
   pub cores : Cores
   pub report : List Entry
@@ -87,29 +87,29 @@ pub record OneHalts (script : Script) : Type 0 where
 
 -- ---- what is written
 
--- what is told of a report: all, or all but the lines of the wire
+-- what is shown of a report: all, or all but the lines of the wire
 abbrev pub told : Detail → List Entry → List Entry
 told details.Wire report = report
 told details.Plain report = plain report
 
--- the text of what is told of a report
+-- the text of what is shown of a report
 abbrev pub text_of : Detail → Scenario → List Entry → List ℕ
 text_of detail scenario report = report_text scenario (told detail report)
 
--- a script, the line `report`, and what is told of a report behind it
+-- a script, the line `report`, and what is shown of a report after it
 abbrev pub own_report : Detail → List ℕ → Script → List Entry → List ℕ
 own_report detail text script report = text ++ codes "report\n" ++ text_of detail script.scenario report
 
--- whether a line is told
+-- whether a line is shown
 abbrev pub is_told : Detail → ReportLine → Bool
 is_told details.Wire line = true
 is_told details.Plain line = is_plain line
 
--- the text of those of some lines that are told
+-- the text of those of some lines that are shown
 abbrev pub lines_text : Detail → Scenario → List ReportLine → List ℕ
 lines_text detail scenario all = flat_map (line_text scenario) (filter (is_told detail) all)
 
--- the lines of an event: those of its acts, and where one lacks a label the line that says so
+-- the lines of an event: those of its acts, and where one runs out of labels the line that says so
 abbrev pub event_lines : ℕ → Outcome → List ReportLine
 event_lines line (Done acts world) = lines_in acts
 event_lines line (Halted acts node) = lines_in acts ++ lines.Halt line node ∷ []

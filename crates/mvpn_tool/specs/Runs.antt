@@ -32,8 +32,8 @@ use Rattle.probe_text.specs.Grammar.{probe_of}
 use Rattle.mvpn_tool.specs.HopLines.{HasFault as HasHopsFault, IsFile, TellsHops, within_limit}
 use Rattle.mvpn_tool.specs.ProbeLines.{HasPeerFault, IsSound, TellsProbe}
 
--- A call and its end: the status and the world that it answers; what the source had left before it and has left behind it, and what
--- the sink had written, where they tell that; and how often each of them has failed, before and behind.
+-- A call and its end: the status and the world that it answers; what the source had left before it and has left after it, and what
+-- the sink had written, where they say that; and how often each of them has failed, before and after.
 pub record Ending : Type 0 where
   pub status : ℕ
   pub world : Option WorldView
@@ -60,12 +60,12 @@ Wrote e text = Appended e.old e.new text
 abbrev pub WrotePart : Ending → List ℕ → Type 0
 WrotePart e text = AppendedPart e.old e.new text
 
--- The statuses by which a call may end that meets no fault of source or sink and has the memory that it wants, and by which it may
+-- The statuses by which a call may end that meets no fault of source or sink and has the memory that it needs, and by which it may
 -- end otherwise.
 abbrev pub IsStopped : ℕ → Type 0
 IsStopped status = (status ≡ 4) ⊎ (status ≡ 5) ⊎ (status ≡ 6)
 
--- As far as the source tells, it was not touched: it has left what it had left, and has not failed.
+-- As far as the source says, it was not touched: it has left what it had left, and has not failed.
 pub record Untouched (e : Ending) : Type 0 where
   pub rest : e.rest ≡ e.left
   pub faults : e.source_now ≡ e.source_before
@@ -79,7 +79,7 @@ pub record UsageRun (e : Ending) : Type 0 where
   pub untouched : Untouched e
   pub worldless : e.world ≡ None
 
--- the source tells what it had left, which is this script
+-- the source says what it had left, which is this script
 abbrev pub Gives : Ending → Script → Type 0
 Gives e script = (input : List ℕ) × (e.left ≡ Some input) × (script_of input ≡ Ok script)
 
@@ -90,7 +90,7 @@ pub record ReplayRun (output : Output) (e : Ending) : Type 0 where
   pub zero : e.status ≡ 0 → EndsWellSome output e.left e.old e.new e.world
   pub zero_always : (script : Script) → Gives e script → AllRun script → (e.status ≡ 0) ⊎ IsStopped e.status
   pub worldless : (e.status ≡ 0 → ⊥) → e.world ≡ None
-  -- the text has a fault, and the line that tells it is written alone
+  -- the text has a fault, and the line that shows it is written alone
   pub three : e.status ≡ 3 → EndsFaulty e.left e.old e.new
   pub three_always :
       (input : List ℕ) (fault : TextFault) → e.left ≡ Some input → script_of input ≡ Err fault →
@@ -103,7 +103,7 @@ pub record ReplayRun (output : Output) (e : Ending) : Type 0 where
   pub five_cause : e.status ≡ 5 → SinkFailed e
   -- there was no memory, and nothing or a prefix of the output is written
   pub six : e.status ≡ 6 → Wrote e [] ⊎ EndsEarly output e.left e.old e.new
-  -- an event lacks a label, and the output is written up to there
+  -- an event runs out of labels, and the output is written up to there
   pub seven : e.status ≡ 7 → EndsHalted output e.left e.old e.new
   pub seven_always : (script : Script) → Gives e script → OneHalts script → (e.status ≡ 7) ⊎ IsStopped e.status
   -- the input was taken to its end, or one octet past the limit
@@ -116,7 +116,7 @@ pub record ReplayRun (output : Output) (e : Ending) : Type 0 where
 
 -- `pcap`, status by status as a replay: the hops of all events, each with the clock at its event and the octets of its datagram (0); the
 -- line of the text's fault alone (3); nothing, where the source failed (4); a prefix of the output, where the sink failed (5) or memory
--- ran out (6); the hops up to the event that lacks a label (7). There is a world exactly with 0.
+-- ran out (6); the hops up to the event that runs out of labels (7). There is a world exactly with 0.
 abbrev pub PcapRun : Ending → Type 0
 PcapRun e = ReplayRun outputs.Hops e
 
@@ -143,7 +143,7 @@ pub record SweepRun (number : ℕ) (e : Ending) : Type 0 where
   pub only : (e.status ≡ 0) ⊎ (e.status ≡ 5) ⊎ (e.status ≡ 6)
   pub untouched : Untouched e
 
--- the source tells what it had left, which says this script and this report
+-- the source says what it had left, which says this script and this report
 abbrev pub GivesReport : Ending → Script → ReportLines → Type 0
 GivesReport e script report = (input : List ℕ) × (e.left ≡ Some input) × Says input script report
 
@@ -154,12 +154,12 @@ pub record AuditRun (e : Ending) : Type 0 where
   pub zero_always :
       (script : Script) (report : ReportLines) → GivesReport e script report → HasNoOffence script report →
       (e.status ≡ 0) ⊎ IsStopped e.status
-  -- it has one, and the line that tells the least was written
+  -- it has one, and the line of the least was written
   pub eight : e.status ≡ 8 → (line : ℕ) × (reason : Offence) × Judged e.left e.old e.new (verdicts.No line reason)
   pub eight_always :
       (script : Script) (report : ReportLines) (line : ℕ) (reason : Offence) → GivesReport e script report →
       Offends script report line reason → (e.status ≡ 8) ⊎ IsStopped e.status
-  -- the text has a fault, and the line that tells it is written alone
+  -- the text has a fault, and the line that shows it is written alone
   pub three : e.status ≡ 3 → AuditsFaulty e.left e.old e.new
   pub three_always :
       (input : List ℕ) (fault : TextFault) → e.left ≡ Some input → HasTextFault input fault →
@@ -177,18 +177,18 @@ pub record AuditRun (e : Ending) : Type 0 where
   pub only : (e.status ≡ 0) ⊎ (e.status ≡ 3) ⊎ (e.status ≡ 8) ⊎ IsStopped e.status
   pub worldless : e.world ≡ None
 
--- A command that reads a text and tells of it. Which one it is says what a text says (`read`), what is told of that (`Tells`), of what
--- no fault is told (`IsSound`), and of what one is (`IsFaulty`).
+-- A command that reads a text and shows what is in it. Which one it is says what a text says (`read`), what is shown of that (`Tells`), of what
+-- no fault is shown (`IsSound`), and of what one is (`IsFaulty`).
 pub record TellRun {X : Type 0} (read : List ℕ → Result X TextFault) (Tells : Bool → X → List ℕ → Type 0)
     (IsSound IsFaulty : X → Type 0) (e : Ending) : Type 0 where
-  -- what is told was written, and no fault is among it
+  -- what is shown was written, and no fault is among it
   pub zero : e.status ≡ 0 → ToldAll read Tells false e.left e.old e.new
-  -- what is told was written, with a fault
+  -- what is shown was written, with a fault
   pub one : e.status ≡ 1 → ToldAll read Tells true e.left e.old e.new
   pub one_always :
       (input : List ℕ) (what : X) → e.left ≡ Some input → read input ≡ Ok what → IsFaulty what →
       (e.status ≡ 1) ⊎ IsStopped e.status
-  -- the text has a fault, and the line that tells it is written alone
+  -- the text has a fault, and the line that shows it is written alone
   pub three : e.status ≡ 3 → ToldFaulty read e.left e.old e.new
   pub three_always :
       (input : List ℕ) (fault : TextFault) → e.left ≡ Some input → read input ≡ Err fault →
@@ -203,27 +203,27 @@ pub record TellRun {X : Type 0} (read : List ℕ → Result X TextFault) (Tells 
   pub six : e.status ≡ 6 → Wrote e [] ⊎ ToldEarly read Tells e.left e.old e.new
   -- the input was taken to its end, or one octet past the limit
   pub taken : e.status ≢ 4 → e.status ≢ 6 → Taken e.left e.rest
-  -- where neither end failed and no fault is told, nothing but memory keeps what is told from being written
+  -- where neither end failed and no fault is shown, nothing but memory keeps what is shown from being written
   pub complete :
       (input : List ℕ) (what : X) → (SourceFailed e → ⊥) → (SinkFailed e → ⊥) →
       e.left ≡ Some input → read input ≡ Ok what → IsSound what → (e.status ≡ 0) ⊎ (e.status ≡ 6)
   pub only : (e.status ≡ 0) ⊎ (e.status ≡ 1) ⊎ (e.status ≡ 3) ⊎ IsStopped e.status
   pub worldless : e.world ≡ None
 
--- `decode` and a format: a text writes octets, and the lines of their values are told; a fault is the first one of the octets
+-- `decode` and a format: a text writes octets, and the lines of their values are shown; a fault is the first one of the octets
 abbrev pub DecodeRun : Format → Ending → Type 0
 DecodeRun format e = TellRun octets_of (TellsValues format) (IsWhole format) (HasValueFault format) e
 
--- `hops`: the input is the octets itself, unless they are too many, and the lines of the hops of their file are told; a fault is the
+-- `hops`: the input is the octets itself, unless they are too many, and the lines of the hops of their file are shown; a fault is the
 -- first one of the file
 abbrev pub HopsRun : Ending → Type 0
 HopsRun e = TellRun within_limit TellsHops IsFile HasHopsFault e
 
--- `ingress`: a text says what a root and its peers send, and the answers and the copies are told; a fault is the first one of a peer
+-- `ingress`: a text says what a root and its peers send, and the answers and the copies are shown; a fault is the first one of a peer
 abbrev pub IngressRun : Ending → Type 0
 IngressRun e = TellRun input_of TellsCopies (λ what. is_refused what ≡ false) (λ what. is_refused what ≡ true) e
 
--- `probe`: a text says what an edge is given of a peer, and what the edge makes of it is told; a fault is the first one of the peer
+-- `probe`: a text says what an edge is given of a peer, and what the edge makes of it is shown; a fault is the first one of the peer
 abbrev pub ProbeRun : Ending → Type 0
 ProbeRun e = TellRun probe_of TellsProbe IsSound HasPeerFault e
 

@@ -54,7 +54,7 @@ counts_of report = counts_in (lines_of report)
 abbrev pub no_counts : Counts
 no_counts = record { outs = 0; refused = 0; calm = 0 }
 
--- the counts behind one more line
+-- the counts after one more line
 abbrev pub with_line : Counts → ReportLine → Counts
 with_line old line = record {
   outs = if is_out line then old.outs + 1 else old.outs;
@@ -72,7 +72,7 @@ sweep_text number sends counts =
 
 -- ---- an event
 
--- The event's acts are done, the world is behind it, and its lines were counted.
+-- The event's acts are done, the world is the one after it, and its lines were counted.
 pub record CountsOn (timed : Timed) (view : WorldView) (at : IsReached timed view) (before after : Counts) (now : WorldView) : Type 0 where
   pub acts : List Happened
   pub state : World
@@ -80,7 +80,7 @@ pub record CountsOn (timed : Timed) (view : WorldView) (at : IsReached timed vie
   pub behind : IsBehindFirst at.cores at.script (at.count + 1) (at.trace ++ traced at.count acts) state now
   pub told : after ≡ fold with_line before (lines_in acts)
 
--- The event lacks a label.
+-- The event runs out of labels.
 pub record LacksLabel (timed : Timed) (view : WorldView) (at : IsReached timed view) : Type 0 where
   pub acts : List Happened
   pub node : NodeId
@@ -93,7 +93,7 @@ pub record EventCounts (timed : Timed) (view now : WorldView) (before after : Co
 
 -- ---- a script
 
--- All events run, the world is behind them, and these are the counts of the report.
+-- All events run, the world is the one after them, and these are the counts of the report.
 pub record SweepsWhole (script : Script) (swept : Swept) : Type 0 where
   pub cores : Cores
   pub trace : List Traced
@@ -102,12 +102,12 @@ pub record SweepsWhole (script : Script) (swept : Swept) : Type 0 where
   pub whole : IsWholeRun cores script trace state
   pub counts : swept.counts ≡ counts_of (report_of trace)
 
--- Behind any first events of the script, run by these cores, each node holds at most 260 of its labels.
+-- After any first events of the script, run by these cores, each node holds at most 260 of its labels.
 abbrev pub HoldsFewLabels : Cores → Script → Type 0
 HoldsFewLabels cores script = (count : ℕ) (trace : List Traced) (state : World) (node : NodeId) →
     Run cores script (take count script.events) trace state → labels_held (part_of (state.network.state.node node)) ≤ 260
 
--- None of its events lacks a label.
+-- None of its events runs out of labels.
 abbrev pub NeverHalts : Script → Type 0
 NeverHalts script = (cores : Cores) (report : List Entry) (node : NodeId) → Halts cores script report node → ⊥
 
@@ -119,7 +119,7 @@ pub record IsMade (Holds : Script → Type 0) (number : ℕ) : Type 0 where
   pub said : script_of (made number) ≡ Ok script
   pub holds : Holds script
 
--- All events of the script ran, with few labels at each node; this is written of their run, and the world is behind it.
+-- All events of the script ran, with few labels at each node; this is written of their run, and the world is the one after it.
 pub record TellsNumbers (Written : List ℕ → Type 0) (number : ℕ) (view : WorldView) (script : Script) : Type 0 where
   pub counts : Counts
   pub whole : SweepsWhole script (record { world = view; counts = counts })

@@ -1,5 +1,5 @@
--- How a command may end that reads a text and tells of it: what it read, and what it wrote. Which command it is says what a text says
--- (`read`), and what is told of that, with a fault among it where it says so (`Tells`).
+-- How a command may end that reads a text and shows what is in it: what it read, and what it wrote. Which command it is says what a text says
+-- (`read`), and what is shown of that, with a fault among it where it says so (`Tells`).
 use Rattle.std.specs.Prelude.{◌≡◌, ℕ, ◌⊎◌, ⊤, Bool, true, false, List, [], Option, Result, Ok, Err, MatchResult}
 use Rattle.mv_io.specs.Octets.{Appended, AppendedPart}
 use Rattle.line_words.specs.FaultText.{fault_text}
@@ -8,7 +8,7 @@ use Rattle.mvpn_tool.specs.declared.stop.Stop.{Stop}
 use Rattle.mvpn_tool.specs.declared.stop.Stop.TheVariants as stops
 use Rattle.mvpn_tool.specs.Input.{IsInput, Taken}
 
--- All that is told of the input was written.
+-- All that is shown of the input was written.
 pub record ToldAll {X : Type 0} (read : List ℕ → Result X TextFault) (Tells : Bool → X → List ℕ → Type 0) (refused : Bool)
     (left old new : Option (List ℕ)) : Type 0 where
   pub input : List ℕ
@@ -19,7 +19,7 @@ pub record ToldAll {X : Type 0} (read : List ℕ → Result X TextFault) (Tells 
   pub tells : Tells refused what text
   pub written : Appended old new text
 
--- The text has a fault, and the line that tells it was written alone.
+-- The text has a fault, and the line that shows it was written alone.
 pub record ToldFaulty {X : Type 0} (read : List ℕ → Result X TextFault) (left old new : Option (List ℕ)) : Type 0 where
   pub input : List ℕ
   pub is_input : IsInput left input
@@ -27,21 +27,21 @@ pub record ToldFaulty {X : Type 0} (read : List ℕ → Result X TextFault) (lef
   pub said : read input ≡ Err fault
   pub text : Appended old new (fault_text fault)
 
--- A prefix of what is told was written.
+-- A prefix of what is shown was written.
 pub record ToldPart {X : Type 0} (Tells : Bool → X → List ℕ → Type 0) (what : X) (old new : Option (List ℕ)) : Type 0 where
   pub refused : Bool
   pub text : List ℕ
   pub tells : Tells refused what text
   pub written : AppendedPart old new text
 
--- A prefix of what is told of the input, or of the line that tells a fault of the text, was written.
+-- A prefix of what is shown of the input, or of the line that shows a fault of the text, was written.
 pub record ToldEarly {X : Type 0} (read : List ℕ → Result X TextFault) (Tells : Bool → X → List ℕ → Type 0)
     (left old new : Option (List ℕ)) : Type 0 where
   pub input : List ℕ
   pub is_input : IsInput left input
   pub part : MatchResult (read input) (λ what. ToldPart Tells what old new) (λ fault. AppendedPart old new (fault_text fault))
 
--- how the writing of what is told ends
+-- how the writing of what is shown ends
 abbrev pub TellEnd : {X : Type 0} → (Bool → X → List ℕ → Type 0) → X → Result Bool Stop → Option (List ℕ) → Option (List ℕ) → Type 0
 TellEnd Tells what (Ok refused) old new = (text : List ℕ) × Tells refused what text × Appended old new text
 TellEnd Tells what (Err stops.Memory) old new = Appended old new []

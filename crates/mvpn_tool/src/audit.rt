@@ -46,7 +46,7 @@ fn put_offence(text: &mut Bytes, line: u32, reason: Offence) -> Result<(), NoMem
     text.extend(b"\n")
 }
 
-/// The line that tells a verdict.
+/// The line that says a verdict.
 fn text_of_verdict(alloc: Global, verdict: Verdict) -> Result<Bytes, NoMemory>
     ensures { IfOk result (λ text. text ≡ verdict_text verdict) }
 {
@@ -73,7 +73,7 @@ fn write_verdict<K: Sink>(alloc: Global, found: &AuditText, sink: &mut K) -> Res
     Ok(verdict)
 }
 
-/// Reads all of the source, judges the report that it has behind its script, and writes the line of the verdict.
+/// Reads all of the source, judges the report that it has after its script, and writes the line of the verdict.
 pub fn judge<S: Source, K: Sink>(
     alloc: Global,
     source: &mut S,

@@ -46,7 +46,7 @@ pub enum Command {
     Pcap,
 }
 
-/// The detail that a word behind `replay` asks for.
+/// The detail that a word after `replay` asks for.
 fn detail_of(word: &str) -> Option<Detail>
     ensures { result ≡ detail_of word.now }
 {

@@ -5,7 +5,7 @@ ghost use Rattle.mvpn_tool.specs.Sweep.{is_calm, no_counts, with_line};
 use mv_base::NoMemory;
 use scenario_defs::ReportLine;
 
-/// How often a datagram left at an interface, how many events were refused, and how many states were told of five zeros.
+/// How often a datagram left at an interface, how many events were refused, and how many states were shown with five zeros.
 #[derive(Clone, Copy, PartialEq, Eq)]
 pub struct Counts {
     pub outs: u64,
@@ -13,7 +13,7 @@ pub struct Counts {
     pub calm: u64,
 }
 
-/// Whether the line tells a state of five zeros.
+/// Whether the line shows a state of five zeros.
 fn is_calm(line: &ReportLine) -> bool
     ensures { result ≡ is_calm line.now }
 {
@@ -29,7 +29,7 @@ fn is_calm(line: &ReportLine) -> bool
     }
 }
 
-/// One more. A count that 64 bits do not hold wants memory.
+/// One more. A count that 64 bits do not hold is answered as out of memory.
 fn count_up(count: &mut u64) -> Result<(), NoMemory>
     ensures { OnOk result (count.new ≡ count.old + 1) }
 {

@@ -34,7 +34,7 @@ fn write_values<K: Sink>(
 }
 
 /// Reads all of the source, and writes the lines of the values of the format that its hexadecimal text has. Answers
-/// whether a fault stands behind them, whose line is then the last one.
+/// whether a fault comes after them, whose line is then the last one.
 pub fn decode<S: Source, K: Sink>(
     alloc: Global,
     format: Format,

@@ -8,7 +8,7 @@ use report_text::{put_hex, put_number};
 use std::alloc::Global;
 use value_text::put_refused;
 
-/// The lines of a file, and whether the last one tells a fault.
+/// The lines of a file, and whether the last one shows a fault.
 #[derive(Drop)]
 pub struct FileLines {
     pub text: Bytes,
@@ -68,7 +68,7 @@ fn lines_of(alloc: Global, hops: &[CoreHop]) -> Result<Bytes, NoMemory>
     Ok(text)
 }
 
-/// The same lines, and behind them that of the fault, where there is one.
+/// The same lines, and after them that of the fault, where there is one.
 fn with_fault(text: Bytes, fault: Option<(u64, PcapFault)>) -> Result<FileLines, NoMemory>
     ensures { IfOk result (λ lines. TellsFault fault text lines.refused lines.text) }
 {

@@ -43,7 +43,7 @@ fn write_hops<K: Sink>(alloc: Global, octets: &[u8], sink: &mut K) -> Result<boo
 }
 
 /// Reads all of the source, and writes the lines of the hops of the file that it is. Answers whether the file has a fault
-/// behind them, whose line is then the last one.
+/// after them, whose line is then the last one.
 pub fn hops<S: Source, K: Sink>(alloc: Global, source: &mut S, sink: &mut K) -> Result<bool, Stop>
     ensures ends { TellEnds within_limit TellsHops (S.left source.old) result (K.written sink.old) (K.written sink.new) }
     ensures taken { TellTakes result (S.left source.old) (S.left source.new) }

@@ -15,7 +15,7 @@ use line_words::ReadFault;
 use mv_io::{Sink, Source, write_all};
 use std::alloc::Global;
 
-/// Writes what is told of the input, and answers whether it tells a fault of a peer.
+/// Writes what is shown of the input, and answers whether it shows a fault of a peer.
 fn write_told<K: Sink>(alloc: Global, input: &Input, sink: &mut K) -> Result<bool, Stop>
     ensures ends { TellEnd Tells input.now result (K.written sink.old) (K.written sink.new) }
     ensures whole { is_refused input.now ≡ false → result ≢ Ok true }

@@ -89,7 +89,7 @@ pub(crate) fn runs_are_known()
     hops_have_spellings();
 }
 
-/// What `replay` writes of all events of a script that ends with a line feed, behind that script and the line `report`, is a report without
+/// What `replay` writes of all events of a script that ends with a line feed, after that script and the line `report`, is a report without
 /// an offence.
 pub fn own_reports_have_no_offence()
     ensures { (detail : Detail) (front : List ℕ) (script : Script) (old new : Option (List ℕ)) (view : WorldView) →

@@ -22,7 +22,7 @@ use probe_text::of_probe_defs::{ProbeLine, ProbeLines};
 use probe_text::{ProbeText, read};
 use std::alloc::Global;
 
-/// The lines that are told, and whether the last one tells a fault.
+/// The lines that are shown, and whether the last one shows a fault.
 #[derive(Drop)]
 struct Told {
     text: Bytes,
@@ -49,7 +49,7 @@ fn have_octets(lines: &ProbeLines)
     }
 }
 
-/// Tells what the edge makes of what it is given.
+/// Shows what the edge makes of what it is given.
 fn tell(alloc: Global, what: &ProbeText) -> Result<Told, NoMemory>
     requires { IsProbe what.now.scenario what.now.ends.edge what.now.ends.peer what.now.lines }
     ensures told { IfOk result (λ told. TellsProbe told.refused what.now told.text) }
@@ -72,7 +72,7 @@ fn tell(alloc: Global, what: &ProbeText) -> Result<Told, NoMemory>
     })
 }
 
-/// Writes what is told, and answers whether it tells a fault of the peer.
+/// Writes what is shown, and answers whether it shows a fault of the peer.
 fn write_told<K: Sink>(alloc: Global, what: &ProbeText, sink: &mut K) -> Result<bool, Stop>
     requires { IsProbe what.now.scenario what.now.ends.edge what.now.ends.peer what.now.lines }
     ensures ends { TellEnd TellsProbe what.now result (K.written sink.old) (K.written sink.new) }

@@ -65,7 +65,7 @@ fn write_event<K: Sink>(
     Ok(())
 }
 
-/// Writes what is to be written of an event that lacks a label at that node. Answers why the replay ended.
+/// Writes what is to be written of an event that runs out of labels at that node. Answers why the replay ended.
 fn write_halt<K: Sink>(
     output: Output,
     scenario: &Scenario,
@@ -129,7 +129,7 @@ fn replay_event<K: Sink>(
     }
 }
 
-/// All events of the script, or those up to one that lacks a label.
+/// All events of the script, or those up to one that runs out of labels.
 fn replay_script<K: Sink>(
     alloc: Global,
     output: Output,
@@ -178,7 +178,7 @@ fn replay_script<K: Sink>(
     Ok(world)
 }
 
-/// Writes the line that tells the fault, and answers why the replay ended.
+/// Writes the line that shows the fault, and answers why the replay ended.
 pub fn write_fault<K: Sink>(alloc: Global, fault: TextFault, sink: &mut K) -> Stop
     ensures text { result ≡ stops.Text → Appended (K.written sink.old) (K.written sink.new) (fault_text fault) }
     ensures part { (result ≡ stops.Text) ⊎ AppendedPart (K.written sink.old) (K.written sink.new) (fault_text fault) }

@@ -25,7 +25,7 @@ pub fn have_type_bounds(lines: &[ReportLine])
     }
 }
 
-/// Whether a line is told.
+/// Whether a line is shown.
 fn is_told(detail: Detail, line: &ReportLine) -> bool
     ensures { result ≡ is_told detail line.now }
 {
@@ -41,7 +41,7 @@ fn is_told(detail: Detail, line: &ReportLine) -> bool
     }
 }
 
-/// Appends the text of the line, if it is told.
+/// Appends the text of the line, if it is shown.
 fn put_line(
     detail: Detail,
     line: &ReportLine,
@@ -57,7 +57,7 @@ fn put_line(
     Ok(())
 }
 
-/// Appends the text of those of the lines that are told.
+/// Appends the text of those of the lines that are shown.
 fn put_lines(
     detail: Detail,
     lines: &[ReportLine],
@@ -103,7 +103,7 @@ pub fn put_event(
     }
 }
 
-/// Appends what is to be written of an event that lacks a label.
+/// Appends what is to be written of an event that runs out of labels.
 pub fn put_halt(
     output: Output,
     scenario: &Scenario,
@@ -119,7 +119,7 @@ pub fn put_halt(
     }
 }
 
-/// The line that tells a fault.
+/// The line that shows a fault.
 pub fn text_of_fault(alloc: Global, fault: TextFault) -> Result<Bytes, NoMemory>
     ensures { IfOk result (λ text. text ≡ fault_text fault) }
 {

@@ -6,7 +6,7 @@ use std::alloc::{AllocError, AllocFailed};
 /// Why a replay ended early.
 #[derive(Clone, Copy, PartialEq, Eq)]
 pub enum Stop {
-    /// The text has a fault, and the line that tells it was written.
+    /// The text has a fault, and the line that shows it was written.
     Text,
     /// The source failed.
     Source,
@@ -14,7 +14,7 @@ pub enum Stop {
     Sink,
     /// There was no memory.
     Memory,
-    /// An event lacks a label, and the report was written up to there.
+    /// An event runs out of labels, and the report was written up to there.
     Label,
 }
 

@@ -1,4 +1,4 @@
-//! Replays the network of a number, and tells the numbers of its run.
+//! Replays the network of a number, and shows the numbers of its run.
 ghost use Rattle.std.specs.Prelude.{◌≡◌, ◌⊎◌, [], OnOk, OnErr, IfOk, IfErr, IsErrOf, Ok};
 ghost use Rattle.mv_io.specs.Causes.{Rose};
 ghost use Rattle.mv_io.specs.Octets.{Appended, AppendedPart};
@@ -22,7 +22,7 @@ use scenario_defs::{Lines, Script, Timed};
 use scenario_text::{ReadFault, read};
 use std::alloc::Global;
 
-/// The world behind all events of a script, and the counts of their report.
+/// The world after all events of a script, and the counts of their report.
 pub struct Swept {
     pub world: World,
     pub counts: Counts,
@@ -50,7 +50,7 @@ fn sweep_event(
     }
 }
 
-/// All events of the script, of which none lacks a label.
+/// All events of the script, of which none runs out of labels.
 fn sweep_script(alloc: Global, script: Script) -> Result<Swept, Stop>
     requires rules { ScriptRules script }
     requires labels { NeverHalts script }

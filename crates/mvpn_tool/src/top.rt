@@ -21,7 +21,7 @@ use mv_io::{Sink, Source, write_all};
 use network_events::World;
 use std::alloc::Global;
 
-/// The line that tells the forms of a command.
+/// The line that shows the forms of a command.
 const USAGE: &[u8] =
     b"usage: mvpn replay [--wire] | decode nlri|pmsi|fec|bgp|ldp|pim | make NUMBER | sweep NUMBER | audit | probe | ingress | pcap | hops\n";
 
@@ -41,7 +41,7 @@ fn ended(status: u8) -> End
     }
 }
 
-/// How a command ends that tells of a text: by whether it told a fault, or by why it stopped.
+/// How a command ends that shows what is in a text: by whether it showed a fault, or by why it stopped.
 fn told(answer: Result<bool, Stop>) -> End
     ensures status { result.status ≡ tell_status answer }
     ensures world { result.world ≡ None }

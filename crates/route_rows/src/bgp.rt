@@ -114,7 +114,7 @@ fn too_long(rt: HostRuntime) -> Result<(), Fail> {
     Ok(())
 }
 
-/// A peer is told a route once its session is up, and that it ended; a peer that is down is told nothing.
+/// A peer is sent a route once its session is up, and that it ended; a peer that is down is sent nothing.
 #[test]
 fn tells_peers(rt: HostRuntime) -> Result<(), Fail> {
     let mut tables = EdgeTables::of(rt.alloc(), &[NodeId(1), NodeId(2)])?;

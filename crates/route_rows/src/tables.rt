@@ -3,7 +3,7 @@ use edge_tables::rib_sync::{Inbox, Outbox};
 use mv_base::table_defs::Change;
 use std::test::*;
 
-/// A peer is told what changed since it was told last, withdrawals first, and all anew once it is back.
+/// A peer is sent what changed since it was sent something last, withdrawals first, and all anew once it is back.
 #[test]
 fn in_step(rt: HostRuntime) -> Result<(), Fail> {
     let mut outbox = Outbox::<u32, u32>::of(rt.alloc());
@@ -23,7 +23,7 @@ fn in_step(rt: HostRuntime) -> Result<(), Fail> {
     Ok(())
 }
 
-/// A receiver has what it was told.
+/// A receiver has what it was sent.
 #[test]
 fn takes(rt: HostRuntime) -> Result<(), Fail> {
     let mut inbox = Inbox::<u32, u32>::of(rt.alloc());

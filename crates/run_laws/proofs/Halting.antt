@@ -15,7 +15,7 @@ use Rattle.run_laws.specs.Runs.{of_events, RunsOrHalts, AllRun, OneHalts, RunsIn
 
 -- ---- one or the other
 
--- the first events run from there, and the next one lacks a label
+-- the first events run from there, and the next one runs out of labels
 record Stops (old : World) (number : ℕ) (events : List Timed) : Type 0 where
   before : List Timed
   timed : Timed

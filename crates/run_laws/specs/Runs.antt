@@ -1,4 +1,4 @@
--- How the events of a script end: in a run, or at one that lacks a label.
+-- How the events of a script end: in a run, or at one that runs out of labels.
 use Rattle.std.specs.Prelude.{◌≡◌, List, ◌++◌, length}
 use Rattle.mv_base.specs.declared.ids.NodeId.{NodeId}
 use Rattle.scenario_defs.specs.declared.event.Script.{Script}
@@ -12,7 +12,7 @@ use Rattle.network_defs.specs.World.{World}
 abbrev pub of_events : Script → List Timed → Script
 of_events script events = record script { events = events }
 
--- All events of the script run, by these cores; or some first ones do, and the next one lacks a label at a node.
+-- All events of the script run, by these cores; or some first ones do, and the next one runs out of labels at a node.
 pub data RunsOrHalts (cores : Cores) (script : Script) : Type 0 where
   AllRun : (trace : List Traced) → (new : World) → Run cores script script.events trace new → RunsOrHalts cores script
   OneHalts : (report : List Entry) → (node : NodeId) → Halts cores script report node → RunsOrHalts cores script

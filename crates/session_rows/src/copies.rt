@@ -8,7 +8,7 @@ use mv_base::{Addr, IfaceId};
 use std::alloc::Global;
 use std::test::*;
 
-/// The inclusive tunnel of V1, which E1 tells.
+/// The inclusive tunnel of V1, which E1 announces.
 fn tunnel() -> Option<Fec> {
     let opaque = Opaque::of(&[1, 0, 4, 0, 0x10, 0, 0])?;
     Some(Fec {

@@ -1,4 +1,4 @@
-//! A fault of a session: octets in which no BGP message stands (RFC 4271 section 4.1).
+//! A fault of a session: octets in which there is no BGP message (RFC 4271 section 4.1).
 use crate::two_edges::{E2, EdgeInCore, first_edge, second_edge};
 use bgp_messages::bgp_update::StreamFault;
 use edge_core::EdgeFault;
@@ -10,7 +10,7 @@ use std::test::*;
 /// A message begins with 16 octets 0xff.
 const NO_MESSAGE: [u8; 19] = [0; 19];
 
-/// The first message of E2 is taken, and the octets behind it are none.
+/// The first message of E2 is taken, and the octets after it are none.
 const FAULT: EdgeFault = EdgeFault::Session {
     peer: E2,
     place: 99,
@@ -38,7 +38,7 @@ fn is_faulty(edge: &mut EdgeInCore, more: &[u8]) -> bool {
     edge.take(NO_MESSAGE.as_slice()) == fault && edge.take(more) == fault && edge.take(&[]) == fault
 }
 
-/// Whether the join is told to E2.
+/// Whether the join is sent to E2.
 fn tells_join(edge: &mut EdgeInCore) -> bool {
     let before = edge.take_out();
     let taken = edge.take_pim(JOIN.as_slice());

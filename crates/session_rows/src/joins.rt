@@ -1,4 +1,4 @@
-//! A join of a customer is told to the edge from which the source is reached (RFC 6514 section 11.1.3).
+//! A join of a customer is sent to the edge from which the source is reached (RFC 6514 section 11.1.3).
 use crate::two_edges::{EdgeInCore, first_edge, meet, second_edge};
 use mv_base::Bytes;
 use std::test::*;
@@ -20,7 +20,7 @@ const TOLD: [u8; 84] = [
     0x02, 0x01, 0x00, 0x01,
 ];
 
-/// What E2 tells E1 behind the join.
+/// What E2 sends E1 after the join.
 fn told_behind(second: &mut EdgeInCore) -> Option<Bytes> {
     if second.take_pim(JOIN.as_slice()) {
         Some(second.take_out())

@@ -1,4 +1,4 @@
-//! A source that sends is told to the other edges, until it sends no more (RFC 6514 section 14).
+//! A source that sends is announced to the other edges, until it sends no more (RFC 6514 section 14).
 use crate::two_edges::{EdgeInCore, first_edge};
 use mv_base::Addr;
 use std::test::*;
@@ -7,7 +7,7 @@ const SOURCE: Addr = Addr::V4([10, 1, 0, 9]);
 
 const GROUP: Addr = Addr::V4([232, 1, 1, 1]);
 
-/// How many octets E2 is told: the Source Active A-D route, and what withdraws it.
+/// How many octets E2 is sent: the Source Active A-D route, and what withdraws it.
 fn told(edge: &mut EdgeInCore) -> (usize, usize) {
     let _first = edge.take_out();
     let noted = edge.active(SOURCE, GROUP);

@@ -79,7 +79,7 @@ fn enters(edge: &EdgeInCore, alloc: Global, branch: Option<u32>) -> bool {
     }
 }
 
-/// Whether the flow is told to E1, whose LDP session with C is up.
+/// Whether the flow is sent to E1, whose LDP session with C is up.
 fn joins(first: &mut EdgeInCore, second: &mut EdgeInCore) -> bool {
     first.raise_ldp()
         && meet(first, second)

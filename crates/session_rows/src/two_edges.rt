@@ -398,7 +398,7 @@ pub(crate) fn carry(from: &mut EdgeInCore, to: &mut EdgeInCore) -> bool {
     octets.is_empty() || to.take(octets.as_slice()) == Some(Ok(()))
 }
 
-/// Both ends come up, and what each edge tells at once is taken.
+/// Both ends come up, and what each edge sends at once is taken.
 pub(crate) fn meet(first: &mut EdgeInCore, second: &mut EdgeInCore) -> bool {
     first.raise() && second.raise() && carry(first, second) && carry(second, first)
 }

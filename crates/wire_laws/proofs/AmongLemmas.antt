@@ -1,4 +1,4 @@
--- What is among the elements of a list, and lists in which each stands once.
+-- What is among the elements of a list, and lists in which each is there once.
 use Rattle.std.proofs.Common.{◌≡◌, ◌⊎◌, inl, inr, zero, suc, Bool, true, false, cond, List, [], ◌∷◌, ◌++◌, map, Some, refl, sym, ap, subst, arith}
 use Rattle.std.specs.Prelude.{find}
 use Rattle.std.specs.List.{Contains}
@@ -52,7 +52,7 @@ one_found {X} test x (y ∷ xs) a passes = by (test y) refl (λ h. one_found tes
     by false e rest (inl same) = absurd (let t = ap test same in cc)
     by false e rest (inr h) = rest h
 
--- ---- each stands once
+-- ---- each is there once
 
 abbrev pub Once : {X : Type 0} → List X → Type 0
 Once [] = Unit {0}
@@ -66,7 +66,7 @@ once_both (x ∷ xs) ys p q h = (
   once_both xs ys p.1 q (λ y own other. h y (inr own) other),
 )
 
--- none of what stands before it is the same
+-- none of what comes before it is the same
 pub not_before : {X : Type 0} (before after : List X) (x : X) → Once (before ++ x ∷ after) → Among x before → ⊥
 not_before [] after x once a = a
 not_before (y ∷ before) after x once (inl e) = once.0 (subst (λ z. Among z (before ++ x ∷ after)) e (among_back x before (x ∷ after) (inl refl)))

@@ -131,7 +131,7 @@ module _ (n : NodeId) (network : OctetNetwork Nodes) (puts : List Put) (call : C
   abbrev made_by : EdgeStepped → Stepped Nodes
   made_by new = record { state = with_node network.state n (Edge new.edge); puts = edge_puts place now edge.edge new }
 
-  -- the edge behind the step, and where it stands
+  -- the edge after the step, and its place
   pub record IsStepped (new : Stepped Nodes) : Type 0 where
     pub edge_is : IsEdgeAt n (octets.with_octets network new) (puts ++ new.puts) (called place now edge call)
     pub same_place : place_of new.state n ≡ place

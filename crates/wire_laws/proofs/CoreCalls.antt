@@ -297,7 +297,7 @@ module _ (n from : NodeId) where
   abbrev over : Direction
   over = direction kinds.Ldp from n
 
-  -- what is known behind the first message
+  -- what is known after the first message
   record IsFirst (network : OctetNetwork Nodes) (puts : List Put) (core behind : CoreState) (new : Stepped Nodes) : Type 0 where
     core_is : IsCoreAt n (octets.with_octets network new) (puts ++ new.puts) behind
     same_place : node_place new.state.scenario n ≡ node_place network.state.scenario n

@@ -1,4 +1,4 @@
--- Which ends of sessions are up behind an act of a node.
+-- Which ends of sessions are up after an act of a node.
 use Rattle.std.proofs.Common.{◌≡◌, ◌∙◌, refl, sym, ap, subst, ℕ, ◌+◌, ◌==◌, ◌&&◌, ◌||◌, nat_le, Bool, true, false, cond, inl, inr, List, [], ◌∷◌, ◌++◌, map, fold, Option, None, Some, option_map, is_some, if◌then◌else◌}
 use Rattle.std.specs.Ordering.{eq_by_cmp}
 use Rattle.std.specs.FinMap as maps
@@ -106,7 +106,7 @@ timed place now peers peer =
     ap is_some (maps.get-from_entries node_cmp_total (map (taken_run place now) (maps.entries peers)) peer)
     ∙ (run_found place now peer (maps.entries peers) ∙ ap is_some (sym (maps.get-entries peers peer)))
 
--- whether an end is up behind a call of its node
+-- whether an end is up after a call of its node
 abbrev up_by : Call → Kind → NodeId → Bool → Bool
 up_by call kind peer old = cond (begins call kind peer) (is_raise call) old
 
@@ -128,7 +128,7 @@ peers_up place now control Rerouted peer = refl
 
 -- ---- over BGP: a step of a node
 
--- the ends over BGP behind a call of the node
+-- the ends over BGP after a call of the node
 abbrev BgpBehind : NodeId → Call → Nodes → Nodes → Type 0
 BgpBehind n call old new = (m peer : NodeId) → is_bgp_up (new.node m) peer ≡ end_behind n call kinds.Bgp m peer (is_bgp_up (old.node m) peer)
 
@@ -158,7 +158,7 @@ node_ends n call old state h =
     ends_by n call old (with_node old n state) (λ peer. ap (λ (b : Bool). is_bgp_up (cond b state (old.node n)) peer) (node_itself n n refl) ∙ h peer)
     (λ m ne. ap (λ (b : Bool). cond b state (old.node m)) (node_apart m n ne))
 
--- what is so behind each step is so behind the one that was made
+-- what is so after each step is so after the one that was made
 always : {A B : Type 0} (P : B → Type 0) (o : Option A) (next : A → B) → ((x : A) → P (next x)) → Holds P (o >>? λ x. Some (next x))
 always P None next h = tt
 always P (Some x) next h = h x
@@ -248,7 +248,7 @@ call_same n call old state is calm has =
 
 -- ---- over BGP: an act
 
--- the network behind an act is that behind its step
+-- the network after an act is that after its step
 step_leads : (P : Nodes → Type 0) (old : OctetNetwork Nodes) (stepped : Option (Stepped Nodes)) → Holds (λ (new : Stepped Nodes). P new.state) stepped
     → Leads (λ network. P network.state) (octets.with_step old stepped)
 step_leads P old None h = tt
@@ -282,7 +282,7 @@ moves_same over count old = by (old.joined over)
 
 -- ---- over LDP
 
--- where the sessions stand, by the network
+-- the state of the sessions, by the network
 abbrev seen : OctetNetwork Nodes → SessionsStand
 seen network =
     record { clock = network.state.clock; joined = λ kind a b. network.joined (direction kind a b); end = λ kind n peer. end_of network.state n peer }
@@ -376,7 +376,7 @@ holds_run life now (steps.Unselect vrf pattern) peer old other = refl
 holds_run life now Timers peer old other = absurd (other refl)
 holds_run life now Rerouted peer old other = refl
 
--- a test of the node's end by one of what stands
+-- a test of the node's end by one of what is there
 at_one : (test : Option UpEnd → Bool) (here begun : Bool) (end : Option UpEnd) (behind : Bool) (old : Option UpEnd)
     → test end ≡ cond begun behind (test old) → test (cond here end old) ≡ cond (here && begun) behind (test old)
 at_one test true begun end behind old h = h

@@ -113,7 +113,7 @@ session_found scenario kind a b way =
     let parts = and_parts (same_kind kind found.0.kind) (is_between a b found.0.a found.0.b) found.2 in
     record { session = found.0; found = found.1; protocol = sym (one_kind kind found.0.kind parts.0); between = parts.1 }
 
--- ---- each session stands once
+-- ---- each session is there once
 
 -- sessions of the same two nodes over one protocol
 abbrev AreOne : Session → Session → Type 0
@@ -188,7 +188,7 @@ sessions_apart scenario rules =
     absurd cc
     ))
 
--- ---- each direction stands once
+-- ---- each direction is there once
 
 ways_once : (all : List Session) → AreApart all → ((s : Session) → Among s all → s.a ≡ s.b → ⊥) → Once (flat_map directions_of all)
 ways_once [] apart two = tt

@@ -33,7 +33,7 @@ abbrev pub core_after : Nodes → NodeId → CoreState → Option labels.Call �
 core_after nodes n core None = core
 core_after nodes n core (Some own) = core_called (node_place nodes.scenario n) (core_at nodes n) nodes.clock core own
 
--- the node behind a call of its own
+-- the node after a call of its own
 abbrev pub node_after : Nodes → NodeId → AnyNode → Call → AnyNode
 node_after nodes n (Edge edge) call = Edge (called (place_of nodes n) nodes.clock edge call)
 node_after nodes n (CoreNode core) call = CoreNode (core_after nodes n core (own_label_call call))
@@ -43,7 +43,7 @@ abbrev pub core_taking : Nodes → NodeId → CoreState → Kind → NodeId → 
 core_taking nodes n core kinds.Bgp from octets = core
 core_taking nodes n core kinds.Ldp from octets = core_took (node_place nodes.scenario n) (core_at nodes n) nodes.clock from octets core
 
--- the node behind octets that come from another over a session
+-- the node after octets that come from another over a session
 abbrev pub node_taking : Nodes → NodeId → AnyNode → Kind → NodeId → List ℕ → AnyNode
 node_taking nodes n (Edge edge) kind from octets = Edge (took (place_of nodes n) nodes.clock (session_with kind from) octets edge)
 node_taking nodes n (CoreNode core) kind from octets = CoreNode (core_taking nodes n core kind from octets)
@@ -81,8 +81,8 @@ rest_of network over count other = if same_direction other over then drop count 
 
 -- ---- elsewhere
 
--- What an act of a node leaves behind it, where these octets were in transit when it began: what is told of the whole network is the same, all
--- other nodes and the streams that lead to them are, and what the node puts goes behind what is in transit, where the session is joined.
+-- What an act of a node leaves, where these octets were in transit when it began: what is said of the whole network is the same, all
+-- other nodes and the streams that lead to them are, and what the node puts goes after what is in transit, where the session is joined.
 pub record IsElsewhere (n : NodeId) (old : OctetNetwork Nodes) (moving : Direction → List ℕ) (new : Behind (OctetNetwork Nodes)) : Type 0 where
   pub scenario : new.network.state.scenario ≡ old.state.scenario
   pub cores : new.network.state.cores ≡ old.state.cores

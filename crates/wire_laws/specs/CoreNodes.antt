@@ -38,7 +38,7 @@ streams_behind (Raised peer) streams = maps.insert streams (ldp_with peer) unfed
 streams_behind (Noticed peer) streams = maps.remove streams (ldp_with peer)
 streams_behind other streams = streams
 
--- the node behind a call, unless it is spent
+-- the node after a call, unless it is spent
 abbrev pub core_called_unless : Option Spent → NodePlace → Core → ℕ → CoreState → Call → CoreState
 core_called_unless None place core now old call = record { node = called place core now old.node call; streams = streams_behind call old.streams }
 core_called_unless (Some spent) place core now old call = old

@@ -38,7 +38,7 @@ begins (Raised own from) kind peer = same_kind own kind && (from.0 == peer.0)
 begins (Noticed own from) kind peer = same_kind own kind && (from.0 == peer.0)
 begins other kind peer = false
 
--- The edge is that of the node before the call. The acts on sessions that stand before a raise or a notice have begun its stream in the network
+-- The edge is that of the node before the call. The acts on sessions that come before a raise or a notice have begun its stream in the network
 -- already, and the edge begins it in the call.
 pub record IsEdgeBefore (n : NodeId) (network : OctetNetwork Nodes) (call : Call) (edge : EdgeState) : Type 0 where
   pub node : network.state.node n ≡ Edge edge.edge

@@ -1,4 +1,4 @@
--- Which ends of sessions are up behind an act of a node.
+-- Which ends of sessions are up after an act of a node.
 use Rattle.std.specs.Prelude.{◌≡◌, ℕ, ◌+◌, ◌==◌, ◌&&◌, ◌||◌, Bool, true, false, nat_le, None, Some, if◌then◌else◌}
 use Rattle.std.specs.FinMap as maps
 use Rattle.mv_base.specs.declared.ids.NodeId.{NodeId}
@@ -20,7 +20,7 @@ is_raise other = false
 abbrev pub HasCall : NodeId → OctetNetwork Nodes → Call → Type 0
 HasCall n network call = (peer : NodeId) → call ≡ Raised kinds.Bgp peer → (edge : EdgeData) × (network.state.node n ≡ Edge edge)
 
--- whether the end of node m with the peer is up behind a call of node n, by whether it was so before
+-- whether the end of node m with the peer is up after a call of node n, by whether it was so before
 abbrev pub end_behind : NodeId → Call → Kind → NodeId → NodeId → Bool → Bool
 end_behind n call kind m peer old = if (m.0 == n.0) && begins call kind peer then is_raise call else old
 
@@ -28,11 +28,11 @@ end_behind n call kind m peer old = if (m.0 == n.0) && begins call kind peer the
 abbrev pub is_hold_run : NodeState → NodeId → Bool
 is_hold_run node peer = labels.is_ready (part_of node) peer
 
--- the same behind a call of node n that is none of its timers: an end that comes up has a hold to run, and one that is down has none
+-- the same after a call of node n that is none of its timers: an end that comes up has a hold to run, and one that is down has none
 abbrev pub hold_behind : NodeId → Call → NodeId → NodeId → Bool → Bool
 hold_behind n call m peer old = if (m.0 == n.0) && begins call kinds.Ldp peer then false else old
 
--- the same behind the timers of the node: a hold that is due is run
+-- the same after the timers of the node: a hold that is due is run
 abbrev pub hold_timed : ℕ → ℕ → NodeState → NodeId → Bool
 hold_timed life now node peer = elim (maps.get (part_of node).ends peer) [
   | None ↦ false

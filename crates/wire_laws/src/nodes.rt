@@ -12,8 +12,8 @@ ghost use Rattle.network_defs.specs.System.{NodeCall, Own, Follow, system};
 ghost use Rattle.wire_laws.specs.AnyNodes.{AnyNode, HasSessions, IsElsewhere, IsNodeAt, IsNodeBefore};
 ghost use Rattle.wire_laws.specs.AnyNodes.{node_after, node_fault, node_taking, rest_of, spent_of, with_known};
 
-/// A call of a node is the act of the network: what waits for its sessions behind it is what the act puts over them (RFC 4271 section 9.2,
-/// RFC 5036 section 3.5), and elsewhere nothing changes. Where the act lacks a label, the call does.
+/// A call of a node is the act of the network: what waits for its sessions after it is what the act puts over them (RFC 4271 section 9.2,
+/// RFC 5036 section 3.5), and elsewhere nothing changes. Where the act runs out of labels, the call does.
 pub fn calls_of_a_node_are_acts()
     ensures made { (n : NodeId) (network : OctetNetwork Nodes) (node : AnyNode) (call : NodeStep) (new : Behind (OctetNetwork Nodes)) →
         IsNodeBefore n network call node → octet_act system network (Call (Own n call)) ≡ Some new →

@@ -12,7 +12,7 @@ ghost use Rattle.network_defs.specs.Counts.{direction, directions};
 ghost use Rattle.wire_laws.specs.Edges.{IsWay};
 ghost use Rattle.wire_laws.specs.Ways.{IsFound};
 
-/// The directions of a scenario are those of each two edges over BGP and of each link over LDP, both ways, and each stands once.
+/// The directions of a scenario are those of each two edges over BGP and of each link over LDP, both ways, and each is there once.
 pub fn ways_of_a_scenario()
     ensures reverse { (scenario : Scenario) (kind : Kind) (a b : NodeId) → Rules scenario →
         IsWay scenario (direction kind a b) → IsWay scenario (direction kind b a) }

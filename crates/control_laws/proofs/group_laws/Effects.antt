@@ -55,7 +55,7 @@ left_there now None h = h
 left_there now (Some expiry) h = refl
 
 module _ (entries : Entries) where
-  -- Behind a message an (S,G) that is there was there, or the message joins it.
+  -- After a message an (S,G) that is there was there, or the message joins it.
   applied_there : (iface own : IfaceId) (message : JoinPrune) (now : ℕ) (source group : Addr) →
       is_some (maps.get (applied entries iface message now) (record { iface = own; entry = Source source group })) ≡ true →
       (is_some (maps.get entries (record { iface = own; entry = Source source group })) ≡ true) ⊎ (joins message (Source source group) ≡ true)

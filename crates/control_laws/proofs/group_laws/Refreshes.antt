@@ -1,4 +1,4 @@
--- Flows have groups of the family of their source, and so they have behind a step.
+-- Flows have groups of the family of their source, and so they have after a step.
 use Rattle.std.proofs.Common.{◌≡◌, ℕ, Bool, true, false, cond, inl, inr, Option, None, Some, refl, subst, ap}
 use Rattle.std.specs.Prelude.{is_some}
 use Rattle.std.specs.FinMap as maps

@@ -12,8 +12,8 @@ ghost use Rattle.edge_defs.specs.Steps.{Call, control_step, effect, refreshed};
 ghost use Rattle.control_laws.specs.Peers.{AreWritable};
 ghost use Rattle.control_laws.specs.group_laws.Groups.{HasGroups, HaveGroups, IsAllowed, IsFlow};
 
-/// Each (S,G) that is joined or noted at an edge, and each of its flows, has a multicast group of the family of S: at first, behind what a
-/// call itself changes, behind a refresh of the flows, and behind a step (RFC 6514 section 4). This asks of a call that what it joins or
+/// Each (S,G) that is joined or noted at an edge, and each of its flows, has a multicast group of the family of S: at first, after what a
+/// call itself changes, after a refresh of the flows, and after a step (RFC 6514 section 4). This asks of a call that what it joins or
 /// notes has such a group, and of the routes that were taken that each key has a spelling.
 pub fn groups_are_kept()
     ensures first { HaveGroups no_control }

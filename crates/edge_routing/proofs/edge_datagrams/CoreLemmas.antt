@@ -35,7 +35,7 @@ module _ (kept : Kept) (sound : IsSound kept) where
       let table = table_of (control_of kept) peer key route h in
       sound.peers peer (ap (λ (o : Option Taken). is_some o) (entry_get node_cmp_total kept.peers peer table.table table.of_peer))
 
-  -- the VRF and the tree at a place stand together
+  -- the VRF and the tree at a place are together
   pub it_there : (number : ℕ) (own : OwnVrf) (tree : TreeData) → slice_get (vrfs_of kept.home) number ≡ Some own
       → slice_get kept.trees number ≡ Some tree
       → Among (record { own = own; tree = tree }) (trees_of kept)

@@ -24,7 +24,7 @@ use Rattle.edge_control.proofs.PeerCalls.{no_table, some_table}
 
 -- ---- one tunnel
 
--- `==` of tunnels tells whether they are one
+-- `==` of tunnels says whether they are one
 pub fec_told : (fec own : Fec) (equal : Bool) → equal ≡ fecs_equal.ghosts.eq own fec → equal ≡ same_fec own fec
 fec_told fec own equal e =
     either equal (same_fec own fec) (λ h. same_fec_from own fec (fec_equal own fec (sym e ∙ h)))

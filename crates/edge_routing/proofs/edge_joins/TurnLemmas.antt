@@ -24,7 +24,7 @@ use Rattle.edge_control.specs.vrf_trees.declared.changes.TreeJoin.{TreeJoin}
 use Rattle.edge_routing.specs.edge_joins.Keys.{key_of, keys_of}
 use Rattle.edge_routing.specs.edge_joins.Upstreams.{HaveIpv4Imports}
 
--- ---- what was told stays
+-- ---- what was sent stays
 
 alike_then : (a b c : PeerTable) → IsToldAlike a b → IsToldAlike b c → IsToldAlike a c
 alike_then a b c h k = record { up = k.up ∙ h.up; told = k.told ∙ h.told; waiting = k.waiting ∙ h.waiting }
@@ -96,7 +96,7 @@ all_but_more place control joins i t hold =
 
 -- ---- one join more
 
--- what is read behind the end of a list
+-- what is read after the end of a list
 abbrev pub no_join : TreeJoin
 no_join = record { edge = record { 0 = 0 }; rd = record { 0 = [] }; import = (V4 [], 0); source_as = 0; source = V4 []; group = V4 [] }
 

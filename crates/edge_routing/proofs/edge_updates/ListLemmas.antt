@@ -1,4 +1,4 @@
--- What is found in lists one behind another, and what VRFs of an edge are told.
+-- What is found in lists one after another, and what VRFs of an edge are given.
 use Rattle.std.proofs.Common.{◌≡◌, ℕ, ◌+◌, ◌<◌, List, [], ◌∷◌, ◌++◌, length, get_or, map, take, Option, None, Some, refl, sym, ap, ◌∙◌}
 use Rattle.std.proofs.lemmas.List.{map-append, take_more}
 use Rattle.mv_base.specs.declared.addr.Addr.{Addr}
@@ -18,7 +18,7 @@ use Rattle.edge_routing.specs.edge_updates.Told.{listed, route_of, told_by, told
 abbrev found_or : {B : Type 0} → Option B → List B → List B
 found_or o rest = elim o [ None ↦ rest | Some found ↦ found ∷ rest ]
 
--- what is found in one list behind another
+-- what is found in one list after another
 found_append : {A B : Type 0} (f : A → Option B) (xs ys : List A) → found_in f (xs ++ ys) ≡ found_in f xs ++ found_in f ys
 found_append f [] ys = refl
 found_append f (x ∷ xs) ys = ap (found_or (f x)) (found_append f xs ys) ∙ by (f x) (found_in f xs)

@@ -92,7 +92,7 @@ module _ (home : Home) (core : Core) (peer : NodeId) where
 
 -- ---- one change
 
--- the route that stands at a key
+-- the route at a key
 route_is : (control : Control) (peer : NodeId) (key : Key) → tables_of control peer key ≡ route_at control.peers peer key
 route_is control peer key = by (maps.get control.peers peer)
   where
@@ -120,7 +120,7 @@ module _ (now : ℕ) (peer : NodeId) (change : Change) where
     rest = others old (maps.get old.peers peer) refl;
   }
 
--- behind a withdrawal none stands there
+-- after a withdrawal there is none
 withdrawn : (now : ℕ) (peer : NodeId) (key : Key) (old : Control) (o : Option Taken) → maps.get old.peers peer ≡ o
     → tables_of (behind now peer (updates.Unreach key) old o) peer key ≡ None
 withdrawn now peer key old None e = route_is old peer key ∙ ap (λ (o : Option Taken). o >>? λ (taken : Taken). maps.get taken key) e
@@ -132,7 +132,7 @@ withdrawn_route now peer key old =
     sym (route_is (changed_by now peer (updates.Unreach key ∷ []) old) peer key) ∙ withdrawn now peer key old (maps.get old.peers peer) refl
 
 module _ (now : ℕ) (peer : NodeId) (change : Change) (home : Home) where
-  -- the tunnels by the route that stands at the key of the change
+  -- the tunnels by the route at the key of the change
   abbrev told_of : Tables → List Fec
   told_of tables = told_at home peer (key_of change) (route_at tables peer (key_of change))
 
@@ -204,7 +204,7 @@ changed_twice now peer xs ys old =
     ∙ ap (λ (tables : Tables). fold step tables ys) (sym (one_after_another now peer xs old.peers))
     ∙ sym (fold-append step old.peers xs ys) ∙ one_after_another now peer (xs ++ ys) old.peers)
 
--- one row behind another
+-- one row after another
 pub taken_then : (now : ℕ) (peer : NodeId) (xs ys : List Change) (a b c : Kept) (first second third : List Fec)
     → AreTaken now peer xs a b first second
     → AreTaken now peer ys b c second third → AreTaken now peer (xs ++ ys) a c first third
@@ -235,6 +235,6 @@ update_is now peer message old = by (maps.get old.peers peer)
     by None = refl
     by (Some taken) = refl
 
--- what is not listed behind it comes and goes no more
+-- what is not listed after it comes and goes no more
 pub tunnels_listed : (place : EdgePlace) (old new : Control) (fecs : List Fec) → AreListed place old [] new fecs → AreTunnels place old new fecs
 tunnels_listed place old new fecs h fec none = (h fec none).1

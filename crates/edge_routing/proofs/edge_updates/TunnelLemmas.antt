@@ -25,7 +25,7 @@ use Rattle.control_laws.proofs.PeersTimers.{ran, with_run}
 use Rattle.control_laws.proofs.PeersTold.{Changes, Here, Loses, here_or_not}
 use Rattle.edge_routing.specs.edge_updates.Inclusive.{AreTunnels, HasAllFrom, IsInclusiveFrom}
 
--- of two lists one behind the other, neither has it
+-- of two lists one after the other, neither has it
 pub neither : (a b : Bool) → (a || b) ≡ false → (a ≡ false) × (b ≡ false)
 neither true b h = absurd (let bad : true ≡ false = h in cc)
 neither false b h = (refl, h)
@@ -35,7 +35,7 @@ pub unlisted : (fec : Fec) (xs ys : List Fec) → list_any (same_fec fec) (xs ++
 unlisted fec xs ys h = neither (list_any (same_fec fec) xs) (list_any (same_fec fec) ys) (sym (list_any-append (same_fec fec) xs ys) ∙ h)
 
 module _ (place : EdgePlace) (fec : Fec) where
-  -- an inclusive route that stands behind a step as before it
+  -- an inclusive route that is the same after a step as before it
   stands : (old new : Control) (is : IsInclusive place old fec) → tables_of new is.peer is.key ≡ tables_of old is.peer is.key
       → IsInclusive place new fec
   stands old new is same = record {
@@ -133,7 +133,7 @@ alike_tunnels place old new fecs same fec none = (
   λ is. stands place fec new old is (sym (same_tables old new same is.peer is.key)),
 )
 
--- what is behind a change of what is there
+-- what is there after a change of what was there
 mapped : {A B P : Type 0} (f : A → B) (o : Option A) (b : B) → option_map f o ≡ Some b → ((a : A) → o ≡ Some a → f a ≡ b → P) → P
 mapped f None b h k = absurd cc
 mapped f (Some a) b h k = k a refl cc

@@ -1,4 +1,4 @@
--- The joins that a refresh lists, as the peers and the keys at which they stand (RFC 6514 section 11.1.3).
+-- The joins that a refresh lists, as the peers and the keys at which they are (RFC 6514 section 11.1.3).
 use Rattle.std.specs.Prelude.{List, map}
 use Rattle.mv_base.specs.declared.ids.NodeId.{NodeId}
 use Rattle.bgp_messages.specs.declared.bgp_attributes.key.Key.{Key}

@@ -19,7 +19,7 @@ use Rattle.edge_control.specs.Sound.{wants_of}
 abbrev pub changed_by : ℕ → NodeId → List Change → Control → Control
 changed_by now peer changes old = record old { peers = changed_at peer (λ taken. fold (taken_change now) taken changes) old.peers }
 
--- What is not listed behind a step was not listed before it, and is the tunnel of an inclusive route before and behind, or of none.
+-- What is not listed after a step was not listed before it, and is the tunnel of an inclusive route before and after, or of none.
 abbrev pub AreListed : EdgePlace → Control → List Fec → Control → List Fec → Type 0
 AreListed place old before new after =
     (fec : Fec) → list_any (same_fec fec) after ≡ false →

@@ -25,6 +25,6 @@ pub record IsInclusiveFrom (place : EdgePlace) (control : Control) (from : NodeI
 abbrev pub HasAllFrom : EdgePlace → Control → NodeId → List Fec → Type 0
 HasAllFrom place control peer fecs = (fec : Fec) → IsInclusiveFrom place control peer fec → list_any (same_fec fec) fecs ≡ true
 
--- A tunnel is that of no inclusive route before and behind, or of one before and behind, but for those that are listed.
+-- A tunnel is that of no inclusive route before and after, or of one before and after, but for those that are listed.
 abbrev pub AreTunnels : EdgePlace → Control → Control → List Fec → Type 0
 AreTunnels place old new fecs = (fec : Fec) → list_any (same_fec fec) fecs ≡ false → IsInclusive place old fec ↔ IsInclusive place new fec

@@ -31,7 +31,7 @@ abbrev pub told_by : Home → NodeId → Key → Value → List Fec
 told_by home peer key value =
     found_in (λ (own : OwnVrf). imported_inclusive own.vrf (addr_of home.scenario peer) (key, route_of value)) (vrfs_of home)
 
--- where a route stands at the key
+-- where there is a route at the key
 abbrev pub told_at : Home → NodeId → Key → Option TakenRoute → List Fec
 told_at home peer key None = []
 told_at home peer key (Some taken) = told_by home peer key taken.value

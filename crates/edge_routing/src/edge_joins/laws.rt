@@ -20,7 +20,7 @@ pub fn changed_joins_are_left()
         HoldAllBut place (with_flows old flows) (keys_of joins) tables }
 {}
 
-/// Behind a refresh each flow's upstream at another edge is named by a VRF Route Import of an IPv4 address, since a unicast route is used
+/// After a refresh each flow's upstream at another edge is named by a VRF Route Import of an IPv4 address, since a unicast route is used
 /// only with one (RFC 6514 section 7).
 pub fn refreshed_imports_are_ipv4()
     ensures { (place : EdgePlace) (now : ℕ) (control : Control) → HaveIpv4Imports (refreshed place now control) }

@@ -112,7 +112,7 @@ fn append_of_table(fecs: &mut Vec<Fec>, control: &EdgeControl, peer: NodeId) -> 
     }
 }
 
-/// The inclusive tunnels whose routes some VRF of the edge imports from the peer, in no order. One may stand more than once.
+/// The inclusive tunnels whose routes some VRF of the edge imports from the peer, in no order. One may be there more than once.
 pub fn inclusive_from(
     control: &EdgeControl,
     alloc: Global,

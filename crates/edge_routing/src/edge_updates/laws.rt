@@ -23,7 +23,7 @@ pub fn tunnels_stay()
         AreTunnels place control (record control { peers = peers_run place now control.peers }) fecs }
 {}
 
-/// By two steps, one behind the other, none but the tunnels of each may come or go.
+/// By two steps, one after the other, none but the tunnels of each may come or go.
 pub fn tunnels_of_two_steps()
     ensures { (place : EdgePlace) (first second third : Control) (fecs more : List Fec) →
         AreTunnels place first second fecs → AreTunnels place second third more → AreTunnels place first third (fecs ++ more) }

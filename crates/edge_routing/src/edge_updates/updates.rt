@@ -133,7 +133,7 @@ fn take_parts(
 }
 
 /// Takes an UPDATE message of the peer: its withdrawals first, and then its advertisements (RFC 4271 section 4.3). A peer whose session
-/// is down changes nothing. It answers the inclusive tunnels that may come or go by it, in no order; one may stand more than once. Where
+/// is down changes nothing. It answers the inclusive tunnels that may come or go by it, in no order; one may be there more than once. Where
 /// memory runs out, some first ones of the changes are made, and the route of the next one may be withdrawn.
 pub fn take_update(
     control: &mut EdgeControl,

@@ -1,4 +1,4 @@
--- The lines of each act of the control plane name what is there; where it lacks a label, it does so at a node of the scenario.
+-- The lines of each act of the control plane name what is there; where it runs out of labels, it does so at a node of the scenario.
 use Rattle.std.proofs.Common.{◌≡◌, ◌++◌, ℕ, take, List, [], ◌∷◌, Option, None, Some, sym, subst}
 use Rattle.mv_base.specs.declared.ids.NodeId.{NodeId}
 use Rattle.scenario_defs.specs.Text.{IsLineOf}
@@ -51,7 +51,7 @@ module _ (scenario : Scenario) (sound : SoundScenario scenario) where
       (each_weaker (IsOver scenario) (λ over. AreNamed scenario (put_line puts over)) (put_named puts) (directions scenario)
       (directions_within scenario sound))
 
-  -- lines, and behind them those of what is put
+  -- lines, and after them those of what is put
   made_named : (world : World) → scenario_of world ≡ scenario → (before : List ReportLine) → AreNamed scenario before → (puts : List Put)
       → AreNamed scenario (before ++ put_lines (scenario_of world) puts)
   made_named world same before b puts =

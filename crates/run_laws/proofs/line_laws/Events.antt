@@ -163,7 +163,7 @@ module _ (world : World) (b : Before (scenario_of world) world) where
   abbrev own : Scenario
   own = scenario_of world
 
-  -- of what is behind the event nothing more is said
+  -- of what is after the event nothing more is said
   abbrev Told : Outcome → Type 0
   Told o = Tells own Any o
 
@@ -265,7 +265,7 @@ module _ (world : World) (b : Before (scenario_of world) world) where
       by None free = done_told timed.event free is
       by (Some reason) refused = (((tt, tt), tt), tt)
 
--- ---- behind a run
+-- ---- after a run
 
 module _ (cores : Cores) (script : Script) (events : List Timed) (trace : List Traced) (world : World)
     (run : SoundRun cores script events trace world) where

@@ -1,4 +1,4 @@
--- Lines of rows of acts name what is there; also where an act lacks a label, and then its node is there.
+-- Lines of rows of acts name what is there; also where an act runs out of labels, and then its node is there.
 use Rattle.std.specs.Prelude.{Result, Ok, Err}
 use Rattle.std.proofs.Common.{ℕ, zero, suc, ◌++◌, List, [], ◌∷◌, Some}
 use Rattle.std.specs.List.{AllByRecursion}
@@ -20,12 +20,12 @@ module _ (scenario : Scenario) where
   abbrev HasNamed : Happened → Type 0
   HasNamed happened = AreNamed happened.lines
 
-  -- the lines of an act, or the node that lacks a label
+  -- the lines of an act, or the node that runs out of labels
   abbrev pub Says : Result Acted NodeId → Type 0
   Says (Err node) = IsNode scenario node
   Says (Ok new) = AreNamed new.lines
 
-  -- the lines of an outcome, and the world behind it, or the node that lacks a label
+  -- the lines of an outcome, and the world after it, or the node that runs out of labels
   abbrev pub Tells : (World → Type 0) → Outcome → Type 0
   Tells W (Halted acts node) = AllByRecursion HasNamed acts × IsNode scenario node
   Tells W (Done acts new) = AllByRecursion HasNamed acts × W new

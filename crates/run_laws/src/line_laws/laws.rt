@@ -13,8 +13,8 @@ ghost use Rattle.delivery_laws.specs.network_laws.Honest.{IsSoundEvent};
 ghost use Rattle.delivery_laws.specs.network_laws.SoundRun.{SoundRun};
 ghost use Rattle.run_laws.specs.line_laws.Lines.{lines_in};
 
-/// Behind a run of sound events in a sound scenario, each line of what a sound event does names nodes and interfaces of the scenario.
-/// So do the lines of an event that lacks a label, up to there, and the line of its halt.
+/// After a run of sound events in a sound scenario, each line of what a sound event does names nodes and interfaces of the scenario.
+/// So do the lines of an event that runs out of labels, up to there, and the line of its halt.
 pub fn lines_name_what_is_there()
     ensures done { (cores : Cores) (script : Script) (events : List Timed) (trace : List Traced) (world : World) →
         SoundRun cores script events trace world → (timed : Timed) → IsSoundEvent script.scenario timed.event →

@@ -3,8 +3,10 @@
 
 mod entry;
 mod laws;
+mod learning;
 mod running;
 mod slots;
+mod table;
 mod tables;
 
 pub use entry::{RouteValue, TakenEntry, same_value};

@@ -39,7 +39,7 @@ node_exact a b e = let same = maps.nat_cmp-IsAntisymmetric a.0 b.0 e in λ i. re
 
 -- ---- maps
 
-one_key : {K : Type 0} {R : K → K → Ordering} → IsAntisymmetric R → (q k : K) → eq_by_cmp R q k ≡ true → q ≡ k
+pub one_key : {K : Type 0} {R : K → K → Ordering} → IsAntisymmetric R → (q k : K) → eq_by_cmp R q k ≡ true → q ≡ k
 one_key {R = R} exact q k e = exact q k ((Equal-is (R q k)).0 e)
 
 module _ {K X : Type 0} {R : K → K → Ordering} (total : IsTotalOrder R) (exact : IsAntisymmetric R) where
@@ -295,10 +295,10 @@ news_learned value (Some old) now h = by (same_value old.value value) h
 
 -- ---- keys that have spellings
 
-one_some : {A : Type 0} (x y : A) → ◌≡◌ {A = Option A} (Some x) (Some y) → x ≡ y
+pub one_some : {A : Type 0} (x y : A) → ◌≡◌ {A = Option A} (Some x) (Some y) → x ≡ y
 one_some x y h = cc
 
-no_some : {A P : Type 0} (x : A) → ◌≡◌ {A = Option A} None (Some x) → P
+pub no_some : {A P : Type 0} (x : A) → ◌≡◌ {A = Option A} None (Some x) → P
 no_some x h = absurd cc
 
 no_key : {P : Type 0} → false ≡ true → P

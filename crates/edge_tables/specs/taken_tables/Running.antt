@@ -1,10 +1,12 @@
 -- The delays of selective routes, by the VRFs of the edge and the addresses of the nodes.
-use Rattle.std.specs.Prelude.{◌≡◌, ℕ, ◌+◌, ◌&&◌, ◌||◌, Bool, true, nat_le, List, map, is_some, slice_get, None, Some}
+use Rattle.std.specs.Prelude.{◌≡◌, ℕ, ◌+◌, ◌&&◌, ◌||◌, Bool, true, false, not, nat_le, List, map, is_some, slice_get, None, Some}
 use Rattle.std.specs.List.{list_any}
 use Rattle.std.specs.FinMap as maps
 use Rattle.mv_base.specs.declared.addr.Addr.{Addr}
 use Rattle.mv_base.specs.declared.ids.NodeId.{NodeId}
+use Rattle.bgp_values.specs.declared.mvpn_nlri.route.Route.TheVariants.{Selective}
 use Rattle.bgp_messages.specs.declared.bgp_attributes.key.Key.{Key}
+use Rattle.bgp_messages.specs.declared.bgp_attributes.key.Key.TheVariants.{Mcast}
 use Rattle.scenario_defs.specs.declared.scenario.Node.{Node}
 use Rattle.edge_defs.specs.Edge.{Taken, TakenRoute}
 use Rattle.edge_defs.specs.Imported.{imported_selective}
@@ -29,6 +31,19 @@ table_run vrfs delay now peer taken =
 abbrev pub node_run : List Local → List Node → ℕ → ℕ → NodeId → Taken → Taken
 node_run vrfs nodes delay now peer taken =
     elim (slice_get nodes peer.0) [ None ↦ taken | Some node ↦ table_run vrfs delay now node.addr taken ]
+
+-- whether a route of the key may have a delay: an S-PMSI A-D route alone
+abbrev pub is_delayed : Key → Bool
+is_delayed (Mcast afi (Selective rd source group originator)) = true
+is_delayed other = false
+
+-- whether the delay of the route may still be run
+abbrev pub awaits : Key → TakenRoute → Bool
+awaits key route = is_delayed key && not route.run
+
+-- where it is noted that nothing waits, the delay of none of the routes may still be run
+abbrev pub IsNoted : Bool → Taken → Type 0
+IsNoted waits taken = waits ≡ false → (key : Key) (route : TakenRoute) → maps.get taken key ≡ Some route → awaits key route ≡ false
 
 -- These are the VRFs of the edge, the nodes of its network and its delay; and each peer is one of the nodes.
 pub record IsOf (place : EdgePlace) (vrfs : List Local) (nodes : List Node) (delay : ℕ) (tables : Tables) : Type 0 where

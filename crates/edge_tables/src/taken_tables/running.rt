@@ -1,81 +1,21 @@
-//! The table of one peer.
-ghost use Rattle.std.specs.Prelude.{◌≡◌, ◌+◌, ◌&&◌, true, not, nat_le, is_some, IfOk, OnOk, OnErr};
+//! The delays of the routes of one peer.
+ghost use Rattle.std.specs.Prelude.{◌≡◌, ◌+◌, ◌&&◌, ◌||◌, true, nat_le, is_some};
+ghost use Rattle.std.specs.List.{list_any};
 ghost use Rattle.std.specs.FinMap as maps;
-ghost use Rattle.bgp_messages.specs.bgp_update.Written.{HasOctets};
 ghost use Rattle.edge_defs.specs.Imported.{imported_selective};
-ghost use Rattle.edge_defs.specs.Steps.{taken_change};
-ghost use Rattle.edge_tables.specs.taken_tables.Routes.{handed};
-ghost use Rattle.edge_tables.specs.taken_tables.Running.{imports, node_run, run_at, table_run};
+ghost use Rattle.edge_tables.specs.taken_tables.Running.{awaits, imports, is_delayed, run_at, table_run};
 ghost use Rattle.edge_tables.specs.taken_tables.Slots.{taken_in};
-ghost use Rattle.edge_tables.specs.taken_tables.Tables.{IsSpelledKey, is_news, reach};
 
 use crate::rib_sync::Inbox;
-use crate::taken_tables::entry::{RouteValue, TakenEntry, same_value};
+use crate::taken_tables::entry::TakenEntry;
 use bgp_messages::bgp_attributes::Key;
-use edge_routes::route_order::{TableKey, are_octets};
+use bgp_values::mvpn_nlri::Route;
+use edge_routes::route_order::TableKey;
 use edge_routes::{LocalVrf, imported_selective};
-use mv_base::table_defs::Change;
-use mv_base::{Addr, NoMemory, NodeId};
-use scenario_defs::Node;
+use mv_base::Addr;
 
 /// The routes that were taken from a peer.
-pub(crate) type TakenTable = Inbox<TableKey, TakenEntry>;
-
-/// Whether the route is another one than that of the table.
-fn is_news(table: &TakenTable, key: &TableKey, value: &RouteValue) -> bool
-    ensures { result ≡ is_news (handed value.now) (maps.get (taken_in table.now) key.now) }
-{
-    match table.get(key) {
-        None => true,
-        Some(entry) => !same_value(&entry.value(), &value.lent()),
-    }
-}
-
-/// Shows that the prefix of a unicast route is octets.
-fn has_octets(key: &Key)
-    ensures { HasOctets key.now }
-{
-    match key {
-        Key::Unicast { rd: _, prefix } => are_octets(prefix.addr.octets()),
-        Key::Mcast(_, _) => {}
-    }
-}
-
-/// Shows that the key has a spelling, and is of octets.
-fn spelled(key: &TableKey)
-    ensures { IsSpelledKey key.now }
-{
-    has_octets(key.key());
-}
-
-/// Takes the route at the clock, and tells whether it is another one than before. An equal one keeps its time.
-#[tactic(auto, using(edge_defs::proofs::KeyLemmas::key_exact))]
-pub(crate) fn learn(
-    table: &mut TakenTable,
-    key: TableKey,
-    value: RouteValue,
-    now: u64,
-) -> Result<bool, NoMemory>
-    ensures learned { OnOk result (taken_in table.new ≡ taken_change now (taken_in table.old) (reach key (handed value))) }
-    ensures news { IfOk result (λ news. news ≡ is_news (handed value) (maps.get (taken_in table.old) key)) }
-    ensures spelled { IsSpelledKey key }
-    ensures unchanged { OnErr result (table.new ≡ table.old) }
-{
-    spelled(&key);
-    if !is_news(table, &key, &value) {
-        return Ok(false);
-    }
-    table.apply(Change::Reach(key, TakenEntry::of(value, now)))?;
-    Ok(true)
-}
-
-/// Forgets the route of the key.
-#[tactic(auto, using(edge_defs::proofs::KeyLemmas::key_exact))]
-pub(crate) fn forget(table: &mut TakenTable, key: &TableKey)
-    ensures { taken_in table.new ≡ maps.remove (taken_in table.old) key.now }
-{
-    table.remove(key);
-}
+pub(crate) type TakenRoutes = Inbox<TableKey, TakenEntry>;
 
 /// Whether the VRF imports the selective route from the peer of that address.
 fn is_importer(own: &LocalVrf, peer: Addr, key: &TableKey, entry: &TakenEntry) -> bool
@@ -98,11 +38,48 @@ fn is_over(since: u64, delay: u64, now: u64) -> bool
     since <= now && now - since >= delay
 }
 
-/// Whether the delay of the route is due, and was not run.
-fn is_waiting(entry: &TakenEntry, delay: u64, now: u64) -> bool
-    ensures { result ≡ (not entry.now.run && nat_le (entry.now.since + delay) now) }
+/// Whether a route of the key may have a delay: an S-PMSI A-D route alone.
+fn is_delayed(key: &Key) -> bool
+    ensures { result ≡ is_delayed key.now }
 {
-    !entry.was_run() && is_over(entry.since(), delay, now)
+    matches!(key, Key::Mcast(_, Route::Selective { .. }))
+}
+
+/// Whether the delay of the route may still be run.
+fn awaits(key: &TableKey, entry: &TakenEntry) -> bool
+    ensures { result ≡ awaits key.now entry.now }
+{
+    is_delayed(key.key()) && !entry.was_run()
+}
+
+/// Whether the delay of a route of a table may still be run, once this one is put there.
+pub(crate) fn awaits_with(waits: bool, key: &TableKey, entry: &TakenEntry) -> bool
+    ensures { result ≡ (waits || awaits key.now entry.now) }
+{
+    waits || awaits(key, entry)
+}
+
+/// Whether the delay of one of the routes may still be run.
+pub(crate) fn any_awaits(routes: &TakenRoutes) -> bool
+    ensures { result ≡ list_any (λ entry. awaits entry.0 entry.1) (maps.entries (taken_in routes.now)) }
+{
+    routes.iter().any(|(key, entry)| awaits(key, entry))
+}
+
+/// Whether the delay of the route is due, and one of the VRFs imports it. Most routes are none that have a delay, so that is asked
+/// first.
+fn is_due(
+    entry: &TakenEntry,
+    key: &TableKey,
+    vrfs: &[LocalVrf],
+    peer: Addr,
+    delay: u64,
+    now: u64,
+) -> bool
+    ensures { result ≡ ((awaits key.now entry.now && nat_le (entry.now.since + delay) now)
+        && imports vrfs.now peer (key.now, entry.now)) }
+{
+    awaits(key, entry) && is_over(entry.since(), delay, now) && imports(vrfs, peer, key, entry)
 }
 
 /// Runs the delay of a route that one of the VRFs imports, where it is due.
@@ -116,15 +93,21 @@ fn run_entry(
 )
     ensures { entry.new ≡ run_at vrfs.now delay now peer key.now entry.old }
 {
-    let due = is_waiting(entry, delay, now) && imports(vrfs, peer, key, entry);
+    let due = is_due(entry, key, vrfs, peer, delay, now);
     entry.run_where(due);
 }
 
-/// Runs the delays of the table of a peer of that address.
-fn run_table(table: &mut TakenTable, vrfs: &[LocalVrf], peer: Addr, delay: u64, now: u64)
-    ensures { taken_in table.new ≡ table_run vrfs.now delay now peer (taken_in table.old) }
+/// Runs the delays of the routes that were taken from a peer of that address.
+pub(crate) fn run_routes(
+    routes: &mut TakenRoutes,
+    vrfs: &[LocalVrf],
+    peer: Addr,
+    delay: u64,
+    now: u64,
+)
+    ensures { taken_in routes.new ≡ table_run vrfs.now delay now peer (taken_in routes.old) }
 {
-    table.retain(
+    routes.retain(
         |key: &TableKey, entry: &mut TakenEntry| -> bool
             ensures { (result ≡ true) × (entry.new ≡ run_at vrfs.entry.now delay now peer key.now entry.old) }
         {
@@ -132,21 +115,4 @@ fn run_table(table: &mut TakenTable, vrfs: &[LocalVrf], peer: Addr, delay: u64, 
             true
         },
     );
-}
-
-/// Runs the delays of the table of a node.
-pub(crate) fn run_node(
-    table: &mut TakenTable,
-    vrfs: &[LocalVrf],
-    nodes: &[Node],
-    delay: u64,
-    now: u64,
-    peer: NodeId,
-)
-    ensures { taken_in table.new ≡ node_run vrfs.now nodes.now delay now peer (taken_in table.old) }
-{
-    match nodes.get(usize::from(peer.0)) {
-        None => {}
-        Some(node) => run_table(table, vrfs, node.addr, delay, now),
-    }
 }

@@ -7,7 +7,8 @@ ghost use Rattle.edge_tables.specs.taken_tables.Slots.{tables_of};
 ghost use Rattle.edge_tables.specs.taken_tables.Tables.{AreSpelled, changed_at, is_news_at, reach};
 
 use crate::taken_tables::entry::RouteValue;
-use crate::taken_tables::running::{TakenTable, forget, learn};
+use crate::taken_tables::learning::learn;
+use crate::taken_tables::table::TakenTable;
 use edge_routes::route_order::TableKey;
 use mv_base::{NoMemory, NodeId};
 use std::collections::BTreeMap;
@@ -43,6 +44,6 @@ pub(crate) fn forget_from(slots: &mut Slots, peer: NodeId, key: &TableKey)
 {
     match slots.get_mut(&peer.0) {
         None => {}
-        Some(table) => forget(table, key),
+        Some(table) => table.remove(key),
     }
 }

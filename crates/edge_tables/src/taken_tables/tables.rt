@@ -11,10 +11,10 @@ ghost use Rattle.edge_tables.specs.taken_tables.Running.{IsOf, node_run};
 ghost use Rattle.edge_tables.specs.taken_tables.Slots.{taken_in};
 ghost use Rattle.edge_tables.specs.taken_tables.Tables.{AreSpelled, changed_at, is_news_at, reach, route_at};
 
-use crate::rib_sync::{Entries, Inbox};
+use crate::rib_sync::Entries;
 use crate::taken_tables::entry::{RouteValue, TakenEntry};
-use crate::taken_tables::running::{TakenTable, run_node};
 use crate::taken_tables::slots::{Slots, forget_from, learn_from};
+use crate::taken_tables::table::{TakenTable, run_node};
 use edge_routes::LocalVrf;
 use edge_routes::route_order::TableKey;
 use mv_base::{NoMemory, NodeId};
@@ -63,7 +63,7 @@ impl TakenTables {
         ensures raised { OnOk result (self.new ≡ maps.insert self.old peer maps.empty) }
         ensures unchanged { OnErr result (self.new ≡ self.old) }
     {
-        self.slots.insert(peer.0, Inbox::of(self.alloc))?;
+        self.slots.insert(peer.0, TakenTable::of(self.alloc))?;
         Ok(())
     }
 

@@ -16,16 +16,16 @@ returns-in-None-clause-forgot c = λ now.
 pub returns-in-Some-clause-forgot : goal.returns-in-Some-clause-forgot
 returns-in-Some-clause-forgot c = λ now.
     let old = c.args.slots.now.entries in
-    let new = (c.get_mut.follows.lender c.forget.new.table).entries in
-    let written = (c.get_mut.follows.holds c.forget.new.table).3 (search rules) in
-    changed_by old new (tables_of old) c.args.peer c.in-Some.table.now c.forget.new.table refl c.in-Some.ensures.value written.0
-    (λ taken. taken_change now taken (Unreach c.args.key.now)) c.forget.ensures
+    let new = (c.get_mut.follows.lender c.remove.new.self).entries in
+    let written = (c.get_mut.follows.holds c.remove.new.self).3 (search rules) in
+    changed_by old new (tables_of old) c.args.peer c.in-Some.table.now c.remove.new.self refl c.in-Some.ensures.value written.0
+    (λ taken. taken_change now taken (Unreach c.args.key.now)) c.remove.ensures
 
 pub returns-in-Some-clause-spelled : goal.returns-in-Some-clause-spelled
 returns-in-Some-clause-spelled c = λ spelled.
     let old = c.args.slots.now.entries in
-    let new = (c.get_mut.follows.lender c.forget.new.table).entries in
-    let written = (c.get_mut.follows.holds c.forget.new.table).3 (search rules) in
+    let new = (c.get_mut.follows.lender c.remove.new.self).entries in
+    let written = (c.get_mut.follows.holds c.remove.new.self).3 (search rules) in
     let there = c.in-Some.table.now in
-    slot_spelled old new c.args.peer there c.forget.new.table c.in-Some.ensures.value written.0 spelled
-    (λ h. subst IsSpelled (sym c.forget.ensures) (rest_spelled (taken_in there) c.args.key.now h))
+    slot_spelled old new c.args.peer there c.remove.new.self c.in-Some.ensures.value written.0 spelled
+    (λ h. subst IsSpelled (sym c.remove.ensures) (rest_spelled (taken_in there) c.args.key.now h))

@@ -11,7 +11,7 @@ use Rattle.audit_defs.specs.mvpn_model.Past.{Past, standing, is_active_at, asks}
 use Rattle.audit_events.specs.Joined.{Kept, entry_now, Follows}
 use Rattle.audit_events.proofs.ExpiryLemmas.{counts_alike}
 
--- What is kept says whether an entry counts.
+-- What is kept tells whether an entry counts.
 counts_same : (past : Past) (kept : Kept) → Follows past kept → (iface : IfaceId) (entry : JoinEntry) →
     counts kept.clock (entry_now past.scenario kept iface entry) ≡ counts kept.clock (standing past iface entry).expiry
 counts_same past kept follows iface entry =

@@ -99,7 +99,7 @@ pub from_number : (refused : List ℕ) (number : ℕ) (all : List Timed) (place 
 from_number refused number all place datagram e =
     (let r = sent_there refused number all place datagram e in let there = r.there in omega (arith, there))
 
--- Datagrams are in the order of their events.
+-- Datagrams stand in the order of their events.
 pub in_order : (refused : List ℕ) (number : ℕ) (all : List Timed) (first second : ℕ) (a b : Datagram) → first < second
     → slice_get (datagrams refused number all) first ≡ Some a →
     slice_get (datagrams refused number all) second ≡ Some b → a.event < b.event

@@ -1,4 +1,4 @@
--- The markers of a report and the events that they belong to: which lines of the cut report show a state.
+-- The markers of a report and the events that they belong to: which lines of the cut report tell a state.
 use Rattle.std.specs.Prelude.{filter, Contains}
 use Rattle.std.proofs.Common.{◌≡◌, ℕ, zero, suc, ◌+◌, ◌==◌, Bool, true, false, cond, inl, inr, map, List, [], ◌∷◌, slice_get, Some, refl, sym, ap, subst, ◌∙◌, arith}
 use Rattle.std.specs.List.{AllByRecursion}

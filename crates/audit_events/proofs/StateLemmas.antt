@@ -1,4 +1,4 @@
--- Which state lines a cut report has, by the fates of its events.
+-- Which state lines a cut report tells, by the fates of its events.
 use Rattle.std.specs.Prelude.{filter, Contains}
 use Rattle.std.proofs.Common.{◌≡◌, ℕ, zero, suc, ◌+◌, ◌==◌, Bool, true, false, cond, map, length, List, [], ◌∷◌, slice_get, Some, refl, sym, ap, subst, ◌∙◌, arith}
 use Rattle.std.specs.List.{AllByRecursion}
@@ -118,7 +118,7 @@ module _ (script : Script) (report : ReportLines) (marked : List Marked) (are : 
       let b = contained (Belongs 0 script.events all_fates) own_pairs (record { place = place; line = line }) belong among in
       ap (slice_get all_fates) (let e = b.there in let same : place ≡ b.offset = omega (arith, e) in same) ∙ b.fate
 
-  -- A state line that the cut report has is the fate of its event.
+  -- A state line that the cut report tells is the fate of its event.
   pub told_fate : (place bytes copies buffers due unready : ℕ)
       → TellsState script.events (cut (audited script report.lines)) place bytes copies buffers due unready →
       slice_get all_fates place ≡ Some (fate_of (lines.State bytes copies buffers due unready))
@@ -139,7 +139,7 @@ module _ (script : Script) (report : ReportLines) (marked : List Marked) (are : 
           contained (λ (own : ReportLine). g.value ≡ own) (g.value ∷ []) (lines.State bytes copies buffers due unready) (refl, tt) has in
           ap (slice_get all_fates) (sym at) ∙ (fate_in g.event g.value (is (ap is_marker value)) ∙ ap (λ (l : ReportLine). Some (fate_of l)) value)
 
-  -- the line that marks a `state` event, as the cut report has it
+  -- the line that marks a `state` event, told by the cut report
   pub record StateLine (place : ℕ) : Type 0 where
     pub bytes : ℕ
     pub copies : ℕ

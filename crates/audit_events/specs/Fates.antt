@@ -31,7 +31,7 @@ abbrev pub is_refused : Fate → Bool
 is_refused fates.Refused = true
 is_refused other = false
 
--- whether the state line of the event says that no copy is on a link
+-- whether the state line of the event tells of no copy on a link
 abbrev pub is_clear : Fate → Bool
 is_clear fates.Calm = true
 is_clear fates.Clear = true

@@ -180,7 +180,7 @@ abbrev pub TakesGiven : Scenario → Option Given → Kept → Kept → Type 0
 TakesGiven scenario None old new = GoesOn 0 old.restarts old new
 TakesGiven scenario (Some given) old new = TakesMessage scenario given.iface given.message old new
 
--- What an accepted event makes of what is kept. Timers change nothing: what has ended is seen from the clock.
+-- What an accepted event makes of what is kept. Timers change nothing: what has ended is told by the clock.
 abbrev pub Steps : Scenario → Event → Kept → Kept → Type 0
 Steps scenario (events.Tick count) old new = GoesOn count old.restarts old new
 Steps scenario (events.Restart node) old new = GoesOn 0 (slice_set old.restarts node.0 (old.now + 1)) old new

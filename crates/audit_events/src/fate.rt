@@ -10,9 +10,9 @@ pub enum Fate {
     Refused,
     /// It is `state`, and its line has five zeros.
     Calm,
-    /// It is `state`, and its line says that no copy is on a link, but is not calm.
+    /// It is `state`, and its line tells of no copy on a link, but is not calm.
     Clear,
-    /// It is `state`, and its line says that copies are on links.
+    /// It is `state`, and its line tells of copies on links.
     Busy,
 }
 

@@ -1,5 +1,5 @@
-//! Joined state and notes of all interfaces, kept event by event. Nothing is removed: that an entry has ended is seen from the clock,
-//! and that a restart or a join (*,G) ended it from the number of the event that set it.
+//! Joined state and notes of all interfaces, kept event by event. Nothing is removed: an entry that has ended is told by the clock,
+//! one that a restart or a join (*,G) ended by the number of the event that set it.
 ghost use Rattle.std.specs.Prelude.{◌≡◌, ◌<◌, ◌+◌, ◌++◌, ◌^◌, ◌&&◌, slice_set, if◌then◌else◌, Some, IfOk, OnOk};
 ghost use Rattle.std.specs.List.{list_any};
 ghost use Rattle.indexmap.specs.IndexMap.{get};

@@ -8,7 +8,7 @@
 //! and the number of the event that set it that a restart or a join (*,G) ended it (RFC 7761 sections 4.5 and 4.9.5). By
 //! them `receivers.rt` finds who asks for a flow. No datagram is kept, and no list of receivers, so memory goes
 //! with the events and the entries that they name. In `proofs/` it is shown that what is kept follows the meaning of the
-//! events (`FollowLemmas`, `ReceiverLemmas`), that fates are what counts as refused (`FateLemmas`), and that they give the
+//! events (`FollowLemmas`, `ReceiverLemmas`), that fates are what counts as refused (`FateLemmas`), and that they tell the
 //! windows of the cut report (`InWindows`). Below it are `audit_defs`, whose words it hands on, `pim_defs`, and
 //! `pim_state`, of which it has the words of a map of entries; above it `mvpn_audit` judges the lines.
 #![tactic(auto)]

@@ -13,7 +13,7 @@ use Rattle.mvpn_audit.specs.contracts.exits.ExitPartialEq.TheImpl as exits_equal
 use Rattle.mvpn_audit.specs.declared.exits.Exit.{Exit}
 use Rattle.mvpn_audit.specs.declared.exits.OutLines.{OutLines}
 
--- whether both are one, as `==` says it
+-- whether both are one, as `==` tells it
 abbrev pub is_exit : Exit → Exit → Bool
 is_exit = exits_equal.ghosts.eq
 

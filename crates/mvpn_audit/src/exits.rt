@@ -79,7 +79,7 @@ fn ask(exits: &mut Exits, exit: Exit) -> bool
     }
 }
 
-/// Whether one was missing before, or the next one did not leave.
+/// Whether one was lacking before, or the next one did not leave.
 fn any_lacks(before: bool, left: bool) -> bool
     ensures { result ≡ (before || not left) }
 {

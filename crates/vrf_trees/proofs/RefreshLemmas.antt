@@ -1,4 +1,4 @@
--- What a refresh leaves is what the flows want, and what it answers is what changed.
+-- What a refresh leaves is what the flows want, and what it tells is what changed.
 use Rattle.std.proofs.Common.{◌≡◌, Bool, true, false, cond, List, [], ◌∷◌, map, Option, None, Some, is_some, refl, sym, ap, subst, ◌∙◌}
 use Rattle.std.specs.List.{IsDistinct, list_any}
 use Rattle.std.specs.Map.{keys_of, lookup}
@@ -47,7 +47,7 @@ steady leaf q (Some up) (Some own) e f = by own.stale refl
     by true s = ap (λ (n : NodeId). Some (wants_of leaf n q)) edge
     by false s = f s
 
--- What a flow wants after a refresh is what it wants by its upstream then.
+-- What a flow wants behind a refresh is what it wants by its upstream then.
 pub renewed : (leaf : Leaf) (q : Flow) (before after : Option Upstream) (held : Option Wants) → edge_in held ≡ edge_to before
     → (is_stale held ≡ false → held ≡ wants_by leaf q before) →
     carried (with_joins leaf q (gained before after) (with_leaves (lost before after) (planned leaf q held))) held ≡ wants_by leaf q after

@@ -22,7 +22,7 @@ use Rattle.vrf_trees.specs.Changes.{AreNew}
 use Rattle.vrf_trees.specs.Plan.{carried, comes, comes_at, fecs_in, goes, goes_at}
 use Rattle.vrf_trees.specs.Wants.{has_fec, is_fec, is_in, tunnels_in}
 
--- what `==` says of FECs is what ties
+-- what `==` tells of FECs is what ties
 pub fec_ties : (a b : Fec) → is_fec a b ≡ eq_by_cmp fec_cmp a b
 fec_ties = tied fec_cmp is_fec fec_cmp_total fec_cmp_exact fec_equal fec_itself
 
@@ -146,7 +146,7 @@ distinct-left {X} same test (x ∷ xs) h = by (test x) (distinct-left same test 
     by true rest = (all-left _ test xs h.0, rest)
     by false rest = rest
 
--- What is left of distinct tunnels is new, where it is what is there afterwards and not before.
+-- What is left of distinct tunnels is new, where it is what is there behind and not before.
 left-new : (keys fecs before after : List Fec)
     → ((fec : Fec) → (is_in fec keys && not (is_in fec before)) ≡ (is_in fec after && not (is_in fec before))) → IsDistinct is_fec keys →
     fecs ≡ filter (λ fec. not (is_in fec before)) keys → AreNew fecs (sets.from_list before) (sets.from_list after)

@@ -1,4 +1,4 @@
--- What a VRF keeps as plain data, and its code, by which models of it are distinguished.
+-- What a VRF keeps as plain data, and its code, by which a model of it is told apart.
 use Rattle.std.specs.Prelude.{ℕ, [], refl}
 use Rattle.std.specs.Coded.{Coded, code_by, coded×}
 use Rattle.std.specs.FinMap as maps

@@ -24,7 +24,7 @@ use Rattle.vrf_trees.specs.declared.wants.Cause.TheVariants as causes
 abbrev pub WantTable : Type 0
 WantTable = IndexMap Flow Wants (BuildHasherDefault FoldHasher)
 
--- whether both are one tunnel, as `==` says it
+-- whether both are one tunnel, as `==` tells it
 abbrev pub is_fec : Fec → Fec → Bool
 is_fec = fecs_equal.ghosts.eq
 

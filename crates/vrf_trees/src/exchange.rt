@@ -127,7 +127,7 @@ fn carry(wants: &mut WantTable, plan: Plan) -> Result<(), NoMemory>
     Ok(())
 }
 
-/// Carries the plan out, after which no flow is stale.
+/// Carries the plan out, behind which no flow is stale.
 fn carry_out(wants: &mut WantTable, plan: Plan) -> Result<(), NoMemory>
     requires unique { IsUnique same_flow plan }
     requires held { IsUnique same_flow wants.old }
@@ -140,7 +140,7 @@ fn carry_out(wants: &mut WantTable, plan: Plan) -> Result<(), NoMemory>
     Ok(())
 }
 
-/// Carries the plan out, and answers which tunnels come and go by it. It looks only at tunnels of flows of the plan.
+/// Carries the plan out, and tells which tunnels come and go by it. It looks only at tunnels of flows of the plan.
 pub(crate) fn exchange(alloc: Global, wants: &mut WantTable, plan: Plan) -> Result<Told, NoMemory>
     requires unique { IsUnique same_flow plan }
     requires held { IsUnique same_flow wants.old }

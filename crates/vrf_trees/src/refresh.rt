@@ -21,7 +21,7 @@ use selective::LeafTunnels;
 use std::alloc::Global;
 use vrf_flows::VrfFlows;
 
-/// Brings the flows and what they want up to date. After memory runs out nothing is known of these; all else is as it was.
+/// Brings the flows and what they want up to date. After want of memory nothing is known of these; all else is as it was.
 pub(crate) fn refresh(
     alloc: Global,
     flows: &mut VrfFlows,

@@ -99,7 +99,7 @@ impl VrfTree {
         }
     }
 
-    /// One more interface, of that site, after those that are there.
+    /// One more interface, of that site, behind those that are there.
     pub fn add_iface(&mut self, iface: IfaceId, site: SiteId) -> Result<(), NoMemory>
         ensures added { OnOk result (self.new
             ≡ record self.old {
@@ -114,7 +114,7 @@ impl VrfTree {
 
     // ---- joined state (RFC 7761 section 4.1)
 
-    /// What is there after a message that the interface takes at the clock. Where that would be more entries than an edge
+    /// What stands behind a message that the interface takes at the clock. Where that would be more entries than an edge
     /// holds, or there is no memory, nothing changes.
     pub fn pim_take(
         &mut self,
@@ -142,7 +142,7 @@ impl VrfTree {
         self.flows.pim_timers(now);
     }
 
-    /// How many entries there would be after the message.
+    /// How many entries would stand behind the message.
     pub fn pim_entries_after(
         &self,
         alloc: Global,
@@ -317,7 +317,7 @@ impl VrfTree {
         self.root.select(pattern, now)
     }
 
-    /// Forgets the selection of the pattern, and answers its LSP number. Where it is not selected, nothing changes. It takes no
+    /// Forgets the selection of the pattern, and tells its LSP number. Where it is not selected, nothing changes. It takes no
     /// memory.
     pub fn root_unselect(&mut self, pattern: Pattern) -> Option<u32>
         ensures number { result ≡ option_map (lsp_number self.old.root.number) (number_at pattern self.old.root.selections) }
@@ -445,8 +445,8 @@ impl VrfTree {
     // ---- flows
 
     /// Brings the flows and the tunnels that they want up to date at the clock, in the core as the edge `me` knows it, and
-    /// answers what changed since the last refresh. Between two refreshes a flow and what it wants stay as they are. After
-    /// memory runs out nothing is said of the flows and of what they want; all else is as it was.
+    /// answers what changed since the last refresh. Between two refreshes a flow and what it wants stay as they are. After want
+    /// of memory nothing is said of the flows and of what they want; all else is as it was.
     pub fn refresh(&mut self, now: u64, me: NodeId, core: &Core) -> Result<TreeChanges, NoMemory>
         requires me { me.0 < core.now.nodes }
         requires peers { AreOfCore core.now.nodes self.old.vrf.routes.learned }
@@ -506,7 +506,7 @@ impl VrfTree {
         self.flows.accepts(source, group, from, me, core)
     }
 
-    /// The interfaces at which a datagram leaves that comes from there at the clock, in order. After a refresh at that clock
+    /// The interfaces at which a datagram leaves that comes from there at the clock, in order. Behind a refresh at that clock
     /// they are kept, and only copied.
     pub fn outgoing(
         &self,

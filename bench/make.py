@@ -16,7 +16,7 @@
     network     the scenario of 32 edges, 16 core nodes and 8 VPNs that `make` writes, then SIZE events of every kind, at random
     settles     the scenario that `make` writes, all its sessions up, then SIZE times `settle`, with nothing to do
     restarts    the same scenario, then SIZE times `heal`, `settle` and a core node that restarts
-    costs       the same scenario, then SIZE times another cost of a link, and `settle`
+    costs       the same scenario, then SIZE times another cost of a link, `settle` and a tick
     late-fault  SIZE octets of comments, of which the last line is faulty
     decode      SIZE octets of hexadecimal text, which writes multipoint FEC elements end to end, one on each line
     decode-nlri SIZE octets of hexadecimal text, which writes MCAST-VPN routes of AFI 1 end to end, one on each line
@@ -198,7 +198,8 @@ def restarts(size):
 
 def costs(size):
     yield from made_scenario()
-    yield from ('cost C1 C2 %d\nsettle\n' % (2 - number % 2) for number in range(size))
+    # Without the ticks labels that were withdrawn rest for ever, and run out.
+    yield from ('cost C1 C2 %d\nsettle\ntick 1\n' % (2 - number % 2) for number in range(size))
 
 
 def two_sites():

@@ -10,7 +10,7 @@ use Rattle.scenario_defs.specs.declared.report.ReportLine.{ReportLine}
 use Rattle.scenario_defs.specs.declared.report.ReportLine.TheVariants as lines
 use Rattle.hop_laws.specs.Hops.{datagram_octets, hop_by}
 use Rattle.network_events.proofs.network_laws.Lists.{each_front}
-use Rattle.run_laws.proofs.rule_laws.Halting.{each_behind}
+use Rattle.hop_laws.proofs.run_laws.rule_laws.Halting.{each_behind}
 
 -- What holds of all parts holds of each.
 module _ {X Y : Type 0} (P : Y → Type 0) (f : X → List Y) where

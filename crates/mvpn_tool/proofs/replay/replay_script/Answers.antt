@@ -1,13 +1,16 @@
-use Rattle.std.proofs.Common.{ap, refl, sym, inr, length, arith}
+use Rattle.std.proofs.Common.{◌≡◌, ◌⊎◌, ap, refl, sym, subst, inr, length, arith}
 use Rattle.std.proofs.lemmas.Result.{err_from_is_err_and}
 use Rattle.mv_io.proofs.OctetsLemmas.{part_whole}
+use Rattle.mvpn_tool.specs.declared.stop.Stop.{Stop}
+use Rattle.mvpn_tool.specs.declared.stop.Stop.TheVariants as stops
 use Rattle.mvpn_tool.proofs.OutcomeLemmas.{after-event, after-stop, event_at, never-begun, place_of, replayed-all, replayed-none}
 use Rattle.mvpn_tool.proofs.replay.replay_script.Goals as goal
 
 pub returns-in_err-write_front-clause-replays : goal.returns-in_err-write_front-clause-replays
 returns-in_err-write_front-clause-replays g c =
     let p = err_from_is_err_and c.from_residual.result c.from_residual.ensures.1 in
-    never-begun c.runs_are_known.ensures c.args.output c.args.script c.requires c.script_has_octets.ensures _ _ c.from_residual.result p.0 p.1 p.2
+    let why = subst (λ (stop : Stop). (stop ≡ stops.Sink) ⊎ (stop ≡ stops.Memory)) (sym p.2) c.in_err-write_front.ensures.others in
+    never-begun c.runs_are_known.ensures c.args.output c.args.script c.requires c.script_has_octets.ensures _ _ c.from_residual.result p.0 p.1 why
     c.in_err-write_front.ensures.err
 
 pub returns-in_err-names-clause-replays : goal.returns-in_err-names-clause-replays
@@ -25,7 +28,7 @@ returns-in_err-world-clause-replays g c =
 pub loop-timed-init : goal.loop-timed-init
 loop-timed-init g c = record {
   way = replayed-none c.runs_are_known.ensures c.args.output c.args.script c.requires c.script_has_octets.ensures (g.K.Sink.written c.args.sink.now) _
-      c.in_ok-world.world c.in_ok-world.ensures c.in_ok-write_front.ensures.ok _ refl c.new-sent.ensures;
+      c.in_ok-world.world c.in_ok-world.ensures c.in_ok-write_front.ensures.ok _ refl c.new.ensures;
   within = omega arith;
   later = omega (arith, c.write_front.ensures.later);
 }

@@ -9,11 +9,12 @@ exactly the crates in which two events both have a case, with each file of `src`
 crate with public functions has a row. In FAULTS: that each section has a row for exactly the words of its enum in the code, with
 an example, which is a row of rows.py.
 
-Of the crates: that each begins with a paragraph about itself, at the head of `src/lib.rt` or `src/main.rt`; and that the ways
-down crates.txt, which `rt` walks at each start, are not too many.
+Of the crates: that each begins with a paragraph about itself, at the head of `src/lib.rt` or `src/main.rt`; that each names words
+of no other crates than those of its line in crates.txt, which the prover would say only once all of these are proved; and that the
+ways down crates.txt, which `rt` walks at each start, are not too many.
 
 Prints what is wrong and how many crates, edges and ways there are, and then 'N passed, M failed', one for each document, one for
-the heads of the crates and one for crates.txt.
+the heads of the crates, one for the words that they name and one for crates.txt.
 """
 
 import functools
@@ -237,6 +238,16 @@ def faults_of_heads():
             yield 1, f'{crate} does not begin with {LEAST_HEAD} lines about itself'
 
 
+def faults_of_names():
+    """The crates that name words of another one by a path that begins with it, where their lines of crates.txt do not have it."""
+    below = lower_crates()
+    for crate in below:
+        foreign = set(below) - {crate, *below[crate]}
+        for path, text in itertools.chain(*(texts_of(crate, part).items() for part in ('src', 'specs', 'proofs'))):
+            for other in sorted(foreign & set(re.findall(r'\bRattle\.(\w+)\.', text))):
+                yield 1, f'{path} names words of {other}, which the line of {crate} in crates.txt does not have'
+
+
 def faults_of_ways():
     """Whether the ways down from all crates, each to one below it, are too many. Prints how many they are."""
     below = lower_crates()
@@ -253,7 +264,7 @@ def faults_of_ways():
 
 def main():
     looked_at = [(document, faults_of_document(document)) for document in documents()]
-    looked_at += [('crates', faults_of_heads()), ('crates.txt', faults_of_ways())]
+    looked_at += [('crates', faults_of_heads()), ('names', faults_of_names()), ('crates.txt', faults_of_ways())]
     passed, failed = 0, 0
     for name, found in looked_at:
         faults = list(found)

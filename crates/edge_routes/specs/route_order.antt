@@ -1,2 +1,3 @@
 pub mod Values
 pub mod Compared
+pub mod Front

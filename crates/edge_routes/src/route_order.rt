@@ -1,8 +1,10 @@
 //! Keys and values of routes as a table keeps them: in the order in which a peer is told, with no memory of their own.
 
+mod front;
 mod key;
 mod octets;
 mod routes;
+mod text;
 mod value;
 
 pub use key::TableKey;

@@ -1,5 +1,5 @@
 //! The keys of routes, in order.
-ghost use Rattle.std.specs.Prelude.{◌≡◌, ◌≤◌, [], refl, take};
+ghost use Rattle.std.specs.Prelude.{◌≡◌, [], refl, take};
 ghost use Rattle.std.specs.Ordering.{as_partial_cmp, eq_by_cmp, nat_cmp};
 ghost use Rattle.std.specs.Cmp.{eq_by_cmp_equiv, partial_equiv_from_equiv, partial_order_from_total};
 ghost use Rattle.std.specs.Cmp.Lexicographic.{slice_cmp};
@@ -14,7 +14,9 @@ ghost use Rattle.edge_defs.specs.Keys.{afi_number, key_cmp};
 ghost use Rattle.edge_defs.proofs.KeyLemmas.{key_total};
 ghost use Rattle.bgp_values.specs.declared.mvpn_nlri.route.Afi.{Afi};
 
+use crate::route_order::front::{compare_fronts, front_of, number};
 use crate::route_order::routes::compare_alike;
+use crate::route_order::text::spelled;
 use bgp_values::mvpn_nlri::{Afi, Route};
 use edge_defs::of_bgp_messages::bgp_attributes::Key;
 use mv_base::{Addr, Prefix, Rd};
@@ -22,10 +24,12 @@ use std::cmp::Ordering;
 use std::marker::Model;
 
 /// A key that has a spelling, in the order in which a table keeps its routes: unicast keys before multicast keys, in each kind
-/// those of AFI 1 before those of AFI 2, and then by the octets that spell them, the label of a unicast route aside.
+/// those of AFI 1 before those of AFI 2, and then by the octets that spell them, the label of a unicast route aside. Beside the key
+/// are the numbers by which it is compared first.
 #[derive(Clone, Copy)]
 pub struct TableKey {
     key: Key,
+    front: [u64; 4],
 }
 
 impl Model for TableKey {
@@ -33,13 +37,13 @@ impl Model for TableKey {
 
     ghost Value = { Key };
 
-    ghost use Rattle.edge_defs.specs.bgp_messages.bgp_update.Written.{IsWritableKey};
+    ghost use Rattle.edge_routes.specs.route_order.Front.{IsFronted, front_of};
 
     ghost view = { λ k. k.key };
 
-    ghost invariant = { λ k. IsWritableKey k.key };
+    ghost invariant = { λ k. IsFronted k.key k.front };
 
-    ghost inverse = { λ key. record { key = key } };
+    ghost inverse = { λ key. record { key = key; front = front_of key } };
 }
 
 impl TableKey {
@@ -48,7 +52,8 @@ impl TableKey {
         requires { IsWritableKey key }
         ensures { result ≡ key }
     {
-        TableKey { key }
+        let front = front_of(&key);
+        TableKey { key, front }
     }
 
     /// The key.
@@ -67,15 +72,6 @@ fn prefix_number(prefix: &Prefix) -> u8
     match prefix.addr {
         Addr::V4(_) => 1,
         Addr::V6(_) => 2,
-    }
-}
-
-fn number(afi: Afi) -> u8
-    ensures { result ≡ afi_number afi }
-{
-    match afi {
-        Afi::Ipv4 => 1,
-        Afi::Ipv6 => 2,
     }
 }
 
@@ -134,17 +130,6 @@ fn compare_unicast(rd: &Rd, prefix: &Prefix, other_rd: &Rd, other: &Prefix) -> O
     family
         .then(text)
         .then(compare_addrs(prefix.addr, other.addr))
-}
-
-/// The octets that spell a route, in front, and how many they are.
-fn spelled(route: &Route) -> ([u8; 257], usize)
-    requires { (afi : Afi) × routes.Spells afi route.now (routes.written route.now) }
-    ensures octets { take result.1 result.0 ≡ routes.written route.now }
-    ensures within { result.1 ≤ 257 }
-{
-    let mut octets = [0; 257];
-    let len = bgp_values::mvpn_nlri::encode(route, &mut octets);
-    (octets, len)
 }
 
 /// The order of the octets that spell two routes, by spelling both.
@@ -236,6 +221,11 @@ impl Ord for TableKey {
     ghost matches_eq = { λ x y. refl };
 
     fn cmp(&self, other: &TableKey) -> Ordering {
-        compare_keys(&self.key, &other.key)
+        let order = compare_fronts(&self.front, &other.front);
+        if order.is_eq() {
+            compare_keys(&self.key, &other.key)
+        } else {
+            order
+        }
     }
 }

@@ -2,7 +2,7 @@ use Rattle.std.proofs.Common.{arith}
 use Rattle.bgp_values.specs.mvpn_nlri.Spelling.{written}
 use Rattle.bgp_values.proofs.mvpn_nlri.WritingLemmas.{fields_room}
 use Rattle.edge_defs.proofs.bgp_messages.bgp_update.Appending.{front_is}
-use Rattle.edge_routes.proofs.route_order.key.spelled.Goals as goal
+use Rattle.edge_routes.proofs.route_order.text.spelled.Goals as goal
 
 pub returns-clause-octets : goal.returns-clause-octets
 returns-clause-octets c =

@@ -1,0 +1,105 @@
+//! The numbers by which two keys are compared first. They tell most pairs of keys apart, without a look at the routes.
+ghost use Rattle.std.specs.Prelude.{◌≡◌, ◌≤◌, [], ◌∷◌, drop, length};
+ghost use Rattle.std.specs.Ordering.{nat_cmp};
+ghost use Rattle.std.specs.Cmp.Lexicographic.{slice_cmp};
+ghost use Rattle.mv_base.specs.Octets.{IsOctets};
+ghost use Rattle.bgp_values.specs.mvpn_nlri.Spelling as routes;
+ghost use Rattle.edge_defs.specs.bgp_messages.bgp_update.Written.{IsWritableKey};
+ghost use Rattle.edge_defs.specs.Keys.{afi_number};
+ghost use Rattle.edge_routes.specs.route_order.Front.{filled, front_of, number_of, numbers, spelled_after, text_of};
+
+use crate::route_order::octets::are_octets;
+use crate::route_order::text::spelled;
+use bgp_values::mvpn_nlri::{Afi, Route};
+use edge_defs::of_bgp_messages::bgp_attributes::Key;
+use std::cmp::Ordering;
+
+/// The AFI as a number.
+pub(crate) fn number(afi: Afi) -> u8
+    ensures { result ≡ afi_number afi }
+{
+    match afi {
+        Afi::Ipv4 => 1,
+        Afi::Ipv6 => 2,
+    }
+}
+
+/// The first eight octets, and zeros where there are fewer.
+fn filled(octets: &[u8]) -> [u8; 8]
+    requires { length octets.now ≤ 8 }
+    ensures { result ≡ filled 8 octets.now }
+{
+    let mut eight = [0; 8];
+    let (front, _spare) = eight.split_at_mut(octets.len());
+    front.copy_from_slice(octets);
+    eight
+}
+
+/// The number that eight octets spell, the first one weighing most.
+fn spelled_number(octets: [u8; 8]) -> u64
+    ensures { result ≡ spelled_after 0 octets }
+{
+    u64::from_be_bytes(octets)
+}
+
+/// The number of the first eight octets, and the octets after them.
+fn next_number(octets: &[u8]) -> (u64, &[u8])
+    ensures number { result.0 ≡ number_of octets.now }
+    ensures rest { result.1.now ≡ drop 8 octets.now }
+{
+    let (first, rest) = octets.split_at(octets.len().min(8));
+    (spelled_number(filled(first)), rest)
+}
+
+/// The numbers of the first 24 octets.
+fn numbers_of(octets: &[u8]) -> (u64, u64, u64)
+    ensures { (result.0 ∷ result.1 ∷ result.2 ∷ []) ≡ numbers 3 octets.now }
+{
+    let (first, rest) = next_number(octets);
+    let (second, rest) = next_number(rest);
+    let (third, _rest) = next_number(rest);
+    (first, second, third)
+}
+
+/// The numbers of a multicast key.
+fn front_of_route(afi: Afi, route: &Route) -> [u64; 4]
+    requires { (own : Afi) × routes.Spells own route.now (routes.written route.now) }
+    ensures front { result ≡ (afi_number afi ∷ numbers 3 (routes.written route.now)) }
+    ensures octets { IsOctets (routes.written route.now) }
+{
+    let (octets, len) = spelled(route);
+    let text = &octets[..len];
+    are_octets(text);
+    let (first, second, third) = numbers_of(text);
+    [u64::from(number(afi)), first, second, third]
+}
+
+/// What the key is compared by first.
+pub(crate) fn front_of(key: &Key) -> [u64; 4]
+    requires { IsWritableKey key.now }
+    ensures front { result ≡ front_of key.now }
+    ensures octets { IsOctets (text_of key.now) }
+{
+    match key {
+        Key::Unicast { rd: _, prefix: _ } => [0; 4],
+        Key::Mcast(afi, route) => front_of_route(*afi, route),
+    }
+}
+
+/// The order of what two keys are compared by first.
+pub(crate) fn compare_fronts(own: &[u64; 4], other: &[u64; 4]) -> Ordering
+    ensures { result ≡ slice_cmp nat_cmp own.now other.now }
+{
+    let [kind, first, second, third] = own;
+    let [other_kind, other_first, other_second, other_third] = other;
+    if kind != other_kind {
+        return kind.cmp(other_kind);
+    }
+    if first != other_first {
+        return first.cmp(other_first);
+    }
+    if second != other_second {
+        return second.cmp(other_second);
+    }
+    third.cmp(other_third)
+}

@@ -103,7 +103,7 @@ impl EdgeControl {
     }
 
     /// The peer announces a route at a key at which it has none. Where memory runs out, there is none.
-    fn announce_fresh(
+    pub fn announce_fresh(
         &mut self,
         peer: NodeId,
         key: &TableKey,
@@ -119,9 +119,9 @@ impl EdgeControl {
         ensures wants { wants_of self.new.trees ≡ wants_of self.old.trees }
     {
         spelled(key);
-        match self.taken.learn(peer, *key, value, now) {
+        match self.taken.learn_new(peer, *key, value, now) {
             Err(fault) => Err(fault),
-            Ok(_) => match learn_said(&self.home, &mut self.trees, &self.taken, peer, key, now) {
+            Ok(()) => match learn_said(&self.home, &mut self.trees, &self.taken, peer, key, now) {
                 Ok(()) => Ok(()),
                 Err(fault) => {
                     self.taken.forget(peer, key);

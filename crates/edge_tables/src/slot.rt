@@ -71,6 +71,9 @@ impl Slot {
         ensures put { OnOk result (peer_table self.new ≡ put_behind (peer_table self.old)) }
         ensures partly { OnErr result (IsPutPart (peer_table self.old) (peer_table self.new)) }
     {
+        if self.table.is_flushed() {
+            return Ok(());
+        }
         let pending = self.table.flush();
         put_changes(&mut self.waiting, pending)
     }

@@ -1,5 +1,5 @@
 //! UPDATE messages of a peer, change by change.
-ghost use Rattle.std.specs.Prelude.{◌≡◌, ℕ, [], ◌∷◌, ◌++◌, IfOk, OnOk};
+ghost use Rattle.std.specs.Prelude.{◌≡◌, ℕ, None, [], ◌∷◌, ◌++◌, IfOk, OnOk};
 ghost use Rattle.std.specs.List.{AllByRecursion};
 ghost use Rattle.mv_base.specs.core_walks.Core.{Core};
 ghost use Rattle.bgp_messages.specs.declared.bgp_attributes.update.Change.TheVariants.{Reach, Unreach};
@@ -8,6 +8,8 @@ ghost use Rattle.bgp_messages.specs.bgp_update.Written.{IsWritableAdvert, IsWrit
 ghost use Rattle.edge_streams.specs.Spelled.{SaysWritable};
 ghost use Rattle.edge_defs.specs.Steps as steps;
 ghost use Rattle.edge_routes.specs.edge_home.Home.{place_of};
+ghost use Rattle.edge_control.specs.edge_tables.taken_tables.Routes.{handed};
+ghost use Rattle.edge_control.specs.edge_tables.taken_tables.Tables.{reach, route_at};
 ghost use Rattle.control_laws.specs.Control.{control_of};
 ghost use Rattle.edge_control.specs.Sound.{wants_of};
 ghost use Rattle.edge_routing.specs.edge_updates.Inclusive.{AreTunnels};
@@ -41,6 +43,44 @@ fn withdraw(
     Ok(())
 }
 
+/// The peer announces a route of a key of which it has none. The tunnels that may come are appended.
+fn announce_fresh(
+    control: &mut EdgeControl,
+    fecs: &mut Vec<Fec>,
+    peer: NodeId,
+    key: &TableKey,
+    value: RouteValue,
+    now: u64,
+) -> Result<(), NoMemory>
+    requires fresh { route_at control.old.peers peer key.now ≡ None }
+    ensures taken { OnOk result (
+        AreTaken now peer (reach key.now (handed value) ∷ []) control.old control.new fecs.old.items fecs.new.items) }
+    ensures home { control.new.home ≡ control.old.home }
+    ensures wants { wants_of control.new.trees ≡ wants_of control.old.trees }
+{
+    control.announce_fresh(peer, key, value, now)?;
+    append_at(fecs, control, peer, key)
+}
+
+/// The peer announces a route, of a key of which it may have one. The tunnels that may come or go are appended.
+fn announce_again(
+    control: &mut EdgeControl,
+    fecs: &mut Vec<Fec>,
+    peer: NodeId,
+    key: &TableKey,
+    value: RouteValue,
+    now: u64,
+) -> Result<(), NoMemory>
+    ensures taken { OnOk result (
+        AreTaken now peer (reach key.now (handed value) ∷ []) control.old control.new fecs.old.items fecs.new.items) }
+    ensures home { control.new.home ≡ control.old.home }
+    ensures wants { wants_of control.new.trees ≡ wants_of control.old.trees }
+{
+    append_at(fecs, control, peer, key)?;
+    control.announce(peer, key, value, now)?;
+    append_at(fecs, control, peer, key)
+}
+
 /// The peer announces the route. The tunnels that may come or go are appended.
 fn announce(
     control: &mut EdgeControl,
@@ -61,14 +101,15 @@ fn announce(
         pmsi,
     } = advert;
     let key = TableKey::of(key);
-    append_at(fecs, control, peer, &key)?;
     let value = RouteValue {
         next_hop,
         comms,
         pmsi,
     };
-    control.announce(peer, &key, value, now)?;
-    append_at(fecs, control, peer, &key)
+    match control.taken().get(peer, &key) {
+        None => announce_fresh(control, fecs, peer, &key, value, now),
+        Some(_) => announce_again(control, fecs, peer, &key, value, now),
+    }
 }
 
 /// The peer withdraws the routes of the keys, one after another.

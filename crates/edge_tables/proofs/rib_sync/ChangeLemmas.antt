@@ -94,3 +94,15 @@ module _ {K V : Type 0} (cmp : K → K → Ordering) (total : IsTotalOrder cmp) 
 
   pub handed_out : (old : Rows K V) → rows_of rib ≡ old → changes_in kept.gone kept.news ≡ pending same (rib_out cmp old)
   handed_out old is = pending_up kept.up refl ∙ ap (pending same) (sym (seen_as cmp total rib old is))
+
+-- no change is handed out where nothing is gone and nothing is new
+pub no_changes : {K V : Type 0} (gone : List (K × V)) (news : List (K × News V)) → gone ≡ [] → news ≡ []
+    → map (λ e. Unreach e.0) gone ++ map (λ e. Reach e.0 e.1.value) news ≡ []
+no_changes gone news h k = λ i. map (λ e. Unreach e.0) (h i) ++ map (λ e. Reach e.0 e.1.value) (k i)
+
+-- and only there
+pub none_handed : {K V : Type 0} (gone : List (K × V)) (news : List (K × News V))
+    → map (λ e. Unreach e.0) gone ++ map (λ e. Reach e.0 e.1.value) news ≡ [] → (gone ≡ []) × (news ≡ [])
+none_handed [] [] h = (refl, refl)
+none_handed [] (one ∷ news) h = absurd cc
+none_handed (one ∷ gone) news h = absurd cc

@@ -153,6 +153,18 @@ module _ {K V : Type 0} (cmp : K → K → Ordering) (total : IsTotalOrder cmp) 
   told_all exact old from to is up set told =
       seen (kept_rib cmp to) ∙ told_up exact from to from.up refl up set told ∙ ap flushed (sym (seen_as (kept_rib cmp from) old is))
 
+  -- where nothing is gone and nothing is new, what was told is what is set
+  told_is_set : (kept : Kept K V) (q : K) → kept.up ≡ true → kept.gone.entries ≡ [] → kept.news.entries ≡ [] → told_at cmp kept q ≡ set_at cmp kept q
+  told_is_set kept q up gone news =
+      let old : tree.get cmp kept.gone q ≡ None = ap (lookup (is_at (cmp q))) gone in
+      let new : tree.get cmp kept.news q ≡ None = ap (lookup (is_at (cmp q))) news in
+      λ i. told_if (up i) (old i) (new i) (set_at cmp kept q)
+
+  pub flushed_already : IsAntisymmetric cmp → (old : Rows K V) (kept : Kept K V) → rows_of (kept_rib cmp kept) ≡ old → kept.gone.entries ≡ []
+      → kept.news.entries ≡ [] → flushed (rib_out cmp old) ≡ rib_out cmp old
+  flushed_already exact old kept is gone news =
+      sym (told_all exact old kept kept is refl refl (λ up q. told_is_set kept q up gone news)) ∙ ap (rib_out cmp) is
+
   -- ---- the calls of an inbox
 
   pub taken : IsAntisymmetric cmp → (rows : List (K × V)) (from to : BTreeMap K V) (change : Change K V) → from.entries ≡ rows → IsOrdered cmp from

@@ -317,7 +317,7 @@ route_spelled taken key route old h q there = by (eq_by_cmp key_cmp q key) refl 
     by true e k = subst IsSpelledKey (sym (one_key key_exact q key e)) h
     by false e k = old q k
 
-pub learned_spelled : {E : Type 0} (r : Result Bool E) (there rows : Rows) (key : Key) (route : TakenRoute)
+pub learned_spelled : {A E : Type 0} (r : Result A E) (there rows : Rows) (key : Key) (route : TakenRoute)
     → OnOk r (taken_in rows ≡ insert (taken_in there) key route) → OnErr r (rows ≡ there)
     → IsSpelledKey key → IsSpelled (taken_in there) → IsSpelled (taken_in rows)
 learned_spelled (Ok news) there rows key route ok err writable h = subst IsSpelled (sym ok) (route_spelled (taken_in there) key route h writable)

@@ -1,5 +1,5 @@
 //! What an outbox keeps: the table set, and beside it where the table told differs.
-ghost use Rattle.std.specs.Prelude.{◌≡◌, None, Some, [], true, false, OnOk, OnErr, IfOk, if◌then◌else◌};
+ghost use Rattle.std.specs.Prelude.{◌≡◌, ◌↔◌, IsTrue, None, Some, [], true, false, OnOk, OnErr, IfOk, if◌then◌else◌};
 ghost use Rattle.std.specs.Ordering.{eq_by_cmp};
 ghost use Rattle.std.specs.Option.{option_map};
 ghost use Rattle.std.specs.BTreeMap.{get, IsOrdered};
@@ -156,6 +156,13 @@ impl<K: Copy + Ord, V: Copy + Eq> Kept<K, V> {
         self.up = false;
         self.gone.clear();
         self.news.clear();
+    }
+
+    /// Whether nothing is gone and nothing is new.
+    pub(crate) fn is_clear(&self) -> bool
+        ensures { IsTrue result ↔ ((self.now.gone.entries ≡ []) × (self.now.news.entries ≡ [])) }
+    {
+        self.gone.is_empty() && self.news.is_empty()
     }
 
     /// Hands out what is gone and what is new. With that nothing is pending.

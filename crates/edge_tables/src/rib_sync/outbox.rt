@@ -1,5 +1,5 @@
 //! The table that a peer is to have.
-ghost use Rattle.std.specs.Prelude.{◌≡◌, [], true, false, OnOk, OnErr};
+ghost use Rattle.std.specs.Prelude.{◌≡◌, ◌↔◌, IsTrue, [], true, false, OnOk, OnErr};
 ghost use Rattle.std.specs.Option.{option_copied};
 ghost use Rattle.std.specs.FinMap as map;
 ghost use Rattle.std.specs.FinMap.{IsAntisymmetric};
@@ -87,6 +87,16 @@ impl<K: Copy + Ord, V: Copy + Eq> Outbox<K, V> {
     {
         let (gone, news) = self.kept.take();
         Pending { gone, news }
+    }
+
+    /// Whether a flush would hand out no change, and leave what is kept as it is.
+    pub fn is_flushed(&self) -> bool
+        requires keys { IsAntisymmetric K.cmp }
+        requires values { IsExact V.eq }
+        ensures changes { IsTrue result ↔ (pending V.eq (rib_out K.cmp self.now) ≡ []) }
+        ensures told { result ≡ true → flushed (rib_out K.cmp self.now) ≡ rib_out K.cmp self.now }
+    {
+        self.kept.is_clear()
     }
 
     /// Whether the outbox is up.

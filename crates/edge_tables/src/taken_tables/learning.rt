@@ -1,5 +1,5 @@
 //! What a table takes of the routes that its peer announces.
-ghost use Rattle.std.specs.Prelude.{◌≡◌, not, IfOk, OnOk, OnErr};
+ghost use Rattle.std.specs.Prelude.{◌≡◌, None, not, IfOk, OnOk, OnErr};
 ghost use Rattle.std.specs.FinMap as maps;
 ghost use Rattle.bgp_messages.specs.bgp_update.Written.{HasOctets};
 ghost use Rattle.edge_defs.specs.Steps.{taken_change};
@@ -58,4 +58,20 @@ pub(crate) fn learn(
     }
     table.put(key, TakenEntry::of(value, now))?;
     Ok(true)
+}
+
+/// Takes the route at the clock, where the table has none of its key.
+pub(crate) fn learn_new(
+    table: &mut TakenTable,
+    key: TableKey,
+    value: RouteValue,
+    now: u64,
+) -> Result<(), NoMemory>
+    requires new { maps.get (taken_in table.old) key ≡ None }
+    ensures learned { OnOk result (taken_in table.new ≡ taken_change now (taken_in table.old) (reach key (handed value))) }
+    ensures spelled { IsSpelledKey key }
+    ensures unchanged { OnErr result (table.new ≡ table.old) }
+{
+    spelled(&key);
+    table.put(key, TakenEntry::of(value, now))
 }

@@ -1,13 +1,13 @@
 //! The table of one peer among all.
-ghost use Rattle.std.specs.Prelude.{◌≡◌, ℕ, IfOk, OnOk, OnErr};
+ghost use Rattle.std.specs.Prelude.{◌≡◌, ℕ, None, IfOk, OnOk, OnErr};
 ghost use Rattle.bgp_messages.specs.declared.bgp_attributes.update.Change.TheVariants.{Unreach};
 ghost use Rattle.edge_defs.specs.Steps.{taken_change};
 ghost use Rattle.edge_tables.specs.taken_tables.Routes.{handed};
 ghost use Rattle.edge_tables.specs.taken_tables.Slots.{tables_of};
-ghost use Rattle.edge_tables.specs.taken_tables.Tables.{AreSpelled, changed_at, is_news_at, reach};
+ghost use Rattle.edge_tables.specs.taken_tables.Tables.{AreSpelled, changed_at, is_news_at, reach, route_at};
 
 use crate::taken_tables::entry::RouteValue;
-use crate::taken_tables::learning::learn;
+use crate::taken_tables::learning::{learn, learn_new};
 use crate::taken_tables::table::TakenTable;
 use edge_routes::route_order::TableKey;
 use mv_base::{NoMemory, NodeId};
@@ -33,6 +33,26 @@ pub(crate) fn learn_from(
     match slots.get_mut(&peer.0) {
         None => Ok(false),
         Some(table) => learn(table, key, value, now),
+    }
+}
+
+/// Takes the route from the peer at the clock, where it has a table, which has none of its key.
+pub(crate) fn learn_new_from(
+    slots: &mut Slots,
+    peer: NodeId,
+    key: TableKey,
+    value: RouteValue,
+    now: u64,
+) -> Result<(), NoMemory>
+    requires new { route_at (tables_of slots.old.entries) peer key ≡ None }
+    ensures learned { OnOk result (tables_of slots.new.entries
+        ≡ changed_at peer (λ taken. taken_change now taken (reach key (handed value))) (tables_of slots.old.entries)) }
+    ensures unchanged { OnErr result (tables_of slots.new.entries ≡ tables_of slots.old.entries) }
+    ensures spelled { AreSpelled (tables_of slots.old.entries) → AreSpelled (tables_of slots.new.entries) }
+{
+    match slots.get_mut(&peer.0) {
+        None => Ok(()),
+        Some(table) => learn_new(table, key, value, now),
     }
 }
 

@@ -1,5 +1,5 @@
 //! The tables of all peers.
-ghost use Rattle.std.specs.Prelude.{◌≡◌, ℕ, true, is_some, option_map, IfOk, OnOk, OnErr};
+ghost use Rattle.std.specs.Prelude.{◌≡◌, ℕ, None, true, is_some, option_map, IfOk, OnOk, OnErr};
 ghost use Rattle.std.specs.Option.{option_copied};
 ghost use Rattle.std.specs.FinMap as maps;
 ghost use Rattle.edge_defs.specs.Edge.{Taken};
@@ -13,7 +13,7 @@ ghost use Rattle.edge_tables.specs.taken_tables.Tables.{AreSpelled, changed_at, 
 
 use crate::rib_sync::Entries;
 use crate::taken_tables::entry::{RouteValue, TakenEntry};
-use crate::taken_tables::slots::{Slots, forget_from, learn_from};
+use crate::taken_tables::slots::{Slots, forget_from, learn_from, learn_new_from};
 use crate::taken_tables::table::{TakenTable, run_node};
 use edge_routes::LocalVrf;
 use edge_routes::route_order::TableKey;
@@ -96,6 +96,22 @@ impl TakenTables {
         ensures unchanged { OnErr result (self.new ≡ self.old) }
     {
         learn_from(&mut self.slots, peer, key, value, now)
+    }
+
+    /// Takes a route of a key of which the peer has none, at the clock, where the end of the session is up.
+    pub fn learn_new(
+        &mut self,
+        peer: NodeId,
+        key: TableKey,
+        value: RouteValue,
+        now: u64,
+    ) -> Result<(), NoMemory>
+        requires new { route_at self.old peer key ≡ None }
+        ensures learned { OnOk result (
+            self.new ≡ changed_at peer (λ taken. taken_change now taken (reach key (handed value))) self.old) }
+        ensures unchanged { OnErr result (self.new ≡ self.old) }
+    {
+        learn_new_from(&mut self.slots, peer, key, value, now)
     }
 
     /// Forgets the route of the key that was taken from the peer. It takes no memory.

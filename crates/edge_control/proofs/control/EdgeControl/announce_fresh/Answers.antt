@@ -84,7 +84,7 @@ returns-in-Err-learn_said-clause-unchanged c =
 pub returns-in-Ok-learn_said-clause-wants : goal.returns-in-Ok-learn_said-clause-wants
 returns-in-Ok-learn_said-clause-wants c =
     let kept : Kept = kept_of c.self.inside.home c.self.inside.trees.items c.self.inside.taken in
-    let route = route_at c.learn.new.self c.args.peer c.args.key.now in
+    let route = route_at c.learn_new.new.self c.args.peer c.args.key.now in
     ap wants_of (c.in-Ok-learn_said.ensures.learned no_core)
     ∙ turned_wants (coming kept.home no_core c.args.peer c.args.now c.args.key.now route)
     (λ own tree. (change_leaves (place_of kept.home no_core) own c.args.peer c.args.now c.args.key.now None route tree).1) (vrfs_of kept.home)
@@ -94,7 +94,7 @@ returns-in-Ok-learn_said-clause-wants c =
 pub returns-in-Err-learn_said-clause-wants : goal.returns-in-Err-learn_said-clause-wants
 returns-in-Err-learn_said-clause-wants c =
     let kept : Kept = kept_of c.self.inside.home c.self.inside.trees.items c.self.inside.taken in
-    let route = route_at c.learn.new.self c.args.peer c.args.key.now in
+    let route = route_at c.learn_new.new.self c.args.peer c.args.key.now in
     ap wants_of (c.in-Err-learn_said.ensures.forgot no_core)
     ∙ turned_wants (dropping kept.home no_core c.args.peer c.args.now c.args.key.now route)
     (λ own tree. (change_leaves (place_of kept.home no_core) own c.args.peer c.args.now c.args.key.now route None tree).1) (vrfs_of kept.home)

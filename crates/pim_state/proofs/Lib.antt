@@ -1,3 +1,4 @@
 pub mod MapLemmas
 pub mod ChangesLemmas
 pub mod PlanLemmas
+pub mod IndexLemmas

@@ -73,7 +73,7 @@ pub get-lookup : (es : List (IfaceEntry × Expiry)) (q : IfaceEntry) → get (fr
 get-lookup es q = get-from_entries entry_cmp_total es q ∙ find-lookup es q
 
 -- A key that differs from all keys is not found.
-lookup-apart : {X : Type 0} (q : IfaceEntry) (es : List (IfaceEntry × X)) → AllByRecursion (λ at. is_at q at ≡ false) (keys_of es)
+pub lookup-apart : {X : Type 0} (q : IfaceEntry) (es : List (IfaceEntry × X)) → AllByRecursion (λ at. is_at q at ≡ false) (keys_of es)
     → lookup (is_at q) es ≡ None
 lookup-apart q [] h = refl
 lookup-apart q (e ∷ es) h = rw h.0 (lookup-apart q es h.1)
@@ -83,7 +83,7 @@ lookup-apart q (e ∷ es) h = rw h.0 (lookup-apart q es h.1)
 pub count-cons : {X : Type 0} (p : X → Bool) (x : X) (xs : List X) → count_by p (x ∷ xs) ≡ cond (p x) 1 0 + count_by p xs
 count-cons p x xs = sum_by-cons (λ y. cond (p y) 1 0) x xs
 
-not_some : (x : Expiry) → Some x ≡ None → ⊥
+pub not_some : (x : Expiry) → Some x ≡ None → ⊥
 not_some x e = not_both true refl (ap is_some e)
 
 -- One entry more, of which the key is new, counts as one element more.
@@ -160,7 +160,7 @@ apart-left clock q (e ∷ es) h = by (is_after e.1 clock) (apart-left clock q es
     by false none = none
 
 -- Behind a run of the timers each entry is there that was and has not ended.
-lookup-left : (clock : ℕ) (q : IfaceEntry) (es : List (IfaceEntry × Expiry)) → IsDistinct is_at (keys_of es)
+pub lookup-left : (clock : ℕ) (q : IfaceEntry) (es : List (IfaceEntry × Expiry)) → IsDistinct is_at (keys_of es)
     → lookup (is_at q) (left_at clock es) ≡ remaining clock (lookup (is_at q) es)
 lookup-left clock q [] h = refl
 lookup-left clock q (e ∷ es) h = by (lookup-left clock q es (IsDistinct-tail is_at e.0 (keys_of es) h)) (is_at q e.0) (is_after e.1 clock) refl refl

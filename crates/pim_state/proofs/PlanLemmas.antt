@@ -4,6 +4,7 @@ use Rattle.std.specs.List.{AllByRecursion, IsDistinct, list_any}
 use Rattle.std.specs.FinMap.{from_entries, same_map}
 use Rattle.std.specs.FinMap as finite
 use Rattle.std.specs.Map.{lookup, keys_of}
+use Rattle.std.proofs.lemmas.Bool.{or_left, or_right}
 use Rattle.std.proofs.lemmas.Bool.Decides.{nat_tests}
 use Rattle.std.proofs.lemmas.List.Folds.{list_any_more}
 use Rattle.std.proofs.lemmas.Map.Keys.{IsDistinct-head, IsDistinct-tail}
@@ -18,13 +19,16 @@ use Rattle.pim_defs.specs.declared.expiry.Expiry.{Expiry}
 use Rattle.pim_defs.specs.Mention.{entry_of, same_entry, lists, mention_of, expiry_after}
 use Rattle.scenario_defs.specs.Rules.{group_of}
 use Rattle.pim_defs.specs.Entries.{Entries, applied}
-use Rattle.pim_defs.proofs.KeyLemmas.{entry_cmp_total, entry_cmp_exact}
+use Rattle.pim_defs.proofs.KeyLemmas.{entry_cmp_total, entry_cmp_exact, same_entry_equal}
 use Rattle.pim_defs.proofs.EntriesLemmas.{get-applied}
 use Rattle.pim_state.specs.declared.arrival.Arrival.{Arrival}
-use Rattle.pim_state.specs.Plan.{is_entry, is_at, is_among, is_named, is_ended, is_shared, may_end, ends_among, then_of, planned, told_at, Expiries, Tells}
+use Rattle.pim_state.specs.declared.index.IndexKey.TheVariants.{Pruned}
+use Rattle.pim_state.specs.Plan.{is_entry, is_at, is_among, is_named, is_ended, may_end, ends, ends_among, then_of, planned, told_at, Expiries, Tells}
+use Rattle.pim_state.specs.Index.{EntryIndex, IsExact, ends_of, key_of, listed, pruned_by}
 use Rattle.pim_state.specs.Changes.{changed_by, then_at}
 use Rattle.pim_state.proofs.MapLemmas.{not_both, is_false, entry-same, at-equal, at-symmetric, get-lookup}
 use Rattle.pim_state.proofs.ChangesLemmas.{get-changed_by}
+use Rattle.pim_state.proofs.IndexLemmas.{absent, no-true}
 
 -- ---- the entries that sources name
 
@@ -82,67 +86,88 @@ both_true true false h = absurd cc
 both_true false b h = absurd cc
 
 -- The one entry that the message may end is the one that is planned.
-pub ended-one : (arrival : Arrival) (at other : IfaceEntry) → may_end arrival at ≡ true
-    → is_named arrival (at.entry ∷ []) other ≡ ends_among arrival (at ∷ []) other
-ended-one arrival at other h =
-    let number : (at.iface.0 == arrival.iface.0) ≡ true = (both_true _ _ h).0 in
+pub ended-one : (arrival : Arrival) (entries : Expiries) (at other : IfaceEntry) → ends arrival entries at ≡ true
+    → is_named arrival (at.entry ∷ []) other ≡ ends_among arrival entries (at ∷ []) other
+ended-one arrival entries at other h =
+    let number : (at.iface.0 == arrival.iface.0) ≡ true = (both_true _ _ (both_true _ _ h).0).0 in
     let iface : at.iface.0 ≡ arrival.iface.0 = grind (arith, nat_tests) in
     let here : own arrival at.entry ≡ at = λ i. record { iface = record { 0 = sym iface i }; entry = at.entry } in
-    named-one arrival at.entry other ∙ (ap (is_at other) here ∙ (by (is_at other at) refl ∙ sym (or-none (may_end arrival other) (is_at other at))))
+    named-one arrival at.entry other
+    ∙ (ap (is_at other) here ∙ (by (is_at other at) refl ∙ sym (or-none (ends arrival entries other) (is_at other at))))
   where
-    by : (b : Bool) → is_at other at ≡ b → is_at other at ≡ (may_end arrival other && is_at other at)
-    by true t = t ∙ sym (rw (subst (λ (x : IfaceEntry). may_end arrival x ≡ true) (sym (at-equal other at t)) h, t) refl)
-    by false t = t ∙ sym (rw t (and-none (may_end arrival other)))
+    by : (b : Bool) → is_at other at ≡ b → is_at other at ≡ (ends arrival entries other && is_at other at)
+    by true t =
+        let also = subst (λ (x : IfaceEntry). ends arrival entries x ≡ true) (sym (at-equal other at t)) h in
+        t ∙ sym (ap (λ (b : Bool). b && is_at other at) also ∙ t)
+    by false t = t ∙ sym (ap (λ (b : Bool). ends arrival entries other && b) t ∙ and-none (ends arrival entries other))
       where
         and-none : (a : Bool) → (a && false) ≡ false
         and-none true = refl
         and-none false = refl
 
 -- An entry that the message may not end is not among those.
-pub kept-one : (arrival : Arrival) (at other : IfaceEntry) → may_end arrival at ≡ false → ends_among arrival (at ∷ []) other ≡ false
-kept-one arrival at other h = is_false _ (λ e.
-    let both = both_true (may_end arrival other) (is_at other at) (sym (or-none (may_end arrival other) (is_at other at)) ∙ e) in
-    not_both (may_end arrival other) both.0 (subst (λ (x : IfaceEntry). may_end arrival x ≡ false) (sym (at-equal other at both.1)) h))
+pub kept-one : (arrival : Arrival) (entries : Expiries) (at other : IfaceEntry) → ends arrival entries at ≡ false
+    → ends_among arrival entries (at ∷ []) other ≡ false
+kept-one arrival entries at other h = is_false _ (λ e.
+    let both = both_true (ends arrival entries other) (is_at other at) (sym (or-none (ends arrival entries other) (is_at other at)) ∙ e) in
+    not_both (ends arrival entries other) both.0
+    (subst (λ (x : IfaceEntry). ends arrival entries x ≡ false) (sym (at-equal other at both.1)) h))
 
 -- ---- all entries
 
--- Where no join (*,G) is among the joined ones, the message ends nothing that it does not name.
-none-shared : (joined : List JoinEntry) (group : Addr) → list_any is_shared joined ≡ false → is_among joined (Star group) ≡ false
-none-shared [] group h = refl
-none-shared (Star g ∷ more) group h = absurd cc
-none-shared (Source s g ∷ more) group h = none-shared more group h
-none-shared (Rpt s g ∷ more) group h = none-shared more group h
-
-and-false : (a b : Bool) → a ≡ false → (a && b) ≡ false
-and-false true b h = absurd cc
-and-false false b h = refl
-
-false-and : (a b : Bool) → b ≡ false → (a && b) ≡ false
-false-and true b h = h
-false-and false b h = refl
-
-pub none-ended : (arrival : Arrival) (list : List IfaceEntry) (at : IfaceEntry) → list_any is_shared arrival.joins.keys ≡ false
-    → ends_among arrival list at ≡ false
-none-ended arrival list at h =
-    and-false _ (list_any (is_at at) list) (false-and (at.iface.0 == arrival.iface.0) (is_ended arrival at.entry) (by at.entry))
+-- The entries of one list more.
+pub ended-more : (arrival : Arrival) (entries : Expiries) (index : EntryIndex) (joined : List JoinEntry) (i : ℕ) (d : JoinEntry) (at : IfaceEntry)
+    (first old new : Option (Option Expiry)) → i < length joined
+    → new ≡ told_at arrival entries (ends_among arrival entries (pruned_by index (get_or joined i d)) at) old at
+    → old ≡ told_at arrival entries (ends_of arrival entries index (take i joined) at) first at
+    → new ≡ told_at arrival entries (ends_of arrival entries index (take (i + 1) joined) at) first at
+ended-more arrival entries index joined i d at first old new l n o =
+    let test = λ (entry : JoinEntry). list_any (is_at at) (pruned_by index entry) in
+    let here = test (get_or joined i d) in
+    n ∙ (ap (λ (x : Option (Option Expiry)). told_at arrival entries (ends_among arrival entries (pruned_by index (get_or joined i d)) at) x at) o
+    ∙ (twice (ends arrival entries at) (list_any test (take i joined)) here (Some (planned arrival entries at)) first
+    ∙ ap (λ (b : Bool). told_at arrival entries (ends arrival entries at && b) first at) (sym (list_any_more test joined i d l))))
   where
-    by : (entry : JoinEntry) → is_ended arrival entry ≡ false
-    by (Star g) = refl
-    by (Source s g) = refl
-    by (Rpt s g) = none-shared arrival.joins.keys g h
+    twice : (a b c : Bool) (next now : Option (Option Expiry)) → cond (a && c) next (cond (a && b) next now) ≡ cond (a && (b || c)) next now
+    twice true true true next now = refl
+    twice true true false next now = refl
+    twice true false true next now = refl
+    twice true false false next now = refl
+    twice false b c next now = refl
 
-found-among : {X : Type 0} (test : IfaceEntry → Bool) (es : List (IfaceEntry × X)) → is_some (lookup test es) ≡ list_any test (keys_of es)
-found-among test [] = refl
-found-among test (e ∷ es) = by (test e.0) (found-among test es)
+in-joined : (index : EntryIndex) (at : IfaceEntry) (group : Addr) (joined : List JoinEntry) → is_among joined (Star group) ≡ true
+    → list_any (is_at at) (listed index (Pruned group)) ≡ true → list_any (λ entry. list_any (is_at at) (pruned_by index entry)) joined ≡ true
+in-joined index at group [] h l = absurd (no-true h)
+in-joined index at group (own ∷ more) h l = by (is_entry (Star group) own) refl h (λ j. in-joined index at group more j l)
   where
-    by : (b : Bool) → is_some (lookup test es) ≡ list_any test (keys_of es)
-        → is_some (cond b (Some e.1) (lookup test es)) ≡ (b || list_any test (keys_of es))
-    by true rest = refl
-    by false rest = rest
+    rest : Bool
+    rest = list_any (λ entry. list_any (is_at at) (pruned_by index entry)) more
 
-absent : {X : Type 0} (o : Option X) → is_some o ≡ false → o ≡ None
-absent None h = refl
-absent (Some x) h = absurd cc
+    by : (b : Bool) → is_entry (Star group) own ≡ b → (b || is_among more (Star group)) ≡ true → (is_among more (Star group) ≡ true → rest ≡ true)
+        → (list_any (is_at at) (pruned_by index own) || rest) ≡ true
+    by true e j behind =
+        or_left _ rest (subst (λ (x : JoinEntry). list_any (is_at at) (pruned_by index x) ≡ true)
+        (same_entry_equal (Star group) own (sym (entry-same (Star group) own) ∙ e)) l)
+    by false e j behind = or_right _ rest (behind j)
+
+-- Of an index that lists the entries that are there, the lists of the groups joined have all that the message may end.
+pub all-ended : (arrival : Arrival) (entries : Expiries) (index : EntryIndex) (at : IfaceEntry) → IsExact entries index
+    → ends_of arrival entries index arrival.joins.keys at ≡ ends arrival entries at
+all-ended arrival entries index at exact = by (ends arrival entries at) refl
+  where
+    found : (entry : JoinEntry) → is_ended arrival entry ≡ true → list_any (is_at at) (listed index (key_of entry)) ≡ true
+        → list_any (λ own. list_any (is_at at) (pruned_by index own)) arrival.joins.keys ≡ true
+    found (Star g) e l = absurd (no-true e)
+    found (Source s g) e l = absurd (no-true e)
+    found (Rpt s g) e l = in-joined index at g arrival.joins.keys e l
+
+    by : (b : Bool) → ends arrival entries at ≡ b
+        → (b && list_any (λ own. list_any (is_at at) (pruned_by index own)) arrival.joins.keys) ≡ b
+    by false h = refl
+    by true h =
+        let both = both_true (may_end arrival at) (is_some (get is_at entries at)) h in
+        found at.entry (both_true (at.iface.0 == arrival.iface.0) (is_ended arrival at.entry) both.0).1
+        (exact at ∙ both.1)
 
 -- An entry that is neither joined nor pruned stays, unless it is a prune (S,G,rpt) and (*,G) is joined.
 unsaid : (arrival : Arrival) (entry : JoinEntry) (now : Option Expiry) → is_among arrival.joins.keys entry ≡ false
@@ -163,7 +188,7 @@ abbrev thrice : Arrival → Expiries → IfaceEntry → Option (Option Expiry)
 thrice arrival entries at =
     let first = told_at arrival entries (is_named arrival arrival.joins.keys at) None at in
     let second = told_at arrival entries (is_named arrival arrival.prunes.keys at) first at in
-    told_at arrival entries (ends_among arrival (keys_of entries.entries) at) second at
+    told_at arrival entries (ends arrival entries at) second at
 
 three : (a b c : Bool) (next now : Option Expiry) → (a ≡ false → b ≡ false → c ≡ false → next ≡ now)
     → unwrap_or (cond c (Some next) (cond b (Some next) (cond a (Some next) None))) now ≡ next
@@ -185,7 +210,7 @@ thrice-then : (arrival : Arrival) (entries : Expiries) (message : JoinPrune) (at
     (get is_at entries at)) (get is_at entries at)
 thrice-then arrival entries message at tells =
     own-three (at.iface.0 == arrival.iface.0) (is_among arrival.joins.keys at.entry) (is_among arrival.prunes.keys at.entry)
-    (is_ended arrival at.entry) (list_any (is_at at) (keys_of entries.entries))
+    (is_ended arrival at.entry) (is_some (get is_at entries at))
     (planned arrival entries at) (get is_at entries at)
     (expiry_after at.entry (mention_of message at.entry) arrival.clock message.holdtime (get is_at entries at))
     (λ i. expiry_after at.entry (record {
@@ -195,8 +220,7 @@ thrice-then arrival entries message at tells =
           tells.joined (Star (group_of at.entry)) i;
     }) arrival.clock (tells.held i) (get is_at entries at))
     (λ j p e. unsaid arrival at.entry (get is_at entries at) j p
-    (λ t. absent (get is_at entries at) (found-among (is_at at) entries.entries
-    ∙ (sym (ap (λ (x : Bool). x && list_any (is_at at) (keys_of entries.entries)) t) ∙ e))))
+    (λ t. absent (get is_at entries at) (sym (ap (λ (x : Bool). x && is_some (get is_at entries at)) t) ∙ e)))
 
 -- ---- changes as a map
 

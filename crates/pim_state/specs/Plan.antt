@@ -1,5 +1,5 @@
 -- What becomes of the entries of an interface behind a message, by what the message joins and prunes.
-use Rattle.std.specs.Prelude.{◌≡◌, ◌==◌, ◌&&◌, Bool, true, false, List, Option, Some, if◌then◌else◌}
+use Rattle.std.specs.Prelude.{◌≡◌, ◌==◌, ◌&&◌, Bool, false, List, Option, Some, is_some, if◌then◌else◌}
 use Rattle.std.specs.List.{list_any}
 use Rattle.std.specs.declared.hash.FoldHasher.{FoldHasher}
 use Rattle.std.specs.declared.hash.BuildHasherDefault.{BuildHasherDefault}
@@ -67,14 +67,13 @@ is_ended arrival other = false
 abbrev pub may_end : Arrival → IfaceEntry → Bool
 may_end arrival at = (at.iface.0 == arrival.iface.0) && is_ended arrival at.entry
 
--- whether it is such an entry, and among these
-abbrev pub ends_among : Arrival → List IfaceEntry → IfaceEntry → Bool
-ends_among arrival list at = may_end arrival at && list_any (is_at at) list
+-- whether it is such an entry, and is there
+abbrev pub ends : Arrival → Expiries → IfaceEntry → Bool
+ends arrival entries at = may_end arrival at && is_some (get is_at entries at)
 
--- whether it is a join (*,G)
-abbrev pub is_shared : JoinEntry → Bool
-is_shared (Star group) = true
-is_shared other = false
+-- whether it is such an entry, and among these
+abbrev pub ends_among : Arrival → Expiries → List IfaceEntry → IfaceEntry → Bool
+ends_among arrival entries list at = ends arrival entries at && list_any (is_at at) list
 
 -- what the plan says of an entry: where it is touched the expiry then, and else what it said
 abbrev pub told_at : Arrival → Expiries → Bool → Option (Option Expiry) → IfaceEntry → Option (Option Expiry)

@@ -2,17 +2,18 @@
 ghost use Rattle.std.specs.Prelude.{◌≡◌, ◌<◌, ◌^◌, ◌||◌, [], ◌∷◌, IfOk, OnOk};
 ghost use Rattle.std.specs.List.{list_any};
 ghost use Rattle.std.specs.FinMap.{from_entries};
-ghost use Rattle.indexmap.specs.IndexMap.{get, keys, IsUnique};
+ghost use Rattle.indexmap.specs.IndexMap.{get, IsUnique};
 ghost use Rattle.scenario_defs.specs.declared.event.JoinEntry.{JoinEntry};
 ghost use Rattle.pim_joinprune.specs.declared.message.JoinPrune.{JoinPrune};
 ghost use Rattle.scenario_defs.specs.declared.event.IfaceEntry.{IfaceEntry};
 ghost use Rattle.pim_defs.specs.Mention.{lists};
 ghost use Rattle.pim_defs.specs.Entries.{applied};
 ghost use Rattle.pim_state.specs.Changes.{changed_by};
-ghost use Rattle.pim_state.specs.Plan.{is_among, is_at, is_entry, is_named, is_shared, may_end, ends_among, mention_in};
-ghost use Rattle.pim_state.specs.Plan.{then_of, told_at, Tells};
+ghost use Rattle.pim_state.specs.Index.{pruned_by, ends_of, IsExact};
+ghost use Rattle.pim_state.specs.Plan.{is_among, is_at, is_entry, is_named, may_end, ends, ends_among, mention_in, then_of, told_at, Tells};
 
 use crate::changes::Changes;
+use crate::index::{EntryIndex, IndexKey, listed};
 use indexmap::{IndexMap, IndexSet};
 use mv_base::{Addr, IfaceId, NoMemory};
 use pim_defs::{Expiry, Mention, entry_of, expiry_after, group_of};
@@ -84,6 +85,16 @@ fn pruned(alloc: Global, groups: &[Group]) -> Result<IndexSet<JoinEntry>, NoMemo
         add_named(&mut entries, group.group, group.prunes.as_slice())?;
     }
     Ok(entries)
+}
+
+/// The entries that are listed as prunes (S,G,rpt) of the group, where the entry is its (*,G).
+fn pruned_by<'a>(index: &'a EntryIndex, entry: &JoinEntry) -> &'a [IfaceEntry]
+    ensures { result.now ≡ pruned_by index.now entry.now }
+{
+    match entry {
+        JoinEntry::Star { group } => listed(index, IndexKey::Pruned { group: *group }),
+        _ => &[],
+    }
 }
 
 /// A message that an interface takes at the clock: which entries it joins and prunes.
@@ -200,6 +211,13 @@ impl Arrival {
         }
     }
 
+    /// Whether the message may end the entry, which is there.
+    fn ends(&self, entries: &IndexMap<IfaceEntry, Expiry>, at: &IfaceEntry) -> bool
+        ensures { result ≡ ends self.now entries.now at.now }
+    {
+        self.may_end(at) && entries.contains_key(at)
+    }
+
     /// Plans what becomes of an entry that the message may end without naming it.
     fn plan_ended(
         &self,
@@ -210,62 +228,54 @@ impl Arrival {
         requires clock { self.now.clock < 2 ^ 63 }
         requires unique { IsUnique is_at changes.old }
         ensures each { (other : IfaceEntry) → OnOk result (get is_at changes.new other
-            ≡ told_at self.now entries.now (ends_among self.now (at.now ∷ []) other) (get is_at changes.old other) other) }
+            ≡ told_at self.now entries.now (ends_among self.now entries.now (at.now ∷ []) other) (get is_at changes.old other) other) }
         ensures unique { IsUnique is_at changes.new }
     {
-        if self.may_end(at) {
+        if self.ends(entries, at) {
             self.plan(entries, at.entry, changes)
         } else {
             Ok(())
         }
     }
 
-    /// Plans what becomes of the entries that the message may end without naming them.
-    fn plan_all_ended(
+    /// Plans what becomes of those of the entries that the message may end without naming them.
+    fn plan_listed(
         &self,
         entries: &IndexMap<IfaceEntry, Expiry>,
+        listed: &[IfaceEntry],
         changes: &mut Changes,
     ) -> Result<(), NoMemory>
         requires clock { self.now.clock < 2 ^ 63 }
         requires unique { IsUnique is_at changes.old }
         ensures each { (at : IfaceEntry) → OnOk result (get is_at changes.new at
-            ≡ told_at self.now entries.now (ends_among self.now (keys entries.now) at) (get is_at changes.old at) at) }
+            ≡ told_at self.now entries.now (ends_among self.now entries.now listed.now at) (get is_at changes.old at) at) }
         ensures unique { IsUnique is_at changes.new }
     {
-        let present = entries.keys().as_slice();
-        for at in present {
+        for at in listed {
             self.plan_ended(entries, at, changes)?;
         }
         Ok(())
     }
 
-    /// Whether the message joins the shared tree of some group.
-    fn joins_shared(&self) -> bool
-        ensures { result ≡ list_any is_shared self.now.joins.keys }
-    {
-        self.joins
-            .as_slice()
-            .iter()
-            .any(|entry| matches!(entry, JoinEntry::Star { group: _ }))
-    }
-
-    /// Plans what becomes of the entries that the message may end without naming them, which are none without a join (*,G).
-    fn plan_unnamed(
+    /// Plans what becomes of the entries that the message may end without naming them: where it joins the shared tree of a
+    /// group, its prunes (S,G,rpt) are looked at, and no other entries.
+    fn plan_all_ended(
         &self,
         entries: &IndexMap<IfaceEntry, Expiry>,
+        index: &EntryIndex,
         changes: &mut Changes,
     ) -> Result<(), NoMemory>
         requires clock { self.now.clock < 2 ^ 63 }
         requires unique { IsUnique is_at changes.old }
         ensures each { (at : IfaceEntry) → OnOk result (get is_at changes.new at
-            ≡ told_at self.now entries.now (ends_among self.now (keys entries.now) at) (get is_at changes.old at) at) }
+            ≡ told_at self.now entries.now (ends_of self.now entries.now index.now self.now.joins.keys at) (get is_at changes.old at) at) }
         ensures unique { IsUnique is_at changes.new }
     {
-        if self.joins_shared() {
-            self.plan_all_ended(entries, changes)
-        } else {
-            Ok(())
+        let joined = self.joins.as_slice();
+        for entry in joined {
+            self.plan_listed(entries, pruned_by(index, entry), changes)?;
         }
+        Ok(())
     }
 
     /// What the message changes, each entry that it may change once.
@@ -273,8 +283,10 @@ impl Arrival {
         &self,
         alloc: Global,
         entries: &IndexMap<IfaceEntry, Expiry>,
+        index: &EntryIndex,
     ) -> Result<Changes, NoMemory>
-        requires { self.now.clock < 2 ^ 63 }
+        requires clock { self.now.clock < 2 ^ 63 }
+        requires exact { IsExact entries.now index.now }
         ensures { (message : JoinPrune) → Tells self.now message →
             IfOk result (λ changes. changed_by (from_entries entries.now.entries) changes.entries
             ≡ applied (from_entries entries.now.entries) self.now.iface message self.now.clock) }
@@ -282,7 +294,7 @@ impl Arrival {
         let mut changes = IndexMap::new(alloc);
         self.plan_named(entries, self.joins.as_slice(), &mut changes)?;
         self.plan_named(entries, self.prunes.as_slice(), &mut changes)?;
-        self.plan_unnamed(entries, &mut changes)?;
+        self.plan_all_ended(entries, index, &mut changes)?;
         Ok(changes)
     }
 }

@@ -4,12 +4,15 @@ ghost use Rattle.std.specs.FinMap.{from_entries, len};
 ghost use Rattle.indexmap.specs.IndexMap.{get, keys, values, spare, IsUnique, Updates};
 ghost use Rattle.scenario_defs.specs.declared.event.IfaceEntry.{IfaceEntry};
 ghost use Rattle.pim_state.specs.Changes.{changed_by, then_at};
+ghost use Rattle.pim_state.specs.Index.{IsExact};
 ghost use Rattle.pim_state.specs.Plan.{is_at};
 
+use crate::index::{EntryIndex, list_all, unlist_gone};
 use indexmap::IndexMap;
 use mv_base::NoMemory;
 use pim_defs::Expiry;
 use scenario_defs::IfaceEntry;
+use std::alloc::Global;
 
 /// Entries that may change, each with its expiry then, where it is there then.
 pub(crate) type Changes = IndexMap<IfaceEntry, Option<Expiry>>;
@@ -71,16 +74,22 @@ fn change_all(entries: &mut IndexMap<IfaceEntry, Expiry>, changes: &Changes)
     }
 }
 
-/// Makes the changes, or none of them.
+/// Makes the changes, or none of them. The index lists each entry that is there and no other one, before and after.
 pub(crate) fn apply(
     entries: &mut IndexMap<IfaceEntry, Expiry>,
+    index: &mut EntryIndex,
+    alloc: Global,
     changes: &Changes,
 ) -> Result<(), NoMemory>
+    requires { IsExact entries.old index.old }
     ensures ok { OnOk result (from_entries entries.new.entries ≡ changed_by (from_entries entries.old.entries) changes.now.entries) }
     ensures err { OnErr result (entries.new.entries ≡ entries.old.entries) }
     ensures unique { IsUnique is_at entries.new }
+    ensures exact { IsExact entries.new index.new }
 {
     entries.reserve(count_kept(changes))?;
+    list_all(index, alloc, entries, changes)?;
     change_all(entries, changes);
+    unlist_gone(index, entries, changes);
     Ok(())
 }

@@ -1,7 +1,9 @@
 //! The entries of an edge's interfaces.
-ghost use Rattle.std.specs.Prelude.{◌≡◌, ◌<◌, ◌≤◌, ◌^◌, ◌&&◌, not, true, false, not, count_by, is_some, Err, IfOk, OnOk, OnErr};
+ghost use Rattle.std.specs.Prelude.{◌≡◌, ◌<◌, ◌≤◌, ◌^◌, ◌&&◌, not, true, false, count_by, is_some, Err, IfOk, OnOk, OnErr};
+ghost use Rattle.std.specs.List.{list_any};
 ghost use Rattle.std.specs.FinMap.{empty, from_entries, len};
 ghost use Rattle.indexmap.specs.IndexMap.{IsUnique};
+ghost use Rattle.mv_base.specs.declared.ids.IfaceId.{IfaceId};
 ghost use Rattle.pim_defs.specs.Expiry.{is_after};
 ghost use Rattle.scenario_defs.specs.declared.event.JoinEntry.TheVariants as entries;
 ghost use Rattle.pim_defs.specs.Expiry.{counts};
@@ -10,6 +12,7 @@ ghost use Rattle.pim_state.specs.Plan.{is_at};
 
 use crate::arrival::Arrival;
 use crate::changes::{apply, count_after};
+use crate::index::{EntryIndex, key_of, listed, unlist_ended};
 use indexmap::IndexMap;
 use mv_base::{Addr, IfaceId, NoMemory};
 use pim_defs::{Expiry, counts};
@@ -53,6 +56,7 @@ fn count_due(expiries: &[Expiry], now: u64) -> u64
 pub struct Downstream {
     alloc: Global,
     entries: IndexMap<IfaceEntry, Expiry>,
+    index: EntryIndex,
 }
 
 impl Model for Downstream {
@@ -61,6 +65,7 @@ impl Model for Downstream {
     ghost use Rattle.indexmap.specs.IndexMap.{IsUnique};
     ghost use Rattle.pim_defs.specs.Entries.{Entries};
     ghost use Rattle.pim_state.specs.Codes.{entries_code};
+    ghost use Rattle.pim_state.specs.Index.{IsExact};
     ghost use Rattle.pim_state.specs.Plan.{is_at};
 
     ghost Value = { Entries };
@@ -69,7 +74,7 @@ impl Model for Downstream {
 
     ghost view = { λ d. from_entries d.entries.entries };
 
-    ghost invariant = { λ d. IsUnique is_at d.entries × (length d.entries.entries ≤ 1024) };
+    ghost invariant = { λ d. IsUnique is_at d.entries × (length d.entries.entries ≤ 1024) × IsExact d.entries d.index };
 }
 
 impl Downstream {
@@ -80,6 +85,7 @@ impl Downstream {
         Downstream {
             alloc,
             entries: IndexMap::new(alloc),
+            index: IndexMap::new(alloc),
         }
     }
 
@@ -93,11 +99,11 @@ impl Downstream {
         ensures unchanged { OnErr result (self.new ≡ self.old) }
     {
         let arrival = Arrival::of(self.alloc, iface, message, now)?;
-        let changes = arrival.changes(self.alloc, &self.entries)?;
+        let changes = arrival.changes(self.alloc, &self.entries, &self.index)?;
         if count_after(&self.entries, &changes) > ENTRY_LIMIT {
             return Err(TakeFault::Full);
         }
-        apply(&mut self.entries, &changes)?;
+        apply(&mut self.entries, &mut self.index, self.alloc, &changes)?;
         Ok(())
     }
 
@@ -113,7 +119,7 @@ impl Downstream {
         ensures { IfOk result (λ count. count ≡ len (applied self.now iface message.now now)) }
     {
         let arrival = Arrival::of(alloc, iface, message, now)?;
-        let changes = arrival.changes(alloc, &self.entries)?;
+        let changes = arrival.changes(alloc, &self.entries, &self.index)?;
         u32::try_from(count_after(&self.entries, &changes)).map_err(|_| NoMemory)
     }
 
@@ -122,6 +128,7 @@ impl Downstream {
         ensures kept { self.new ≡ kept_at self.old now }
         ensures fewer { len self.new ≤ len self.old }
     {
+        unlist_ended(&mut self.index, &self.entries, now);
         self.entries.retain(
             |_at: &IfaceEntry, expiry: &mut Expiry| -> bool
                 ensures { (result ≡ is_after expiry.old now) × (expiry.new ≡ expiry.old) }
@@ -174,6 +181,14 @@ impl Downstream {
         ensures unique { IsUnique is_at result.now }
     {
         &self.entries
+    }
+
+    /// Entries among which those are, at any interface, that are equal to this one. All of them are there.
+    pub fn listed(&self, entry: &JoinEntry) -> &[IfaceEntry]
+        ensures { (iface : IfaceId) →
+            list_any (is_at (record { iface = iface; entry = entry.now })) result.now ≡ is_some (expiry_at self.now iface entry.now) }
+    {
+        listed(&self.index, key_of(entry))
     }
 
     /// Whether the entry of the interface is there.

@@ -1,9 +1,8 @@
 -- What flows are recomputed from.
-use Rattle.std.specs.Prelude.{ℕ, ◌||◌, ◌&&◌, ◌==◌, is_some, map, Bool, List, [], ◌∷◌, None, Some}
+use Rattle.std.specs.Prelude.{ℕ, ◌||◌, ◌&&◌, ◌==◌, is_some, Bool, List, [], ◌∷◌, None, Some}
 use Rattle.std.specs.List.{list_any, filter}
 use Rattle.mv_base.specs.declared.ids.IfaceId.{IfaceId}
 use Rattle.mv_base.specs.declared.ids.NodeId.{NodeId}
-use Rattle.pim_defs.specs.declared.expiry.Expiry.{Expiry}
 use Rattle.pim_defs.specs.Entries.{Entries, expiry_at, asks}
 use Rattle.scenario_defs.specs.declared.event.IfaceEntry.{IfaceEntry}
 use Rattle.scenario_defs.specs.declared.event.JoinEntry.TheVariants.{Source}
@@ -13,7 +12,7 @@ use Rattle.vrf_words.specs.declared.tree_defs.flow.SiteIface.{SiteIface}
 use Rattle.vrf_words.specs.tree_defs.Keys.{same_flow}
 use Rattle.vrf_words.specs.tree_defs.Flows.{chosen_for}
 use Rattle.vrf_flows.specs.declared.sight.Sight.{Sight}
-use Rattle.vrf_flows.specs.Held.{Now, touches}
+use Rattle.vrf_flows.specs.Held.{Now}
 
 -- those of the interfaces that ask for the flow, where its source is known to send or not
 abbrev pub asking_of : List SiteIface → Entries → Bool → ℕ → Flow → List SiteIface
@@ -22,20 +21,18 @@ asking_of ifaces entries active clock flow =
 
 -- ---- the interfaces that may ask for a flow, by the entries
 
-abbrev pub may_change : Flow → IfaceEntry × Expiry → Bool
-may_change flow e = touches e.0.entry flow
+-- whether one of the entries is of the interface
+abbrev pub is_named : List IfaceEntry → IfaceId → Bool
+is_named listed iface = list_any (λ (own : IfaceEntry). own.iface.0 == iface.0) listed
 
--- the interfaces of the entries that may change the flow
-abbrev pub named_in : Flow → List (IfaceEntry × Expiry) → List IfaceId
-named_in flow entries = map (λ (e : IfaceEntry × Expiry). e.0.iface) (filter (may_change flow) entries)
+-- the same, of two lists of entries
+abbrev pub is_among : List IfaceEntry → List IfaceEntry → IfaceId → Bool
+is_among joined shared iface = is_named joined iface || is_named shared iface
 
-abbrev pub is_named : List IfaceId → IfaceId → Bool
-is_named named iface = list_any (λ (own : IfaceId). own.0 == iface.0) named
-
--- those of the interfaces that are among these and ask for the flow
-abbrev pub asking_among : List IfaceId → List SiteIface → Entries → Bool → ℕ → Flow → List SiteIface
-asking_among named ifaces entries active clock flow =
-    filter (λ (own : SiteIface). is_named named own.iface && asks entries own.iface flow.source flow.group active clock) ifaces
+-- those of the interfaces that have one of these entries and ask for the flow
+abbrev pub asking_among : List IfaceEntry → List IfaceEntry → List SiteIface → Entries → Bool → ℕ → Flow → List SiteIface
+asking_among joined shared ifaces entries active clock flow =
+    filter (λ (own : SiteIface). is_among joined shared own.iface && asks entries own.iface flow.source flow.group active clock) ifaces
 
 -- ---- flows
 

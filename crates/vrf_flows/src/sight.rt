@@ -3,13 +3,12 @@ ghost use Rattle.std.specs.Prelude.{◌≡◌, ◌<◌, ℕ, IfOk};
 ghost use Rattle.mv_base.specs.declared.ids.NodeId.{NodeId};
 ghost use Rattle.umh_select.specs.Routes.{AreCosts, AreOfCore};
 ghost use Rattle.vrf_words.specs.tree_defs.Flows.{chosen_for};
-ghost use Rattle.vrf_flows.specs.Sight.{asking_among, asking_of, is_named, is_joined, is_needed, is_sent, flow_by, named_in, seen};
+ghost use Rattle.vrf_flows.specs.Sight.{asking_among, asking_of, is_among, is_named, is_joined, is_needed, is_sent, flow_by, seen};
 
-use crate::held::{Kept, cause_of};
+use crate::held::Kept;
 use core_paths::Core;
-use indexmap::{IndexMap, IndexSet};
+use indexmap::IndexSet;
 use mv_base::{IfaceId, NoMemory, NodeId, Seq};
-use pim_defs::Expiry;
 use pim_state::Downstream;
 use scenario_defs::{IfaceEntry, JoinEntry};
 use std::alloc::Global;
@@ -28,47 +27,39 @@ pub(crate) struct Sight<'a> {
     pub core: &'a Core,
 }
 
-/// Up to so many interfaces are looked for among those of a VRF before their entries are.
+/// Up to so many entries are looked for an interface among before its own are looked up.
 const FEW: usize = 16;
 
-/// The interfaces of the entries that may change the flow.
-fn named(
-    alloc: Global,
-    entries: &IndexMap<IfaceEntry, Expiry>,
-    flow: Flow,
-) -> Result<Seq<IfaceId>, NoMemory>
-    ensures { IfOk result (λ found. found ≡ named_in flow entries.now.entries) }
+/// Whether one of the entries is of the interface.
+fn is_named(listed: &[IfaceEntry], iface: IfaceId) -> bool
+    ensures { result ≡ is_named listed.now iface }
 {
-    let mut found = Seq::new(alloc);
-    for (at, _) in entries.iter() {
-        if cause_of(&at.entry).concerns(&flow) {
-            found.push(at.iface)?;
-        }
-    }
-    Ok(found)
+    listed.iter().any(|own| own.iface.0 == iface.0)
 }
 
-fn is_named(named: &[IfaceId], iface: IfaceId) -> bool
-    ensures { result ≡ is_named named.now iface }
+/// Whether an entry of the interface is among those that may join the flow, or among those that may join its group.
+fn is_among(joined: &[IfaceEntry], shared: &[IfaceEntry], iface: IfaceId) -> bool
+    ensures { result ≡ is_among joined.now shared.now iface }
 {
-    named.iter().any(|own| own.0 == iface.0)
+    is_named(joined, iface) || is_named(shared, iface)
 }
 
-/// Those of the interfaces that are among these and ask for the flow, in their order.
+/// Those of the interfaces that have one of these entries and ask for the flow, in their order.
 fn asking_among(
     alloc: Global,
     sight: &Sight<'_>,
     flow: Flow,
     active: bool,
-    named: &[IfaceId],
+    joined: &[IfaceEntry],
+    shared: &[IfaceEntry],
 ) -> Result<Seq<SiteIface>, NoMemory>
     ensures { IfOk result (λ found.
-        found ≡ asking_among named.now sight.now.ifaces.now sight.now.entries.now active sight.now.clock flow) }
+        found ≡ asking_among joined.now shared.now sight.now.ifaces.now sight.now.entries.now active sight.now.clock flow) }
 {
     let mut found = Seq::new(alloc);
     let ifaces = sight.ifaces;
     for own in ifaces {
-        if is_named(named, own.iface)
+        if is_among(joined, shared, own.iface)
             && sight
                 .entries
                 .asks(own.iface, flow.source, flow.group, active, sight.clock)
@@ -101,7 +92,7 @@ fn asking_each(
     Ok(found)
 }
 
-/// Those of the interfaces that ask for the flow, in their order. Most flows are named by the entries of few interfaces.
+/// Those of the interfaces that ask for the flow, in their order. Most flows are joined by few entries.
 fn asking(
     alloc: Global,
     sight: &Sight<'_>,
@@ -110,11 +101,15 @@ fn asking(
 ) -> Result<Seq<SiteIface>, NoMemory>
     ensures { IfOk result (λ found. found ≡ asking_of sight.now.ifaces.now sight.now.entries.now active sight.now.clock flow) }
 {
-    let named = named(alloc, sight.entries.expiries(), flow)?;
-    if named.len() > FEW {
+    let joined = sight.entries.listed(&JoinEntry::Source {
+        source: flow.source,
+        group: flow.group,
+    });
+    let shared = sight.entries.listed(&JoinEntry::Star { group: flow.group });
+    if joined.len() + shared.len() > FEW {
         asking_each(alloc, sight, flow, active)
     } else {
-        asking_among(alloc, sight, flow, active, named.as_slice())
+        asking_among(alloc, sight, flow, active, joined, shared)
     }
 }
 

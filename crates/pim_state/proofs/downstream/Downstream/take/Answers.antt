@@ -13,4 +13,5 @@ invariant_of-self-2 c =
       either c.apply.result c.apply.ensures.ok c.apply.ensures.err
           (λ same. omega (arith, few, behind, ap (λ (m : Entries). len m) same, c.count_after.ensures))
           (λ same. omega (arith, c.self.invariant.1, ap length same)),
+      c.apply.ensures.exact,
     )

@@ -1,4 +1,5 @@
-use Rattle.std.proofs.Common.{rules, ◌≡◌, ◌≤◌, length, arith, ap, not, refl, ◌∙◌}
+use Rattle.std.proofs.Common.{rules, ◌≡◌, ◌≤◌, length, List, Option, arith, ap, is_some, not, refl, sym, ◌∙◌}
+use Rattle.std.specs.Map.{lookup}
 use Rattle.std.specs.FinMap.{from_entries, len}
 use Rattle.std.proofs.lemmas.List.Filters.{length-filter_both}
 use Rattle.indexmap.proofs.CallerLemmas.{filter-RetainsPairs}
@@ -6,7 +7,8 @@ use Rattle.scenario_defs.specs.declared.event.IfaceEntry.{IfaceEntry}
 use Rattle.pim_defs.specs.declared.expiry.Expiry.{Expiry}
 use Rattle.pim_defs.specs.Expiry.{is_after}
 use Rattle.pim_defs.specs.Entries.{entry_cmp, Entries, kept_at}
-use Rattle.pim_state.proofs.MapLemmas.{left-kept, left_at, length-map}
+use Rattle.pim_state.specs.Plan.{is_at}
+use Rattle.pim_state.proofs.MapLemmas.{left-kept, left_at, length-map, lookup-left}
 use Rattle.pim_state.proofs.downstream.Downstream.timers.Goals as goal
 
 pub returns-clause-kept : goal.returns-clause-kept
@@ -32,3 +34,22 @@ returns-clause-fewer c =
           (λ _. refl) c.self.inside.entries.entries,
     ) in
     omega (arith, before, behind, fewer, ap (λ (m : Entries). len m) c.self.view_is)
+
+pub invariant_of-self : goal.invariant_of-self
+invariant_of-self c =
+    let left : c.retain.new.self.entries ≡ left_at c.args.now c.self.inside.entries.entries =
+    filter-RetainsPairs _ _ _ (λ k v b w g call. search rules) _ _ c.retain.ensures.filtered in
+    let fewer : length c.retain.new.self.entries ≤ length c.self.inside.entries.entries =
+    omega (
+      arith,
+      ap length left,
+      length-filter_both (λ (e : IfaceEntry × Expiry). is_after e.1 c.args.now) (λ e. not (is_after e.1 c.args.now))
+          (λ _. refl) c.self.inside.entries.entries,
+    ) in (
+      c.retain.ensures.unique,
+      omega (arith, fewer, c.self.invariant.1),
+      λ at.
+          c.unlist_ended.ensures at
+          ∙ ap (λ (o : Option Expiry). is_some o) (sym (ap (λ (es : List (IfaceEntry × Expiry)). lookup (is_at at) es) left
+          ∙ lookup-left c.args.now at c.self.inside.entries.entries c.self.invariant.0)),
+    )

@@ -1,14 +1,26 @@
 -- What the calls of an edge answer, by what its parts answer.
-use Rattle.std.proofs.Common.{◌≡◌, ◌∙◌, sym, ap, subst, ℕ, [], Option, None, Result, option_map}
+use Rattle.std.proofs.Common.{◌≡◌, ◌∙◌, refl, sym, ap, subst, ℕ, inl, inr, false, List, [], ◌∷◌, Option, None, Some, Result, Ok, Err, option_map}
+use Rattle.std.proofs.lemmas.Option.{none-some, same_Some}
+use Rattle.mv_base.specs.Lists.{Among}
 use Rattle.mv_base.specs.core_walks.Topology.{Topology}
-use Rattle.edge_defs.specs.Steps.{Call}
-use Rattle.mldp_node.specs.NodeData.{cause}
+use Rattle.label_defs.specs.Node.{Spent, LacksLabel, LacksMemory}
+use Rattle.edge_defs.specs.Edge.{Control}
+use Rattle.edge_defs.specs.Steps.{Call, Active, Idle, Label, Noticed, Pim, Raised, Rerouted, Select, Timers, Unselect, Update}
+use Rattle.mldp_node.specs.NodeData.{NodeData, cause}
 use Rattle.mldp_node.specs.declared.fault.NodeFault.{NodeFault}
 use Rattle.edge_core.specs.declared.fault.EdgeFault.{EdgeFault}
+use Rattle.edge_core.specs.declared.fault.EdgeFault.TheVariants as faults
 use Rattle.edge_core.specs.declared.parts.Parts.{Parts}
-use Rattle.edge_core.specs.Answers.{Answers, step_of}
+use Rattle.edge_core.specs.Answers.{IsOneOf, OnTaken, fault_of}
 use Rattle.edge_core.specs.Called.{SettlesCall, behind, going, seen, spent_after}
+use Rattle.edge_core.specs.Calls.{AnswersCall, IsToward, MakesCall, is_full, refusals_of}
+use Rattle.edge_core.specs.State.{data_of}
 use Rattle.edge_core.specs.View.{EdgeView}
+use Rattle.edge_core.proofs.StepLemmas.{one_fault}
+
+-- some core
+abbrev pub any_topology : Topology
+any_topology = record { nodes = 0; links = [] }
 
 -- why an edge is spent, as it is kept and as it is seen
 seen_behind : (parts : Parts) (spent : Option NodeFault) (result : Result (Unit {0}) EdgeFault) → option_map cause spent ≡ spent_after result
@@ -20,16 +32,98 @@ pub none_after : (spent : Option NodeFault) (result : Result (Unit {0}) EdgeFaul
     → spent_after result ≡ None
 none_after spent result e h = sym e ∙ ap (λ (s : Option NodeFault). option_map cause s) h
 
--- What the parts of an edge answer that is not spent is what the edge answers.
-pub answers_seen : (core : Topology) (now : ℕ) (call : Call) (parts new : Parts) (spent new_spent : Option NodeFault) (edge : EdgeView)
+-- What the parts of an edge make of a call, that is not spent, is what the edge answers.
+pub call_seen : (core : Topology) (now : ℕ) (call : Call) (parts new : Parts) (spent new_spent : Option NodeFault) (edge : EdgeView)
     (result : Result (Unit {0}) EdgeFault)
-    → spent ≡ None → seen parts spent ≡ edge → option_map cause new_spent ≡ spent_after result → SettlesCall core now call (going parts) new result
-    → Answers core (step_of edge now call) edge (seen new new_spent) result
-answers_seen core now call parts new spent new_spent edge result none is e settled =
-    subst (λ (old : EdgeView). Answers core (step_of old now call) old (seen new new_spent) result) ((λ i. seen parts (sym none i)) ∙ is)
-    (subst (λ (v : EdgeView). Answers core (step_of (going parts) now call) (going parts) v result) (seen_behind new new_spent result e)
-    settled.answers)
+    → spent ≡ None → seen parts spent ≡ edge → option_map cause new_spent ≡ spent_after result → MakesCall core now call parts new result
+    → AnswersCall core now call edge (seen new new_spent) result
+call_seen core now call parts new spent new_spent edge result none is e made =
+    subst (λ (old : EdgeView). AnswersCall core now call old (seen new new_spent) result) ((λ i. seen parts (sym none i)) ∙ is)
+    (subst (λ (v : EdgeView). AnswersCall core now call (going parts) v result) (seen_behind new new_spent result e) (record {
+      answers = made.settles.answers;
+      only = made.only;
+      fits = λ unspent. made.fits;
+      full = λ full. (
+        (made.full full).0,
+        ap (λ (r : Result (Unit {0}) EdgeFault). behind new r) full ∙ ap (λ (p : Parts). going p) (made.full full).1,
+      );
+      toward = made.toward;
+    }))
 
--- some core
-abbrev pub any_topology : Topology
-any_topology = record { nodes = 0; links = [] }
+-- after other costs nothing is said of a call that is not made
+not_toward : (core : Topology) (call : Call) (labels : NodeData) (fault : EdgeFault) → IsToward core call labels (Err fault)
+not_toward core Rerouted labels fault = tt
+not_toward core (Update peer message) labels fault = tt
+not_toward core (Label neighbour message) labels fault = tt
+not_toward core (Pim iface message) labels fault = tt
+not_toward core (Active iface source group) labels fault = tt
+not_toward core (Idle iface source group) labels fault = tt
+not_toward core (Select vrf pattern) labels fault = tt
+not_toward core (Unselect vrf pattern) labels fault = tt
+not_toward core (Raised kind peer) labels fault = tt
+not_toward core (Noticed kind peer) labels fault = tt
+not_toward core Timers labels fault = tt
+
+-- What an edge answers that is spent.
+pub call_spent : (core : Topology) (now : ℕ) (call : Call) (edge : EdgeView) (spent : Spent) → edge.spent ≡ Some spent
+    → (result : Result (Unit {0}) EdgeFault) → result ≡ Err (fault_of spent) → AnswersCall core now call edge edge result
+call_spent core now call edge spent is result e =
+    subst (λ (r : Result (Unit {0}) EdgeFault). AnswersCall core now call edge edge r) (sym e) (record {
+      answers = record {
+        home = refl;
+        before = λ other at. (ap (λ (s : Spent). Err (fault_of s)) (same_Some spent other (sym is ∙ at)), refl);
+        unspent = tt;
+        made = tt;
+        goes_on = tt;
+        toward = λ none. absurd (some_not_none none);
+        lacks = λ lacking none. absurd (some_not_none none);
+        spends = λ fault told none. absurd (some_not_none none);
+      };
+      only = λ fault told. only spent fault told;
+      fits = λ none. absurd (some_not_none none);
+      full = λ told. absurd (not_full spent told);
+      toward = not_toward core call edge.labels (fault_of spent);
+    })
+  where
+    some_not_none : edge.spent ≡ None → ⊥
+    some_not_none none = none-some spent (sym none ∙ is)
+
+    only : (s : Spent) (fault : EdgeFault) → ◌≡◌ {A = Result (Unit {0}) EdgeFault} (Err (fault_of s)) (Err fault)
+        → Among fault (faults.NoLabel ∷ faults.NoMemory ∷ refusals_of call)
+    only LacksLabel fault told = inl (sym (one_fault faults.NoLabel fault told))
+    only LacksMemory fault told = inr (inl (sym (one_fault faults.NoMemory fault told)))
+
+    not_full : (s : Spent) → ◌≡◌ {A = Result (Unit {0}) EdgeFault} (Err (fault_of s)) (Err faults.Full) → ⊥
+    not_full LacksLabel told = absurd cc
+    not_full LacksMemory told = absurd cc
+
+-- what holds anyway holds where a call is taken
+always : (P : Type 0) → P → (result : Result (Unit {0}) EdgeFault) → OnTaken result P
+always P p (Ok done) = p
+always P p (Err fault) = by fault
+  where
+    by : (fault : EdgeFault) → OnTaken (Err fault) P
+    by faults.NoLabel = p
+    by faults.NoMemory = tt
+    by faults.Full = tt
+    by faults.NotOurs = tt
+    by (faults.Pim place fault) = tt
+    by (faults.Session peer place reason) = tt
+
+-- A call for which there is always room.
+pub plain_call : (core : Topology) (now : ℕ) (call : Call) (old new : Parts) (result : Result (Unit {0}) EdgeFault)
+    → ((control : Control) → is_full control now call ≡ false) → [] ≡ refusals_of call
+    → SettlesCall core now call (going old) new result → IsOneOf [] result → IsToward core call new.labels result
+    → MakesCall core now call old new result
+plain_call core now call old new result room none settles only toward = record {
+  settles = settles;
+  only = subst (λ (refusals : List EdgeFault). IsOneOf refusals result) none only;
+  fits = always (is_full (data_of (going old)).control now call ≡ false) (room (data_of (going old)).control) result;
+  full = λ e. absurd (spending (only faults.Full e));
+  toward = toward;
+}
+  where
+    spending : Among faults.Full (faults.NoLabel ∷ faults.NoMemory ∷ []) → ⊥
+    spending (inl is) = absurd cc
+    spending (inr (inl is)) = absurd cc
+    spending (inr (inr is)) = is

@@ -6,6 +6,7 @@ pub mod View
 pub mod State
 pub mod Answers
 pub mod Called
+pub mod Calls
 pub mod Taking
 pub mod Pim
 pub mod Listed

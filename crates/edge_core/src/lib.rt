@@ -7,10 +7,11 @@
 //! tree of which the edge becomes or stops being a leaf. Octets that come are fed to the session's stream, the messages
 //! that wait then are taken one after another, and the first fault of the stream is answered (`octets.rt`; RFC 4271
 //! section 4, RFC 5036 section 3.1). `calls.rt` has the calls that may change an edge: each answers for a spent edge,
-//! has its part done by `Parts`, and notes whether the edge is spent now. `queries.rt` and `lists.rt` have what is
-//! asked of an edge, which changes nothing. `specs/State.antt` says what holds of an edge
-//! that is not spent (`IsLive`) and which edge of `node_defs` it is (`IsIn`); `Answers`, `Taking` and `Pim` what calls
-//! answer. Above it `network_nodes` has it as one of the two kinds of nodes.
+//! has its part done by `Parts`, and notes whether the edge is spent now. All of these but octets are values
+//! (`EdgeCall` in `edge_call.rt`), which the layers above hand on; `named.rt` has each by its name. `queries.rt` and `lists.rt` have what is
+//! asked of an edge, which changes nothing. `specs/State.antt` says what holds of an edge that is not spent (`IsLive`)
+//! and which edge of `node_defs` it is (`IsIn`); `Calls` what a call is, asks for and answers; `Answers`, `Taking` and
+//! `Pim` what others answer. Above it `network_nodes` has it as one of the two kinds of nodes.
 #![tactic(auto)]
 
 mod calls;
@@ -18,9 +19,11 @@ mod clocks;
 mod customers;
 mod datagrams;
 mod edge;
+mod edge_call;
 mod fate;
 mod fault;
 mod lists;
+mod named;
 mod octets;
 mod operators;
 mod parts;
@@ -29,6 +32,7 @@ mod sessions;
 
 pub use datagrams::branches_along;
 pub use edge::{Edge, addrs_of};
+pub use edge_call::{CustomerCall, EdgeCall};
 // The names `of_..`: words of lower crates that this crate's contracts are made of.
 pub use edge_routing::of_edge_streams as of_edge_streams;
 pub use edge_routing::of_edge_streams::SessionReason;

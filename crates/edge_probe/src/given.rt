@@ -10,7 +10,7 @@ ghost use Rattle.edge_probe.specs.Behind.{AreLinesAt, IsFresh, IsGiven, IsPeerFa
 use bgp_messages::bgp_attributes::StreamFault;
 use core_paths::Core;
 use edge_core::of_edge_streams::SessionReason;
-use edge_core::{Edge, EdgeFault};
+use edge_core::{Edge, EdgeCall, EdgeFault};
 use edge_routes::route_order::are_octets;
 use mv_base::{Addr, IfaceId, NoMemory, NodeId};
 use network_defs::of_mvpn_model::own_addr;
@@ -53,7 +53,8 @@ pub(crate) fn raise(own: &mut Edge, peer: NodeId, core: &Core) -> Result<(), NoM
     ensures given { OnOk result (IsGiven core.now peer [] own.new) }
     ensures home { home_of own.new ≡ home_of own.old }
 {
-    match own.raised(Kind::Bgp, peer, 0, core) {
+    let kind = Kind::Bgp;
+    match own.call(EdgeCall::Raised { kind, peer }, 0, core) {
         Ok(()) => Ok(()),
         Err(fault) => Err(memory(fault)),
     }

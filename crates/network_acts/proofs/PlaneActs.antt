@@ -1,5 +1,5 @@
 -- Acts of the control plane, as acts of the whole network.
-use Rattle.std.proofs.Common.{◌≡◌, ◌∙◌, refl, sym, ap, subst, ℕ, List, [], ◌∷◌, ◌++◌, Bool, Option, None, Result, Err, OnOk}
+use Rattle.std.proofs.Common.{◌≡◌, ◌∙◌, refl, sym, ap, subst, ℕ, List, [], ◌∷◌, ◌++◌, Option, None, Result, Err, OnOk}
 use Rattle.std.specs.List.{flat_map}
 use Rattle.std.proofs.lemmas.Result.{on_ok_weaker}
 use Rattle.mv_base.specs.declared.ids.NodeId.{NodeId}
@@ -102,11 +102,10 @@ module _ (own old : NetworkView) (same : own ≡ old) (plane : PlaneView) where
   }
 
   -- a call of a customer or of the operator
-  pub customer_acts_as : (Fits : Standing → Type 0) (n : NodeId) (call : Call) (is_full : Standing → Bool) (lines new_lines : List ReportLine)
-      (result : Result Verdict NodeFault)
-      → CustomerActs Fits n call is_full own.plane plane lines new_lines result
-      → CustomerActsAs Fits n call is_full old (record own { plane = plane }) lines new_lines result
-  customer_acts_as Fits n call is_full lines new_lines result row = record {
+  pub customer_acts_as : (n : NodeId) (call : Call) (lines new_lines : List ReportLine) (result : Result Verdict NodeFault)
+      → CustomerActs n call own.plane plane lines new_lines result
+      → CustomerActsAs n call old (record own { plane = plane }) lines new_lines result
+  customer_acts_as n call lines new_lines result row = record {
     made = λ e at fits is.
         let now = own_is own old same at is in
         let done = row.made e (standing_of at) fits now.plane in

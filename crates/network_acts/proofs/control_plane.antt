@@ -8,7 +8,6 @@ mod MidLemmas
 mod OwnLemmas
 mod FollowLemmas
 mod CustomerLemmas
-mod PimLemmas
 mod HandLemmas
 mod NetworkLemmas
 mod StartLemmas

@@ -1,7 +1,6 @@
 -- Words of the control plane and of the datagrams in which the acts of a network are said.
 pub use Rattle.network_acts.specs.control_plane.Acted.{IsCurrent, IsIn, IsWithin, Standing, same_moment, with_current}
-pub use Rattle.network_acts.specs.control_plane.Customers.{IsIfaceEdge, IsMessageTo, IsUnselected, IsVrfEdge}
-pub use Rattle.network_acts.specs.control_plane.Customers.{control_at, is_message_full, is_note_full, is_selection_full}
+pub use Rattle.network_acts.specs.control_plane.Customers.{FitsAt, IsIfaceEdge, IsVrfEdge, control_at, is_full_at}
 pub use Rattle.network_acts.specs.control_plane.Moving.{IsMovable}
 pub use Rattle.network_acts.specs.control_plane.Passing.{all_late}
 pub use Rattle.network_acts.specs.control_plane.Plane.{Moment, at_rest}

@@ -12,5 +12,5 @@ mod start;
 
 pub use customers::Verdict;
 pub use net_sessions::session_ways::{Directions, directions_of, sessions_of};
-pub use network_nodes::{Edge, Fate};
+pub use network_nodes::{CustomerCall, Edge, Fate};
 pub use plane::ControlPlane;

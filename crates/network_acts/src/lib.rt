@@ -21,7 +21,9 @@ mod queries;
 mod sessions;
 mod telling;
 
-pub use crate::control_plane::{Directions, Edge, Verdict, directions_of, sessions_of};
+pub use crate::control_plane::{
+    CustomerCall, Directions, Edge, Verdict, directions_of, sessions_of,
+};
 pub use data_plane::datagram_acts::Pool;
 pub use network::Network;
 // The names `of_..`: words of lower crates that this crate's contracts are made of.

@@ -14,11 +14,11 @@ use Rattle.mv_base.specs.declared.ids.NodeId.{NodeId}
 use Rattle.mv_base.specs.declared.ids.VrfId.{VrfId}
 use Rattle.mv_base.specs.declared.pattern.Pattern.{Pattern}
 use Rattle.pim_joinprune.proofs.WritingLemmas.{written_spells}
+use Rattle.pim_joinprune.proofs.pim_laws.DecodingLemmas.{spelled_read}
 use Rattle.pim_joinprune.specs.Reading.{decoded}
-use Rattle.pim_joinprune.specs.Spelling.{IsJoinPrune, written}
+use Rattle.pim_joinprune.specs.Spelling.{IsJoinPrune, Spells, written}
 use Rattle.pim_joinprune.specs.declared.fault.PimFault.{PimFault}
 use Rattle.pim_joinprune.specs.declared.message.JoinPrune.{JoinPrune}
-use Rattle.pim_joinprune.proofs.pim_laws.DecodingLemmas.{spelled_read}
 use Rattle.pim_defs.proofs.SingleLemmas.{join_spelled, prune_spelled}
 use Rattle.pim_defs.specs.Entries.{applied, are_too_many}
 use Rattle.pim_defs.specs.Single.{join_of, prune_of}
@@ -39,7 +39,6 @@ use Rattle.mldp_node.specs.declared.fault.NodeFault.{NodeFault}
 use Rattle.mvpn_model.proofs.VpnLemmas.{element_at}
 use Rattle.mvpn_model.specs.Messages.{handed, message_of, own_addr}
 use Rattle.mvpn_model.specs.Refused.{fault_word, is_ours}
-use Rattle.network_defs.specs.Acts.{At}
 use Rattle.network_defs.specs.Events.{at_edge, done, with_message}
 use Rattle.network_defs.specs.Nodes.{CoreNode, Edge, NodeState}
 use Rattle.network_defs.specs.Refusals.{are_sessions_full, control_at, control_of, edge_of_vrf, is_selected, message_refusal, note_limit, refusal, refused_if, selection_limit, selections_at}
@@ -47,16 +46,14 @@ use Rattle.network_defs.specs.World.{World, clock_of, scenario_of}
 use Rattle.network_acts.proofs.network_laws.RunMessages.{IsSoundGiven, join_is_sound, prune_is_sound, read_is_sound}
 use Rattle.network_acts.specs.network_laws.Sound.{IsFlow, SoundNode, SoundPattern}
 use Rattle.network_acts.proofs.run_laws.SoundEvents.{sound_event}
-use Rattle.network_acts.specs.Acting.{ActsAs}
 use Rattle.network_acts.specs.Customers.{CustomerActsAs}
 use Rattle.network_acts.specs.Instant.{Instant, IsSome, IsWorld, OfPlane, standing_of}
 use Rattle.network_acts.specs.NetworkView.{NetworkView}
-use Rattle.network_acts.specs.Words.{IsIfaceEdge, IsMessageTo, IsUnselected, IsVrfEdge, is_message_full, is_note_full, is_selection_full, same_moment}
+use Rattle.network_acts.specs.Words.{FitsAt, IsIfaceEdge, IsVrfEdge}
 use Rattle.network_acts.specs.declared.control_plane.customers.Verdict.{Verdict}
-use Rattle.network_events.specs.Customers.{Hands, HandsMessage, IsForIface, IsRead, IsWrittenFor, verdict_at}
-use Rattle.network_events.specs.Doing.{answer_at}
-use Rattle.network_events.specs.Meeting.{IsGiven, IsReady, Meets, met}
-use Rattle.network_events.proofs.CallLemmas.{act_meets, call_meets}
+use Rattle.network_events.specs.Customers.{HandsMessage, IsAtIface, IsForIface, IsSpelledFor, verdict_at}
+use Rattle.network_events.specs.Meeting.{IsGiven, IsReady, Meets}
+use Rattle.network_events.proofs.CallLemmas.{call_meets}
 use Rattle.network_events.proofs.MeetLemmas.{meets_refused}
 use Rattle.network_events.proofs.PlaceLemmas.{at_iface, at_vrf, own_rules, some_edge}
 
@@ -121,84 +118,78 @@ of_message iface message world (events.Pim i octets) e = by (decoded octets) ref
     by (Err fault) is h = absurd (none-some (record { iface = iface; message = message }) h)
 of_message iface message world other e = absurd (none-some (record { iface = iface; message = message }) e)
 
-same_message : (a b : JoinPrune) (octets : List ℕ) → decoded octets ≡ Ok a → decoded octets ≡ Ok b → a ≡ b
-same_message a b octets e f = ap (λ (r : Result JoinPrune (ℕ × PimFault)). elim r [ Ok m ↦ m | Err fault ↦ a ]) (sym e ∙ f)
-
-module _ (old : NetworkView) (iface : IfaceId) (octets : List ℕ) (own : IsForIface old.scenario iface octets) where
+module _ (old : NetworkView) (iface : IfaceId) (message : JoinPrune) (own : IsForIface old.scenario iface message) where
   message_fits : (n : NodeId) → edge_of old.scenario iface ≡ Some n → (at : Instant) → IsReady at → IsWorld at old
-      → IsMessageTo n iface octets (standing_of at)
-  message_fits n e at ready is = record {
-    place = at_iface at old is.scenario is.plane n iface ready.resting.rest e;
-    message = own.message;
-    spelled = own.spelled;
-    ours = subst (λ (s : Scenario). is_ours s (record { iface = iface; message = own.message }) ≡ true) is.scenario own.ours;
-    sound = own.sound;
-  }
+      → FitsAt n (steps.Pim iface message) (standing_of at)
+  message_fits n e at ready is = (at_iface at old is.scenario is.plane n iface ready.resting.rest e, own.at.spelled, own.at.sound)
 
-  pub some_message : (n : NodeId) → edge_of old.scenario iface ≡ Some n → IsSome IsReady old → IsSome (OfPlane (IsMessageTo n iface octets)) old
+  pub some_message : (n : NodeId) → edge_of old.scenario iface ≡ Some n → IsSome IsReady old
+      → IsSome (OfPlane (FitsAt n (steps.Pim iface message))) old
   some_message n e (at, ready, is) = (at, message_fits n e at ready is, is)
 
-  module _ (event : Event) (hands : Hands old.scenario iface octets event) (lines : List ReportLine) where
-    abbrev named : JoinPrune
-    named = hands.0
+  module _ (event : Event) (hands : HandsMessage old.scenario iface message event) (lines : List ReportLine) where
+    is_of : (at : Instant) → IsWorld at old → OfMessage iface message at.world event
+    is_of at is = of_message iface message at.world event (subst (λ (s : Scenario). HandsMessage s iface message event) is.scenario hands)
 
-    is_of : (at : Instant) → IsWorld at old → OfMessage iface named at.world event
-    is_of at is = of_message iface named at.world event (subst (λ (s : Scenario). HandsMessage s iface named event) is.scenario hands.2)
-
-    ours_there : (at : Instant) → IsWorld at old → is_ours (scenario_of at.world) (record { iface = iface; message = named }) ≡ true
-    ours_there at is =
-        subst (λ (s : Scenario). is_ours s (record { iface = iface; message = named }) ≡ true) is.scenario
-        (subst (λ (m : JoinPrune). is_ours old.scenario (record { iface = iface; message = m }) ≡ true)
-        (same_message own.message named octets own.spelled hands.1) own.ours)
+    ours_there : (at : Instant) → IsWorld at old → is_ours (scenario_of at.world) (record { iface = iface; message = message }) ≡ true
+    ours_there at is = subst (λ (s : Scenario). is_ours s (record { iface = iface; message = message }) ≡ true) is.scenario own.ours
 
     abbrev too_many : (at : Instant) → Option NodeId → Option Refusal
-    too_many at o = refused_if (are_too_many (applied (control_at at.world o).entries iface named (clock_of at.world))) refusals.Full
+    too_many at o = refused_if (are_too_many (applied (control_at at.world o).entries iface message (clock_of at.world))) refusals.Full
 
     pub message_full : AreFull old true → Meets event old old lines lines (Ok (Some refusals.Full))
     message_full full =
         meets_refused event old lines refusals.Full (λ at ready is.
         (is_of at is).why
-        ∙ ours_full (is_ours (scenario_of at.world) (record { iface = iface; message = named })) (are_sessions_full at.world)
+        ∙ ours_full (is_ours (scenario_of at.world) (record { iface = iface; message = message })) (are_sessions_full at.world)
         (too_many at (edge_of (scenario_of at.world) iface)) (ours_there at is) (full at is))
 
     pub message_taken : (n : NodeId) → edge_of old.scenario iface ≡ Some n → AreFull old false
         → (new : NetworkView) (new_lines : List ReportLine) (answer : Result Verdict NodeFault)
-        → ((m : JoinPrune) → decoded octets ≡ Ok m → CustomerActsAs (IsMessageTo n iface octets) n (steps.Pim iface m) (is_message_full n iface m) old
-        new lines new_lines answer) → Meets event old new lines new_lines (verdict_at n answer)
+        → CustomerActsAs n (steps.Pim iface message) old new lines new_lines answer → Meets event old new lines new_lines (verdict_at n answer)
     message_taken n e free new new_lines answer acts =
-        call_meets event old lines (IsMessageTo n iface octets) n (steps.Pim iface named) (is_message_full n iface named) new new_lines answer
+        call_meets event old lines n (steps.Pim iface message) new new_lines answer
         (λ at ready is.
         let fits = message_fits n e at ready is in
         record {
           fits = fits;
-          does = (is_of at is).does ∙ ap (λ (o : Option NodeId). at_edge o (steps.Pim iface named) at.world) fits.place.edge;
+          does = (is_of at is).does ∙ ap (λ (o : Option NodeId). at_edge o (steps.Pim iface message) at.world) fits.0.edge;
           why =
               (is_of at is).why
-              ∙ (ours_free (is_ours (scenario_of at.world) (record { iface = iface; message = named })) (are_sessions_full at.world)
+              ∙ (ours_free (is_ours (scenario_of at.world) (record { iface = iface; message = message })) (are_sessions_full at.world)
               (too_many at (edge_of (scenario_of at.world) iface)) (ours_there at is) (free at is)
-              ∙ ap (too_many at) fits.place.edge);
+              ∙ ap (too_many at) fits.0.edge);
         })
-        (acts named hands.1)
+        acts
 
 -- ---- messages that are written
 
-written_read : (message : JoinPrune) (octets : List ℕ) → IsJoinPrune message → octets ≡ written message → decoded octets ≡ Ok message
+same_message : (a b : JoinPrune) (octets : List ℕ) → decoded octets ≡ Ok a → decoded octets ≡ Ok b → a ≡ b
+same_message a b octets e f = ap (λ (r : Result JoinPrune (ℕ × PimFault)). elim r [ Ok m ↦ m | Err fault ↦ a ]) (sym e ∙ f)
+
+-- what is read of octets that are a message for the interface is that message, and no fault
+module _ (scenario : Scenario) (iface : IfaceId) (octets : List ℕ) (own : IsSpelledFor scenario iface octets) where
+  pub spelled_for : (found : JoinPrune) → decoded octets ≡ Ok found → IsForIface scenario iface found
+  spelled_for found e = subst (IsForIface scenario iface) (same_message own.message found octets own.spelled e) own.is
+
+  pub spelled_hands : (event : Event) (message found : JoinPrune) → decoded octets ≡ Ok message → decoded octets ≡ Ok found
+      → HandsMessage scenario iface message event → HandsMessage scenario iface found event
+  spelled_hands event message found e f hands =
+      subst (λ (m : JoinPrune). HandsMessage scenario iface m event) (same_message message found octets e f) hands
+
+  pub spelled_sound : (place : ℕ) (fault : PimFault) → decoded octets ≡ Err (place, fault) → ⊥
+  spelled_sound place fault e =
+      (let t : ◌≡◌ {A = Result JoinPrune (ℕ × PimFault)} (Ok own.message) (Err (place, fault)) = sym own.spelled ∙ e in cc)
+
+pub written_read : (message : JoinPrune) (octets : List ℕ) → IsJoinPrune message → octets ≡ written message → decoded octets ≡ Ok message
 written_read message octets spelled e = ap decoded e ∙ spelled_read (written message) message (written_spells message spelled)
 
-pub written_for : (scenario : Scenario) (iface : IfaceId) (message : JoinPrune) (octets : List ℕ) → IsWrittenFor scenario iface message
-    → octets ≡ written message → IsForIface scenario iface octets
-written_for scenario iface message octets own e = record {
-  within = own.within;
-  message = message;
-  spelled = written_read message octets own.spelled e;
-  ours = ap (λ (a : Addr). same_addr a (own_addr scenario iface)) own.neighbour ∙ same_addr_equiv.refl (own_addr scenario iface);
-  sound = own.sound;
-}
+pub written_for : (scenario : Scenario) (iface : IfaceId) (message : JoinPrune) (octets : List ℕ) → IsForIface scenario iface message
+    → octets ≡ written message → IsSpelledFor scenario iface octets
+written_for scenario iface message octets own e =
+    record { message = message; spelled = written_read message octets own.at.spelled e; is = own }
 
-pub written_hands : (scenario : Scenario) (iface : IfaceId) (message : JoinPrune) (octets : List ℕ) (event : Event)
-    → IsWrittenFor scenario iface message → octets ≡ written message → HandsMessage scenario iface message event
-    → Hands scenario iface octets event
-written_hands scenario iface message octets event own e hands = (message, written_read message octets own.spelled e, hands)
+-- ---- messages that are made
 
 -- what the rules say of an interface's own address
 record OwnAddr (scenario : Scenario) (iface : IfaceId) (group : Addr) : Type 0 where
@@ -220,28 +211,32 @@ own_addr_is scenario rules iface group within one =
 module _ (old : NetworkView) (iface : IfaceId) (entry : JoinEntry) (message : JoinPrune) (addr : Addr) (own : addr ≡ own_addr old.scenario iface)
   where
     pub join_for : IsSome IsReady old → IsGiven old.scenario (events.Join iface entry) → message ≡ join_of addr entry
-        → IsWrittenFor old.scenario iface message
+        → IsForIface old.scenario iface message
     join_for (at, ready, is) given e =
         let addr_is = own_addr_is old.scenario (own_rules at old is.scenario is.plane) iface (group_of entry) given.of_it.0 given.of_it.2 in
-        subst (IsWrittenFor old.scenario iface) (sym (e ∙ ap (λ (a : Addr). join_of a entry) own)) (record {
-          within = given.of_it.0;
-          spelled = join_spelled (own_addr old.scenario iface) entry addr_is.is given.of_it.1 addr_is.family;
-          neighbour = refl;
-          sound = join_is_sound old.scenario iface entry given.sound.1;
+        subst (IsForIface old.scenario iface) (sym (e ∙ ap (λ (a : Addr). join_of a entry) own)) (record {
+          at = record {
+            within = given.of_it.0;
+            spelled = join_spelled (own_addr old.scenario iface) entry addr_is.is given.of_it.1 addr_is.family;
+            sound = join_is_sound old.scenario iface entry given.sound.1;
+          };
+          ours = same_addr_equiv.refl (own_addr old.scenario iface);
         })
 
     pub join_hands : message ≡ join_of addr entry → HandsMessage old.scenario iface message (events.Join iface entry)
     join_hands e = ap (handed iface) (sym (e ∙ ap (λ (a : Addr). join_of a entry) own))
 
     pub prune_for : IsSome IsReady old → IsGiven old.scenario (events.Prune iface entry) → message ≡ prune_of addr entry
-        → IsWrittenFor old.scenario iface message
+        → IsForIface old.scenario iface message
     prune_for (at, ready, is) given e =
         let addr_is = own_addr_is old.scenario (own_rules at old is.scenario is.plane) iface (group_of entry) given.of_it.0 given.of_it.2 in
-        subst (IsWrittenFor old.scenario iface) (sym (e ∙ ap (λ (a : Addr). prune_of a entry) own)) (record {
-          within = given.of_it.0;
-          spelled = prune_spelled (own_addr old.scenario iface) entry addr_is.is given.of_it.1 addr_is.family;
-          neighbour = refl;
-          sound = prune_is_sound old.scenario iface entry given.sound.1;
+        subst (IsForIface old.scenario iface) (sym (e ∙ ap (λ (a : Addr). prune_of a entry) own)) (record {
+          at = record {
+            within = given.of_it.0;
+            spelled = prune_spelled (own_addr old.scenario iface) entry addr_is.is given.of_it.1 addr_is.family;
+            sound = prune_is_sound old.scenario iface entry given.sound.1;
+          };
+          ours = same_addr_equiv.refl (own_addr old.scenario iface);
         })
 
     pub prune_hands : message ≡ prune_of addr entry → HandsMessage old.scenario iface message (events.Prune iface entry)
@@ -249,32 +244,30 @@ module _ (old : NetworkView) (iface : IfaceId) (entry : JoinEntry) (message : Jo
 
 -- ---- messages that are read
 
+-- a message that was read is taken, where it is for the interface
+module _ (old : NetworkView) (iface : IfaceId) (message : JoinPrune) (own : IsAtIface old.scenario iface message) (lines : List ReportLine) where
+  pub read_for : same_addr message.neighbour (own_addr old.scenario iface) ≡ true → IsForIface old.scenario iface message
+  read_for same = record { at = own; ours = same }
+
+  pub read_not_ours : same_addr message.neighbour (own_addr old.scenario iface) ≡ false → (event : Event)
+      → HandsMessage old.scenario iface message event → Meets event old old lines lines (Ok (Some refusals.Ours))
+  read_not_ours other event hands =
+      meets_refused event old lines refusals.Ours (λ at ready is.
+      (of_message iface message at.world event (subst (λ (s : Scenario). HandsMessage s iface message event) is.scenario hands)).why
+      ∙ not_ours (is_ours (scenario_of at.world) (record { iface = iface; message = message })) _
+      (subst (λ (s : Scenario). same_addr message.neighbour (own_addr s iface) ≡ false) is.scenario other))
+
 module _ (old : NetworkView) (iface : IfaceId) (octets : List ℕ) (lines : List ReportLine) where
-  read_given : (message : JoinPrune) → decoded octets ≡ Ok message → HandsMessage old.scenario iface message (events.Pim iface octets)
+  pub read_given : (message : JoinPrune) → decoded octets ≡ Ok message → HandsMessage old.scenario iface message (events.Pim iface octets)
   read_given m e = ap (λ (r : Result JoinPrune (ℕ × PimFault)). elim r [ Ok m ↦ handed iface m | Err fault ↦ None ]) e
 
-  pub read_hands : (neighbour : Addr) → IsRead octets neighbour → Hands old.scenario iface octets (events.Pim iface octets)
-  read_hands neighbour (m, e, to) = (m, e, read_given m e)
-
-  pub read_for : (neighbour : Addr) → IsRead octets neighbour → IsGiven old.scenario (events.Pim iface octets)
-      → same_addr neighbour (own_addr old.scenario iface) ≡ true → IsForIface old.scenario iface octets
-  read_for neighbour (message, e, to) given same = record {
+  pub read_at : (message : JoinPrune) → decoded octets ≡ Ok message → Spells message octets → IsGiven old.scenario (events.Pim iface octets)
+      → IsAtIface old.scenario iface message
+  read_at message e spelled given = record {
     within = given.of_it.0;
-    message = message;
-    spelled = e;
-    ours = ap (λ (a : Addr). same_addr a (own_addr old.scenario iface)) to ∙ same;
+    spelled = spelled.spelled.is;
     sound = subst IsSoundGiven (read_given message e) (read_is_sound iface octets given.sound);
   }
-
-  pub read_not_ours : (neighbour : Addr) → IsRead octets neighbour → same_addr neighbour (own_addr old.scenario iface) ≡ false
-      → Meets (events.Pim iface octets) old old lines lines (Ok (Some refusals.Ours))
-  read_not_ours neighbour (message, e, to) other =
-      meets_refused (events.Pim iface octets) old lines refusals.Ours (λ at ready is.
-      (of_message iface message at.world (events.Pim iface octets)
-      (subst (λ (s : Scenario). HandsMessage s iface message (events.Pim iface octets)) is.scenario (read_given message e))).why
-      ∙ not_ours (is_ours (scenario_of at.world) (record { iface = iface; message = message })) _
-      (subst (λ (s : Scenario). same_addr message.neighbour (own_addr s iface) ≡ false) is.scenario
-      (ap (λ (a : Addr). same_addr a (own_addr old.scenario iface)) to ∙ other)))
 
   pub read_fault : (place : ℕ) (fault : PimFault) → decoded octets ≡ Err (place, fault)
       → Meets (events.Pim iface octets) old old lines lines (Ok (Some (refusals.Bytes place (fault_word fault))))
@@ -294,12 +287,9 @@ full_first full rest e = rw e refl
 free_first : (full : Bool) (rest : Bool) → full ≡ false → refused_if (full || rest) refusals.Full ≡ refused_if rest refusals.Full
 free_first full rest e = rw e refl
 
-module _ (old : NetworkView) (iface : IfaceId) (n : NodeId) (e : edge_of old.scenario iface ≡ Some n) where
-  iface_fits : (at : Instant) → IsReady at → IsWorld at old → IsIfaceEdge n iface (standing_of at)
-  iface_fits at ready is = at_iface at old is.scenario is.plane n iface ready.resting.rest e
-
-  pub some_iface : IsSome IsReady old → IsSome (OfPlane (IsIfaceEdge n iface)) old
-  some_iface (at, ready, is) = (at, iface_fits at ready is, is)
+iface_fits : (old : NetworkView) (iface : IfaceId) (n : NodeId) → edge_of old.scenario iface ≡ Some n → (at : Instant) → IsReady at
+    → IsWorld at old → IsIfaceEdge n iface (standing_of at)
+iface_fits old iface n e at ready is = at_iface at old is.scenario is.plane n iface ready.resting.rest e
 
 module _ (old : NetworkView) (iface : IfaceId) (source group : Addr) (lines : List ReportLine) where
   abbrev lacks_room : Control → Bool
@@ -310,21 +300,24 @@ module _ (old : NetworkView) (iface : IfaceId) (source group : Addr) (lines : Li
       meets_refused (events.Active iface source group) old lines refusals.Full
       (λ at ready is. full_first (are_sessions_full at.world) (lacks_room (control_at at.world (edge_of (scenario_of at.world) iface))) (full at is))
 
-  pub note_taken : (n : NodeId) → edge_of old.scenario iface ≡ Some n → AreFull old false
+  pub some_note : (n : NodeId) → edge_of old.scenario iface ≡ Some n → IsFlow source group → IsSome IsReady old
+      → IsSome (OfPlane (FitsAt n (steps.Active iface source group))) old
+  some_note n e flow (at, ready, is) = (at, (iface_fits old iface n e at ready is, flow), is)
+
+  pub note_taken : (n : NodeId) → edge_of old.scenario iface ≡ Some n → IsFlow source group → AreFull old false
       → (new : NetworkView) (new_lines : List ReportLine) (answer : Result Verdict NodeFault)
-      → CustomerActsAs (IsIfaceEdge n iface) n (steps.Active iface source group) (is_note_full n (note_of iface source group)) old new lines new_lines
-      answer → Meets (events.Active iface source group) old new lines new_lines (verdict_at n answer)
-  note_taken n e free new new_lines answer acts =
-      call_meets (events.Active iface source group) old lines (IsIfaceEdge n iface) n (steps.Active iface source group)
-      (is_note_full n (note_of iface source group)) new new_lines answer
+      → CustomerActsAs n (steps.Active iface source group) old new lines new_lines answer
+      → Meets (events.Active iface source group) old new lines new_lines (verdict_at n answer)
+  note_taken n e flow free new new_lines answer acts =
+      call_meets (events.Active iface source group) old lines n (steps.Active iface source group) new new_lines answer
       (λ at ready is.
-      let fits = iface_fits old iface n e at ready is in
+      let edge = iface_fits old iface n e at ready is in
       record {
-        fits = fits;
-        does = ap (λ (o : Option NodeId). at_edge o (steps.Active iface source group) at.world) fits.edge;
+        fits = (edge, flow);
+        does = ap (λ (o : Option NodeId). at_edge o (steps.Active iface source group) at.world) edge.edge;
         why =
             free_first (are_sessions_full at.world) (lacks_room (control_at at.world (edge_of (scenario_of at.world) iface))) (free at is)
-            ∙ ap (λ (o : Option NodeId). refused_if (lacks_room (control_at at.world o)) refusals.Full) fits.edge;
+            ∙ ap (λ (o : Option NodeId). refused_if (lacks_room (control_at at.world o)) refusals.Full) edge.edge;
       })
       acts
 
@@ -333,19 +326,24 @@ module _ (old : NetworkView) (iface : IfaceId) (source group : Addr) (lines : Li
       meets_refused (events.Idle iface source group) old lines refusals.Full
       (λ at ready is. ap (λ (b : Bool). refused_if b refusals.Full) (full at is))
 
-  pub idle_taken : (n : NodeId) → edge_of old.scenario iface ≡ Some n → AreFull old false
-      → (new : NetworkView) (new_lines : List ReportLine) (answer : Result (Unit {0}) NodeFault)
-      → ActsAs (OfPlane (IsIfaceEdge n iface)) same_moment (At n (steps.Idle iface source group)) n old new lines new_lines answer
-      → Meets (events.Idle iface source group) old new lines new_lines (met (answer_at n answer))
-  idle_taken n e free new new_lines answer acts =
-      act_meets (events.Idle iface source group) old lines (OfPlane (IsIfaceEdge n iface)) (At n (steps.Idle iface source group)) n new new_lines
-      answer
-      (λ at ready is. record {
-        fits = iface_fits old iface n e at ready is;
-        does =
-            ap (λ (o : Option NodeId). at_edge o (steps.Idle iface source group) at.world) (iface_fits old iface n e at ready is).edge;
+  pub some_idle : (n : NodeId) → edge_of old.scenario iface ≡ Some n → IsFlow source group → IsSome IsReady old
+      → IsSome (OfPlane (FitsAt n (steps.Idle iface source group))) old
+  some_idle n e flow (at, ready, is) = (at, (iface_fits old iface n e at ready is, flow), is)
+
+  pub idle_taken : (n : NodeId) → edge_of old.scenario iface ≡ Some n → IsFlow source group → AreFull old false
+      → (new : NetworkView) (new_lines : List ReportLine) (answer : Result Verdict NodeFault)
+      → CustomerActsAs n (steps.Idle iface source group) old new lines new_lines answer
+      → Meets (events.Idle iface source group) old new lines new_lines (verdict_at n answer)
+  idle_taken n e flow free new new_lines answer acts =
+      call_meets (events.Idle iface source group) old lines n (steps.Idle iface source group) new new_lines answer
+      (λ at ready is.
+      let edge = iface_fits old iface n e at ready is in
+      record {
+        fits = (edge, flow);
+        does = ap (λ (o : Option NodeId). at_edge o (steps.Idle iface source group) at.world) edge.edge;
+        why = ap (λ (b : Bool). refused_if b refusals.Full) (free at is);
       })
-      (λ at ready is. ap (λ (b : Bool). refused_if b refusals.Full) (free at is)) acts
+      acts
 
   -- an event that names a flow is one of a sound flow
   pub idle_flow : IsSome IsReady old → IsGiven old.scenario (events.Idle iface source group) → IsOctets (addr_octets source)
@@ -386,14 +384,15 @@ module _ (old : NetworkView) (vrf : VrfId) (pattern : Pattern) (n : NodeId) (e :
     some_there None h = absurd cc
     some_there (Some found) h = (found, refl)
 
-    unselected_fits : IsSelected false → (at : Instant) → IsReady at → IsWorld at old → IsUnselected n vrf pattern (standing_of at)
-    unselected_fits h at ready is = record {
-      place = vrf_fits at ready is;
-      new = none_there (maps.get (control_of (at.world.network.state.node n)).selections key) (h at (vrf_fits at ready is) is);
-    }
+    unselected_fits : IsSelected false → SoundPattern pattern → (at : Instant) → IsReady at → IsWorld at old
+        → FitsAt n (steps.Select vrf pattern) (standing_of at)
+    unselected_fits h sound at ready is =
+        let fits = vrf_fits at ready is in
+        (fits, sound, none_there (maps.get (control_of (at.world.network.state.node n)).selections key) (h at fits is))
 
-    pub some_unselected : IsSelected false → IsSome IsReady old → IsSome (OfPlane (IsUnselected n vrf pattern)) old
-    some_unselected h (at, ready, is) = (at, unselected_fits h at ready is, is)
+    pub some_unselected : IsSelected false → SoundPattern pattern → IsSome IsReady old
+        → IsSome (OfPlane (FitsAt n (steps.Select vrf pattern))) old
+    some_unselected h sound (at, ready, is) = (at, unselected_fits h sound at ready is, is)
 
     -- a pattern that a node has selected is a sound one
     kept_pattern : (node : NodeState) → SoundNode node → (found : Selected) → maps.get (control_of node).selections key ≡ Some found
@@ -401,7 +400,7 @@ module _ (old : NetworkView) (vrf : VrfId) (pattern : Pattern) (n : NodeId) (e :
     kept_pattern (Edge edge) sound found h = sound.0.selections key found h
     kept_pattern (CoreNode part) sound found h = absurd (none-some found (sym (maps.get-empty pattern_cmp key) ∙ h))
 
-    pub selected_pattern : IsSelected true → IsSome IsReady old → SoundPattern pattern
+    selected_pattern : IsSelected true → IsSome IsReady old → SoundPattern pattern
     selected_pattern h (at, ready, is) =
         let node = at.world.network.state.node n in
         let some = some_there (maps.get (control_of node).selections key) (h at (vrf_fits at ready is) is) in
@@ -427,22 +426,22 @@ module _ (old : NetworkView) (vrf : VrfId) (pattern : Pattern) (n : NodeId) (e :
         meets_refused (events.Select vrf pattern) old lines refusals.Full (λ at ready is.
         select_why h at ready is ∙ full_first (are_sessions_full at.world) (nat_le selection_limit (selections_at at.world vrf)) (full at is))
 
-    pub select_taken : IsSelected false → AreFull old false → (new : NetworkView) (new_lines : List ReportLine) (answer : Result Verdict NodeFault)
-        → CustomerActsAs (IsUnselected n vrf pattern) n (steps.Select vrf pattern) (is_selection_full n) old new lines new_lines answer
+    pub select_taken : IsSelected false → SoundPattern pattern → AreFull old false
+        → (new : NetworkView) (new_lines : List ReportLine) (answer : Result Verdict NodeFault)
+        → CustomerActsAs n (steps.Select vrf pattern) old new lines new_lines answer
         → Meets (events.Select vrf pattern) old new lines new_lines (verdict_at n answer)
-    select_taken h free new new_lines answer acts =
-        call_meets (events.Select vrf pattern) old lines (IsUnselected n vrf pattern) n (steps.Select vrf pattern) (is_selection_full n) new new_lines
-        answer
+    select_taken h sound free new new_lines answer acts =
+        call_meets (events.Select vrf pattern) old lines n (steps.Select vrf pattern) new new_lines answer
         (λ at ready is.
-        let fits = unselected_fits h at ready is in
+        let fits = unselected_fits h sound at ready is in
         record {
           fits = fits;
-          does = ap (λ (o : Option NodeId). at_edge o (steps.Select vrf pattern) at.world) fits.place.edge;
+          does = ap (λ (o : Option NodeId). at_edge o (steps.Select vrf pattern) at.world) fits.0.edge;
           why =
               select_why h at ready is
               ∙ (free_first (are_sessions_full at.world) (nat_le selection_limit (selections_at at.world vrf)) (free at is)
               ∙ ap (λ (o : Option NodeId). refused_if (nat_le selection_limit (maps.len (control_at at.world o).selections)) refusals.Full)
-              fits.place.edge);
+              fits.0.edge);
         })
         acts
 
@@ -459,14 +458,18 @@ module _ (old : NetworkView) (vrf : VrfId) (pattern : Pattern) (n : NodeId) (e :
         meets_refused (events.Unselect vrf pattern) old lines refusals.Full
         (λ at ready is. ap (unselected_why at) (selected_there true h at ready is) ∙ ap (λ (b : Bool). refused_if b refusals.Full) (full at is))
 
-    pub unselect_taken : IsSelected true → AreFull old false → (new : NetworkView) (new_lines : List ReportLine) (answer : Result (Unit {0}) NodeFault)
-        → ActsAs (OfPlane (IsVrfEdge n vrf)) same_moment (At n (steps.Unselect vrf pattern)) n old new lines new_lines answer
-        → Meets (events.Unselect vrf pattern) old new lines new_lines (met (answer_at n answer))
+    pub some_selected : IsSelected true → IsSome IsReady old → IsSome (OfPlane (FitsAt n (steps.Unselect vrf pattern))) old
+    some_selected h (at, ready, is) = (at, (vrf_fits at ready is, selected_pattern h (at, ready, is)), is)
+
+    pub unselect_taken : IsSelected true → AreFull old false → (new : NetworkView) (new_lines : List ReportLine) (answer : Result Verdict NodeFault)
+        → CustomerActsAs n (steps.Unselect vrf pattern) old new lines new_lines answer
+        → Meets (events.Unselect vrf pattern) old new lines new_lines (verdict_at n answer)
     unselect_taken h free new new_lines answer acts =
-        act_meets (events.Unselect vrf pattern) old lines (OfPlane (IsVrfEdge n vrf)) (At n (steps.Unselect vrf pattern)) n new new_lines answer
+        call_meets (events.Unselect vrf pattern) old lines n (steps.Unselect vrf pattern) new new_lines answer
         (λ at ready is. record {
-          fits = vrf_fits at ready is;
-          does =
-              ap (λ (o : Option NodeId). at_edge o (steps.Unselect vrf pattern) at.world) (vrf_fits at ready is).edge;
+          fits = (vrf_fits at ready is, selected_pattern h (at, ready, is));
+          does = ap (λ (o : Option NodeId). at_edge o (steps.Unselect vrf pattern) at.world) (vrf_fits at ready is).edge;
+          why =
+              ap (unselected_why at) (selected_there true h at ready is) ∙ ap (λ (b : Bool). refused_if b refusals.Full) (free at is);
         })
-        (λ at ready is. ap (unselected_why at) (selected_there true h at ready is) ∙ ap (λ (b : Bool). refused_if b refusals.Full) (free at is)) acts
+        acts

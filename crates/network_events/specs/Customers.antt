@@ -1,6 +1,5 @@
 -- Events of customers: the messages that they hand to edges, and what comes of calls for which there may be no room.
 use Rattle.std.specs.Prelude.{◌≡◌, ◌<◌, ℕ, true, List, Option, None, Some, Result, Ok, Err, length}
-use Rattle.mv_base.specs.declared.addr.Addr.{Addr}
 use Rattle.mv_base.specs.declared.ids.IfaceId.{IfaceId}
 use Rattle.mv_base.specs.declared.ids.NodeId.{NodeId}
 use Rattle.pim_joinprune.specs.Reading.{decoded}
@@ -11,7 +10,7 @@ use Rattle.scenario_defs.specs.declared.report.Refusal.{Refusal}
 use Rattle.scenario_defs.specs.declared.report.Refusal.TheVariants as refusals
 use Rattle.scenario_defs.specs.declared.scenario.Scenario.{Scenario}
 use Rattle.mldp_node.specs.declared.fault.NodeFault.{NodeFault}
-use Rattle.mvpn_model.specs.Messages.{handed, message_of, own_addr}
+use Rattle.mvpn_model.specs.Messages.{handed, message_of}
 use Rattle.mvpn_model.specs.Refused.{is_ours}
 use Rattle.network_acts.specs.network_laws.Honest.{SoundMessage}
 use Rattle.network_acts.specs.declared.control_plane.customers.Verdict.{Verdict}
@@ -19,32 +18,26 @@ use Rattle.network_acts.specs.declared.control_plane.customers.Verdict.TheVarian
 use Rattle.network_events.specs.Doing.{halted_at}
 use Rattle.network_events.specs.declared.halt.Halt.{Halt}
 
--- The octets are a Join/Prune message of sound values for the interface, which is one of the scenario.
-pub record IsForIface (scenario : Scenario) (iface : IfaceId) (octets : List ℕ) : Type 0 where
-  pub within : iface.0 < length scenario.ifaces
-  pub message : JoinPrune
-  pub spelled : decoded octets ≡ Ok message
-  pub ours : is_ours scenario (record { iface = iface; message = message }) ≡ true
-  pub sound : SoundMessage message
-
--- The message can be written, and is one of sound values for the interface, which is one of the scenario.
-pub record IsWrittenFor (scenario : Scenario) (iface : IfaceId) (message : JoinPrune) : Type 0 where
+-- The message can be written and is of sound values, and the interface is one of the scenario.
+pub record IsAtIface (scenario : Scenario) (iface : IfaceId) (message : JoinPrune) : Type 0 where
   pub within : iface.0 < length scenario.ifaces
   pub spelled : IsJoinPrune message
-  pub neighbour : message.neighbour ≡ own_addr scenario iface
   pub sound : SoundMessage message
 
--- the octets are a message for that neighbour
-abbrev pub IsRead : List ℕ → Addr → Type 0
-IsRead octets neighbour = (message : JoinPrune) × (decoded octets ≡ Ok message) × (message.neighbour ≡ neighbour)
+-- It is for the interface.
+pub record IsForIface (scenario : Scenario) (iface : IfaceId) (message : JoinPrune) : Type 0 where
+  pub at : IsAtIface scenario iface message
+  pub ours : is_ours scenario (record { iface = iface; message = message }) ≡ true
+
+-- The octets are a message for the interface.
+pub record IsSpelledFor (scenario : Scenario) (iface : IfaceId) (octets : List ℕ) : Type 0 where
+  pub message : JoinPrune
+  pub spelled : decoded octets ≡ Ok message
+  pub is : IsForIface scenario iface message
 
 -- the event hands the message to the edge of the interface
 abbrev pub HandsMessage : Scenario → IfaceId → JoinPrune → Event → Type 0
 HandsMessage scenario iface message event = message_of scenario event ≡ handed iface message
-
--- the event hands it the message that the octets are
-abbrev pub Hands : Scenario → IfaceId → List ℕ → Event → Type 0
-Hands scenario iface octets event = (message : JoinPrune) × (decoded octets ≡ Ok message) × HandsMessage scenario iface message event
 
 -- what comes of an event by what a call answered for which there may be no room
 abbrev pub verdict_at : NodeId → Result Verdict NodeFault → Result (Option Refusal) Halt

@@ -1,21 +1,22 @@
 //! Events of customers at an interface: Join/Prune messages come there, and sources are noted (RFC 7761 section 4.5, RFC 6514 section 14).
-ghost use Rattle.std.specs.Prelude.{◌≡◌, IfOk};
+ghost use Rattle.std.specs.Prelude.{◌≡◌, Ok};
 ghost use Rattle.mv_base.specs.Address.{addr_octets};
 ghost use Rattle.mv_base.specs.Octets.{IsOctets};
-ghost use Rattle.mv_base.specs.declared.addr.Addr.{Addr as AddrValue};
+ghost use Rattle.pim_joinprune.specs.Reading.{decoded};
+ghost use Rattle.pim_joinprune.specs.declared.message.JoinPrune.{JoinPrune as MessageValue};
 ghost use Rattle.scenario_defs.specs.declared.event.Event.{Event};
 ghost use Rattle.scenario_defs.specs.declared.event.Event.TheVariants as events;
 ghost use Rattle.network_defs.specs.Refusals.{are_sessions_full};
 ghost use Rattle.network_acts.specs.Instant.{Instant, IsSome, IsWorld};
-ghost use Rattle.network_events.specs.Customers.{Hands, HandsMessage, IsForIface, IsRead, IsWrittenFor, verdict_at};
+ghost use Rattle.network_events.specs.Customers.{HandsMessage, IsAtIface, IsForIface, IsSpelledFor, verdict_at};
 ghost use Rattle.network_events.specs.Meeting.{IsGiven, IsReady, Meets};
 
-use crate::halt::{Halt, answer_at, met};
+use crate::halt::Halt;
 use mldp_node::NodeFault;
 use mv_base::{Addr, IfaceId, NoMemory, NodeId};
 use mvpn_model::{fault_word, own_addr};
 use network_acts::of_edge_routes::route_order::are_octets;
-use network_acts::{Network, Verdict};
+use network_acts::{CustomerCall, Network, Verdict};
 use pim_defs::{join_of, prune_of};
 use pim_joinprune::{DecodeFault, JoinPrune, decode, encode};
 use scenario_defs::{JoinEntry, Lines, Refusal, edge_of};
@@ -45,24 +46,44 @@ pub(crate) fn verdict_at(
     }
 }
 
-/// Octets of a message come to the interface that it is for.
+/// A message comes to the interface that it is for.
 fn take(
+    network: &mut Network,
+    iface: IfaceId,
+    message: &JoinPrune,
+    lines: &mut Lines,
+) -> Result<Option<Refusal>, Halt>
+    requires network { IsSome IsReady network.old }
+    requires message { IsForIface network.old.scenario iface message.now }
+    ensures { (event : Event) → HandsMessage network.old.scenario iface message.now event →
+        Meets event network.old network.new lines.old lines.new result }
+{
+    if are_sessions_full(network) {
+        return Ok(Some(Refusal::Full));
+    }
+    let call = CustomerCall::Pim { iface, message };
+    match edge_of(network.scenario(), iface) {
+        Some(n) => verdict_at(n, network.call(n, call, lines)),
+        None => unreachable!(),
+    }
+}
+
+/// Octets of a message come to the interface that it is for.
+fn take_spelled(
     network: &mut Network,
     iface: IfaceId,
     octets: &[u8],
     lines: &mut Lines,
 ) -> Result<Option<Refusal>, Halt>
     requires network { IsSome IsReady network.old }
-    requires message { IsForIface network.old.scenario iface octets.now }
-    ensures { (event : Event) → Hands network.old.scenario iface octets.now event →
+    requires message { IsSpelledFor network.old.scenario iface octets.now }
+    ensures { (event : Event) (message : MessageValue) → decoded octets.now ≡ Ok message → HandsMessage network.old.scenario iface message event →
         Meets event network.old network.new lines.old lines.new result }
 {
-    if are_sessions_full(network) {
-        return Ok(Some(Refusal::Full));
-    }
-    match edge_of(network.scenario(), iface) {
-        Some(n) => verdict_at(n, network.take_pim(n, iface, octets, lines)),
-        None => unreachable!(),
+    match decode(lines.alloc(), octets) {
+        Ok(message) => take(network, iface, &message, lines),
+        Err(DecodeFault::Bad { .. }) => unreachable!(),
+        Err(DecodeFault::NoMemory) => Err(Halt::NoMemory),
     }
 }
 
@@ -74,12 +95,12 @@ fn take_written(
     lines: &mut Lines,
 ) -> Result<Option<Refusal>, Halt>
     requires network { IsSome IsReady network.old }
-    requires message { IsWrittenFor network.old.scenario iface message.now }
+    requires message { IsForIface network.old.scenario iface message.now }
     ensures { (event : Event) → HandsMessage network.old.scenario iface message.now event →
         Meets event network.old network.new lines.old lines.new result }
 {
     match encode(lines.alloc(), message) {
-        Ok(octets) => take(network, iface, octets.as_slice(), lines),
+        Ok(octets) => take_spelled(network, iface, octets.as_slice(), lines),
         Err(NoMemory) => Err(Halt::NoMemory),
     }
 }
@@ -118,23 +139,22 @@ pub(crate) fn prune(
     }
 }
 
-/// Octets of a message for that neighbour come to the interface.
+/// A message that was read at the interface is taken there, where it is for it.
 fn take_read(
     network: &mut Network,
     iface: IfaceId,
-    neighbour: Addr,
-    octets: &[u8],
+    message: &JoinPrune,
     lines: &mut Lines,
 ) -> Result<Option<Refusal>, Halt>
     requires network { IsSome IsReady network.old }
-    requires event { IsGiven network.old.scenario (events.Pim iface octets.now) }
-    requires message { IsRead octets.now neighbour }
-    ensures { Meets (events.Pim iface octets.now) network.old network.new lines.old lines.new result }
+    requires message { IsAtIface network.old.scenario iface message.now }
+    ensures { (event : Event) → HandsMessage network.old.scenario iface message.now event →
+        Meets event network.old network.new lines.old lines.new result }
 {
-    if !neighbour.same(own_addr(network.scenario(), iface)) {
+    if !message.neighbour.same(own_addr(network.scenario(), iface)) {
         return Ok(Some(Refusal::Ours));
     }
-    take(network, iface, octets, lines)
+    take(network, iface, message, lines)
 }
 
 /// Octets come to the interface.
@@ -149,7 +169,7 @@ pub(crate) fn pim(
     ensures { Meets (events.Pim iface octets.now) network.old network.new lines.old lines.new result }
 {
     match decode(lines.alloc(), octets) {
-        Ok(message) => take_read(network, iface, message.neighbour, octets, lines),
+        Ok(message) => take_read(network, iface, &message, lines),
         Err(DecodeFault::Bad { place, fault }) => {
             let word = fault_word(fault);
             Ok(Some(Refusal::Bytes { place, word }))
@@ -173,8 +193,13 @@ pub(crate) fn active(
     if are_sessions_full(network) {
         return Ok(Some(Refusal::Full));
     }
+    let call = CustomerCall::Active {
+        iface,
+        source,
+        group,
+    };
     match edge_of(network.scenario(), iface) {
-        Some(n) => verdict_at(n, network.active(n, iface, source, group, lines)),
+        Some(n) => verdict_at(n, network.call(n, call, lines)),
         None => unreachable!(),
     }
 }
@@ -203,8 +228,13 @@ pub(crate) fn idle(
     }
     has_octets(source);
     has_octets(group);
+    let call = CustomerCall::Idle {
+        iface,
+        source,
+        group,
+    };
     match edge_of(network.scenario(), iface) {
-        Some(n) => met(answer_at(n, network.idle(n, iface, source, group, lines))),
+        Some(n) => verdict_at(n, network.call(n, call, lines)),
         None => unreachable!(),
     }
 }

@@ -6,10 +6,10 @@ ghost use Rattle.network_acts.specs.Instant.{IsSome};
 ghost use Rattle.network_events.specs.Meeting.{IsGiven, IsReady, Meets};
 
 use crate::customers::{are_sessions_full, verdict_at};
-use crate::halt::{Halt, answer_at, met};
+use crate::halt::Halt;
 use crate::places::edge_of_vrf;
 use mv_base::{NodeId, Pattern, VrfId};
-use network_acts::Network;
+use network_acts::{CustomerCall, Network};
 use scenario_defs::{Lines, Refusal};
 
 /// The pattern is selected at the VRF, whose edge is node n.
@@ -31,7 +31,10 @@ fn select_at(
     if are_sessions_full(network) {
         return Ok(Some(Refusal::Full));
     }
-    verdict_at(n, network.select(n, vrf, pattern, lines))
+    verdict_at(
+        n,
+        network.call(n, CustomerCall::Select { vrf, pattern }, lines),
+    )
 }
 
 /// The pattern is selected at the VRF.
@@ -70,7 +73,10 @@ fn unselect_at(
     if are_sessions_full(network) {
         return Ok(Some(Refusal::Full));
     }
-    met(answer_at(n, network.unselect(n, vrf, pattern, lines)))
+    verdict_at(
+        n,
+        network.call(n, CustomerCall::Unselect { vrf, pattern }, lines),
+    )
 }
 
 /// The pattern is selected no more at the VRF.

@@ -1,22 +1,26 @@
 -- What a call of a node answers, by what its edge or its core node answers.
-use Rattle.std.proofs.Common.{◌≡◌, ◌∙◌, refl, sym, ap, subst, ℕ, Some, Result, Ok, Err, OnOk}
+use Rattle.std.proofs.Common.{◌≡◌, ◌∙◌, refl, sym, ap, subst, ℕ, false, None, Some, Result, Ok, Err, OnOk}
 use Rattle.mv_base.specs.declared.ids.NodeId.{NodeId}
 use Rattle.mv_base.specs.core_walks.Core.{Core, IsCoreOf}
 use Rattle.mv_base.specs.core_walks.Topology.{Topology}
 use Rattle.label_defs.specs.Node.{NodePlace, Spent, LacksLabel, LacksMemory}
 use Rattle.label_defs.specs.Steps as labels
+use Rattle.scenario_defs.specs.declared.event.Kind.{Kind}
+use Rattle.scenario_defs.specs.declared.event.Kind.TheVariants as kinds
 use Rattle.edge_defs.specs.Place.{EdgePlace}
-use Rattle.edge_defs.specs.Steps.{Call, own_label_call}
+use Rattle.edge_defs.specs.Steps.{Call, Raised, own_label_call}
 use Rattle.edge_core.specs.edge_routes.edge_home.Home as homes
 use Rattle.edge_core.specs.edge_routes.edge_home.Home.{Home}
 use Rattle.network_defs.specs.node_defs.EdgeState.{EdgeState, called}
 use Rattle.edge_core.specs.node_laws.Places.{node_place}
+use Rattle.network_defs.specs.Counts.{is_end_up}
 use Rattle.network_defs.specs.Nodes.{Nodes, core_at, place_of}
 use Rattle.wire_laws.specs.AnyNodes as any
 use Rattle.wire_laws.specs.AnyNodes.{AnyNode, core_after, spent_of}
 use Rattle.wire_laws.specs.CoreNodes.{CoreState, core_called}
 use Rattle.edge_core.specs.Answers as edges
 use Rattle.edge_core.specs.Answers.{fault_of, spent_by}
+use Rattle.edge_core.specs.Calls.{AnswersCall as EdgeCalls, Fits}
 use Rattle.edge_core.specs.State.{IsIn, home_of}
 use Rattle.edge_core.specs.View.{EdgeView}
 use Rattle.edge_core.specs.declared.fault.EdgeFault.{EdgeFault}
@@ -25,8 +29,8 @@ use Rattle.network_nodes.specs.core_node.Answers as cores
 use Rattle.network_nodes.specs.core_node.View.{CoreView, state_of}
 use Rattle.network_nodes.specs.declared.core_node.fault.CoreFault.{CoreFault}
 use Rattle.network_nodes.specs.declared.core_node.fault.CoreFault.TheVariants as core_faults
-use Rattle.network_nodes.specs.Answers.{Answers, NodeStep, Stands, after, fault_as, told_as}
-use Rattle.network_nodes.specs.NodeView.{IsNode}
+use Rattle.network_nodes.specs.Answers.{Answers, AnswersCall, NodeStep, Stands, after, fault_as, told_as}
+use Rattle.network_nodes.specs.NodeView.{IsNode, MayBePeer, data_in, spent_in}
 use Rattle.network_nodes.specs.declared.node.NetworkNode.TheVariants as nodes
 
 -- ---- edges
@@ -92,6 +96,22 @@ pub edge_call : (core : Topology) (now : ℕ) (call : Call) (old new : EdgeView)
     → edges.Answers core (edges.step_of old now call) old new result → Answers core now (after call) (nodes.Edge old) (nodes.Edge new) result
 edge_call core now call old new result row =
     edge_answers core now (λ place clock state. called place clock state call) (after call) old new result (λ network n state. refl) row
+
+-- the same of a call of a customer
+pub edge_customer : (core : Topology) (now : ℕ) (call : Call) (old new : EdgeView) (result : Result (Unit {0}) EdgeFault)
+    → EdgeCalls core now call old new result → AnswersCall core now call (nodes.Edge old) (nodes.Edge new) result
+edge_customer core now call old new result row = record {
+  answers = edge_call core now call old new result row.answers;
+  only = row.only;
+  fits = row.fits;
+  full = λ e. ((row.full e).0, ap (λ (v : EdgeView). nodes.Edge v) (row.full e).1);
+}
+
+-- an end that is to come up, as the edge asks for it
+pub fits_raised : (edge : EdgeView) (kind : Kind) (peer : NodeId) → MayBePeer (nodes.Edge edge) kind peer
+    → (spent_in (nodes.Edge edge) ≡ None → is_end_up kind (data_in (nodes.Edge edge)) peer ≡ false) → Fits edge (Raised kind peer)
+fits_raised edge kinds.Bgp peer is down = (is, down)
+fits_raised edge kinds.Ldp peer is down = (is, down)
 
 -- ---- core nodes
 

@@ -1,5 +1,5 @@
 -- What the calls of a node answer, and what they leave.
-use Rattle.std.specs.Prelude.{◌≡◌, ◌⊎◌, ℕ, List, [], ◌∷◌, None, Some, Result, Ok, Err, OnOk}
+use Rattle.std.specs.Prelude.{◌≡◌, ◌⊎◌, ℕ, true, false, List, [], ◌∷◌, None, Some, Result, Ok, Err, OnOk}
 use Rattle.mv_base.specs.Lists.{Among}
 use Rattle.mv_base.specs.declared.ids.NodeId.{NodeId}
 use Rattle.mv_base.specs.core_walks.Core.{IsCoreOf}
@@ -9,17 +9,18 @@ use Rattle.scenario_defs.specs.declared.event.Kind.{Kind}
 use Rattle.scenario_defs.specs.declared.scenario.Scenario.{Scenario}
 use Rattle.edge_defs.specs.Steps.{Call}
 use Rattle.network_defs.specs.Nodes.{Nodes, core_at}
+use Rattle.network_defs.specs.Refusals.{control_of}
 use Rattle.wire_laws.specs.AnyNodes.{AnyNode, node_after, node_taking, spent_of}
 use Rattle.edge_streams.specs.Streams.{told_fault}
 use Rattle.edge_streams.specs.declared.reason.SessionReason.{SessionReason}
-use Rattle.edge_core.specs.Answers.{fault_of, spent_by}
-use Rattle.edge_core.specs.View.{EdgeView}
+use Rattle.edge_core.specs.Answers.{IsOneOf, OnTaken, fault_of, spent_by}
+use Rattle.edge_core.specs.Calls.{is_full, refusals_of}
 use Rattle.edge_core.specs.declared.fault.EdgeFault.{EdgeFault}
 use Rattle.edge_core.specs.declared.fault.EdgeFault.TheVariants as faults
 use Rattle.network_nodes.specs.declared.core_node.fault.CoreFault.{CoreFault}
 use Rattle.network_nodes.specs.declared.core_node.fault.CoreFault.TheVariants as core_faults
 use Rattle.mldp_node.specs.NodeData.{KeepsWaitingTowardRoots}
-use Rattle.network_nodes.specs.NodeView.{IsNode, IsPlacedAt, labels_in, spent_in, stream_fault}
+use Rattle.network_nodes.specs.NodeView.{IsNode, IsPlacedAt, data_in, labels_in, spent_in, stream_fault}
 use Rattle.network_nodes.specs.declared.node.NetworkNode.{NetworkNode}
 use Rattle.network_nodes.specs.declared.node.NetworkNode.TheVariants as nodes
 
@@ -65,6 +66,14 @@ pub record Answers (core : Topology) (now : ℕ) (step : NodeStep) (old new : Ne
   pub lacks : result ≡ Err faults.NoLabel → spent_in old ≡ None → Lacks core now step old
   pub spends : (fault : EdgeFault) → result ≡ Err fault → spent_in old ≡ None → spent_in new ≡ spent_by fault
 
+-- What a call of a customer answers and leaves. It is made where there is room, and a label is lacked only there; it is refused with no
+-- change exactly where there is none.
+pub record AnswersCall (core : Topology) (now : ℕ) (call : Call) (old new : NetworkNode) (result : Result (Unit {0}) EdgeFault) : Type 0 where
+  pub answers : Answers core now (after call) old new result
+  pub only : IsOneOf (refusals_of call) result
+  pub fits : spent_in old ≡ None → OnTaken result (is_full (control_of (data_in old)) now call ≡ false)
+  pub full : result ≡ Err faults.Full → (is_full (control_of (data_in old)) now call ≡ true) × (new ≡ old)
+
 -- ---- octets
 
 -- the fault is the first one of the session's stream
@@ -95,8 +104,3 @@ fault_as core_faults.NoMemory = faults.NoMemory
 abbrev pub told_as : Result (Unit {0}) CoreFault → Result (Unit {0}) EdgeFault
 told_as (Ok done) = Ok done
 told_as (Err fault) = Err (fault_as fault)
-
--- both are edges, and this holds of them
-abbrev pub OfEdges : (EdgeView → EdgeView → Type 0) → NetworkNode → NetworkNode → Type 0
-OfEdges Holds (nodes.Edge old) (nodes.Edge new) = Holds old new
-OfEdges Holds old new = ⊥

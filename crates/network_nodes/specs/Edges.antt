@@ -7,7 +7,7 @@ use Rattle.scenario_defs.specs.declared.event.Kind.TheVariants as kinds
 use Rattle.edge_core.specs.edge_control.edge_tables.Tables.{waiting_at}
 use Rattle.edge_core.specs.View.{EdgeView}
 pub use Rattle.edge_core.specs.Answers.{IsOneOf, OnTaken, spent_by}
-pub use Rattle.edge_core.specs.Pim.{AnswersPim, is_ours, is_over, refusal}
+pub use Rattle.edge_core.specs.Calls.{customer_call, is_full, refusals_of}
 pub use Rattle.edge_core.specs.State.{IsFate, data_of, home_of as home_in}
 pub use Rattle.edge_core.specs.View.{EdgeView}
 pub use Rattle.edge_core.specs.declared.fate.Fate.{Fate}

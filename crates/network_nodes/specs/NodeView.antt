@@ -11,6 +11,7 @@ use Rattle.network_defs.specs.session_defs.Message.{SessionFault}
 use Rattle.network_defs.specs.session_defs.PeerSession.{fault_at}
 use Rattle.edge_core.specs.edge_routes.edge_home.Home.{home_of}
 use Rattle.edge_core.specs.edge_control.Places.{is_own_iface, is_own_vrf}
+use Rattle.edge_defs.specs.Steps.{Call}
 use Rattle.network_defs.specs.node_defs.EdgeState.{fresh_state, handed_out, waiting_at}
 use Rattle.edge_core.specs.node_laws.Places.{node_place}
 use Rattle.network_defs.specs.Nodes as world
@@ -19,6 +20,7 @@ use Rattle.wire_laws.specs.AnyNodes as any
 use Rattle.wire_laws.specs.AnyNodes.{AnyNode}
 use Rattle.wire_laws.specs.CoreNodes.{core_handed_out, fresh_core, ldp_with}
 use Rattle.wire_laws.specs.Edges.{session_with}
+use Rattle.edge_core.specs.Calls.{Fits}
 use Rattle.edge_core.specs.State as edges
 use Rattle.edge_core.specs.State.{IsIn, data_of}
 use Rattle.mldp_node.specs.NodeData.{NodeData}
@@ -95,3 +97,8 @@ HasIface (nodes.CoreNode core) iface = ⊥
 abbrev pub HasVrf : NetworkNode → VrfId → Type 0
 HasVrf (nodes.Edge edge) vrf = is_own_vrf (edges.home_of edge) vrf ≡ true
 HasVrf (nodes.CoreNode core) vrf = ⊥
+
+-- the node is an edge that the call fits
+abbrev pub FitsIn : NetworkNode → Call → Type 0
+FitsIn (nodes.Edge edge) call = Fits edge call
+FitsIn (nodes.CoreNode core) call = ⊥

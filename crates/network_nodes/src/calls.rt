@@ -12,7 +12,7 @@ ghost use Rattle.network_nodes.specs.NodeView.{MayBePeer, count_around, data_in,
 
 use crate::node::{NetworkNode, told};
 use core_paths::Core;
-use edge_core::{Edge, EdgeFault};
+use edge_core::{Edge, EdgeCall, EdgeFault};
 use mv_base::NodeId;
 use scenario_defs::Kind;
 
@@ -75,7 +75,7 @@ impl NetworkNode {
         ensures only { IsOneOf [] result }
     {
         match self {
-            NetworkNode::Edge(edge) => edge.raised(kind, peer, now, core),
+            NetworkNode::Edge(edge) => edge.call(EdgeCall::Raised { kind, peer }, now, core),
             NetworkNode::CoreNode(core_node) => told(core_node.raised(peer, now, core)),
         }
     }
@@ -95,7 +95,7 @@ impl NetworkNode {
         ensures only { IsOneOf [] result }
     {
         match self {
-            NetworkNode::Edge(edge) => edge.noticed(kind, peer, now, core),
+            NetworkNode::Edge(edge) => edge.call(EdgeCall::Noticed { kind, peer }, now, core),
             NetworkNode::CoreNode(core_node) => told(core_node.noticed(peer, now, core)),
         }
     }
@@ -108,7 +108,7 @@ impl NetworkNode {
         ensures only { IsOneOf [] result }
     {
         match self {
-            NetworkNode::Edge(edge) => edge.timers(now, core),
+            NetworkNode::Edge(edge) => edge.call(EdgeCall::Timers, now, core),
             NetworkNode::CoreNode(core_node) => told(core_node.timers(now, core)),
         }
     }
@@ -122,7 +122,7 @@ impl NetworkNode {
         ensures only { IsOneOf [] result }
     {
         match self {
-            NetworkNode::Edge(edge) => edge.rerouted(now, core),
+            NetworkNode::Edge(edge) => edge.call(EdgeCall::Rerouted, now, core),
             NetworkNode::CoreNode(core_node) => told(core_node.rerouted(now, core)),
         }
     }

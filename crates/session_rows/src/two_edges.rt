@@ -13,7 +13,7 @@ ghost use Rattle.edge_core.specs.State.{home_of};
 ghost use Rattle.session_rows.specs.Roles.{IsRole};
 
 use core_paths::Core;
-use edge_core::{Edge, EdgeFault, Fate};
+use edge_core::{CustomerCall, Edge, EdgeCall, EdgeFault, Fate};
 use edge_routes::edge_home::{EdgeHome, OwnVrf};
 use label_forwarding::Datagram;
 use mldp::mldp_fec::Fec;
@@ -222,14 +222,20 @@ impl EdgeInCore {
     /// The end of the BGP session comes up, where it is down.
     pub(crate) fn raise(&mut self) -> bool {
         let peer = self.role.peer;
-        !self.edge.is_up(Kind::Bgp, peer)
-            && self.edge.raised(Kind::Bgp, peer, NOW, &self.core).is_ok()
+        let kind = Kind::Bgp;
+        !self.edge.is_up(kind, peer)
+            && self
+                .edge
+                .call(EdgeCall::Raised { kind, peer }, NOW, &self.core)
+                .is_ok()
     }
 
     /// The end of the BGP session notices its loss.
     pub(crate) fn notice(&mut self) -> bool {
+        let kind = Kind::Bgp;
+        let peer = self.role.peer;
         self.edge
-            .noticed(Kind::Bgp, self.role.peer, NOW, &self.core)
+            .call(EdgeCall::Noticed { kind, peer }, NOW, &self.core)
             .is_ok()
     }
 
@@ -257,7 +263,13 @@ impl EdgeInCore {
 
     /// The end of the LDP session with C comes up, where it is down.
     pub(crate) fn raise_ldp(&mut self) -> bool {
-        !self.edge.is_up(Kind::Ldp, C) && self.edge.raised(Kind::Ldp, C, RAISED, &self.core).is_ok()
+        let kind = Kind::Ldp;
+        let peer = C;
+        !self.edge.is_up(kind, peer)
+            && self
+                .edge
+                .call(EdgeCall::Raised { kind, peer }, RAISED, &self.core)
+                .is_ok()
     }
 
     /// Whether the end of that session waits for its hold.
@@ -267,7 +279,7 @@ impl EdgeInCore {
 
     /// The timers that are due run.
     pub(crate) fn run_timers(&mut self) -> bool {
-        self.edge.timers(NOW, &self.core).is_ok()
+        self.edge.call(EdgeCall::Timers, NOW, &self.core).is_ok()
     }
 
     /// How many timers are due at the clock.
@@ -294,14 +306,17 @@ impl EdgeInCore {
         requires { IsAnyOr (IsGroup (afi_by pattern.source pattern.group)) pattern.group }
     {
         let vrf = self.role.vrf;
-        !self.edge.is_selected(vrf, pattern) && self.edge.select(vrf, pattern, NOW).is_ok()
+        let call = EdgeCall::Customer(CustomerCall::Select { vrf, pattern });
+        !self.edge.is_selected(vrf, pattern) && self.edge.call(call, NOW, &self.core).is_ok()
     }
 
     /// The pattern is selected no more.
     pub(crate) fn unselect(&mut self, pattern: Pattern) -> bool
         requires { IsAnyOr (IsGroup (afi_by pattern.source pattern.group)) pattern.group }
     {
-        self.edge.unselect(self.role.vrf, pattern).is_ok()
+        let vrf = self.role.vrf;
+        let call = EdgeCall::Customer(CustomerCall::Unselect { vrf, pattern });
+        self.edge.call(call, NOW, &self.core).is_ok()
     }
 
     /// Octets come from C over LDP, where the session is up.
@@ -317,8 +332,14 @@ impl EdgeInCore {
     pub(crate) fn active(&mut self, source: Addr, group: Addr) -> bool
         requires { IsGroup (afi_of source) group }
     {
+        let iface = self.role.iface;
+        let call = CustomerCall::Active {
+            iface,
+            source,
+            group,
+        };
         self.edge
-            .active(self.role.iface, source, group, NOW, &self.core)
+            .call(EdgeCall::Customer(call), NOW, &self.core)
             .is_ok()
     }
 
@@ -326,8 +347,14 @@ impl EdgeInCore {
     pub(crate) fn idle(&mut self, source: Addr, group: Addr) -> bool
         requires { IsGroup (afi_of source) group }
     {
+        let iface = self.role.iface;
+        let call = CustomerCall::Idle {
+            iface,
+            source,
+            group,
+        };
         self.edge
-            .idle(self.role.iface, source, group, NOW, &self.core)
+            .call(EdgeCall::Customer(call), NOW, &self.core)
             .is_ok()
     }
 
@@ -339,7 +366,7 @@ impl EdgeInCore {
 
     /// The edge knows the core by its costs from now on.
     pub(crate) fn reroute(&mut self) -> bool {
-        self.edge.rerouted(NOW, &self.core).is_ok()
+        self.edge.call(EdgeCall::Rerouted, NOW, &self.core).is_ok()
     }
 
     /// Whether the VRF imports the tunnel from the peer, whether the edge is to be a leaf of it, and whether it is one.

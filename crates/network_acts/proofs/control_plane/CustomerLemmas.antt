@@ -1,11 +1,18 @@
 -- A call of a customer or of the operator at the edge of an interface or of a VRF, as an act of the control plane.
-use Rattle.std.proofs.Common.{◌≡◌, ◌∙◌, refl, sym, ap, subst, arith, ℕ, zero, suc, ◌+◌, ◌==◌, ◌||◌, Bool, true, false, cond, List, [], ◌∷◌, slice_get, slice_set, Option, Some, None, Result, Ok, Err, OnOk}
+use Rattle.std.proofs.Common.{◌≡◌, ◌∙◌, refl, sym, ap, subst, arith, inl, inr, ℕ, zero, suc, ◌+◌, ◌==◌, ◌||◌, Bool, true, false, cond, List, [], ◌∷◌, slice_get, slice_set, Option, Some, None, Result, Ok, Err, OnOk}
+use Rattle.std.specs.FinMap as maps
 use Rattle.std.specs.List.{list_any}
 use Rattle.std.proofs.lemmas.Bool.{cond-true, eq-eqb, or_right}
 use Rattle.std.proofs.lemmas.Option.{none-some, same_Some}
+use Rattle.mv_base.specs.Lists.{Among}
+use Rattle.mv_base.specs.declared.addr.Addr.{Addr}
+use Rattle.mv_base.specs.declared.addr.Addr.TheVariants.{V4, V6}
 use Rattle.mv_base.specs.declared.ids.IfaceId.{IfaceId}
 use Rattle.mv_base.specs.declared.ids.NodeId.{NodeId}
 use Rattle.mv_base.specs.declared.ids.VrfId.{VrfId}
+use Rattle.edge_defs.specs.bgp_values.mvpn_nlri.Spelling.{IsAnyOr, IsGroup, IsSource}
+use Rattle.edge_defs.specs.bgp_values.declared.mvpn_nlri.route.Afi.{Afi}
+use Rattle.edge_defs.specs.bgp_messages.bgp_update.Written.{afi_of}
 use Rattle.scenario_defs.specs.Rules.{IsEdge, Rules}
 use Rattle.scenario_defs.specs.Vpn.{edge_of, is_of_vrf}
 use Rattle.scenario_defs.specs.declared.event.Kind.{Kind}
@@ -17,35 +24,38 @@ use Rattle.scenario_defs.specs.declared.scenario.Vrf.{Vrf}
 use Rattle.scenario_defs.proofs.RuleLemmas.{vrf_rules_at}
 use Rattle.network_defs.specs.session_defs.Octets as octets
 use Rattle.network_defs.specs.session_defs.Octets.{OctetAct, OctetNetwork}
-use Rattle.edge_defs.specs.Originated.{is_iface_of}
 use Rattle.edge_defs.specs.Place.{OwnVrf, vrfs_from}
-use Rattle.edge_defs.specs.Steps.{Call}
+use Rattle.edge_defs.specs.Edge.{Control}
+use Rattle.edge_defs.specs.Originated.{afi_by, is_iface_of}
+use Rattle.edge_defs.specs.Steps.{Call, Active, Idle, Pim, Select, Unselect}
 use Rattle.network_nodes.specs.wire_laws.edge_routes.edge_home.Home.{Home}
 use Rattle.control_laws.proofs.Parts.{no_core}
+use Rattle.control_laws.proofs.group_laws.Messages.{has_groups}
 use Rattle.mldp_node.specs.declared.fault.NodeFault.{NodeFault}
 use Rattle.mldp_node.specs.declared.fault.NodeFault.TheVariants as halts
 use Rattle.network_defs.specs.Nodes as world
-use Rattle.network_defs.specs.Nodes.{NodeState, Nodes}
+use Rattle.network_defs.specs.Nodes.{Nodes}
 use Rattle.network_defs.specs.Refusals.{control_of, edge_of_vrf}
 use Rattle.network_defs.specs.System.{NodeCall, Own}
 use Rattle.network_laws.specs.Honest.{IsSoundCall}
+use Rattle.network_laws.specs.Sound.{AreAlike, IsCustomer, IsFlow, IsGroupAddr}
 use Rattle.network_nodes.specs.wire_laws.AnyNodes as any
 use Rattle.network_nodes.specs.wire_laws.AnyNodes.{AnyNode, IsNodeAt}
 use Rattle.network_nodes.specs.wire_laws.Edges.{begins}
-use Rattle.network_nodes.specs.Answers.{Answers, after}
-use Rattle.network_nodes.specs.Edges.{OnTaken}
+use Rattle.network_nodes.specs.Answers.{AnswersCall}
+use Rattle.network_nodes.specs.Edges.{IsOneOf, OnTaken, is_full, refusals_of}
 use Rattle.network_nodes.specs.Faults as faults
 use Rattle.network_nodes.specs.Faults.{EdgeFault}
-use Rattle.network_nodes.specs.NodeView.{HasIface, HasVrf, IsNode, IsPlacedAt, data_in, spent_in}
+use Rattle.network_nodes.specs.NodeView.{FitsIn, HasIface, HasVrf, IsNode, IsPlacedAt, data_in, spent_in}
 use Rattle.network_nodes.specs.declared.node.NetworkNode.{NetworkNode}
 use Rattle.network_nodes.specs.declared.node.NetworkNode.TheVariants as nodes
-use Rattle.network_acts.specs.control_plane.Acted.{Acted, Acts, IsCurrent, IsIn, IsSome, IsWithin, Settles, Standing, no_lines, same_moment}
-use Rattle.network_acts.specs.control_plane.Customers.{CustomerActs, IsVrfEdge, SettlesCustomer, control_at}
+use Rattle.network_acts.specs.control_plane.Acted.{Acted, Acts, IsCurrent, IsIn, IsSome, IsSomeMidway, IsWithin, Settles, Standing, no_lines, same_moment}
+use Rattle.network_acts.specs.control_plane.Customers.{CustomerActs, FitsAt, IsVrfEdge, SettlesCustomer, control_at, is_full_at}
 use Rattle.network_acts.specs.control_plane.Queries.{IsNodeThere}
 use Rattle.network_acts.specs.control_plane.PlaneView.{PlaneView}
 use Rattle.network_acts.specs.declared.control_plane.customers.Verdict.{Verdict}
 use Rattle.network_acts.proofs.control_plane.MidLemmas.{worked}
-use Rattle.network_acts.proofs.control_plane.OwnLemmas.{own_acts}
+use Rattle.network_acts.proofs.control_plane.OwnLemmas.{own_acts, own_some}
 
 -- ---- the VRFs of an edge
 
@@ -210,32 +220,136 @@ set_own [] place x at = refl
 set_own (y ∷ xs) zero x at = ap (λ z. z ∷ xs) (sym (same_Some y x at))
 set_own (y ∷ xs) (suc place) x at = ap (λ l. y ∷ l) (set_own xs place x at)
 
-module _ (plane : PlaneView) (n : NodeId) (call : Call) (calm : (kind : Kind) (peer : NodeId) → begins call kind peer ≡ false)
-    (sound : IsSoundCall call) (old node : NetworkNode)
+-- ---- what a call asks
+
+-- the node has acted on the present costs
+fits_current : (n : NodeId) (call : Call) (at : Standing) → FitsAt n call at → IsCurrent n at
+fits_current n (Pim iface message) at fits = fits.0.node
+fits_current n (Active iface source group) at fits = fits.0.node
+fits_current n (Idle iface source group) at fits = fits.0.node
+fits_current n (Select vrf pattern) at fits = fits.0.node
+fits_current n (Unselect vrf pattern) at fits = fits.0.node
+fits_current n other at fits = absurd fits
+
+pub fits_within : (n : NodeId) (call : Call) (at : Standing) → FitsAt n call at → IsWithin n at
+fits_within n call at fits = (fits_current n call at fits).within
+
+-- the call is of sound values
+fits_sound : (n : NodeId) (call : Call) (at : Standing) → FitsAt n call at → IsSoundCall call
+fits_sound n (Pim iface message) at fits = fits.2
+fits_sound n (Active iface source group) at fits = fits.1
+fits_sound n (Idle iface source group) at fits = tt
+fits_sound n (Select vrf pattern) at fits = fits.1
+fits_sound n (Unselect vrf pattern) at fits = tt
+fits_sound n other at fits = absurd fits
+
+-- it begins no stream
+fits_calm : (n : NodeId) (call : Call) (at : Standing) → FitsAt n call at → (kind : Kind) (peer : NodeId) → begins call kind peer ≡ false
+fits_calm n (Pim iface message) at fits kind peer = refl
+fits_calm n (Active iface source group) at fits kind peer = refl
+fits_calm n (Idle iface source group) at fits kind peer = refl
+fits_calm n (Select vrf pattern) at fits kind peer = refl
+fits_calm n (Unselect vrf pattern) at fits kind peer = refl
+fits_calm n other at fits kind peer = absurd fits
+
+-- an address of a customer has the octets of its family
+of_family : (addr : Addr) → IsCustomer addr → IsSource (afi_of addr) addr
+of_family (V4 octets) is = is.0
+of_family (V6 octets) is = is.0
+
+flow_group : (source group : Addr) → IsFlow source group → IsGroup (afi_of source) group
+flow_group source group is = (subst (λ (afi : Afi). IsSource afi group) (sym is.2) (of_family group is.1.0), is.1.1)
+
+pattern_group : (source group : Option Addr) → IsAnyOr IsGroupAddr group → AreAlike source group
+    → IsAnyOr (IsGroup (afi_by source group)) group
+pattern_group source None is alike = tt
+pattern_group None (Some group) is alike = (of_family group is.0, is.1)
+pattern_group (Some source) (Some group) is alike = (subst (λ (afi : Afi). IsSource afi group) (sym alike) (of_family group is.0), is.1)
+
+-- an edge whose interfaces, VRFs and selections these are is one that the call fits
+fits_edge : (n : NodeId) (call : Call) (at : Standing) → FitsAt n call at → (node : NetworkNode)
+    → ((iface : IfaceId) → edge_of at.scenario iface ≡ Some n → HasIface node iface)
+    → ((vrf : VrfId) → edge_of_vrf at.scenario vrf ≡ Some n → HasVrf node vrf)
+    → control_at n at ≡ control_of (data_in node) → FitsIn node call
+fits_edge n (Pim iface message) at fits (nodes.Edge edge) ifaces vrfs keeps = (ifaces iface fits.0.edge, has_groups message fits.1)
+fits_edge n (Active iface source group) at fits (nodes.Edge edge) ifaces vrfs keeps =
+    (ifaces iface fits.0.edge, flow_group source group fits.1)
+fits_edge n (Idle iface source group) at fits (nodes.Edge edge) ifaces vrfs keeps = (ifaces iface fits.0.edge, flow_group source group fits.1)
+fits_edge n (Select vrf pattern) at fits (nodes.Edge edge) ifaces vrfs keeps = (
+  vrfs vrf fits.0.edge,
+  pattern_group pattern.source pattern.group fits.1.1 fits.1.2,
+  λ unspent. ap (λ (control : Control). maps.get control.selections (record { vrf = vrf; pattern = pattern })) (sym keeps) ∙ fits.2,
+)
+fits_edge n (Unselect vrf pattern) at fits (nodes.Edge edge) ifaces vrfs keeps =
+    (vrfs vrf fits.0.edge, pattern_group pattern.source pattern.group fits.1.1 fits.1.2)
+fits_edge n (Pim iface message) at fits (nodes.CoreNode core) ifaces vrfs keeps = ifaces iface fits.0.edge
+fits_edge n (Active iface source group) at fits (nodes.CoreNode core) ifaces vrfs keeps = ifaces iface fits.0.edge
+fits_edge n (Idle iface source group) at fits (nodes.CoreNode core) ifaces vrfs keeps = ifaces iface fits.0.edge
+fits_edge n (Select vrf pattern) at fits (nodes.CoreNode core) ifaces vrfs keeps = vrfs vrf fits.0.edge
+fits_edge n (Unselect vrf pattern) at fits (nodes.CoreNode core) ifaces vrfs keeps = vrfs vrf fits.0.edge
+fits_edge n other at fits node ifaces vrfs keeps = absurd fits
+
+pub fits_node : (plane : PlaneView) (n : NodeId) (call : Call) (old : NetworkNode) → slice_get plane.nodes n.0 ≡ Some old
+    → IsSome (FitsAt n call) plane → FitsIn old call
+fits_node plane n call old place (at, fits, is) =
+    let node = fits_current n call at fits in
+    fits_edge n call at fits old (iface_here plane n old place at is node) (vrf_here plane n old place at is node)
+    (kept_here plane n old place at is node)
+
+-- the node is spent by such a fault
+spending_only : (fault : EdgeFault) → Among fault (faults.NoLabel ∷ faults.NoMemory ∷ [])
+    → Among fault (faults.NoLabel ∷ faults.NoMemory ∷ faults.Full ∷ [])
+spending_only fault (inl e) = inl e
+spending_only fault (inr (inl e)) = inr (inl e)
+spending_only fault (inr (inr none)) = absurd none
+
+-- what it is refused for is want of room
+pub only_full : (n : NodeId) (call : Call) (at : Standing) → FitsAt n call at → (answer : Result (Unit {0}) EdgeFault)
+    → IsOneOf (refusals_of call) answer → IsOneOf (faults.Full ∷ []) answer
+only_full n (Pim iface message) at fits answer only = only
+only_full n (Active iface source group) at fits answer only = only
+only_full n (Select vrf pattern) at fits answer only = only
+only_full n (Idle iface source group) at fits answer only = λ fault e. spending_only fault (only fault e)
+only_full n (Unselect vrf pattern) at fits answer only = λ fault e. spending_only fault (only fault e)
+only_full n other at fits answer only = absurd fits
+
+-- ---- the act of a call
+
+module _ (plane : PlaneView) (n : NodeId) (call : Call) (old node : NetworkNode)
     (place : slice_get plane.nodes n.0 ≡ Some old) (answer : Result (Unit {0}) EdgeFault)
-    (answers : Answers plane.core plane.clock (after call) old node answer)
-    (Fits : Standing → Type 0) (current : (at : Standing) → Fits at → IsCurrent n at) (is_full : Standing → Bool) (full : Bool)
-    (same_full : (at : Standing) → Fits at → IsIn at plane → is_full at ≡ full) (room : spent_in old ≡ None → OnTaken answer (full ≡ false))
-    (refused : answer ≡ Err faults.Full → (full ≡ true) × (node ≡ old)) where
+    (answers : AnswersCall plane.core plane.clock call old node answer) (some : IsSome (FitsAt n call) plane) where
   abbrev middle : PlaneView
   middle = worked n plane node plane.transit
 
+  pub call_midway : OnOk answer (IsSomeMidway n middle)
+  call_midway =
+      own_some plane n call (fits_calm n call some.0 some.1) (fits_sound n call some.0 some.1) old node place answer answers.answers
+      (some_where (IsCurrent n) (FitsAt n call) (fits_current n call) plane some)
+
   acts : (new : PlaneView) (lines new_lines : List ReportLine) (result : Result (Unit {0}) NodeFault)
       → Settles n answer middle new lines new_lines result
-      → Acts Fits same_moment (octets.Call (Own n call) ∷ []) no_lines plane new lines new_lines result
+      → Acts (FitsAt n call) same_moment (octets.Call (Own n call) ∷ []) no_lines plane new lines new_lines result
   acts new lines new_lines result settles =
-      acts_where (IsCurrent n) Fits current (octets.Call (Own n call) ∷ []) plane new lines new_lines result
-      (own_acts plane n call calm sound old node place answer answers new lines new_lines result settles)
+      acts_where (IsCurrent n) (FitsAt n call) (fits_current n call) (octets.Call (Own n call) ∷ []) plane new lines new_lines result
+      (own_acts plane n call (fits_calm n call some.0 some.1) (fits_sound n call some.0 some.1) old node place answer answers.answers
+      new lines new_lines result settles)
 
-  has_room : (told : Result (Unit {0}) EdgeFault) → answer ≡ told → (OnTaken told (full ≡ false) → full ≡ false) → (at : Standing) → Fits at
-      → IsIn at plane → is_full at ≡ false
+  abbrev full_here : Bool
+  full_here = is_full (control_of (data_in old)) plane.clock call
+
+  same_full : (at : Standing) → FitsAt n call at → IsIn at plane → is_full_at n call at ≡ full_here
+  same_full at fits is =
+      λ i. is_full (kept_here plane n old place at is (fits_current n call at fits) i) (is.around.clock i) call
+
+  has_room : (told : Result (Unit {0}) EdgeFault) → answer ≡ told → (OnTaken told (full_here ≡ false) → full_here ≡ false)
+      → (at : Standing) → FitsAt n call at → IsIn at plane → is_full_at n call at ≡ false
   has_room told e taken at fits is =
-      same_full at fits is ∙ taken (subst (λ (r : Result (Unit {0}) EdgeFault). OnTaken r (full ≡ false)) e
-      (room (unspent_here plane n old place at is (current at fits))))
+      same_full at fits is ∙ taken (subst (λ (r : Result (Unit {0}) EdgeFault). OnTaken r (full_here ≡ false)) e
+      (answers.fits (unspent_here plane n old place at is (fits_current n call at fits))))
 
   pub customer_acts : (new : PlaneView) (lines new_lines : List ReportLine) (result : Result Verdict NodeFault)
       → SettlesCustomer n answer middle new lines new_lines result
-      → CustomerActs Fits n call is_full plane new lines new_lines result
+      → CustomerActs n call plane new lines new_lines result
   customer_acts new lines new_lines result settles = record {
     made = λ e at fits is. (
       has_room (Ok tt) (settles.made e).answered (λ r. r) at fits is,
@@ -243,7 +357,7 @@ module _ (plane : PlaneView) (n : NodeId) (call : Call) (calm : (kind : Kind) (p
     );
     full = λ e.
         let all = settles.full e in
-        let stays = refused all.0 in (
+        let stays = answers.full all.0 in (
           (λ at fits is. same_full at fits is ∙ stays.0),
           all.1 ∙ ap (λ (l : List NetworkNode). record plane { nodes = l })
               (ap (slice_set plane.nodes n.0) stays.1 ∙ set_own plane.nodes n.0 old place),

@@ -4,8 +4,8 @@ use Rattle.edge_probe.proofs.AnswerLemmas.{memory_alone}
 use Rattle.edge_probe.proofs.GivenLemmas.{first_down, first_given, first_not_lacking}
 use Rattle.edge_probe.proofs.given.raise.Goals as goal
 
-pub raised-requires-clause-down : goal.raised-requires-clause-down
-raised-requires-clause-down c = λ _. first_down c.args.core.now c.args.peer c.args.own.now c.requires.fresh
+pub call-requires-clause-fits : goal.call-requires-clause-fits
+call-requires-clause-fits c = (c.requires.peer, λ _. first_down c.args.core.now c.args.peer c.args.own.now c.requires.fresh)
 
 pub memory-requires : goal.memory-requires
 memory-requires c =
@@ -15,5 +15,5 @@ memory-requires c =
 
 pub returns-in-Ok-clause-given : goal.returns-in-Ok-clause-given
 returns-in-Ok-clause-given c =
-    first_given c.args.core.now c.args.peer c.args.own.now c.raised.new.self c.requires.fresh c.in-Ok.ensures.answers.home
+    first_given c.args.core.now c.args.peer c.args.own.now c.call.new.self c.requires.fresh c.in-Ok.ensures.answers.home
     c.in-Ok.ensures.answers.goes_on c.in-Ok.ensures.answers.made

@@ -3,14 +3,17 @@ use Rattle.scenario_defs.specs.declared.event.Event.TheVariants as events
 use Rattle.scenario_defs.specs.declared.report.Refusal.{Refusal}
 use Rattle.network_events.specs.Meeting.{Meets}
 use Rattle.network_events.specs.declared.halt.Halt.{Halt}
-use Rattle.network_events.proofs.CustomerLemmas.{are_full, found_edge, no_edge, note_taken, some_iface}
+use Rattle.network_events.proofs.CustomerLemmas.{are_full, found_edge, no_edge, note_taken, some_note}
 use Rattle.network_events.proofs.customers.active.Goals as goal
 
-pub active-requires-clause-network : goal.active-requires-clause-network
-active-requires-clause-network c =
-    some_iface c.args.network.now c.args.iface c.in-Some.n
-    (found_edge c.args.network.now c.args.iface c.scenario.result.now c.scenario.ensures c.edge_of.result (Some c.in-Some.n) c.edge_of.ensures
-    c.in-Some.is) c.requires.network
+pub call-requires : goal.call-requires
+call-requires c =
+    record {
+      network =
+          some_note c.args.network.now c.args.iface c.args.source c.args.group c.args.lines.now c.in-Some.n
+          (found_edge c.args.network.now c.args.iface c.scenario.result.now c.scenario.ensures c.edge_of.result (Some c.in-Some.n) c.edge_of.ensures
+          c.in-Some.is) c.requires.event.sound c.requires.network;
+    }
 
 pub unreachable-requires : goal.unreachable-requires
 unreachable-requires c =
@@ -19,10 +22,10 @@ unreachable-requires c =
 
 pub returns : goal.returns
 returns c =
-    subst (λ (r : Result (Option Refusal) Halt). Meets (events.Active c.args.iface c.args.source c.args.group) c.args.network.now c.active.new.self
-    c.args.lines.now c.active.new.lines r) (sym c.verdict_at.ensures)
+    subst (λ (r : Result (Option Refusal) Halt). Meets (events.Active c.args.iface c.args.source c.args.group) c.args.network.now c.call.new.self
+    c.args.lines.now c.call.new.lines r) (sym c.verdict_at.ensures)
     (note_taken c.args.network.now c.args.iface c.args.source c.args.group c.args.lines.now c.in-Some.n
     (found_edge c.args.network.now c.args.iface c.scenario.result.now c.scenario.ensures c.edge_of.result (Some c.in-Some.n) c.edge_of.ensures
-    c.in-Some.is)
-    (are_full c.args.network.now c.are_sessions_full.result false c.are_sessions_full.ensures c.if-are_sessions_full.false) c.active.new.self
-    c.active.new.lines c.active.result c.active.ensures)
+    c.in-Some.is) c.requires.event.sound
+    (are_full c.args.network.now c.are_sessions_full.result false c.are_sessions_full.ensures c.if-are_sessions_full.false) c.call.new.self
+    c.call.new.lines c.call.result c.call.ensures)

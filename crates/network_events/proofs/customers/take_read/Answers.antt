@@ -2,11 +2,17 @@ use Rattle.std.proofs.Common.{◌∙◌, ap, sym}
 use Rattle.mv_base.specs.Address.{same_addr}
 use Rattle.scenario_defs.specs.declared.scenario.Scenario.{Scenario}
 use Rattle.mvpn_model.specs.Messages.{own_addr}
-use Rattle.network_events.proofs.CustomerLemmas.{read_for}
+use Rattle.network_events.proofs.CustomerLemmas.{read_for, read_not_ours}
 use Rattle.network_events.proofs.customers.take_read.Goals as goal
+
+pub returns-then-not-same : goal.returns-then-not-same
+returns-then-not-same c =
+    let own = c.own_addr.ensures ∙ ap (λ (s : Scenario). own_addr s c.args.iface) c.scenario.ensures in
+    read_not_ours c.args.network.now c.args.iface c.args.message.now c.requires.message c.args.lines.now
+    (ap (same_addr c.args.message.now.neighbour) (sym own) ∙ (sym c.same.ensures ∙ c.if-not-same.true))
 
 pub take-requires-clause-message : goal.take-requires-clause-message
 take-requires-clause-message c =
     let own = c.own_addr.ensures ∙ ap (λ (s : Scenario). own_addr s c.args.iface) c.scenario.ensures in
-    read_for c.args.network.now c.args.iface c.args.octets.now c.args.lines.now c.args.neighbour c.requires.message c.requires.event
-    (ap (same_addr c.args.neighbour) (sym own) ∙ (sym c.same.ensures ∙ c.if-not-same.false))
+    read_for c.args.network.now c.args.iface c.args.message.now c.requires.message c.args.lines.now
+    (ap (same_addr c.args.message.now.neighbour) (sym own) ∙ (sym c.same.ensures ∙ c.if-not-same.false))

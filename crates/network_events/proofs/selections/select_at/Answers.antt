@@ -21,16 +21,18 @@ returns-then-are_sessions_full c =
     (λ at fits is. sym c.if-is_selected.false ∙ c.is_selected.ensures at fits is)
     (are_full c.args.network.now c.are_sessions_full.result true c.are_sessions_full.ensures c.if-are_sessions_full.true)
 
-pub select-requires-clause-network : goal.select-requires-clause-network
-select-requires-clause-network c =
-    some_unselected c.args.network.now c.args.vrf c.args.pattern c.args.n c.requires.edge c.args.lines.now
-    (λ at fits is. sym c.if-is_selected.false ∙ c.is_selected.ensures at fits is) c.requires.network
+pub call-requires : goal.call-requires
+call-requires c = record {
+  network =
+      some_unselected c.args.network.now c.args.vrf c.args.pattern c.args.n c.requires.edge c.args.lines.now
+      (λ at fits is. sym c.if-is_selected.false ∙ c.is_selected.ensures at fits is) c.requires.event.sound c.requires.network;
+}
 
 pub returns : goal.returns
 returns c =
-    subst (λ (r : Result (Option Refusal) Halt). Meets (events.Select c.args.vrf c.args.pattern) c.args.network.now c.select.new.self c.args.lines.now
-    c.select.new.lines r) (sym c.verdict_at.ensures)
+    subst (λ (r : Result (Option Refusal) Halt). Meets (events.Select c.args.vrf c.args.pattern) c.args.network.now c.call.new.self c.args.lines.now
+    c.call.new.lines r) (sym c.verdict_at.ensures)
     (select_taken c.args.network.now c.args.vrf c.args.pattern c.args.n c.requires.edge c.args.lines.now
-    (λ at fits is. sym c.if-is_selected.false ∙ c.is_selected.ensures at fits is)
-    (are_full c.args.network.now c.are_sessions_full.result false c.are_sessions_full.ensures c.if-are_sessions_full.false) c.select.new.self
-    c.select.new.lines c.select.result c.select.ensures)
+    (λ at fits is. sym c.if-is_selected.false ∙ c.is_selected.ensures at fits is) c.requires.event.sound
+    (are_full c.args.network.now c.are_sessions_full.result false c.are_sessions_full.ensures c.if-are_sessions_full.false) c.call.new.self
+    c.call.new.lines c.call.result c.call.ensures)

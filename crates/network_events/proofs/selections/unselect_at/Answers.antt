@@ -1,9 +1,9 @@
-use Rattle.std.proofs.Common.{◌∙◌, Option, Result, ap, sym, subst, true, false}
+use Rattle.std.proofs.Common.{◌∙◌, Option, Result, sym, subst, true, false}
 use Rattle.scenario_defs.specs.declared.event.Event.TheVariants as events
 use Rattle.scenario_defs.specs.declared.report.Refusal.{Refusal}
-use Rattle.network_events.specs.Meeting.{Meets, met}
+use Rattle.network_events.specs.Meeting.{Meets}
 use Rattle.network_events.specs.declared.halt.Halt.{Halt}
-use Rattle.network_events.proofs.CustomerLemmas.{are_full, selected_pattern, some_vrf, unselect_full, unselect_none, unselect_taken}
+use Rattle.network_events.proofs.CustomerLemmas.{are_full, some_selected, some_vrf, unselect_full, unselect_none, unselect_taken}
 use Rattle.network_events.proofs.selections.unselect_at.Goals as goal
 
 pub is_selected-requires : goal.is_selected-requires
@@ -21,20 +21,18 @@ returns-then-are_sessions_full c =
     (λ at fits is. sym c.if-not-is_selected.false ∙ c.is_selected.ensures at fits is)
     (are_full c.args.network.now c.are_sessions_full.result true c.are_sessions_full.ensures c.if-are_sessions_full.true)
 
-pub unselect-requires-clause-network : goal.unselect-requires-clause-network
-unselect-requires-clause-network c =
-    some_vrf c.args.network.now c.args.vrf c.args.pattern c.args.n c.requires.edge c.args.lines.now c.requires.network
-
-pub unselect-requires-clause-pattern : goal.unselect-requires-clause-pattern
-unselect-requires-clause-pattern c =
-    selected_pattern c.args.network.now c.args.vrf c.args.pattern c.args.n c.requires.edge c.args.lines.now
-    (λ at fits is. sym c.if-not-is_selected.false ∙ c.is_selected.ensures at fits is) c.requires.network
+pub call-requires : goal.call-requires
+call-requires c = record {
+  network =
+      some_selected c.args.network.now c.args.vrf c.args.pattern c.args.n c.requires.edge c.args.lines.now
+      (λ at fits is. sym c.if-not-is_selected.false ∙ c.is_selected.ensures at fits is) c.requires.network;
+}
 
 pub returns : goal.returns
 returns c =
-    subst (λ (r : Result (Option Refusal) Halt). Meets (events.Unselect c.args.vrf c.args.pattern) c.args.network.now c.unselect.new.self
-    c.args.lines.now c.unselect.new.lines r) (sym (c.met.ensures ∙ ap met c.answer_at.ensures))
+    subst (λ (r : Result (Option Refusal) Halt). Meets (events.Unselect c.args.vrf c.args.pattern) c.args.network.now c.call.new.self
+    c.args.lines.now c.call.new.lines r) (sym c.verdict_at.ensures)
     (unselect_taken c.args.network.now c.args.vrf c.args.pattern c.args.n c.requires.edge c.args.lines.now
     (λ at fits is. sym c.if-not-is_selected.false ∙ c.is_selected.ensures at fits is)
-    (are_full c.args.network.now c.are_sessions_full.result false c.are_sessions_full.ensures c.if-are_sessions_full.false) c.unselect.new.self
-    c.unselect.new.lines c.unselect.result c.unselect.ensures)
+    (are_full c.args.network.now c.are_sessions_full.result false c.are_sessions_full.ensures c.if-are_sessions_full.false) c.call.new.self
+    c.call.new.lines c.call.result c.call.ensures)

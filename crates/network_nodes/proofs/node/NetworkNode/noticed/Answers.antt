@@ -12,20 +12,20 @@ use Rattle.network_nodes.proofs.node.NetworkNode.noticed.Goals as goal
 
 pub returns-in-Edge-clause-answers : goal.returns-in-Edge-clause-answers
 returns-in-Edge-clause-answers c =
-    subst (λ (old : NetworkNode). Answers c.args.core.now c.args.now (after (Noticed c.args.kind c.args.peer)) old (nodes.Edge c.noticed.new.self)
-    c.noticed.result) (sym c.in-Edge.is)
-    (edge_call c.args.core.now c.args.now (Noticed c.args.kind c.args.peer) c.in-Edge.edge c.noticed.new.self c.noticed.result
-    c.noticed.ensures.answers)
+    subst (λ (old : NetworkNode). Answers c.args.core.now c.args.now (after (Noticed c.args.kind c.args.peer)) old (nodes.Edge c.call.new.self)
+    c.call.result) (sym c.in-Edge.is)
+    (edge_call c.args.core.now c.args.now (Noticed c.args.kind c.args.peer) c.in-Edge.edge c.call.new.self c.call.result
+    c.call.ensures.answers)
 
 pub returns-in-CoreNode-clause-answers : goal.returns-in-CoreNode-clause-answers
 returns-in-CoreNode-clause-answers c =
     subst (λ (old : NetworkNode). Answers c.args.core.now c.args.now (after (Noticed c.args.kind c.args.peer)) old
-    (nodes.CoreNode c.noticed-in-CoreNode.new.self) c.told.result) (sym c.in-CoreNode.is)
+    (nodes.CoreNode c.noticed.new.self) c.told.result) (sym c.in-CoreNode.is)
     (subst (λ (r : Result (Unit {0}) EdgeFault). Answers c.args.core.now c.args.now (after (Noticed c.args.kind c.args.peer))
-    (nodes.CoreNode c.in-CoreNode.core_node) (nodes.CoreNode c.noticed-in-CoreNode.new.self) r)
+    (nodes.CoreNode c.in-CoreNode.core_node) (nodes.CoreNode c.noticed.new.self) r)
     (sym c.told.ensures)
     (core_call c.args.core.now c.args.now (Noticed c.args.kind c.args.peer) (labels.Noticed c.args.peer) c.in-CoreNode.core_node
-    c.noticed-in-CoreNode.new.self c.noticed-in-CoreNode.result
+    c.noticed.new.self c.noticed.result
     (ap (λ (kind : Kind). own_label_call (Noticed kind c.args.peer))
     (subst (λ (node : NetworkNode). MayBePeer node c.args.kind c.args.peer) c.in-CoreNode.is c.requires.peer))
-    c.noticed-in-CoreNode.ensures.answers))
+    c.noticed.ensures.answers))

@@ -10,16 +10,16 @@ use Rattle.network_nodes.proofs.node.NetworkNode.timers.Goals as goal
 
 pub returns-in-Edge-clause-answers : goal.returns-in-Edge-clause-answers
 returns-in-Edge-clause-answers c =
-    subst (λ (old : NetworkNode). Answers c.args.core.now c.args.now (after Timers) old (nodes.Edge c.timers.new.self) c.timers.result)
+    subst (λ (old : NetworkNode). Answers c.args.core.now c.args.now (after Timers) old (nodes.Edge c.call.new.self) c.call.result)
     (sym c.in-Edge.is)
-    (edge_call c.args.core.now c.args.now Timers c.in-Edge.edge c.timers.new.self c.timers.result c.timers.ensures.answers)
+    (edge_call c.args.core.now c.args.now Timers c.in-Edge.edge c.call.new.self c.call.result c.call.ensures.answers)
 
 pub returns-in-CoreNode-clause-answers : goal.returns-in-CoreNode-clause-answers
 returns-in-CoreNode-clause-answers c =
-    subst (λ (old : NetworkNode). Answers c.args.core.now c.args.now (after Timers) old (nodes.CoreNode c.timers-in-CoreNode.new.self) c.told.result)
+    subst (λ (old : NetworkNode). Answers c.args.core.now c.args.now (after Timers) old (nodes.CoreNode c.timers.new.self) c.told.result)
     (sym c.in-CoreNode.is)
     (subst (λ (r : Result (Unit {0}) EdgeFault). Answers c.args.core.now c.args.now (after Timers) (nodes.CoreNode c.in-CoreNode.core_node)
-    (nodes.CoreNode c.timers-in-CoreNode.new.self) r)
+    (nodes.CoreNode c.timers.new.self) r)
     (sym c.told.ensures)
-    (core_call c.args.core.now c.args.now Timers labels.Timers c.in-CoreNode.core_node c.timers-in-CoreNode.new.self c.timers-in-CoreNode.result refl
-    c.timers-in-CoreNode.ensures.answers))
+    (core_call c.args.core.now c.args.now Timers labels.Timers c.in-CoreNode.core_node c.timers.new.self c.timers.result refl
+    c.timers.ensures.answers))

@@ -1,4 +1,4 @@
-use Rattle.std.proofs.Common.{[], subst, sym}
+use Rattle.std.proofs.Common.{subst, sym}
 use Rattle.edge_routes.specs.edge_home.Home.{Home}
 use Rattle.session_rows.specs.Roles.{IsEdgeInCore}
 use Rattle.session_rows.proofs.two_edges.EdgeInCore.select.Goals as goal
@@ -7,4 +7,4 @@ pub invariant_of-self : goal.invariant_of-self
 invariant_of-self c =
     let inside = c.self.inside in
     subst (λ (home : Home). IsEdgeInCore home inside.core.nodes inside.role.peer inside.role.vrf inside.role.iface)
-    (sym (c.select.ensures.answers (record { nodes = 0; links = [] })).home) c.self.invariant
+    (sym c.call.ensures.answers.home) c.self.invariant

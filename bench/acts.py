@@ -1,6 +1,6 @@
 """What the program of bench/edge/ plays at one edge: a scenario, and the acts of each kind of measurement.
 
-The edge has a VRF of a VPN that is at 31 other edges too, with a core node between them. Each of these has told it a unicast
+The edge has a VRF of a VPN that is at 31 other edges too, with a core node between them. Each of these has sent it a unicast
 route, an inclusive one, and routes of flows. Its customers have made 1,023 of the 1,024 entries that an edge may hold, or two.
 The octets are written by the definitions' transliteration in checks/reference.
 """
@@ -169,14 +169,14 @@ def two_entries(edge):
 # ---- what is measured, in turns of a thousand acts; what is handed out besides does not count
 
 def joins(edge):
-    """Flows are pruned and joined at one interface. Others want them still, so no peer is told."""
+    """Flows are pruned and joined at one interface. Others want them still, so no peer is sent anything."""
     for number in range(IN_A_TURN // 2):
         for is_join in (False, True):
             yield edge.pim(0, wanted_flow(number % FLOWS), is_join)
 
 
 def told_joins(edge):
-    """A flow is joined and pruned that no other interface wants: its upstream is told."""
+    """A flow is joined and pruned that no other interface wants: its upstream is sent that."""
     for _ in range(IN_A_TURN // 2):
         for is_join in (True, False):
             yield edge.pim(0, NEW_FLOW, is_join)

@@ -8,7 +8,7 @@
 
 The kit proves each crate in processes of its own. Every fifth of a second this reads from /proc what each process below the
 command has used; a process that ends in between counts as it was last seen. Some kits keep what an earlier run of `rt ci`
-proved, and prove everything from nothing only with `--anew`: there this word is added. Behind the table stand the sum, what the
+proved, and prove everything from nothing only with `--anew`: there this word is added. After the table come the sum, what the
 last whole run took, and what is above the budget.
 """
 

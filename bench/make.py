@@ -14,6 +14,7 @@
                 events: joins and sends in turn, each datagram entering at two edges
     drains      a scenario with 1,000 interfaces, then SIZE events: joins, sends and drains in turn
     network     the scenario of 32 edges, 16 core nodes and 8 VPNs that `make` writes, then SIZE events of every kind, at random
+    mix         32 edges, 16 core nodes, 256 VRFs, 512 sites and 768 interfaces, then SIZE events, most of them joins and sends
     settles     the scenario that `make` writes, all its sessions up, then SIZE times `settle`, with nothing to do
     restarts    the same scenario, then SIZE times `heal`, `settle` and a core node that restarts
     costs       the same scenario, then SIZE times another cost of a link, `settle` and a tick
@@ -184,6 +185,54 @@ def network(size):
     yield from made_scenario()
     events = Events()
     yield from (events.line() + '\n' for _ in range(min(EVENT_LIMIT, size)))
+
+
+MIX_SITES, MIX_SENDING, MIX_GROUPS = 64, 16, 2
+# the share of each kind of event in a hundred
+MIX = {'join': 33, 'send': 32, 'prune': 12, 'select': 6, 'lose': 5, 'settle': 3, 'drain': 3, 'idle': 1, 'active': 1, 'tick': 1, 'heal': 1, 'state': 1,
+       'unselect': 1}
+
+
+def mix_scenario():
+    """Each VPN has a VRF at each edge and two sites there; the second of these is attached at the next edge too."""
+    edges, cores = range(MADE_EDGES), range(MADE_CORES)
+    yield from ('edge E%d 192.0.2.%d\n' % (edge, edge + 1) for edge in edges)
+    yield from ('core C%d 192.0.3.%d\n' % (core, core + 1) for core in cores)
+    yield from ('link C%d C%d 1\n' % (core, (core + 1) % MADE_CORES) for core in cores)
+    yield from ('link E%d C%d 1\n' % (edge, edge % MADE_CORES) for edge in edges)
+    for vpn in range(MADE_VPNS):
+        yield from ('vrf V%d_%d E%d %d 65000:%d 65000:%d highest\n' % (vpn, edge, edge, vpn + 1, vpn, vpn) for edge in edges)
+        for site in range(MIX_SITES):
+            yield 'site S%d_%d 10.%d.%d.0/24\n' % (vpn, site, vpn, site)
+            yield 'iface I%d_%d V%d_%d S%d_%d 10.%d.%d.1\n' % (vpn, site, vpn, site // 2, vpn, site, vpn, site)
+            if site % 2 == 1:
+                yield 'iface J%d_%d V%d_%d S%d_%d 10.%d.%d.2\n' % (vpn, site, vpn, (site // 2 + 1) % MADE_EDGES, vpn, site, vpn, site)
+    yield 'events\nheal\nsettle\ntick 3\nsettle\n'
+
+
+def mix_line(made, kind):
+    """An event of that kind, of a flow of one of the sites of a random VPN at which hosts send."""
+    vpn, site, other = made.randrange(MADE_VPNS), MIX_SITES // MIX_SENDING * made.randrange(MIX_SENDING), made.randrange(MIX_SITES)
+    flow = '10.%d.%d.9 232.1.%d.%d' % (vpn, site, vpn, made.randrange(MIX_GROUPS) + 1)
+    edge = made.randrange(MADE_EDGES)
+    if kind in ('settle', 'drain', 'heal', 'state'):
+        return kind
+    if kind == 'tick':
+        return 'tick 1'
+    if kind == 'lose':
+        return 'lose bgp E%d E%d' % (edge, (edge + made.randrange(1, MADE_EDGES)) % MADE_EDGES)
+    if kind == 'send':
+        return 'send S%d_%d %s aabb' % (vpn, site, flow)
+    if kind in ('select', 'unselect'):
+        return '%s V%d_%d %s' % (kind, vpn, site // 2, flow)
+    return '%s I%d_%d %s' % (kind, vpn, other, flow)
+
+
+def mix(size):
+    yield from mix_scenario()
+    made = random.Random(2)
+    for kind in made.choices(list(MIX), list(MIX.values()), k=min(EVENT_LIMIT, size)):
+        yield mix_line(made, kind) + '\n'
 
 
 def settles(size):
@@ -473,6 +522,7 @@ KINDS = {
     'events': events,
     'drains': drains,
     'network': network,
+    'mix': mix,
     'settles': settles,
     'restarts': restarts,
     'costs': costs,

@@ -4,14 +4,14 @@
     python3 bench/pieces.py [streams|parts|edge]
 
 `streams`: a small program feeds the stream of BGP messages, and that of LDP PDUs, with one message or PDU of make.py over
-and over, in pieces of 1, 7 and 1,000 octets and whole, and takes the messages that wait behind each piece.
+and over, in pieces of 1, 7 and 1,000 octets and whole, and takes the messages that wait after each piece.
 
 `parts`: the program of bench/parts/ works the parts of a node over and over: shared buffers, the upstream choice among
-8,192 routes, changes of a table of 8,192 routes with a flush behind each, look-ups among 8,192 labels, a label node that
+8,192 routes, changes of a table of 8,192 routes with a flush after each, look-ups among 8,192 labels, a label node that
 maps, withdraws and releases the labels of its trees, bindings that are kept and taken among 8,192.
 
 `edge`: the program of bench/edge/ plays the acts of bench/acts.py at one edge that holds routes of 31 peers: joins and prunes,
-UPDATE messages, label messages, and datagrams that enter. Processor seconds are told, without those of what comes
+UPDATE messages, label messages, and datagrams that enter. Processor seconds are printed, without those of what comes
 first, and the peak memory.
 
 All are built, with their proofs, in a copy of the crates, so that the repository itself has no program that only
@@ -38,8 +38,8 @@ PIECES = (1, 7, 1000, 0)
 # of each stream: the crate that it is in, and a unit of it
 STREAMS = {'bgp_update': ('bgp_messages', make.message(1)), 'mldp_msgs': ('mldp', make.pdu(1))}
 
-# Of each edge: what it has; its interfaces to receivers, the flows of which each peer tells routes, and the entries that come
-# first; and the kinds of acts behind these, each with a turn, and how many turns.
+# Of each edge: what it has; its interfaces to receivers, the flows of which each peer sends routes, and the entries that come
+# first; and the kinds of acts after these, each with a turn, and how many turns.
 CALLS = [
     ('joins', acts.joins, 100),
     ('told joins', acts.told_joins, 100),
@@ -169,7 +169,7 @@ def parts():
 
 
 def played(program, scenario, first, again, times):
-    """What is told of so many turns behind the first acts: the numbers that are printed, processor seconds, and peak MiB."""
+    """What is reported of so many turns after the first acts: the numbers that are printed, processor seconds, and peak MiB."""
     with tempfile.TemporaryDirectory() as folder:
         files = {'scenario': scenario.encode(), 'first': first, 'again': again}
         for name, octets in files.items():
@@ -182,7 +182,7 @@ def played(program, scenario, first, again, times):
 
 
 def edge_rows(program):
-    """A row for what comes first at each edge, and one for each kind of acts behind it and number of turns."""
+    """A row for what comes first at each edge, and one for each kind of acts after it and number of turns."""
     for name, size, entries, kinds in EDGES:
         one = acts.Edge(*size)
         first = b''.join(acts.first(one, entries))

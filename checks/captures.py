@@ -1,14 +1,14 @@
 #!/usr/bin/env python3
-"""Compares what `tools/decode_capture.py` tells of capture files with what is wanted: `captures.py [--command COMMAND]`.
+"""Compares what `tools/decode_capture.py` reads in capture files with what is expected: `captures.py [--command COMMAND]`.
 
-Of each example and its report `tools/wireshark.py` makes a file. What is told of each direction of its sessions has to be what
-`decode` tells of all that the node put there, and of PIM it has to be the Join/Prune messages of the customers' events. Where
-`tshark` is installed, it has to tell the same messages, by their types, in the same frames at the same times.
+Of each example and its report `tools/wireshark.py` makes a file. What is read in each direction of its sessions has to be what
+`decode` reads in all that the node put there, and of PIM it has to be the Join/Prune messages of the customers' events. Where
+`tshark` is installed, it has to report the same messages, by their types, in the same frames at the same times.
 
-The octets of one example are then put into segments and files of other kinds: cut short, in another order, sent twice, behind tags and
-labels, on other links, in other formats. What is told has to be the same. Last come streams with faults and with octets that are
+The octets of one example are then put into segments and files of other kinds: cut short, in another order, sent twice, after tags and
+labels, on other links, in other formats. What is read has to be the same. Last come streams with faults and with octets that are
 missing, and messages of PIM with other checksums, whose lines are laid out here; and captures of live daemons, with their lines beside
-them (examples/lab/daemons), of which tshark has to tell the same prefixes and labels, too.
+them (examples/lab/daemons), of which tshark has to report the same prefixes and labels, too.
 
 The command is `./mvpn` of this repository, unless another one is named. Prints the cases that differ, and then 'N passed, M failed'.
 """
@@ -35,13 +35,13 @@ TOOL = [sys.executable, str(TOP / 'tools' / 'decode_capture.py')]
 LAB = TOP / 'examples' / 'lab'
 # the example whose octets are put into other segments and files
 OTHERWISE = 'dual-homed.txt'
-# by its first word, the type of a message, as tshark tells it
+# by its first word, the type of a message, as tshark reports it
 TYPES = {
     'open': 1, 'update': 2, 'notification': 3, 'keepalive': 4, 'refresh': 5,
     'mapping': 0x400, 'withdraw': 0x402, 'release': 0x403, 'joinprune': 3}
 
 
-# ---- what is told
+# ---- what is read
 
 def told(command, capture):
     """The lines that the tool writes of a file, each as frame, time, the two ends and the rest."""
@@ -135,13 +135,13 @@ def fields_of(capture, *fields):
 
 
 def shown(capture):
-    """The frame, the time and the type of each message that tshark tells."""
+    """The frame, the time and the type of each message that tshark reports."""
     for frame, time, *types in fields_of(capture, 'frame.number', 'frame.time_epoch', 'bgp.type', 'ldp.msg.type', 'pim.type'):
         yield from ((frame, time, int(kind, 0)) for kinds in types for kind in kinds.split(',') if kind)
 
 
 def prefixes_shown(capture):
-    """The frame, the prefix and the label of each label message of LDP with a prefix that tshark tells."""
+    """The frame, the prefix and the label of each label message of LDP with a prefix that tshark reports."""
     fec = 'ldp.msg.tlv.fec.'
     for frame, *columns in fields_of(capture, 'frame.number', fec + 'pfval', fec + 'len', 'ldp.msg.tlv.generic.label'):
         rows = zip(*(column.split(',') for column in columns))
@@ -181,7 +181,7 @@ def tcp_packet(place, kind, at, octets, flags=0x18):
 
 
 def opened(place, kind):
-    """The first packet of a connection, whose stream begins behind it."""
+    """The first packet of a connection, whose stream begins after it."""
     return tcp_packet(place, kind, -1, b'', 0x02)
 
 
@@ -256,7 +256,7 @@ def by_port(lines):
 
 
 def other_cases(program, command, text):
-    """By name, in what other files of an example's octets are told otherwise."""
+    """By name, in what other files of an example's octets are read otherwise."""
     report = replayed(program, OTHERWISE, text)
     streams = [(kind, bytes(octets)) for (kind, *_), octets in streams_of(report).items()]
     wanted = {f'{SOURCE}:{40000 + place}': decoded(program, kind, octets) for place, (kind, octets) in enumerate(streams)}
@@ -381,7 +381,7 @@ def made_cases(command):
 
 
 def lab_differences(command, path):
-    """In what the lines of a kept capture differ from those beside it, each behind its frame."""
+    """In what the lines of a kept capture differ from those beside it, each after its frame."""
     capture = path.read_bytes()
     lines = told(command, capture)
     yield differences([f'{line[0]} {line[5]}' for line in lines], path.with_suffix('.lines').read_text().splitlines())

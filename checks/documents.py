@@ -200,7 +200,7 @@ def told_words(lines):
 
 
 def faults_of_words(text):
-    """The words that a section of FAULTS lacks or has for nothing, and rows of it that are none of three cells."""
+    """The words that are missing in a section of FAULTS or are there for nothing, and rows of it that are none of three cells."""
     for title, (path, name) in WORDS.items():
         number, lines = section(text, title)
         told, wanted = told_words(lines), words_of(path, name)

@@ -87,7 +87,7 @@ def cases(given):
 
 
 def differs(command, case):
-    """What came in place of what is wanted, or nothing."""
+    """What came in place of what is expected, or nothing."""
     name, octets, (wanted, status) = case
     ran = subprocess.run([*command, 'hops'], input=octets, capture_output=True, timeout=LONGEST)
     if (ran.stdout.decode('latin-1'), ran.returncode) == (wanted, status):
@@ -104,7 +104,7 @@ def run(command, octets):
 
 
 def with_marks(text):
-    """The script with a `state` after each event: what happens is the same, and the report tells which lines are of which event."""
+    """The script with a `state` after each event: what happens is the same, and the report shows which lines are of which event."""
     front, word, events = text.partition('events\n')
     return front + word + ''.join(f'{line}\nstate\n' for line in events.splitlines())
 

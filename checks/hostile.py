@@ -193,7 +193,7 @@ def decoded(octets):
 
 
 def is_decoded(command, octets):
-    """Whether the program tells just that. Octets that end inside a message have no fault, but the program says so."""
+    """Whether the program reports just that. Octets that end inside a message have no fault, but the program says so."""
     run = subprocess.run([*command, 'decode', 'bgp'], input=bytes(octets).hex().encode(), capture_output=True)
     words = [line.split(' ') for line in run.stdout.decode('latin-1').splitlines()]
     came = [' '.join(line[:3] + ['*'] + line[4:] if line[0] == 'reach' else line) for line in words]

@@ -1,6 +1,6 @@
 #!/usr/bin/env python3
-"""Compares what `./mvpn make N` writes with the text of that number as docs/FORMATS.md tells it, made here plainly; and what
-`./mvpn sweep N` writes with the numbers that are wanted, for 32 numbers in a row, which have all texts that there are. Of some
+"""Compares what `./mvpn make N` writes with the text of that number as docs/FORMATS.md describes it, made here plainly; and what
+`./mvpn sweep N` writes with the numbers that are expected, for 32 numbers in a row, which have all texts that there are. Of some
 of them the numbers are counted in what `./mvpn replay` writes, too.
 
     python3 checks/made.py [COMMAND]

@@ -3,10 +3,10 @@
 
 The inputs are the rows of checks/rows but for `limits`, or those of the files that are named; then `make 7`, and a replay of what
 it writes. A program takes its memory of the C library's `malloc` and `realloc`. A small library, compiled here with `cc` and put in
-front of that by LD_PRELOAD, counts all calls that take memory, and refuses the one of a given number. Behind each refusal the status
+front of that by LD_PRELOAD, counts all calls that take memory, and refuses the one of a given number. After each refusal the status
 has to be 6, and what was written a prefix of the output without a refusal; or both are as they are without one, where the
-allocation was none of the program's own. Of an input with more than N calls, the first N / 2 are refused, and others evenly behind
-them. Some runs of status 6 are made once more by valgrind, if it is there, which may tell of no memory that was let go.
+allocation was none of the program's own. Of an input with more than N calls, the first N / 2 are refused, and others evenly after
+them. Some runs of status 6 are made once more by valgrind, if it is there, which may report no memory that was let go.
 
 PROGRAM is the program itself, as crates/mvpn/out/mvpn. This is no part of the gate. Prints what is other than it has to be, and
 then 'N passed, M failed'.
@@ -121,7 +121,7 @@ def numbers(count, most):
 
 
 def is_want(ran, usual):
-    """Whether the run ended for want of memory, as it has to."""
+    """Whether the run ended because memory ran out, as it has to."""
     return ran.returncode == NO_MEMORY and usual.stdout.startswith(ran.stdout)
 
 
@@ -143,7 +143,7 @@ class Check:
             print(said)
 
     def refuse(self, row):
-        """One run for each of the calls; answers those that ended for want of memory."""
+        """One run for each of the calls; answers those that ended because memory ran out."""
         usual, count = self.program.run(row, 0)
         turns = numbers(count, self.most)
         with ThreadPoolExecutor(self.jobs) as pool:

@@ -1,14 +1,14 @@
 #!/usr/bin/env python3
-"""Replays random networks and scripts by the reference program of the definitions, and checks behind every act and of every report
+"""Replays random networks and scripts by the reference program of the definitions, and checks after every act and of every report
 what is promised: `networks.py [--count N] [--seed S] [--events N] [--jobs N] [--show]`.
 
 Each number from S on makes one network: edges and core nodes, VPNs with one or several VRFs and sites, of IPv4 and of IPv6, some
 attached at two edges; and a script of events of every kind, with losses, restarts, cut messages, costs that change, selections and
-their delays, and windows behind lines that are to be calm. Checked of it:
+their delays, and windows after lines that are to be calm. Checked of it:
 
-    rules       the label rule, settled trees, sessions and streams, limits, behind every act; present costs outside `cost`
-    settled     no octet in transit in a joined session and no timer due behind `settle`; no copy on a link behind `drain`
-    calm        a line of zeros behind `heal`, `settle`, `tick`, `settle`
+    rules       the label rule, settled trees, sessions and streams, limits, after every act; present costs outside `cost`
+    settled     no octet in transit in a joined session and no timer due after `settle`; no copy on a link after `drain`
+    calm        a line of zeros after `heal`, `settle`, `tick`, `settle`
     unready     the sessions that are not ready, by the events alone
     safe        each `out` line is of a datagram that was sent before, with its octets, to an interface of its site's VPN
     once        each datagram of a window leaves at exactly its receivers, once
@@ -16,8 +16,8 @@ their delays, and windows behind lines that are to be calm. Checked of it:
     apart       without some events that do not concern a VPN, those that do are refused alike, and its datagrams have the same
                 receivers, and leave at the same interfaces where they lie in windows of both
 
-A script that halts for want of a label is judged up to its halt. Prints what is wrong, with the number of the network, and last
-'N passed, M failed'. With --show the text of the first network is printed instead.
+A script that halts because a node ran out of labels is judged up to its halt. Prints what is wrong, with the number of the network,
+and last 'N passed, M failed'. With --show the text of the first network is printed instead.
 """
 
 import argparse
@@ -306,7 +306,7 @@ class Replay:
         self.faults.append((what, self.script.events[self.place].line) + more)
 
     def act(self, world, one):
-        """An act, and what is checked behind it; between the two acts of a raise the rules do not hold."""
+        """An act, and what is checked after it; between the two acts of a raise the rules do not hold."""
         new = real_act(world, one)
         if not hasattr(new, 'world'):
             return new
@@ -403,7 +403,7 @@ class Plain(Replay):
         return real_act(world, one)
 
 
-# events that bring calm and tell of it, which stay, and those of customers
+# events that bring calm and report it, which stay, and those of customers
 CALMING = ('heal', 'settle', 'drain', 'state')
 CUSTOMER_WORDS = ('join', 'prune', 'pim', 'active', 'idle', 'select', 'unselect', 'send', 'packet')
 

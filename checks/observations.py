@@ -1,9 +1,9 @@
 #!/usr/bin/env python3
-"""Compares what `tools/observe.py` makes of captures with what is wanted: `observations.py [--command COMMAND]`.
+"""Compares what `tools/observe.py` makes of captures with what is expected: `observations.py [--command COMMAND]`.
 
 Captures are written here: of a customer with the sites X and Y and another one with the sites P and Q, by the same addresses, frame by
 frame. What the tool answers, by file and frame, has to be what was laid out: that all is well, or which datagram leaked, came twice,
-was lost, or left where nobody asked. The same packets come behind tags, on other links and in other formats; some cases compare the
+was lost, or left where nobody asked. The same packets come after tags, on other links and in other formats; some cases compare the
 events of the input. The captures that are kept in examples/lab/ are judged as well.
 
 The reference program judges, and so does the program where its usage line has the command `audit`: `./mvpn` of this repository, unless
@@ -233,7 +233,7 @@ def lost(payload, time):
     return sent(payload, time)
 
 
-# by name: the frames, what is answered, and the spans; one of two files for each interface if no other is told
+# by name: the frames, what is answered, and the spans; one of two files for each interface if no other is given
 SPAN = '+1.5..+9'
 ANSWERS = {
     'well': (WELL, 'yes'),
@@ -323,7 +323,7 @@ ANSWERS = {
     'clocks that differ a little': ([JOINED, into('X1', 3.02, udp(b'one')), out('Y1', 3.01, udp(b'one'))], 'yes'),
 }
 
-# the events of a script and the report behind it, of the frames
+# the events of a script and the report after it, of the frames
 TEXTS = {
     'events in their order': (
         [JOINED, *lost(b'a', 2), into('X1', 2.5, udp(b'a', ('10.1.0.8', '232.1.1.2'))), *stream(LONG, first=5), pruned(7),
@@ -428,7 +428,7 @@ def split_cases():
 
 
 def lab_cases(commands):
-    """The captures of the lab, with the spans and the answers that stand beside them."""
+    """The captures of the lab, with the spans and the answers that are beside them."""
     for path in sorted(LAB.glob('*/answer')):
         files = [(file.name, file.read_bytes()) for file in path.parent.glob('*.pcap')]
         span, *wanted = path.read_text().splitlines()

@@ -1,7 +1,7 @@
 #!/usr/bin/env python3
 """Runs a command by the definitions, plainly and slowly: `reference.py replay [--wire]` replays a scenario and its script; `audit`
-judges a finished report; `probe` tells what an edge makes of the octets of a peer; `ingress` replicates at the ingress; `pcap` writes
-the file of the hops of a replay, and `hops` tells the lines of such a file.
+judges a finished report; `probe` reports what an edge makes of the octets of a peer; `ingress` replicates at the ingress; `pcap` writes
+the file of the hops of a replay, and `hops` writes the lines of such a file.
 
 The input is read from standard input. What is written, and the status, are as by the program.
 """

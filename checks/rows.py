@@ -1,7 +1,7 @@
 #!/usr/bin/env python3
-"""Runs worked rows, and compares what is written, and the status, with what is wanted: `rows.py [--command COMMAND] [FILE ..]`.
+"""Runs worked rows, and compares what is written, and the status, with what is expected: `rows.py [--command COMMAND] [FILE ..]`.
 
-A row is the words of a command, its input, the whole output and the status. Rows stand in checks/rows/*.txt, and each
+A row is the words of a command, its input, the whole output and the status. Rows are in checks/rows/*.txt, and each
 examples/NAME.txt with its NAME.report is one more; its status is 7 where the last line of the report begins with `halt `, and else
 0. So is each examples/NAME.ingress and examples/NAME.probe, a row of `ingress` or `probe`, of status 1 where a line of the report begins
 with `refused `, and each examples/NAME.audit with its NAME.answer, a row of `audit`, of status 0 where the answer is `yes`, and else 8. The
@@ -13,7 +13,7 @@ A file of rows is made of blocks, and the first word of a block says what it is.
 
     short               lines `NAME TEXT`: NAME stands for TEXT where it is a word of `do` or `>`
     scenario NAME       lines of input, for `use` and `behind`
-    table WORDS         rows of one line of input: `STATUS TEXT`, the text escaped as behind `<`, and below it the output, indented
+    table WORDS         rows of one line of input: `STATUS TEXT`, the text escaped as after `<`, and below it the output, indented
                         by four spaces. `table WORDS behind NAME` puts the lines of the scenario in front of each TEXT
     row TITLE           one row, of these lines in their order:
         words WORDS         the words of the command; `replay` where there is no such line
@@ -25,11 +25,11 @@ A file of rows is made of blocks, and the first word of a block says what it is.
         octets HEX          octets of input in hexadecimal digits, with short words and spaces
         do EVENTS           events parted by `;`. The first of them puts the line `events` in front, unless it is there
         > LINE              a line of the output
-        wrote HEX           octets of the output, as behind `octets`
+        wrote HEX           octets of the output, as after `octets`
         kinds K, K          only the lines of the output that begin with one of these are compared
         status N            the status; 0 where there is no such line
 
-Scenarios and short words count in all files. Each example of docs/FAULTS.md is a row as well, of the one line that is told
+Scenarios and short words count in all files. Each example of docs/FAULTS.md is a row as well, of the one line that is given
 there. Prints the rows that differ, and then 'N passed, M failed'.
 """
 
@@ -204,7 +204,7 @@ class Book:
 
 
 def examples():
-    """The examples that examples/README.md tells."""
+    """The examples that examples/README.md describes."""
     for path in sorted((TOP / 'examples').glob('*.txt')):
         report = path.with_suffix('.report').read_text()
         status = 7 if re.search(r'^halt .*\n\Z', report, re.MULTILINE) else 0
@@ -220,7 +220,7 @@ def examples():
 
 
 def faults():
-    """The examples of FAULTS that are told as texts: lines between backquotes, or octets for the `decode` that the table is of."""
+    """The examples of FAULTS that are given as texts: lines between backquotes, or octets for the `decode` that the table is of."""
     words = ['replay']
     for number, line in enumerate(FAULTS.read_text().splitlines(), 1):
         example, arrow, answer = line.split(' | ')[1].partition(' → ') if line.count(' | ') == 2 else ('', '', '')
@@ -248,7 +248,7 @@ def fault_row(place, words, texts, answer):
 # ---- the check
 
 def differs(row, command, runner):
-    """What came in place of what is wanted, or nothing."""
+    """What came in place of what is expected, or nothing."""
     try:
         run = subprocess.run([*command, *row.words], input=row.input, capture_output=True, timeout=LONGEST)
     except subprocess.TimeoutExpired:

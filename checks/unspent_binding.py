@@ -4,7 +4,7 @@
 The compiler refuses such a program before any proof, so it is no edit that the prover has to refuse. Here functions are
 appended to a copy of the crates. One spends the binding that it is handed, and there is no error. The others, one for
 each state of a binding and one for a binding in any state, let it go, and the error has to be `linear-value-let-go`,
-once, in that function. Nothing is proved: `rt try` tells such errors.
+once, in that function. Nothing is proved: `rt try` reports such errors.
 
 Prints what differs, and then 'N passed, M failed'.
 """
@@ -39,7 +39,7 @@ def copy_crates(top):
 
 
 def try_with(root, source, function):
-    """What `rt try` tells of the crate with the function behind its root file, and the places of its errors with their names."""
+    """What `rt try` reports of the crate with the function after its root file, and the places of its errors with their names."""
     root.write_text(source + '\n' + function)
     command = ['rt', 'try', '--test']
     run = subprocess.run(command, cwd=root.parent.parent, stdout=subprocess.PIPE, stderr=subprocess.STDOUT, text=True)
@@ -48,7 +48,7 @@ def try_with(root, source, function):
 
 
 def is_let_go(errors, source):
-    """Whether the one error is that the function behind the source lets a value go."""
+    """Whether the one error is that the function after the source lets a value go."""
     if len(errors) != 1:
         return False
     place, name = errors[0]

@@ -5,7 +5,7 @@ laid out here, and in all that the nodes of the examples put: `wireshark.py [--c
 Field values are written here as MCAST-VPN routes of AFI 1 (RFC 6514 section 4; the wildcards of RFC 6625 section 2),
 PMSI Tunnel attributes (RFC 6514 section 5) and multipoint FEC elements (RFC 6388 sections 2.2 and 3.2), in messages
 of a pcap file, and as whole messages of BGP (RFC 4271), of LDP (RFC 5036) and of PIM (Join/Prune, RFC 7761 section
-4.9.5), in the layout that the writers of the program have. The fields that tshark tells of a message become the lines
+4.9.5), in the layout that the writers of the program have. The fields that tshark reports of a message become the lines
 that the program is to write. The program gets the octets alone: `./mvpn` of this repository, unless another is named.
 
 Each example is replayed with `--wire`. What a node puts for another one over BGP, or over LDP, is one case: its octets go
@@ -13,25 +13,25 @@ to tshark as a stream of TCP in short segments. There may be no fault, no messag
 those that the program writes of the stream.
 
 The file that `tools/wireshark.py` makes of each example and its report is one more case, and so is that of a network whose edges
-have tables of several segments. tshark may tell no malformed field, no error and no wrong checksum. It has to tell as many
+have tables of several segments. tshark may report no malformed field, no error and no wrong checksum. It has to report as many
 UPDATEs and messages of LDP as the nodes put; and in the order of the events, each at the tick that the reference program has for
 it, what they put, the Join/Prune messages, the copies on links with labels and TTLs, and the datagrams that leave.
 
 The file that `pcap` writes of each example is one more case. capinfos has to count as many frames of Ethernet as the replay has
-hops; tcpdump has to tell the label and the TTL of each; and tshark may tell no malformed field, no error and no wrong checksum,
-and has to tell each hop with its tick, its nodes, a label at the bottom of its stack without a traffic class, its TTL, and the
+hops; tcpdump has to report the label and the TTL of each; and tshark may report no malformed field, no error and no wrong checksum,
+and has to report each hop with its tick, its nodes, a label at the bottom of its stack without a traffic class, its TTL, and the
 flow of the datagram below, by what the reference program has of it. In `udp-datagrams.txt` the datagrams of UDP are read too.
 
-tshark 4.0.17 does not tell all, so the cases keep within this:
-- The key of a leaf route is told as octets. It is a route, so tshark reads them again in a message of their own.
-- Originators, roots, and endpoints of ingress replication are IPv4: those of IPv6 are not told, or told wrongly.
+tshark 4.0.17 does not report all, so the cases keep within this:
+- The key of a leaf route is reported as octets. It is a route, so tshark reads them again in a message of their own.
+- Originators, roots, and endpoints of ingress replication are IPv4: those of IPv6 are not reported, or reported wrongly.
 - The opaque value in a PMSI Tunnel attribute has one TLV, of type 1 or 255.
-- The two reserved octets in an identifier of RSVP-TE are not told: they are zero (RFC 4875 section 19.1.1).
-- FEC elements end to end have opaque values of 7 octets: behind another length the next element is not found.
-- Of an UPDATE at most one route is told.
-- A next hop of 4 octets in front of routes of AFI 2 and SAFI 5 is a fault to tshark. The length of such a next hop tells
+- The two reserved octets in an identifier of RSVP-TE are not reported: they are zero (RFC 4875 section 19.1.1).
+- FEC elements end to end have opaque values of 7 octets: after another length the next element is not found.
+- Of an UPDATE at most one route is reported.
+- A next hop of 4 octets in front of routes of AFI 2 and SAFI 5 is a fault to tshark. The length of such a next hop says
   its family (RFC 6515), so this fault is none, and the next hop is read here.
-- VPN-IPv6 routes are told in one text. Their route distinguishers are of type 0 or 1.
+- VPN-IPv6 routes are reported in one text. Their route distinguishers are of type 0 or 1.
 - What the program refuses has no line of tshark's, so no case has a fault.
 
 Prints the cases that differ, and then 'N passed, M failed'. Without tshark nothing is compared, and nothing failed.
@@ -73,7 +73,7 @@ def addr(text):
 
 
 def sized(text):
-    """An address behind its length in bits; the wildcard `*` is a length of 0."""
+    """An address after its length in bits; the wildcard `*` is a length of 0."""
     return b'\0' if text == '*' else b'\x20' + addr(text)
 
 
@@ -95,7 +95,7 @@ def flow(source, group):
 
 
 def pmsi(flags, kind, label, identifier=b'', low=0):
-    """`low` is the four bits behind the label."""
+    """`low` is the four bits after the label."""
     return bytes([flags, kind]) + number(16 * label + low, 3) + identifier
 
 
@@ -369,7 +369,7 @@ def pcap(packets):
     return octets
 
 
-# ---- lines of the fields that tshark tells
+# ---- lines of the fields that tshark reports
 
 NLRI = 'bgp.mcast_vpn_nlri'
 PMSI = 'bgp.update.path_attribute.pmsi.'
@@ -382,12 +382,12 @@ UNREACH = 'bgp.update.path_attribute.mp_unreach_nlri'
 BGP_WORDS = {1: 'open', 3: 'notification', 4: 'keepalive', 5: 'refresh'}
 LDP_WORDS = {0x400: 'mapping', 0x402: 'withdraw', 0x403: 'release'}
 EXPERT, MALFORMED = '_ws.expert.message', '_ws.malformed'
-# what tshark tells of a next hop of IPv4 where it looks for one of IPv6
+# what tshark reports of a next hop of IPv4 where it looks for one of IPv6
 SHORT_HOP = 'Unknown Next Hop length (4 bytes)'
 
 
 class Told(dict):
-    """The fields of one value, by name. A field that tshark did not tell is a KeyError."""
+    """The fields of one value, by name. A field that tshark did not report is a KeyError."""
 
     def __init__(self):
         super().__init__()
@@ -417,14 +417,14 @@ class Told(dict):
         return ''.join(self.octets(name) for name in self if name.startswith(prefixes))
 
     def has_ipv4_hop(self):
-        """Whether routes of AFI 2 and SAFI 5 stand behind a next hop of IPv4."""
+        """Whether routes of AFI 2 and SAFI 5 come after a next hop of IPv4."""
         if REACH + '.safi' not in self:
             return False
         family = self.number(REACH + '.afi'), self.number(REACH + '.safi')
         return family == (2, 5) and self.octets(REACH + '.next_hop').startswith('04')
 
     def has_fault(self):
-        """Whether tshark tells of a fault, or of anything that is unusual."""
+        """Whether tshark reports a fault, or of anything that is unusual."""
         said = [field.get('show') for field in self.fields if field.get('name') == EXPERT]
         if self.has_ipv4_hop() and said == [SHORT_HOP]:
             return False
@@ -475,7 +475,7 @@ def pmsi_line(told):
 
 
 def communities_text(told):
-    """The octets of all communities, which tshark tells by type, sub-type and parts of the value."""
+    """The octets of all communities, which tshark reports by type, sub-type and parts of the value."""
     parts = re.compile(r'bgp\.ext_com\.(type|stype_\w+|value_\w+)$')
     octets = ''.join(f.get('value') for f in told.fields if parts.match(f.get('name')))
     return ','.join(octets[i:i + 16] for i in range(0, len(octets), 16)) or '-'
@@ -576,7 +576,7 @@ COMMANDS = {
 
 
 def dissect(capture, *options):
-    """What tshark tells of each packet of a file: its elements with a name, in their order."""
+    """What tshark reports of each packet of a file: its elements with a name, in their order."""
     with tempfile.NamedTemporaryFile(suffix='.pcap') as file:
         file.write(capture)
         file.flush()
@@ -587,7 +587,7 @@ def dissect(capture, *options):
 
 
 def values_of(elements, first):
-    """What stands in front of the values of a packet, and then each value: it begins with the field `first`."""
+    """What is in front of the values of a packet, and then each value: it begins with the field `first`."""
     told = [Told()]
     for element in elements:
         if element.get('name') == first:
@@ -652,7 +652,7 @@ def segments(kind, octets):
 
 
 def stream_lines(kind, octets):
-    """For each of these streams the lines of what tshark reads in it, and one more where it tells a fault or misses a message."""
+    """For each of these streams the lines of what tshark reads in it, and one more where it reports a fault or misses a message."""
     *_, first, line = COMMANDS[kind]
     places, packets = zip(*segments(kind, octets))
     lines = [[] for _ in octets]
@@ -798,7 +798,7 @@ def faults_told(told):
 
 
 def file_differs(scenario, text, told_report, packets):
-    """In what tshark tells something else of a file than it has to."""
+    """In what tshark reports something else of a file than it has to."""
     for place, told in enumerate(packets, 1):
         yield from (f'packet {place}: {fault}' for fault in faults_told(told))
     seen = [(tick_of(told), shown_of_packet(scenario, told)) for told in packets]
@@ -846,7 +846,7 @@ def wanted_hop(hop):
 
 
 def tools_differ(octets, wanted):
-    """In what capinfos and tcpdump tell something else of a file of hops than they have to."""
+    """In what capinfos and tcpdump report something else of a file of hops than they have to."""
     with tempfile.NamedTemporaryFile(suffix='.pcap') as file:
         file.write(octets)
         file.flush()
@@ -863,7 +863,7 @@ def tools_differ(octets, wanted):
 
 
 def hop_file_differs(name, text, octets):
-    """In what tools tell something else of the file of hops of an example than they have to."""
+    """In what tools report something else of the file of hops of an example than they have to."""
     wanted = hops_of(read(text))[0]
     options = UDP_SHOWN if name == 'udp-datagrams.txt' else SHOWN
     packets = [values_of(elements, 'frame.encap_type')[1] for elements in dissect(octets, *options)] if wanted else []

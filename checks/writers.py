@@ -5,7 +5,7 @@ checks/wireshark.py lays routes, PMSI Tunnel attributes, FEC elements, and messa
 way, and tshark reads them without a fault. Here the program's readers read each of them, its writers write again what
 it says, and the octets have to be the same. Attributes with bits that may be anything have them written as 0. What the
 words of a scenario name as route distinguishers and Route Targets is compared with their octets too (RFC 4364 section
-4.2, RFC 4360 section 4), which the program does not tell. The calls are those of a small program, which is written here
+4.2, RFC 4360 section 4), which the program does not report. The calls are those of a small program, which is written here
 and built without proofs in a copy of the crates.
 
 Prints the cases that differ, and then 'N passed, M failed'.

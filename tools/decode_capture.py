@@ -10,12 +10,12 @@ octets of the message had come, the frame's time in seconds, and the two ends. T
 
     [N octets are left out]     after a fault, or where it is not known yet where a message begins. BGP goes on at the next marker,
                                 LDP at the next PDU. `refused PLACE` counts from the first octet of the message or the PDU
-    [N octets are missing]      the capture lacks them
+    [N octets are missing]      they are not in the capture
     [Hello], [AFI 1 SAFI 1]     the type of what the program passes over: a message, or the routes of an UPDATE
     [FEC Prefix 10.2.0.0/24]    the FEC of a label message that is passed over, as of a unicast prefix, and [label 16] its label
     [status 10]                 what a Notification of LDP says (RFC 5036 section 3.9)
     [checksum ..]               the checksum of a Join/Prune message is tried by the packet's own addresses. Where it is right, and
-                                the program would want another one, the message is handed over with that: with IPv6 the one from
+                                the program would expect another one, the message is handed over with that: with IPv6 the one from
                                 fe80::1 to ff02::d. Where it is wrong the message is not handed over
 
 What `decode` takes for granted is in docs/FORMATS.md. Fragments of IP are passed over, and counted on standard error.
@@ -37,7 +37,7 @@ from streams import HEADERS, Directions, State, cuts
 
 TOP = pathlib.Path(__file__).resolve().parent.parent
 PORTS = {179: 'bgp', 646: 'ldp'}
-# octets after which a call ends: what stands behind a fault is handed over again
+# octets after which a call ends: what comes after a fault is handed over again
 MOST = 200_000
 # the first words of the lines of a message of BGP, and the families of the routes that are read
 BGP_WORDS = ('open', 'update', 'notification', 'keepalive', 'refresh')
@@ -231,7 +231,7 @@ def ldp_passed(message):
 
 
 def attributes(update):
-    """The types and values of the path attributes of an UPDATE, and the place behind them."""
+    """The types and values of the path attributes of an UPDATE, and the place after them."""
     at = 21 + number_at(update, 19, 2)
     at, last = at + 2, at + 2 + number_at(update, at, 2)
     found = []
@@ -261,7 +261,7 @@ def bgp_passed(message, line):
     return [f'code {message[19]}, subcode {message[20]}'] if line == 'notification' and len(message) > 20 else []
 
 
-# ---- what the program tells
+# ---- what the program reports
 
 @dataclass(frozen=True)
 class Fault:
@@ -270,7 +270,7 @@ class Fault:
 
 
 def decode(program, kind, octets):
-    """The lines that the program writes of octets, and the fault that it tells behind them, if any."""
+    """The lines that the program writes of octets, and the fault that it reports after them, if any."""
     run = subprocess.run([*program, 'decode', kind], input=octets.hex() + '\n', capture_output=True, text=True)
     lines = run.stdout.splitlines()
     if run.returncode == 0:
@@ -282,7 +282,7 @@ def decode(program, kind, octets):
 
 
 def grouped(kind, pieces, lines):
-    """The lines of each of the pieces: of a message of BGP the first one and those of its routes, of a PDU one for each message. Behind
+    """The lines of each of the pieces: of a message of BGP the first one and those of its routes, of a PDU one for each message. After
     a fault they are fewer."""
     if kind == 'bgp':
         begins = [place for place, line in enumerate(lines) if line in BGP_WORDS] + [len(lines)]
@@ -293,7 +293,7 @@ def grouped(kind, pieces, lines):
 
 def faulty(kind, pieces, groups, fault):
     """The number of the piece with the fault, and where it begins. It is the one at the place of the fault, but for a fault at the end
-    of a PDU: there it is the first one that lacks a line."""
+    of a PDU: there it is the first one with fewer lines than messages."""
     starts = list(itertools.accumulate((len(piece.octets) for piece in pieces[:-1]), initial=0))
     at_place = bisect.bisect_right(starts, fault.place) - 1
     if kind == 'bgp':

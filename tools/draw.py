@@ -16,7 +16,7 @@ import pathlib
 import sys
 from dataclasses import dataclass
 
-# behind this folder, as tools/wireshark.py does
+# after this folder, as tools/wireshark.py does
 sys.path.append(str(pathlib.Path(__file__).resolve().parent.parent / 'checks'))
 
 from reference.scenario import edge_of, edges, entered, ifaces_where, is_of_site, is_of_vrf
@@ -138,7 +138,7 @@ class Layout:
             self.nodes[node] = Box(across, -math.cos(turn) * high, self.core, 42)
 
     def place_above(self):
-        """Sites with edges in both columns, or with none, stand in a row above all."""
+        """Sites with edges in both columns, or with none, are in a row above all."""
         self.above = [site for site in range(len(self.scenario.sites)) if site not in self.sites]
         boxes = [*self.nodes.values(), *self.sites.values()]
         bottom = min((box.y - box.height / 2 for box in boxes), default=0) - self.iface
@@ -190,7 +190,7 @@ def crosses(way, boxes):
 
 
 def place_in(number, numbers):
-    """Where a number stands among others, from one end at -0.5 to the other at 0.5."""
+    """Where a number is among others, from one end at -0.5 to the other at 0.5."""
     return (numbers.index(number) + 0.5) / len(numbers) - 0.5
 
 

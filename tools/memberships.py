@@ -44,7 +44,7 @@ class Memberships:
         self.any, self.let, self.left = set(), {}, {}
 
     def asked(self, packet, iface):
-        """For each group that a message tells of, the joins and prunes: the word, the source or none, and whether it is an `rpt`."""
+        """For each group that a message names, the joins and prunes: the word, the source or none, and whether it is an `rpt`."""
         kind, octets, size = packet.protocol, packet.payload, len(packet.source)
         behind = 4 if kind == IGMP else 8
         group = octets[behind:behind + size]

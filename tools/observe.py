@@ -37,7 +37,7 @@ import subprocess
 import sys
 from dataclasses import dataclass, field
 
-# behind this folder, as tools/wireshark.py does
+# after this folder, as tools/wireshark.py does
 sys.path.append(str(pathlib.Path(__file__).resolve().parent.parent / 'checks'))
 
 from captures import NoCapture
@@ -56,7 +56,7 @@ EVER = 1 << 80
 # by how much the clocks of two captures may differ
 SKEW = SECOND // 20
 CALM = 'state 0 0 0 0 0'
-# the events that tell what interfaces ask for
+# the events that say what interfaces ask for
 TELLING = ('tick', 'join', 'prune', 'pim', 'active')
 
 
@@ -87,7 +87,7 @@ class Pairing:
         return known[first:last] or known[max(0, first - 1):first] or known[:1]
 
     def rank(self, leaving, datagram):
-        """The greatest one counts. What is seen to leave before it enters was seen by a clock that is behind."""
+        """The greatest one counts. What is seen to leave before it enters was seen by a clock that is late."""
         iface, age = leaving.seen.iface, leaving.seen.time - datagram.seen.time
         is_own = vpn_of_iface(self.scenario, iface) == vpn_of_iface(self.scenario, datagram.seen.iface)
         is_new = iface not in datagram.left and -SKEW <= age <= self.delay
@@ -129,7 +129,7 @@ class Clock:
         return f'+{(time - self.first) / SECOND:.6f}'
 
     def time(self, text):
-        """The time that the words of an option tell, in nanoseconds."""
+        """The time that the words of an option say, in nanoseconds."""
         whole, _, part = text.removeprefix('+').partition('.')
         nanoseconds = int(whole) * SECOND + int(part.ljust(9, '0')[:9] or 0)
         return nanoseconds + self.first if text.startswith('+') else nanoseconds
@@ -156,8 +156,8 @@ def pieces_of(spans, cuts):
 
 @dataclass
 class Input:
-    """The lines of an input: those of the scenario and the script, and those of the report in front of each of its markers and behind
-    the last one. Beside each stands what it comes of, if that was seen."""
+    """The lines of an input: those of the scenario and the script, and those of the report in front of each of its markers and after
+    the last one. Beside each is what it comes of, if that was seen."""
 
     scenario: list
     events: list = field(default_factory=list)
@@ -184,7 +184,7 @@ class Input:
         self.times.append(time)
 
     def leave(self, text, of, least):
-        """An `out` line stands behind the markers up to its time, and no fewer than so many."""
+        """An `out` line is after the markers up to its time, and no fewer than so many."""
         place = max(least, bisect.bisect_right(self.times, of.seen.time))
         self.left.setdefault(place, []).append((text, of))
 
@@ -311,7 +311,7 @@ def within(seen, piece, end):
 # ---- the answer
 
 class Judge:
-    """Tells an answer of `audit` by what was seen."""
+    """Explains an answer of `audit` by what was seen."""
 
     def __init__(self, scenario, clock, one):
         self.scenario, self.clock, self.one = scenario, clock, one

@@ -96,7 +96,7 @@ KINDS = {'sg': 4, 'rpt': 5, 'star': 7}
 
 
 def encoded(address, front=b''):
-    """An address behind its family, its encoding and what else stands in front of it (RFC 7761 section 4.9.1)."""
+    """An address after its family, its encoding and what else is in front of it (RFC 7761 section 4.9.1)."""
     return bytes([1 if len(address) == 4 else 2, 0]) + front + address
 
 
@@ -134,7 +134,7 @@ class Packet:
     is_fragment: bool = False
 
 
-# by the type of the link, where the type of what a frame carries stands, and where that begins
+# by the type of the link, where the type of what a frame carries is, and where that begins
 LINKS = {ETHERNET: (12, 14), COOKED: (14, 16), COOKED_2: (0, 20)}
 # extension headers of IPv6 that are of 8 octets and more by their second octet, the authentication header, and the fragment header
 EXTENSIONS, AUTHENTICATION, FRAGMENT = (0, 43, 60), 51, 44
@@ -145,12 +145,12 @@ def number_at(octets, at, size):
 
 
 def kind_by_version(octets):
-    """What stands behind a label, or on a link without types, by its version."""
+    """What comes after a label, or on a link without types, by its version."""
     return {4: IPV4, 6: IPV6}.get(octets[0] >> 4) if octets else None
 
 
 def without_labels(octets):
-    """What stands behind the last label of a stack."""
+    """What comes after the last label of a stack."""
     at = 0
     while at + 4 <= len(octets) and not octets[at + 2] & 1:
         at += 4
@@ -158,7 +158,7 @@ def without_labels(octets):
 
 
 def carried(link, frame):
-    """The type of what a frame carries, and its octets, behind tags of VLANs and labels."""
+    """The type of what a frame carries, and its octets, after tags of VLANs and labels."""
     if link == RAW:
         return kind_by_version(frame), frame
     if link not in LINKS:

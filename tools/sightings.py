@@ -1,4 +1,4 @@
-"""What captures at customers' interfaces tell: the messages of customers, and the datagrams that enter and leave.
+"""What captures at customers' interfaces show: the messages of customers, and the datagrams that enter and leave.
 
 A capture is named by its interface: `Y1.pcap`, or `Y1.in.pcap` and `Y1.out.pcap` where each file has one direction, as the edge sees
 it. Without that, what leaves is what the interface itself sends: the sender's address on the link is one from which packets or ARP of
@@ -15,7 +15,7 @@ from packets import IPV4, IPV6, PIM, UDP, carried, checksum, number, number_at, 
 from reference.joinprune import PimFault, decoded
 
 ARP = 0x0806
-# octets of a payload that stand as they are
+# octets of a payload that are written as they are
 MOST = 64
 # octets of a line of a script
 LINE = 4096
@@ -85,7 +85,7 @@ def ip_packet(link, frame):
 
 
 def is_cut(octets):
-    """Whether a packet has fewer octets than it tells."""
+    """Whether a packet has fewer octets than it says."""
     return len(octets) < (number_at(octets, 2, 2) if octets[0] >> 4 == 4 else 40 + number_at(octets, 4, 2))
 
 
@@ -162,7 +162,7 @@ def frames_of(path):
 
 
 class Reading:
-    """What the captures of a scenario's interfaces tell, file by file."""
+    """What the captures of a scenario's interfaces show, file by file."""
 
     def __init__(self, scenario, own):
         self.scenario, self.own = scenario, own
@@ -288,7 +288,7 @@ def event_line(iface, group, word, source, is_rpt):
 
 
 def in_profile(packet):
-    """A Join/Prune message with the checksum that the program wants, where its own is right; and else with a wrong one."""
+    """A Join/Prune message with the checksum that the program asks for, where its own is right; and else with a wrong one."""
     octets, is_six = packet.payload, len(packet.source) == 16
     own = pseudo_header(packet.source, packet.destination, PIM, len(octets)) if is_six else b''
     front = pseudo_header(*PROFILE, PIM, len(octets)) if octets[4:5] == b'\2' else b''

@@ -20,7 +20,7 @@ MESSAGE_LEAST = 4
 @dataclass
 class Run:
     """Octets end to end, and how many are missing in front of them; None where it is not known whether there are any. `marks` has
-    places, and for each the frame by which the octets behind it, and all in front of them, had come."""
+    places, and for each the frame by which the octets after it, and all in front of them, had come."""
 
     missing: int
     octets: bytearray = field(default_factory=bytearray)
@@ -37,7 +37,7 @@ class Run:
 
 
 class Direction:
-    """The segments that one end of a connection sends, in the order of the capture. Numbers are counted on behind 2^32."""
+    """The segments that one end of a connection sends, in the order of the capture. Numbers are counted on after 2^32."""
 
     def __init__(self, segment):
         self.is_whole = bool(segment.flags & SYN)
@@ -105,7 +105,7 @@ class Cut:
 
 
 def bgp_length(octets, at):
-    """The octets of the message whose header stands there, or 0 where that is none."""
+    """The octets of the message whose header is there, or 0 where that is none."""
     length = number_at(octets, at + 16, 2)
     fits = octets[at:at + 16] == MARKER and BGP_HEADER <= length <= BGP_MOST and number_at(octets, at + 18, 1) in BGP_TYPES
     return length if fits else 0
@@ -126,13 +126,13 @@ def next_bgp(octets, at):
 
 
 def is_at_end(form, octets, at):
-    """Whether the octets end there, or in a header, or another header stands there."""
+    """Whether the octets end there, or in a header, or another header is there."""
     left = len(octets) - at
     return left == 0 or left > 0 and (left < form.header or form.length(octets, at) > 0)
 
 
 def is_pdu(octets, at):
-    """Whether a PDU seems to stand there: its length leads to the end or to another one, and its first message fits into it."""
+    """Whether a PDU seems to be there: its length leads to the end or to another one, and its first message fits into it."""
     length, first = ldp_length(octets, at), number_at(octets, at + 12, 2)
     return MESSAGE_LEAST <= first <= length - 14 and is_at_end(FORMS['ldp'], octets, at + length)
 
@@ -147,8 +147,8 @@ def next_ldp(octets, at):
 
 @dataclass(frozen=True)
 class Form:
-    """How octets of a protocol are cut: how many a header has, the length that it tells, and the place of the next one, which with a
-    marker is told surely."""
+    """How octets of a protocol are cut: how many a header has, the length that it says, and the place of the next one, which with a
+    marker is known surely."""
 
     header: int
     length: object
@@ -161,7 +161,7 @@ HEADERS = {kind: form.header for kind, form in FORMS.items()}
 
 
 def next_cut(form, octets, at):
-    """What begins at a place. A length that leads to no other header counts only where no marker stands before that."""
+    """What begins at a place. A length that leads to no other header counts only where no marker comes before that."""
     length = form.length(octets, at)
     end = at + length
     if length and (is_at_end(form, octets, end) or end < len(octets) and not form.has_marker):

@@ -1,8 +1,8 @@
 """A script in time, as a picture: each event is a row, from the top down, with the tick of the clock and its line.
 
-In front of it stand bars: of each session, dark where it is ready and pale where it is joined, but an end is held or down; and of each
+In front of it are bars: of each session, dark where it is ready and pale where it is joined, but an end is held or down; and of each
 customer's interface, where it has joined something. A datagram is a dot at the interfaces of its site when it is sent, and an arrow to
-each interface at which it leaves, when it leaves; the dot is empty where it left nowhere. A `state` line is a mark behind the event:
+each interface at which it leaves, when it leaves; the dot is empty where it left nowhere. A `state` line is a mark after the event:
 full where the network is calm, and else with its five numbers.
 """
 
@@ -17,14 +17,14 @@ from svg import COLOURS, INK, Picture, arrow, line_through, text_at
 from timeline import Began, timeline
 
 ROW, SESSION, IFACE, LETTER = 20, 24, 56, 6.6
-# the most letters of a line that stand
+# the most letters of a line that are shown
 MOST = 48
 READY, PALE_BAR, CALM, BUSY = '#2e8540', '#b9d8c0', '#2e8540', '#c4541a'
 
 
 @dataclass
 class Row:
-    """An event with what is behind it: the sessions that are ready and joined, the interfaces that ask, and what its lines tell."""
+    """An event with what is there after it: the sessions that are ready and joined, the interfaces that ask, and what its lines say."""
 
     tick: int
     event: object
@@ -83,7 +83,7 @@ def rows_of(script, report):
 
 
 class Columns:
-    """Where things stand: events at the left, then sessions, then interfaces."""
+    """Where things are: events at the left, then sessions, then interfaces."""
 
     def __init__(self, script, lines):
         scenario = script.scenario
@@ -97,7 +97,7 @@ class Columns:
 
 
 def bars(xs, rows, has, colour, width):
-    """A bar at each column for each row behind which it has what is asked."""
+    """A bar at each column for each row after which it has what is asked."""
     for key, x in xs.items():
         for place, row in enumerate(rows):
             if has(row, key):

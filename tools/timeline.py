@@ -7,10 +7,10 @@ on while octets are in transit. A `put` line is of an event at the node that put
 - of a `raise` or a `heal`, where its UPDATEs are the table of an edge towards a peer whose session comes up then;
 - of a customer's event or a selection, where one of its UPDATEs names the flow or the pattern of that event in its VPN (RFC 6514
   section 4);
-- of a label session only behind the hold of its end, and of the node's timers only where one of them may be due.
+- of a label session only after the hold of its end, and of the node's timers only where one of them may be due.
 
 Where this leaves several events, as several joins of one flow at one edge, the line counts for the first of them, and one that
-withdraws routes for the last, as behind the prune of the last receiver. A script with a `state` behind each event leaves none open.
+withdraws routes for the last, as after the prune of the last receiver. A script with a `state` after each event leaves none open.
 """
 
 import functools
@@ -26,7 +26,7 @@ JOINS, NOTES, SELECTIONS = ('join', 'prune', 'pim'), ('active', 'idle'), ('selec
 ASKING = {**dict.fromkeys(JOINS, (7,)), **dict.fromkeys(NOTES, (5, 7)), **dict.fromkeys(SELECTIONS, (3,))}
 # events that withdraw what the ones before them announce
 ENDING = ('idle', 'unselect')
-# events behind which nothing is looked for in front of them: their lines are their own
+# events after which nothing is looked for in front of them: their lines are their own
 MARKS = ('move', 'settle', 'state')
 
 
@@ -87,13 +87,13 @@ def number_at(octets, at, size):
 
 
 def sized(octets, at):
-    """The address behind its length in bits, none for a wildcard, and the place behind it."""
+    """The address after its length in bits, none for a wildcard, and the place after it."""
     end = at + 1 + octets[at] // 8
     return octets[at + 1:end], end
 
 
 def mcast_routes(octets, is_announced):
-    """MCAST-VPN routes end to end (RFC 6514 section 4): source and group stand behind the RD, and the source AS of type 7."""
+    """MCAST-VPN routes end to end (RFC 6514 section 4): source and group are after the RD, and the source AS of type 7."""
     at = 0
     while at < len(octets):
         kind, end = octets[at], at + 2 + octets[at + 1]
@@ -175,7 +175,7 @@ def back(over):
 
 
 class Walk:
-    """What is known of the network behind some first events and some first lines. A direction of a session is its kind and the names
+    """What is known of the network after some first events and some first lines. A direction of a session is its kind and the names
     of the node that puts and of the one that takes."""
 
     def __init__(self, script, report):

@@ -24,7 +24,7 @@ import pathlib
 import sys
 from dataclasses import dataclass
 
-# behind this folder, which has a module of the name of one there
+# after this folder, which has a module of the name of one there
 sys.path.append(str(pathlib.Path(__file__).resolve().parent.parent / 'checks'))
 
 from captures import interface_block, name_block, packet_block, section_block
@@ -120,7 +120,7 @@ def datagram_of(event):
 
 
 class Wire:
-    """What is on the wires of a network, behind some first things that happened."""
+    """What is on the wires of a network, after some first things that happened."""
 
     def __init__(self, scenario):
         self.scenario = scenario

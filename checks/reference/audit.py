@@ -93,7 +93,7 @@ def is_mark(line):
 
 
 def parted(octets):
-    """The script, the numbered lines of the report, and the number of the line behind the last one. Raises the first TextFault."""
+    """The script, the numbered lines of the report, and the number of the line after the last one. Raises the first TextFault."""
     lines = lines_of(octets)
     at = next((place for place, line in enumerate(lines) if is_mark(line)), None)
     if at is None:
@@ -205,7 +205,7 @@ class Audited:
         return receivers(self.scenario, steps, clock, sent.site, sent.source, sent.group)
 
     def is_window(self, first, last):
-        """The events from the first to the last: after a calm `state`, up to a `drain` or a `state` that tells of no copy."""
+        """The events from the first to the last: after a calm `state`, up to a `drain` or a `state` that reports no copy."""
         ends = self.events[last].event.word == 'drain' or (last in self.told and self.told[last].copies == 0)
         return (
             first - 1 in self.told and is_calm(self.told[first - 1]) and ends

@@ -78,7 +78,7 @@ def addr_part(addr):
 
 
 def sized_addr_key(addr):
-    """The numbers by which the addresses of entries and of trees are told apart (pim_defs Entries; label_defs Keys)."""
+    """The numbers by which the addresses of entries and of trees are distinguished (pim_defs Entries; label_defs Keys)."""
     return (4 if isinstance(addr, V4) else 6, len(addr.octets)) + addr.octets
 
 
@@ -164,7 +164,7 @@ class FinMap:
 
 
 def from_entries(order, entries):
-    """The map of a list of entries. At a key that stands twice it has the first value."""
+    """The map of a list of entries. At a key that is there twice it has the first value."""
     made = FinMap(order)
     for key, value in reversed(entries):
         made = made.insert(key, value)

@@ -13,7 +13,7 @@ from .world import Acted, Datagram, World, act, all_nodes, directions, is_joined
 
 @dataclass(frozen=True)
 class Done:
-    """The lines of each act of a row, and the network behind them all."""
+    """The lines of each act of a row, and the network after them all."""
 
     acts: tuple
     world: World
@@ -21,7 +21,7 @@ class Done:
 
 @dataclass(frozen=True)
 class Halted:
-    """The lines of the acts that ended before one that lacks a label, and the node that lacks it."""
+    """The lines of the acts that ended before one at which a node runs out of labels, and that node."""
 
     acts: tuple
     node: int

@@ -169,8 +169,8 @@ QUIET = ('send', 'packet', 'hop', 'drain', 'state')
 
 
 def windows(script, lines, refused):
-    """The windows: from right behind a calm line to a `drain`, or a `state` whose copies are 0; all events in it that were not
-    refused send, land or tell. Each is a pair of places in the script, without the first and with the last."""
+    """The windows: from right after a calm line to a `drain`, or a `state` whose copies are 0; all events in it that were not
+    refused send, land or report. Each is a pair of places in the script, without the first and with the last."""
     told = {place: line for place, line in lines if isinstance(line, report.State)}
     found = []
     for first, line in told.items():

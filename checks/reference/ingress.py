@@ -83,7 +83,7 @@ def root_of(addr, octets):
 
 
 class Text:
-    """The root's route, and the lines behind it."""
+    """The root's route, and the lines after it."""
 
     def __init__(self):
         self.root, self.lines, self.kinds = None, [], {}
@@ -134,7 +134,7 @@ def read(octets):
     return text
 
 
-# ---- what is told
+# ---- what is reported
 
 def dotted(addr):
     return '.'.join(map(str, addr.octets))

@@ -51,7 +51,7 @@ class Stop(Exception):
         self.word = word
 
 
-# ---- fields: each gives its value and the octets behind it
+# ---- fields: each gives its value and the octets after it
 
 def octet_at(octets):
     if not octets:
@@ -173,7 +173,7 @@ ALL_PIM_ROUTERS = (0xFF, 2) + (0,) * 13 + (0x0D,)
 
 
 def pseudo_of(fields):
-    """What the checksum covers in front of a message with these octets behind it."""
+    """What the checksum covers in front of a message with these octets after its header."""
     if not fields or fields[0] != 2:
         return ()
     return ROUTER + ALL_PIM_ROUTERS + tuple((4 + len(fields)).to_bytes(4, 'big')) + (0, 0, 0, 103)

@@ -161,7 +161,7 @@ def timed(place, now, part):
 
 
 def effect(place, now, part, call):
-    """What is behind the call's own effect, with what answers it, and the trees that settle then."""
+    """What is there after the call's own effect, with what answers it, and the trees that settle then."""
     match call:
         case ('taken', sender, message):
             return Stepped(taken(place, now, part, sender, message), answers(sender, message)), trees_of(message)

@@ -1,4 +1,4 @@
-"""Licensed hop by hop: what goes on was mapped, joined and told by octets of the report itself (network_defs: Local). Judges a trace,
+"""Licensed hop by hop: what goes on was mapped, joined and advertised by octets of the report itself (network_defs: Local). Judges a trace,
 the acts of a run with their lines, from the octets of its `put` and `take` lines alone."""
 
 from . import report
@@ -11,7 +11,7 @@ from .sessions import Direction, front_of
 
 
 class Said:
-    """The octets over one direction since the last raise, and what the messages in them leave: labels mapped and routes told."""
+    """The octets over one direction since the last raise, and what the messages in them leave: labels mapped and routes advertised."""
 
     def __init__(self, kind):
         self.front = front_of(kind)

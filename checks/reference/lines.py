@@ -10,7 +10,7 @@ LINE_LIMIT = 4096
 
 
 class TextFault(Exception):
-    """The first fault of a text: where it stands, and its word."""
+    """The first fault of a text: where it is, and its word."""
 
     def __init__(self, line, column, reason):
         super().__init__(f'fault {line}:{column} {reason}')
@@ -34,7 +34,7 @@ class Line:
             raise self.fault(place, reason)
 
     def counted(self, least, most=None):
-        """The line has at least so many words behind the first, and no more than so many."""
+        """The line has at least so many words after the first, and no more than so many."""
         most = least if most is None else most
         if len(self.words) - 1 < least:
             raise TextFault(self.number, self.after, 'count')

@@ -88,7 +88,7 @@ def read(octets):
     return Probe(draft.scenario(), edge, peer, joins, tuple(octet for piece in pieces for octet in piece))
 
 
-# ---- the table, and what is told of it
+# ---- the table, and what is reported of it
 
 def table_of(messages):
     """Of each key that was announced and not withdrawn since, what was said last."""
@@ -198,7 +198,7 @@ def key_text(key):
 
 
 def probe(text):
-    """What is told of the edge, or the line of the text's fault; and the status."""
+    """What is reported of the edge, or the line of the text's fault; and the status."""
     try:
         asked = read(text)
     except TextFault as fault:

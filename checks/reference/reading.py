@@ -2,7 +2,7 @@
 them in pieces (mv_base/framing: Cut, Feed).
 
 A reader takes fields from the front of octets. Where a field cannot be what it has to be, it raises `Misread` with a word; the
-place within the message is not told, as no node of this network ever puts such octets.
+place within the message is not given, as no node of this network ever puts such octets.
 """
 
 from dataclasses import dataclass
@@ -107,7 +107,7 @@ def read_route(fields):
 
 
 def read_unicast(afi, fields):
-    """Length in bits of what is behind it; label, Route Distinguisher, prefix (RFC 8277 section 2)."""
+    """Length in bits of what comes after it; label, Route Distinguisher, prefix (RFC 8277 section 2)."""
     bits = fields.number(1) - 88
     fields.octets(3)
     rd = fields.octets(8)
@@ -146,7 +146,7 @@ def hop_addr(family, hop):
 # ---- UPDATE messages: withdrawn length, attributes length, attributes of flags, type, length and value
 
 def read_reach(fields):
-    """AFI, SAFI, next hop behind its length, a reserved octet, keys."""
+    """AFI, SAFI, next hop after its length, a reserved octet, keys."""
     family = (fields.number(2), fields.number(1))
     hop = fields.octets(fields.number(1))
     fields.octets(1)
@@ -201,7 +201,7 @@ def read_label_message(fields):
 
 
 def read_pdu(body):
-    """The messages, and the fault behind them, if there is one."""
+    """The messages, and the fault after them, if there is one."""
     fields = Fields(body)
     fields.octets(6)
     messages = ()
@@ -213,7 +213,7 @@ def read_pdu(body):
     return messages, None
 
 
-# ---- what stands at the front of a stream
+# ---- what is at the front of a stream
 
 @dataclass(frozen=True)
 class More:
@@ -289,7 +289,7 @@ class Fed:
 
 
 def cut(front, octets):
-    """The messages of the whole units and those before the fault behind them, the octets behind the units, and the fault."""
+    """The messages of the whole units and those before the fault that follows, the octets after the units, and the fault."""
     messages, place = (), 0
     while place < len(octets):
         found = front(octets[place:])

@@ -1,4 +1,4 @@
-"""What holds of a network behind every act (network_defs: LabelRule; label_defs: Settled; edge_defs: Flows)."""
+"""What holds of a network after every act (network_defs: LabelRule; label_defs: Settled; edge_defs: Flows)."""
 
 from .base import covers
 from .labels import Leaving, Mapped, Resting, has_tree, is_ready, same_fec, trees, use_of
@@ -42,7 +42,7 @@ def is_covered(world, u, n, copy):
 
 
 def in_transit(world, over):
-    """The messages in what the receiver's stream holds back and what is in transit behind it."""
+    """The messages in what the receiver's stream holds back and what is in transit after it."""
     return cut(front_of(over.kind), world.network.stream[over].held + world.network.transit[over])[0]
 
 
@@ -118,5 +118,5 @@ def cost_faults(world):
 
 
 def rule_faults(world):
-    """What is wrong behind an act, the first of two acts of a raise aside."""
+    """What is wrong after an act, the first of two acts of a raise aside."""
     return [*label_rule_faults(world), *settled_faults(world), *stream_faults(world), *session_faults(world), *limit_faults(world)]

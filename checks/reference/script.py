@@ -256,7 +256,7 @@ class Draft:
 
 # ---- the text
 
-# the words that begin a line of an event, by how many words are behind them
+# the words that begin a line of an event, by how many words come after them
 BEHIND = {
     0: ('heal', 'settle', 'drain', 'state'), 1: ('tick', 'timers', 'restart'), 2: ('pim', 'packet'),
     3: ('lose', 'notice', 'raise', 'hop', 'drop', 'cost', 'active', 'idle', 'select', 'unselect'), 4: ('move', 'send')}

@@ -1,6 +1,6 @@
 """A network whose nodes send each other messages over sessions, with octets in transit (network_defs/session_defs:
-Message, System, Octets). The fields over directions are tables over all directions of the network. A system is two functions: what is behind a message
-that is taken, and behind a call; None where there is no step."""
+Message, System, Octets). The fields over directions are tables over all directions of the network. A system is two functions: what is there
+after a message that is taken, and after a call; None where there is no step."""
 
 from dataclasses import dataclass, replace
 
@@ -62,7 +62,7 @@ def octets_over(direction, puts):
 
 
 def with_octets(old, new):
-    """What is put goes behind what is in transit; it is lost where the session is not joined."""
+    """What is put goes after what is in transit; it is lost where the session is not joined."""
     transit = {over: left + octets_over(over, new.puts) if old.joined[over] else left for over, left in old.transit.items()}
     return replace(old, state=new.state, transit=transit)
 

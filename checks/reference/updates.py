@@ -19,7 +19,7 @@ class Fault(Exception):
         self.place, self.word = place, word
 
     def inside(self, front, place):
-        """The same fault in an input that begins so many octets further on, told behind an outer word."""
+        """The same fault in an input that begins so many octets further on, with its word after an outer one."""
         return Fault(self.place + place, front + self.word)
 
 
@@ -78,7 +78,7 @@ def number(octets):
 
 
 class Bounded:
-    """Octets from a place on, up to the end of an enclosing length, which may lie behind the end of the input."""
+    """Octets from a place on, up to the end of an enclosing length, which may be after the end of the input."""
 
     def __init__(self, octets, place, end, passed):
         self.octets, self.place, self.end, self.passed = octets, place, end, passed
@@ -311,7 +311,7 @@ class Attributes:
         self.seen, self.reach, self.unreach, self.hop, self.comms, self.pmsi = set(), [], [], None, (), None
 
     def read(self, kind, value, start, head):
-        """An attribute whose first octet and whose value stand at these places."""
+        """An attribute whose first octet and whose value are at these places."""
         if kind in (14, 15):
             if len(value) < 3:
                 raise Fault(start, 'attribute-length')

@@ -56,7 +56,7 @@ def is_group(addr):
 
 
 def prefix_in(word):
-    """`ADDR/N`, with no bit set behind the first N."""
+    """`ADDR/N`, with no bit set after the first N."""
     text, _, length = word.partition('/')
     addr, bits = addr_in(text), number_in(length)
     if addr is None or bits is None:
@@ -68,7 +68,7 @@ def prefix_in(word):
 # ---- route distinguishers and Route Targets
 
 def eight_in(word, by_number, by_address):
-    """`N:M` or `ADDR:M`, behind the two octets of either form."""
+    """`N:M` or `ADDR:M`, after the two octets of either form."""
     front, _, back = word.partition(':')
     n, addr, m = number_in(front), ipv4_in(front), number_in(back)
     if m is None:

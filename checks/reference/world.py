@@ -238,7 +238,7 @@ def aged(world):
 # ---- acts
 
 def act(world, one):
-    """The network behind an act, with its lines, or the node that lacks a label. An act is a tuple of its word and its fields."""
+    """The network after an act, with its lines, or the node that runs out of labels. An act is a tuple of its word and its fields."""
     match one:
         case ('tick', ticks):
             new = at_node(world, 0, (), [('call', ('elapse', ticks))])

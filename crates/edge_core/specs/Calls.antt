@@ -83,7 +83,7 @@ abbrev pub IsToward : Topology → Call → NodeData → Result (Unit {0}) EdgeF
 IsToward core Rerouted labels result = OnOk result (WaitsTowardRootsOf core labels)
 IsToward core other labels result = Unit {0}
 
--- What a call answers and leaves. It is made where there is room, and a label is lacked only there; it is refused with no change exactly
+-- What a call answers and leaves. It is made where there is room, and labels run out only there; it is refused with no change exactly
 -- where there is none.
 pub record AnswersCall (core : Topology) (now : ℕ) (call : Call) (old new : EdgeView) (result : Result (Unit {0}) EdgeFault) : Type 0 where
   pub answers : Answers core (step_of old now call) old new result

@@ -66,7 +66,7 @@ pub record Answers (core : Topology) (now : ℕ) (step : NodeStep) (old new : Ne
   pub lacks : result ≡ Err faults.NoLabel → spent_in old ≡ None → Lacks core now step old
   pub spends : (fault : EdgeFault) → result ≡ Err fault → spent_in old ≡ None → spent_in new ≡ spent_by fault
 
--- What a call of a customer answers and leaves. It is made where there is room, and a label is lacked only there; it is refused with no
+-- What a call of a customer answers and leaves. It is made where there is room, and labels run out only there; it is refused with no
 -- change exactly where there is none.
 pub record AnswersCall (core : Topology) (now : ℕ) (call : Call) (old new : NetworkNode) (result : Result (Unit {0}) EdgeFault) : Type 0 where
   pub answers : Answers core now (after call) old new result

@@ -15,7 +15,7 @@ use Rattle.pim_state.specs.contracts.index.IndexKeyPartialEq.TheImpl as keys_equ
 use Rattle.pim_state.specs.declared.arrival.Arrival.{Arrival}
 use Rattle.pim_state.specs.Plan.{is_at, ends, Expiries}
 
--- whether both are one key, as `==` tells it
+-- whether both are one key, as `==` has it
 abbrev pub is_key : IndexKey → IndexKey → Bool
 is_key = keys_equal.ghosts.eq
 

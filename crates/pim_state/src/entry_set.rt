@@ -53,7 +53,7 @@ impl EntrySet {
         Ok(())
     }
 
-    /// Takes the entry out, and tells whether none is left.
+    /// Takes the entry out, and answers whether none is left.
     pub fn take_out(&mut self, at: &IfaceEntry) -> bool
         ensures each { (other : IfaceEntry) → list_any (is_at other) self.new ≡ (list_any (is_at other) self.old && not (is_at at.now other)) }
         ensures none { OnTrue result (self.new ≡ []) }

@@ -105,7 +105,7 @@ fn list_kept(
     }
 }
 
-/// Lists the changed entries that are there then. Where memory is wanted, some of the changed ones may be listed too.
+/// Lists the changed entries that are there then. Where memory runs out, some of the changed ones may be listed too.
 fn list_each(index: &mut EntryIndex, alloc: Global, changes: &Changes) -> Result<(), NoMemory>
     ensures each { (at : IfaceEntry) → OnOk result (is_listed index.new at ≡ (is_listed index.old at || is_kept changes.now.entries at)) }
     ensures some { (at : IfaceEntry) → lists_again changes.now.entries (is_listed index.old at) (is_listed index.new at) at ≡ true }
@@ -116,7 +116,7 @@ fn list_each(index: &mut EntryIndex, alloc: Global, changes: &Changes) -> Result
     Ok(())
 }
 
-/// Lists the changed entries that are there then, or none of them where memory is wanted.
+/// Lists the changed entries that are there then, or none of them where memory runs out.
 pub(crate) fn list_all(
     index: &mut EntryIndex,
     alloc: Global,
@@ -136,7 +136,7 @@ pub(crate) fn list_all(
     }
 }
 
-/// Takes the entry out of those of its key, and tells whether none of them is left.
+/// Takes the entry out of those of its key, and answers whether none of them is left.
 fn take_off(index: &mut EntryIndex, at: &IfaceEntry) -> bool
     ensures each { (other : IfaceEntry) → is_listed index.new other ≡ (is_listed index.old other && not (is_at at.now other)) }
     ensures none { OnTrue result (listed index.new (key_of at.now.entry) ≡ []) }

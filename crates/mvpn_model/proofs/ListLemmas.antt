@@ -1,7 +1,8 @@
 -- Facts about lists that the laws share.
 use Rattle.std.proofs.Common.{◌≡◌, ℕ, List, [], ◌∷◌, ◌++◌, true, false, Bool, cond, zero, suc, refl, sym, ap, ◌∙◌, inl, inr}
 use Rattle.std.specs.Prelude.{◌&&◌, ◌||◌, None, Some, slice_get, find}
-use Rattle.std.specs.List.{list_any, list_all, AllByRecursion}
+use Rattle.std.specs.List.{filter, list_any, list_all, AllByRecursion}
+use Rattle.std.proofs.Math.Bool.{and-false, and-true}
 use Rattle.std.proofs.lemmas.Bool.{cases_Bool, or_cases, or_left, or_right, or_from, and_from, false_from_ne_true}
 
 -- Each element of two lists that are joined passes.
@@ -87,3 +88,16 @@ and_swap false false = refl
 pub none_either_way : {X : Type 0} (b : Bool) → cond {A = List X} b [] [] ≡ []
 none_either_way true = refl
 none_either_way false = refl
+
+-- One of those that pass a test passes another one where one of all passes both.
+pub any-filtered : {A : Type 0} (test keep : A → Bool) (xs : List A) → list_any test (filter keep xs) ≡ list_any (λ x. test x && keep x) xs
+any-filtered test keep [] = refl
+any-filtered {A} test keep (x ∷ xs) = by (keep x) (any-filtered test keep xs)
+  where
+    both : A → Bool
+    both x = test x && keep x
+
+    by : (b : Bool) → list_any test (filter keep xs) ≡ list_any both xs
+        → list_any test (cond b (x ∷ filter keep xs) (filter keep xs)) ≡ ((test x && b) || list_any both xs)
+    by true rest = ap (λ (r : Bool). test x || r) rest ∙ ap (λ (a : Bool). a || list_any both xs) (sym (and-true (test x)))
+    by false rest = rest ∙ ap (λ (a : Bool). a || list_any both xs) (sym (and-false (test x)))

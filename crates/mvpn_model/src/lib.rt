@@ -26,4 +26,4 @@ pub use readiness::{UpEnd, unready};
 pub use routing::{home_among, local_routes};
 pub use session::Session;
 pub use standing::Standing;
-pub use vpn::{is_attached, is_attached_at, vrf_of_site};
+pub use vpn::{is_attached, vrf_of_site};

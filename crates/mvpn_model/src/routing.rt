@@ -2,10 +2,12 @@
 ghost use Rattle.std.specs.Prelude.{◌≡◌, ◌≤◌, ◌^◌, ◌++◌, filter, length, IfOk, OnOk};
 ghost use Rattle.mv_base.specs.Prefix.{covers};
 ghost use Rattle.scenario_defs.specs.Home.{routes, local_routes, routes_of_site, longer, longest_after, home_by};
+ghost use Rattle.std.specs.List.{list_any};
+ghost use Rattle.scenario_defs.specs.Vpn.{is_attached_at, is_of_site, is_of_vrf};
 
-use crate::vpn::{is_attached, is_attached_at};
+use crate::vpn::is_attached;
 use mv_base::{Addr, NoMemory, Prefix, Seq, SiteId, VrfId};
-use scenario_defs::{Route, Scenario};
+use scenario_defs::{Iface, Route, Scenario};
 use std::alloc::Global;
 
 /// The longer of two routes, and the first of two that are equally long.
@@ -91,16 +93,45 @@ fn add_routes(routes: &mut Seq<Route>, site: SiteId, prefixes: &[Prefix]) -> Res
     Ok(())
 }
 
+/// The interfaces of the VRF.
+fn own_ifaces(alloc: Global, ifaces: &[Iface], vrf: VrfId) -> Result<Vec<Iface>, NoMemory>
+    ensures { IfOk result (λ own. own.items ≡ filter (is_of_vrf vrf) ifaces.now) }
+{
+    let mut own = Vec::new(alloc);
+    for iface in ifaces {
+        if iface.vrf.0 == vrf.0 {
+            own.push(*iface)?;
+        }
+    }
+    Ok(own)
+}
+
+/// Whether one of the interfaces belongs to the site.
+fn has_site(ifaces: &[Iface], site: SiteId) -> bool
+    ensures { result ≡ list_any (is_of_site site) ifaces.now }
+{
+    ifaces.iter().any(|iface| iface.site.0 == site.0)
+}
+
+/// Whether the site is attached at the VRF that has these interfaces.
+fn is_local(own: &[Iface], _scenario: &Scenario, _vrf: VrfId, site: SiteId) -> bool
+    requires { own.now ≡ filter (is_of_vrf _vrf) _scenario.now.ifaces }
+    ensures { result ≡ is_attached_at _scenario.now _vrf site }
+{
+    has_site(own, site)
+}
+
 /// The local routes of the VRF: each prefix of each site that is attached at the VRF itself, in order of sites.
 pub fn local_routes(alloc: Global, scenario: &Scenario, vrf: VrfId) -> Result<Seq<Route>, NoMemory>
     requires { length scenario.now.sites ≤ 2 ^ 16 }
     ensures { IfOk result (λ all. all ≡ local_routes scenario.now vrf) }
 {
+    let own = own_ifaces(alloc, scenario.ifaces.as_slice(), vrf)?;
     let mut all = Seq::new(alloc);
     let sites = scenario.sites.as_slice();
     for (number, site) in sites.iter().enumerate() {
         let id = SiteId(number as u16);
-        if is_attached_at(scenario, vrf, id) {
+        if is_local(&own, scenario, vrf, id) {
             add_routes(&mut all, id, site.prefixes.as_slice())?;
         }
     }

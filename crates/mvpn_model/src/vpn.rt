@@ -1,6 +1,6 @@
 //! Which VRFs and sites belong together.
 ghost use Rattle.std.specs.Prelude.{◌≡◌, ◌==◌, ◌&&◌, find, option_map, option_copied};
-ghost use Rattle.scenario_defs.specs.Vpn.{same_vpn, is_attached, is_attached_at, vrf_of_site, is_of_site, is_of_vrf};
+ghost use Rattle.scenario_defs.specs.Vpn.{same_vpn, is_attached, vrf_of_site, is_of_site};
 
 use mv_base::{SiteId, VrfId};
 use scenario_defs::{Iface, Scenario, same_vpn};
@@ -20,21 +20,6 @@ pub fn is_attached(scenario: &Scenario, vrf: VrfId, site: SiteId) -> bool
     ifaces
         .iter()
         .any(|iface| attaches(scenario, vrf, site, iface))
-}
-
-/// Whether the interface belongs to the site and to the VRF.
-fn attaches_at(vrf: VrfId, site: SiteId, iface: &Iface) -> bool
-    ensures { result ≡ (is_of_site site iface.now && is_of_vrf vrf iface.now) }
-{
-    iface.site.0 == site.0 && iface.vrf.0 == vrf.0
-}
-
-/// Whether the site is attached at the VRF itself: it has an interface there.
-pub fn is_attached_at(scenario: &Scenario, vrf: VrfId, site: SiteId) -> bool
-    ensures { result ≡ is_attached_at scenario.now vrf site }
-{
-    let ifaces = scenario.ifaces.as_slice();
-    ifaces.iter().any(|iface| attaches_at(vrf, site, iface))
 }
 
 fn first_of_site(ifaces: &[Iface], site: SiteId) -> Option<&Iface>

@@ -83,11 +83,7 @@ own_leaves place now part (steps.Noticed kinds.Bgp peer) = tt
 own_leaves place now part steps.Timers = refl
 own_leaves place now part steps.Rerouted = refl
 own_leaves place now part (steps.Update peer message) = tt
-own_leaves place now part (steps.Pim iface message) = tt
-own_leaves place now part (steps.Active iface source group) = tt
-own_leaves place now part (steps.Idle iface source group) = tt
-own_leaves place now part (steps.Select vrf pattern) = tt
-own_leaves place now part (steps.Unselect vrf pattern) = tt
+own_leaves place now part (steps.Customer call) = tt
 
 -- ---- the call of a tree makes it a leaf exactly where it is wanted
 

@@ -14,7 +14,7 @@ use Rattle.mv_base.specs.declared.ids.VrfId.{VrfId}
 use Rattle.mv_base.specs.declared.pattern.Pattern.{Pattern}
 use Rattle.label_defs.specs.mldp.declared.mldp_msgs.message.LabelMessage.{LabelMessage}
 use Rattle.pim_defs.specs.pim_joinprune.declared.message.JoinPrune.{JoinPrune}
-use Rattle.pim_defs.specs.Entries.{applied, kept_at}
+use Rattle.pim_defs.specs.Entries.{Entries, applied, kept_at}
 use Rattle.bgp_messages.specs.declared.bgp_attributes.key.Key.{Key}
 use Rattle.bgp_messages.specs.declared.bgp_attributes.update.Change.{Change}
 use Rattle.bgp_messages.specs.declared.bgp_attributes.update.Change.TheVariants as updates
@@ -29,24 +29,28 @@ use Rattle.label_defs.specs.Settling.{Stepped}
 use Rattle.label_defs.specs.Steps as labels
 use Rattle.label_defs.specs.Steps.{label_step}
 use Rattle.label_defs.specs.Members.{in_order}
-use Rattle.edge_defs.specs.Edge.{VrfPattern, pattern_cmp, Selected, TakenRoute, Taken, Control, EdgeData}
+use Rattle.edge_defs.specs.Edge.{VrfPattern, note_cmp, pattern_cmp, Selected, TakenRoute, Taken, Control, EdgeData}
 use Rattle.edge_defs.specs.Flows.{flows_at}
 use Rattle.edge_defs.specs.Imported.{imported_selective}
 use Rattle.edge_defs.specs.Keys.{Value, same_value}
 use Rattle.edge_defs.specs.Place.{EdgePlace, addr_of, own_vrfs, label_place}
 use Rattle.edge_defs.specs.Tunnels.{leaves}
 
--- What makes a step: a BGP message or a label message that is taken, a Join/Prune message of a customer router, a source that is noted
--- or no longer is, a pattern that is selected or no longer is, an end that comes up, a loss that is noticed, the timers, and other
--- costs of links: the edge's place has the core by them.
+-- What a customer, or the operator for one, calls for at an edge: a Join/Prune message of a customer router, a source that is noted or no
+-- longer is, and a pattern that is selected or no longer is.
+pub data CustomerCall : Type 0 where
+  Pim : (iface : IfaceId) → (message : JoinPrune) → CustomerCall
+  Active : (iface : IfaceId) → (source group : Addr) → CustomerCall
+  Idle : (iface : IfaceId) → (source group : Addr) → CustomerCall
+  Select : (vrf : VrfId) → (pattern : Pattern) → CustomerCall
+  Unselect : (vrf : VrfId) → (pattern : Pattern) → CustomerCall
+
+-- What makes a step: a BGP message or a label message that is taken, a call of a customer, an end that comes up, a loss that is noticed,
+-- the timers, and other costs of links: the edge's place has the core by them.
 pub data Call : Type 0 where
   Update : (peer : NodeId) → (message : Message) → Call
   Label : (neighbour : NodeId) → (message : LabelMessage) → Call
-  Pim : (iface : IfaceId) → (message : JoinPrune) → Call
-  Active : (iface : IfaceId) → (source group : Addr) → Call
-  Idle : (iface : IfaceId) → (source group : Addr) → Call
-  Select : (vrf : VrfId) → (pattern : Pattern) → Call
-  Unselect : (vrf : VrfId) → (pattern : Pattern) → Call
+  Customer : (call : CustomerCall) → Call
   Raised : (kind : Kind) → (peer : NodeId) → Call
   Noticed : (kind : Kind) → (peer : NodeId) → Call
   Timers : Call
@@ -83,6 +87,34 @@ abbrev pub with_selection : ℕ → VrfId → Pattern → FinMap pattern_cmp Sel
 with_selection now vrf pattern old =
     let number = free_number (λ number. list_any (is_used vrf number) (maps.entries old)) (maps.len old) 1 in
     maps.insert old (record { vrf = vrf; pattern = pattern }) (record { number = number; since = now; run = false })
+
+-- ---- calls of customers
+
+-- the entries after a call of a customer: a Join/Prune message changes those that it names
+abbrev pub entries_after : ℕ → Entries → CustomerCall → Entries
+entries_after now old (Pim iface message) = applied old iface message now
+entries_after now old other = old
+
+-- the notes after a call of a customer: a source is noted, or no longer is
+abbrev pub notes_after : FinSet note_cmp → CustomerCall → FinSet note_cmp
+notes_after old (Active iface source group) = sets.insert old (record { iface = iface; source = source; group = group })
+notes_after old (Idle iface source group) = sets.remove old (record { iface = iface; source = source; group = group })
+notes_after old other = old
+
+-- the selections after a call of a customer: a pattern is selected, or no longer is
+abbrev pub selections_after : ℕ → FinMap pattern_cmp Selected → CustomerCall → FinMap pattern_cmp Selected
+selections_after now old (Select vrf pattern) = with_selection now vrf pattern old
+selections_after now old (Unselect vrf pattern) = maps.remove old (record { vrf = vrf; pattern = pattern })
+selections_after now old other = old
+
+-- A call of a customer changes entries, notes and selections alone.
+abbrev pub after_customer : ℕ → Control → CustomerCall → Control
+after_customer now old call =
+    record old {
+      entries = entries_after now old.entries call;
+      notes = notes_after old.notes call;
+      selections = selections_after now old.selections call;
+    }
 
 -- ---- timers
 
@@ -125,14 +157,7 @@ timed place now old =
 abbrev pub effect : EdgePlace → ℕ → Control → Call → Control
 effect place now old (Update peer message) = with_update now peer message old
 effect place now old (Label neighbour message) = old
-effect place now old (Pim iface message) = record old { entries = applied old.entries iface message now }
-effect place now old (Active iface source group) =
-    record old { notes = sets.insert old.notes (record { iface = iface; source = source; group = group }) }
-effect place now old (Idle iface source group) =
-    record old { notes = sets.remove old.notes (record { iface = iface; source = source; group = group }) }
-effect place now old (Select vrf pattern) = record old { selections = with_selection now vrf pattern old.selections }
-effect place now old (Unselect vrf pattern) =
-    record old { selections = maps.remove old.selections (record { vrf = vrf; pattern = pattern }) }
+effect place now old (Customer call) = after_customer now old call
 effect place now old (Raised kinds.Bgp peer) = record old { peers = maps.insert old.peers peer maps.empty }
 effect place now old (Raised kinds.Ldp peer) = old
 effect place now old (Noticed kinds.Bgp peer) = record old { peers = maps.remove old.peers peer }
@@ -142,19 +167,21 @@ effect place now old Rerouted = old
 
 -- whether the call is a step of each VRF: a selection changes no flow
 abbrev pub is_vrf_step : Call → Bool
-is_vrf_step (Select vrf pattern) = false
-is_vrf_step (Unselect vrf pattern) = false
+is_vrf_step (Customer (Select vrf pattern)) = false
+is_vrf_step (Customer (Unselect vrf pattern)) = false
 is_vrf_step other = true
 
 -- the flows become those that some interface asks for at the clock
 abbrev pub refreshed : EdgePlace → ℕ → Control → Control
 refreshed place now control = record control { flows = flows_at place now control }
 
+-- the same, or the flows stay
+abbrev pub refreshed_if : Bool → EdgePlace → ℕ → Control → Control
+refreshed_if vrfs place now control = record control { flows = if vrfs then flows_at place now control else control.flows }
+
 -- what the edge keeps of its customers and of BGP behind a call
 abbrev pub control_step : EdgePlace → ℕ → Control → Call → Control
-control_step place now old call =
-    let own = effect place now old call in
-    if is_vrf_step call then refreshed place now own else own
+control_step place now old call = refreshed_if (is_vrf_step call) place now (effect place now old call)
 
 -- when the end of each BGP session that is up came up, behind a call
 abbrev pub raised_after : ℕ → FinMap node_cmp ℕ → Call → FinMap node_cmp ℕ

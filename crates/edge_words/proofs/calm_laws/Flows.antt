@@ -1,12 +1,10 @@
 -- The flows of an edge are those of an earlier clock over what it knows now.
-use Rattle.std.proofs.Common.{◌≡◌, ℕ, ◌+◌, ◌≤◌, ◌==◌, ◌||◌, Bool, true, false, cond, inl, inr, List, [], ◌∷◌, ◌++◌, map, is_some, refl, sym, ap, subst, ◌∙◌, le_refl, le_trans, arith}
+use Rattle.std.proofs.Common.{◌≡◌, ℕ, ◌+◌, ◌≤◌, ◌==◌, ◌||◌, Bool, true, false, cond, inl, inr, List, [], ◌∷◌, ◌++◌, map, refl, sym, ap, subst, ◌∙◌, le_refl, le_trans, arith}
 use Rattle.std.proofs.lemmas.Bool.{cases_Bool}
 use Rattle.std.proofs.lemmas.Bool.Decides.{nat_tests}
 use Rattle.std.specs.List.{filter, flat_map}
 use Rattle.std.specs.FinMap as maps
 use Rattle.mv_base.specs.declared.ids.NodeId.{NodeId}
-use Rattle.mv_base.specs.declared.ids.VrfId.{VrfId}
-use Rattle.mv_base.specs.declared.pattern.Pattern.{Pattern}
 use Rattle.bgp_messages.specs.declared.bgp_attributes.key.Key.{Key}
 use Rattle.scenario_defs.specs.declared.event.Kind.TheVariants as kinds
 use Rattle.scenario_defs.specs.declared.scenario.Scenario.{Scenario}
@@ -19,9 +17,9 @@ use Rattle.edge_defs.specs.Originated.{is_iface_of}
 use Rattle.edge_defs.specs.Keys.{Value}
 use Rattle.edge_defs.specs.Place.{EdgePlace, OwnVrf, own_vrfs}
 use Rattle.mv_base.specs.core_walks.Core.{Core}
-use Rattle.edge_defs.specs.Steps.{Call, control_step, refreshed}
+use Rattle.edge_defs.specs.Steps.{Call, CustomerCall, after_customer, control_step, refreshed}
 use Rattle.edge_defs.specs.Steps as steps
-use Rattle.edge_words.specs.edge_laws.Acts.{Act, act, run, is_up, stepped, with_core, message_of, left_in_transit, delivered, selected, with_joined, noticed, raised}
+use Rattle.edge_words.specs.edge_laws.Acts.{Act, act, run, is_up, stepped, with_core, message_of, left_in_transit, delivered, selects_again, called, with_joined, noticed, raised}
 use Rattle.edge_words.specs.edge_laws.Acts as acts
 use Rattle.edge_words.specs.edge_laws.Network.{EdgeNetwork, place_of, at_node}
 use Rattle.edge_words.specs.calm_laws.Calm.{FlowsStand}
@@ -68,12 +66,14 @@ pub step_stands : (place : EdgePlace) (now : ℕ) (old : Control) (call : Call) 
     → Stands place now (control_step place now old call)
 step_stands place now old (steps.Update peer message) h = refreshed_stands place now (steps.effect place now old (steps.Update peer message))
 step_stands place now old (steps.Label neighbour message) h = refreshed_stands place now old
-step_stands place now old (steps.Pim iface message) h = refreshed_stands place now (steps.effect place now old (steps.Pim iface message))
-step_stands place now old (steps.Active iface source group) h =
-    refreshed_stands place now (steps.effect place now old (steps.Active iface source group))
-step_stands place now old (steps.Idle iface source group) h = refreshed_stands place now (steps.effect place now old (steps.Idle iface source group))
-step_stands place now old (steps.Select vrf pattern) h = (h.0, h.1, h.2)
-step_stands place now old (steps.Unselect vrf pattern) h = (h.0, h.1, h.2)
+step_stands place now old (steps.Customer call) h = by call
+  where
+    by : (call : CustomerCall) → Stands place now (control_step place now old (steps.Customer call))
+    by (steps.Pim iface message) = refreshed_stands place now (after_customer now old (steps.Pim iface message))
+    by (steps.Active iface source group) = refreshed_stands place now (after_customer now old (steps.Active iface source group))
+    by (steps.Idle iface source group) = refreshed_stands place now (after_customer now old (steps.Idle iface source group))
+    by (steps.Select vrf pattern) = (h.0, h.1, h.2)
+    by (steps.Unselect vrf pattern) = (h.0, h.1, h.2)
 step_stands place now old (steps.Raised kind peer) h = refreshed_stands place now (steps.effect place now old (steps.Raised kind peer))
 step_stands place now old (steps.Noticed kind peer) h = refreshed_stands place now (steps.effect place now old (steps.Noticed kind peer))
 step_stands place now old steps.Timers h = refreshed_stands place now (steps.effect place now old steps.Timers)
@@ -99,10 +99,9 @@ delivered_stands network a b false true [] h = h
 delivered_stands network a b false false changes h = h
 delivered_stands network a b true up changes h = h
 
-selected_stands : (network : EdgeNetwork) (n : NodeId) (vrf : VrfId) (pattern : Pattern) (b : Bool) → FlowsStand network
-    → FlowsStand (selected network n vrf pattern b)
-selected_stands network n vrf pattern true h = h
-selected_stands network n vrf pattern false h = stepped_stands network n (steps.Select vrf pattern) h
+called_stands : (network : EdgeNetwork) (n : NodeId) (call : CustomerCall) (b : Bool) → FlowsStand network → FlowsStand (called network n call b)
+called_stands network n call true h = h
+called_stands network n call false h = stepped_stands network n (steps.Customer call) h
 
 noticed_stands : (network : EdgeNetwork) (a b : NodeId) (joined up : Bool) → FlowsStand network → FlowsStand (noticed network a b joined up)
 noticed_stands network a b false true h = stepped_stands network a (steps.Noticed kinds.Bgp b) h
@@ -149,12 +148,7 @@ act_stands network (acts.Deliver a b) h = delivered_stands network a b (a.0 == b
 act_stands network (acts.Label n neighbour message) h = stepped_stands network n (steps.Label neighbour message) h
 act_stands network (acts.LabelRaise n neighbour) h = stepped_stands network n (steps.Raised kinds.Ldp neighbour) h
 act_stands network (acts.LabelNotice n neighbour) h = stepped_stands network n (steps.Noticed kinds.Ldp neighbour) h
-act_stands network (acts.Pim n iface message) h = stepped_stands network n (steps.Pim iface message) h
-act_stands network (acts.Active n iface source group) h = stepped_stands network n (steps.Active iface source group) h
-act_stands network (acts.Idle n iface source group) h = stepped_stands network n (steps.Idle iface source group) h
-act_stands network (acts.Select n vrf pattern) h =
-    selected_stands network n vrf pattern (is_some (maps.get (network.node n).selections (record { vrf = vrf; pattern = pattern }))) h
-act_stands network (acts.Unselect n vrf pattern) h = stepped_stands network n (steps.Unselect vrf pattern) h
+act_stands network (acts.Customer n call) h = called_stands network n call (selects_again (network.node n) call) h
 act_stands network (acts.Lose a b) h = λ n. h n
 act_stands network (acts.Notice a b) h =
     noticed_stands network a b ((network.direction a b).joined || (network.direction b a).joined) (is_up (network.node a) b) h

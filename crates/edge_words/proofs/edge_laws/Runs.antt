@@ -1,13 +1,14 @@
 -- Each act keeps the rule, and so each run.
 use Rattle.std.proofs.Common.{◌≡◌, ◌==◌, ◌||◌, List, [], ◌∷◌, refl, sym, ap, ◌∙◌}
-use Rattle.std.specs.Prelude.{is_some}
 use Rattle.std.specs.FinMap as maps
 use Rattle.std.specs.FinMap.{FinMap}
 use Rattle.mv_base.specs.declared.ids.NodeId.{NodeId}
 use Rattle.edge_defs.specs.Edge.{pattern_cmp, Selected, Control}
 use Rattle.mv_base.specs.core_walks.Core.{Core}
+use Rattle.edge_defs.specs.Steps as steps
+use Rattle.edge_defs.specs.Steps.{CustomerCall}
 use Rattle.edge_words.specs.edge_laws.Network.{EdgeNetwork, behind}
-use Rattle.edge_words.specs.edge_laws.Acts.{with_core, Act, Deliver, Label, LabelRaise, LabelNotice, Pim, Active, Idle, Select, Unselect, Lose, Notice, Raise, Restart, Tick, Timers, Reroute, act, run, is_up}
+use Rattle.edge_words.specs.edge_laws.Acts.{with_core, Act, Deliver, Label, LabelRaise, LabelNotice, Customer, Lose, Notice, Raise, Restart, Tick, Timers, Reroute, act, run, is_up, selects_again}
 use Rattle.edge_words.specs.edge_laws.Rule.{Rule}
 use Rattle.edge_words.proofs.edge_laws.Selections.{stays}
 use Rattle.edge_words.proofs.edge_laws.Steps.{still_rule, select_rule, unselect_rule, timers_rule}
@@ -25,18 +26,21 @@ plain_rule network n new peers selections rule =
 pub core_rule : (network : EdgeNetwork) (n : NodeId) (core : Core) → Rule network → Rule (with_core n core network)
 core_rule network n core rule = record { view = rule.view; alike = rule.alike; ends = rule.ends; scenario = rule.scenario }
 
+customer_rule : (network : EdgeNetwork) (n : NodeId) (call : CustomerCall) → Rule network → Rule (act network (Customer n call))
+customer_rule network n (steps.Pim iface message) rule = plain_rule network n _ refl refl rule
+customer_rule network n (steps.Active iface source group) rule = plain_rule network n _ refl refl rule
+customer_rule network n (steps.Idle iface source group) rule = plain_rule network n _ refl refl rule
+customer_rule network n (steps.Select vrf pattern) rule =
+    select_rule network n vrf pattern (selects_again (network.node n) (steps.Select vrf pattern)) refl rule
+customer_rule network n (steps.Unselect vrf pattern) rule = unselect_rule network n vrf pattern rule
+
 pub act_rule : (network : EdgeNetwork) (next : Act) → Rule network → Rule (act network next)
 act_rule network (Deliver a b) rule =
     deliver_rule network a b (a.0 == b.0) (is_up (network.node b) a) (network.direction a b).transit refl refl refl rule
 act_rule network (Label n neighbour message) rule = plain_rule network n _ refl refl rule
 act_rule network (LabelRaise n neighbour) rule = plain_rule network n _ refl refl rule
 act_rule network (LabelNotice n neighbour) rule = plain_rule network n _ refl refl rule
-act_rule network (Pim n iface message) rule = plain_rule network n _ refl refl rule
-act_rule network (Active n iface source group) rule = plain_rule network n _ refl refl rule
-act_rule network (Idle n iface source group) rule = plain_rule network n _ refl refl rule
-act_rule network (Select n vrf pattern) rule =
-    select_rule network n vrf pattern (is_some (maps.get (network.node n).selections (record { vrf = vrf; pattern = pattern }))) refl rule
-act_rule network (Unselect n vrf pattern) rule = unselect_rule network n vrf pattern rule
+act_rule network (Customer n call) rule = customer_rule network n call rule
 act_rule network (Lose a b) rule = lose_rule network a b rule
 act_rule network (Notice a b) rule =
     notice_rule network a b ((network.direction a b).joined || (network.direction b a).joined) (is_up (network.node a) b) refl rule

@@ -18,7 +18,7 @@ use Rattle.edge_defs.specs.Keys.{key_cmp}
 use Rattle.edge_defs.specs.Steps as steps
 use Rattle.edge_defs.specs.Steps.{control_step, is_imported}
 use Rattle.edge_words.specs.edge_laws.Network.{EdgeNetwork, place_of, at_node, behind}
-use Rattle.edge_words.specs.edge_laws.Acts.{is_up, stepped, selected}
+use Rattle.edge_words.specs.edge_laws.Acts.{is_up, stepped, called}
 use Rattle.edge_words.specs.edge_laws.Rule.{ViewAt, Rule, selected_at}
 use Rattle.edge_words.proofs.edge_laws.Local.{along, far_up, far_down, far_run}
 use Rattle.edge_words.proofs.edge_laws.Selections.{AllFollow, stays, selects, unselects, runs}
@@ -43,7 +43,7 @@ still_rule network n new same follow rule =
 
 pub select_rule : (network : EdgeNetwork) (n : NodeId) (vrf : VrfId) (pattern : Pattern) (b : Bool)
     → is_some (maps.get (network.node n).selections (record { vrf = vrf; pattern = pattern })) ≡ b → Rule network
-    → Rule (selected network n vrf pattern b)
+    → Rule (called network n (steps.Select vrf pattern) b)
 select_rule network n vrf pattern true e rule = rule
 select_rule network n vrf pattern false e rule =
     still_rule network n _ refl (selects network.clock vrf pattern (network.node n).selections (none_at _ e)) rule where
@@ -52,7 +52,7 @@ select_rule network n vrf pattern false e rule =
       none_at (Some x) e = absurd cc
 
 pub unselect_rule : (network : EdgeNetwork) (n : NodeId) (vrf : VrfId) (pattern : Pattern) → Rule network
-    → Rule (stepped network n (steps.Unselect vrf pattern))
+    → Rule (stepped network n (steps.Customer (steps.Unselect vrf pattern)))
 unselect_rule network n vrf pattern rule =
     still_rule network n _ refl (unselects network.clock (record { vrf = vrf; pattern = pattern }) (network.node n).selections) rule
 

@@ -1,12 +1,7 @@
 -- What may happen in a network of edges, and its runs (RFC 4271 section 3.1; RFC 6514).
 use Rattle.std.specs.Prelude.{ℕ, ◌+◌, ◌==◌, ◌&&◌, ◌||◌, not, Bool, true, false, List, [], ◌∷◌, is_some, if◌then◌else◌}
 use Rattle.std.specs.FinMap as maps
-use Rattle.mv_base.specs.declared.addr.Addr.{Addr}
-use Rattle.mv_base.specs.declared.ids.IfaceId.{IfaceId}
 use Rattle.mv_base.specs.declared.ids.NodeId.{NodeId}
-use Rattle.mv_base.specs.declared.ids.VrfId.{VrfId}
-use Rattle.mv_base.specs.declared.pattern.Pattern.{Pattern}
-use Rattle.edge_defs.specs.pim_defs.pim_joinprune.declared.message.JoinPrune.{JoinPrune}
 use Rattle.label_defs.specs.mldp.declared.mldp_msgs.message.LabelMessage.{LabelMessage}
 use Rattle.label_defs.specs.Between.{is_between, is_either}
 use Rattle.bgp_messages.specs.declared.bgp_attributes.key.Key.{Key}
@@ -20,7 +15,7 @@ use Rattle.edge_defs.specs.Keys.{Value}
 use Rattle.edge_defs.specs.Messages.{as_update}
 use Rattle.mv_base.specs.core_walks.Core.{Core}
 use Rattle.edge_defs.specs.Steps as steps
-use Rattle.edge_defs.specs.Steps.{control_step}
+use Rattle.edge_defs.specs.Steps.{CustomerCall, control_step}
 use Rattle.edge_words.specs.edge_laws.Network.{EdgeNetwork, place_of, core_at, at_node, behind}
 
 -- ---- steps
@@ -51,10 +46,15 @@ abbrev pub delivered : EdgeNetwork → NodeId → NodeId → Bool → Bool → L
 delivered network a b false true (change ∷ rest) = stepped (left_in_transit network a b rest) b (steps.Update a (message_of change))
 delivered network a b same up changes = network
 
--- a pattern that is selected already is not selected again
-abbrev pub selected : EdgeNetwork → NodeId → VrfId → Pattern → Bool → EdgeNetwork
-selected network n vrf pattern true = network
-selected network n vrf pattern false = stepped network n (steps.Select vrf pattern)
+-- whether the call selects a pattern that is selected already
+abbrev pub selects_again : Control → CustomerCall → Bool
+selects_again control (steps.Select vrf pattern) = is_some (maps.get control.selections (record { vrf = vrf; pattern = pattern }))
+selects_again control other = false
+
+-- a call of a customer; a pattern that is selected already is not selected again
+abbrev pub called : EdgeNetwork → NodeId → CustomerCall → Bool → EdgeNetwork
+called network n call true = network
+called network n call false = stepped network n (steps.Customer call)
 
 -- ---- sessions
 
@@ -96,19 +96,14 @@ with_core n core network = record network { core = core_at n core network.core }
 -- ---- acts
 
 -- What may happen: the first message in transit is taken; a label message is taken, or the end of a label session comes up, or its loss
--- is noticed; a Join/Prune message is taken; a source is noted, or no longer is; a pattern is selected, or no longer is; a session
--- is lost; its loss is noticed at one end; it is raised; an edge restarts; time passes; the timers of an edge are run; and an edge takes
--- over other costs of links, by which it knows another core.
+-- is noticed; a customer calls; a session is lost; its loss is noticed at one end; it is raised; an edge restarts; time passes; the timers
+-- of an edge are run; and an edge takes over other costs of links, by which it knows another core.
 pub data Act : Type 0 where
   Deliver : (from to : NodeId) → Act
   Label : (node neighbour : NodeId) → (message : LabelMessage) → Act
   LabelRaise : (node neighbour : NodeId) → Act
   LabelNotice : (node neighbour : NodeId) → Act
-  Pim : (node : NodeId) → (iface : IfaceId) → (message : JoinPrune) → Act
-  Active : (node : NodeId) → (iface : IfaceId) → (source group : Addr) → Act
-  Idle : (node : NodeId) → (iface : IfaceId) → (source group : Addr) → Act
-  Select : (node : NodeId) → (vrf : VrfId) → (pattern : Pattern) → Act
-  Unselect : (node : NodeId) → (vrf : VrfId) → (pattern : Pattern) → Act
+  Customer : (node : NodeId) → (call : CustomerCall) → Act
   Lose : (a b : NodeId) → Act
   Notice : (a b : NodeId) → Act
   Raise : (a b : NodeId) → Act
@@ -123,12 +118,7 @@ act network (Deliver a b) = delivered network a b (a.0 == b.0) (is_up (network.n
 act network (Label n neighbour message) = stepped network n (steps.Label neighbour message)
 act network (LabelRaise n neighbour) = stepped network n (steps.Raised kinds.Ldp neighbour)
 act network (LabelNotice n neighbour) = stepped network n (steps.Noticed kinds.Ldp neighbour)
-act network (Pim n iface message) = stepped network n (steps.Pim iface message)
-act network (Active n iface source group) = stepped network n (steps.Active iface source group)
-act network (Idle n iface source group) = stepped network n (steps.Idle iface source group)
-act network (Select n vrf pattern) =
-    selected network n vrf pattern (is_some (maps.get (network.node n).selections (record { vrf = vrf; pattern = pattern })))
-act network (Unselect n vrf pattern) = stepped network n (steps.Unselect vrf pattern)
+act network (Customer n call) = called network n call (selects_again (network.node n) call)
 act network (Lose a b) = unjoined (is_between a b) network
 act network (Notice a b) =
     noticed network a b ((network.direction a b).joined || (network.direction b a).joined) (is_up (network.node a) b)

@@ -22,7 +22,7 @@ use Rattle.edge_defs.specs.Edge.{VrfFlow, Upstream, Site, Remote, Taken, Control
 use Rattle.edge_defs.specs.Flows.{flows_at}
 use Rattle.edge_defs.specs.Originated.{is_iface_of}
 use Rattle.edge_defs.specs.Place.{EdgePlace, OwnVrf, vrfs_from, own_vrfs}
-use Rattle.edge_defs.specs.Steps.{Call, control_step, effect, is_vrf_step, refreshed}
+use Rattle.edge_defs.specs.Steps.{Call, control_step, effect, is_vrf_step, refreshed, refreshed_if}
 use Rattle.edge_defs.specs.Upstream.{known_routes}
 use Rattle.edge_routes.specs.edge_home.Home.{place_of}
 use Rattle.vrf_words.proofs.edge_words.calm_laws.Lists.{map_among, among_map, not_both}
@@ -268,6 +268,6 @@ step_is old between new core now call step is makes =
     let place = place_of old.home core in
     let own : Control = effect place now (control_of old) call in
     record {
-      is = makes.is ∙ ap (refreshed place now) is ∙ sym (ap (λ (b : Bool). cond b (refreshed place now own) own) step);
+      is = makes.is ∙ ap (refreshed place now) is ∙ sym (ap (λ (b : Bool). refreshed_if b place now own) step);
       trees = makes.trees;
     }

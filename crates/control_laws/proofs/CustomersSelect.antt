@@ -18,7 +18,7 @@ use Rattle.selective.proofs.RootLemmas.{one_pattern, pattern_itself}
 use Rattle.edge_defs.proofs.table_laws.CompareLemmas.{own_key}
 use Rattle.vrf_words.specs.tree_defs.Trees.{TreeData}
 use Rattle.edge_defs.specs.Edge.{VrfPattern, Selected, Control}
-use Rattle.edge_defs.specs.Steps.{Select, Unselect, effect, is_used, with_selection}
+use Rattle.edge_defs.specs.Steps.{Customer, Select, Unselect, effect, is_used, with_selection}
 use Rattle.edge_defs.proofs.KeyLemmas.{pattern_total}
 use Rattle.edge_routes.specs.edge_home.Home.{place_of}
 use Rattle.vrf_words.proofs.edge_words.calm_laws.Lists.{among_either, filter_among, not_both}
@@ -202,7 +202,7 @@ module _ (kept : Kept) (trees : AreTrees kept) (number : ℕ) (it : OwnTree) (at
         ∙ sym (maps.get-insert pattern_total (control_of kept).selections (pattern_of it.own.id one) value key)
 
     pub selected_makes : (core : Core) → Makes (with_tree number with_one kept)
-        (effect (place_of kept.home core) now (control_of kept) (Select it.own.id pattern))
+        (effect (place_of kept.home core) now (control_of kept) (Customer (Select it.own.id pattern)))
     selected_makes core = record {
       is = same_control _ _ (entries_stay kept number it at_number with_one refl) (notes_stay kept number it at_number with_one refl)
           (same_selections _ _ selected_selections) (flows_stay kept number it at_number with_one refl) refl;
@@ -260,7 +260,7 @@ module _ (kept : Kept) (trees : AreTrees kept) (number : ℕ) (it : OwnTree) (at
       ∙ sym (maps.get-remove pattern_total (control_of kept).selections (pattern_of it.own.id any) key)
 
   pub unselected_makes : (core : Core) (now : ℕ)
-      → Makes (with_tree number without_it kept) (effect (place_of kept.home core) now (control_of kept) (Unselect it.own.id pattern))
+      → Makes (with_tree number without_it kept) (effect (place_of kept.home core) now (control_of kept) (Customer (Unselect it.own.id pattern)))
   unselected_makes core now = record {
     is = same_control _ _ (entries_stay kept number it at_number without_it refl) (notes_stay kept number it at_number without_it refl)
         (same_selections _ _ unselected_selections) (flows_stay kept number it at_number without_it refl) refl;

@@ -23,7 +23,7 @@ use Rattle.vrf_words.specs.tree_defs.Trees.{TreeData}
 use Rattle.vrf_words.proofs.tree_defs.KeyLemmas.{note_total as tree_note_total, note_exact as tree_note_exact}
 use Rattle.edge_defs.specs.Edge.{Note, note_cmp}
 use Rattle.edge_defs.specs.Originated.{is_iface_of}
-use Rattle.edge_defs.specs.Steps.{Pim, Active, Idle, effect}
+use Rattle.edge_defs.specs.Steps.{Customer, Pim, Active, Idle, effect}
 use Rattle.edge_defs.proofs.KeyLemmas.{note_total}
 use Rattle.edge_routes.specs.edge_home.Home.{place_of}
 use Rattle.vrf_words.proofs.edge_words.calm_laws.Lists.{not_both}
@@ -98,7 +98,7 @@ module _ (kept : Kept) (trees : AreTrees kept) (number : ℕ) (it : OwnTree) (at
       pim_entries at false h =
           sym (applied_elsewhere (control_of kept).entries iface message now at (other_iface kept.home.scenario it.own.id iface at.iface own h))
 
-      pub pim_makes : (core : Core) → Makes (with_tree number tree kept) (effect (place_of kept.home core) now (control_of kept) (Pim iface message))
+      pub pim_makes : (core : Core) → Makes (with_tree number tree kept) (effect (place_of kept.home core) now (control_of kept) (Customer (Pim iface message)))
       pim_makes core = record {
         is = same_control _ _
             (same_entries _ _ (λ at. entry_then kept number it at_number tree parts pim_part at ∙ pim_entries at (its at.iface) refl))
@@ -148,7 +148,7 @@ module _ (kept : Kept) (trees : AreTrees kept) (number : ℕ) (it : OwnTree) (at
           ∙ ap (λ (b : Bool). b || sets.contains (control_of kept).notes n) (no_tie source group (tree_note n) h))
 
       pub noted_makes : (core : Core) (now : ℕ) → Makes (with_tree number with_note kept)
-          (effect (place_of kept.home core) now (control_of kept) (Active iface source group))
+          (effect (place_of kept.home core) now (control_of kept) (Customer (Active iface source group)))
       noted_makes core now = record {
         is = same_control _ _ (entries_stay kept number it at_number with_note refl)
             (same_notes _ _ (λ n. note_then kept number it at_number with_note parts noted_part n ∙ noted_notes n (its n.iface) refl))
@@ -180,7 +180,7 @@ module _ (kept : Kept) (trees : AreTrees kept) (number : ℕ) (it : OwnTree) (at
           ∙ ap (λ (b : Bool). not b && sets.contains (control_of kept).notes n) (no_tie source group (tree_note n) h))
 
       pub unnoted_makes : (core : Core) (now : ℕ) → Makes (with_tree number without_note kept)
-          (effect (place_of kept.home core) now (control_of kept) (Idle iface source group))
+          (effect (place_of kept.home core) now (control_of kept) (Customer (Idle iface source group)))
       unnoted_makes core now = record {
         is = same_control _ _ (entries_stay kept number it at_number without_note refl)
             (same_notes _ _ (λ n. note_then kept number it at_number without_note parts unnoted_part n ∙ unnoted_notes n (its n.iface) refl))

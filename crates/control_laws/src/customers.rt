@@ -15,7 +15,7 @@ ghost use Rattle.selective.specs.Roots.{IsSelected, is_of, is_waiting, run_due, 
 ghost use Rattle.vrf_words.specs.tree_defs.Trees.{TreeData};
 ghost use Rattle.edge_defs.specs.Due.{is_selection_due};
 ghost use Rattle.edge_defs.specs.Originated.{is_iface_of};
-ghost use Rattle.edge_defs.specs.Steps.{Active, Idle, Pim, Select, Unselect, effect, timed};
+ghost use Rattle.edge_defs.specs.Steps.{Customer, Active, Idle, Pim, Select, Unselect, effect, timed};
 ghost use Rattle.edge_routes.specs.edge_home.Home.{place_of};
 ghost use Rattle.control_laws.specs.Control.{AreTrees, Kept, OwnTree, control_of, trees_of, with_tree, with_trees};
 ghost use Rattle.control_laws.specs.Customers.{AreSingle, Makes, noted, pim_taken, selected, timers_run, unnoted, unselected};
@@ -25,7 +25,7 @@ pub fn join_prune_is_taken()
     ensures { (kept : Kept) (number : ℕ) (it : OwnTree) (iface : IfaceId) (message : JoinPrune) (now : ℕ) (core : Core) →
         AreTrees kept → slice_get (trees_of kept) number ≡ Some it → is_iface_of kept.home.scenario it.own.id iface ≡ true →
         Makes (with_tree number (pim_taken iface message now it.tree) kept)
-        (effect (place_of kept.home core) now (control_of kept) (Pim iface message)) }
+        (effect (place_of kept.home core) now (control_of kept) (Customer (Pim iface message))) }
 {}
 
 /// A source that the tree of its interface's VRF notes to send is noted at the edge (RFC 6514 section 14).
@@ -33,7 +33,7 @@ pub fn note_is_made()
     ensures { (kept : Kept) (number : ℕ) (it : OwnTree) (iface : IfaceId) (source group : Addr) (now : ℕ) (core : Core) →
         AreTrees kept → slice_get (trees_of kept) number ≡ Some it → is_iface_of kept.home.scenario it.own.id iface ≡ true →
         Makes (with_tree number (noted iface source group it.tree) kept)
-        (effect (place_of kept.home core) now (control_of kept) (Active iface source group)) }
+        (effect (place_of kept.home core) now (control_of kept) (Customer (Active iface source group))) }
 {}
 
 /// A note that the tree of its interface's VRF ends is ended at the edge.
@@ -41,7 +41,7 @@ pub fn note_is_ended()
     ensures { (kept : Kept) (number : ℕ) (it : OwnTree) (iface : IfaceId) (source group : Addr) (now : ℕ) (core : Core) →
         AreTrees kept → slice_get (trees_of kept) number ≡ Some it → is_iface_of kept.home.scenario it.own.id iface ≡ true →
         Makes (with_tree number (unnoted iface source group it.tree) kept)
-        (effect (place_of kept.home core) now (control_of kept) (Idle iface source group)) }
+        (effect (place_of kept.home core) now (control_of kept) (Customer (Idle iface source group))) }
 {}
 
 /// The timers of entries and of selections that each tree runs are run at the edge, those of taken routes aside.
@@ -56,7 +56,7 @@ pub fn pattern_is_selected()
     ensures { (kept : Kept) (number : ℕ) (it : OwnTree) (pattern : Pattern) (now : ℕ) (core : Core) →
         AreTrees kept → slice_get (trees_of kept) number ≡ Some it → ¬ (IsSelected pattern it.tree.root.selections) →
         Makes (with_tree number (selected pattern now it.tree) kept)
-        (effect (place_of kept.home core) now (control_of kept) (Select it.own.id pattern)) }
+        (effect (place_of kept.home core) now (control_of kept) (Customer (Select it.own.id pattern))) }
 {}
 
 /// A pattern that the tree of a VRF selects no more, or has not selected, is not selected at the edge.
@@ -64,7 +64,7 @@ pub fn pattern_is_unselected()
     ensures { (kept : Kept) (number : ℕ) (it : OwnTree) (pattern : Pattern) (now : ℕ) (core : Core) →
         AreTrees kept → slice_get (trees_of kept) number ≡ Some it →
         Makes (with_tree number (unselected pattern it.tree) kept)
-        (effect (place_of kept.home core) now (control_of kept) (Unselect it.own.id pattern)) }
+        (effect (place_of kept.home core) now (control_of kept) (Customer (Unselect it.own.id pattern))) }
 {}
 
 /// The entries, the notes and the selections of an edge are as many as those of the trees of its VRFs together, and so are the entries and

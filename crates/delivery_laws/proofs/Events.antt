@@ -95,7 +95,7 @@ module _ (L : List ReportLine → Type 0) (l : IsOfLines L) (W V : World → Typ
 
   message_leads : (o : Option Given) (world : World) → W world → Leads L W (with_message o world)
   message_leads None world w = (l.none, w)
-  message_leads (Some given) world w = at_edge_leads (edge_of (scenario_of world) given.iface) (steps.Pim given.iface given.message) world w
+  message_leads (Some given) world w = at_edge_leads (edge_of (scenario_of world) given.iface) (steps.Customer (steps.Pim given.iface given.message)) world w
 
   turn_leads : (over : Direction) (world : World) → W world → Leads L W (turn over world)
   turn_leads over world w = by (world.network.transit over)
@@ -144,10 +144,12 @@ module _ (L : List ReportLine → Type 0) (l : IsOfLines L) (W V : World → Typ
   event_leads world (events.Join iface entry) w = message_leads (message_of (scenario_of world) (events.Join iface entry)) world w
   event_leads world (events.Prune iface entry) w = message_leads (message_of (scenario_of world) (events.Prune iface entry)) world w
   event_leads world (events.Pim iface octets) w = message_leads (message_of (scenario_of world) (events.Pim iface octets)) world w
-  event_leads world (events.Active iface source group) w = at_edge_leads (edge_of (scenario_of world) iface) (steps.Active iface source group) world w
-  event_leads world (events.Idle iface source group) w = at_edge_leads (edge_of (scenario_of world) iface) (steps.Idle iface source group) world w
-  event_leads world (events.Select vrf pattern) w = at_edge_leads (edge_of_vrf (scenario_of world) vrf) (steps.Select vrf pattern) world w
-  event_leads world (events.Unselect vrf pattern) w = at_edge_leads (edge_of_vrf (scenario_of world) vrf) (steps.Unselect vrf pattern) world w
+  event_leads world (events.Active iface source group) w =
+      at_edge_leads (edge_of (scenario_of world) iface) (steps.Customer (steps.Active iface source group)) world w
+  event_leads world (events.Idle iface source group) w =
+      at_edge_leads (edge_of (scenario_of world) iface) (steps.Customer (steps.Idle iface source group)) world w
+  event_leads world (events.Select vrf pattern) w = at_edge_leads (edge_of_vrf (scenario_of world) vrf) (steps.Customer (steps.Select vrf pattern)) world w
+  event_leads world (events.Unselect vrf pattern) w = at_edge_leads (edge_of_vrf (scenario_of world) vrf) (steps.Customer (steps.Unselect vrf pattern)) world w
   event_leads world (events.Hop from to place) w = one_row (Land from to place) tt world w
   event_leads world (events.DropCopy from to place) w = one_row (Drop from to place) tt world w
   event_leads world (events.Cost a b cost) w =

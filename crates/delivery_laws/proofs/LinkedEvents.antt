@@ -136,7 +136,8 @@ module _ (scenario : Scenario) (once : LinksOnce scenario) where
 
   message_linked : (o : Option Given) (world : World) → Linked scenario world → Leads Any (Linked scenario) (with_message o world)
   message_linked None world l = (tt, l)
-  message_linked (Some given) world l = at_edge_linked (edge_of (scenario_of world) given.iface) (steps.Pim given.iface given.message) tt world l
+  message_linked (Some given) world l =
+      at_edge_linked (edge_of (scenario_of world) given.iface) (steps.Customer (steps.Pim given.iface given.message)) tt world l
 
   turn_linked : (over : Direction) (world : World) → Linked scenario world → Leads Any (Linked scenario) (turn over world)
   turn_linked over world l = by (world.network.transit over)
@@ -201,11 +202,12 @@ module _ (scenario : Scenario) (once : LinksOnce scenario) where
   event_linked world (events.Prune iface entry) l = message_linked (message_of (scenario_of world) (events.Prune iface entry)) world l
   event_linked world (events.Pim iface octets) l = message_linked (message_of (scenario_of world) (events.Pim iface octets)) world l
   event_linked world (events.Active iface source group) l =
-      at_edge_linked (edge_of (scenario_of world) iface) (steps.Active iface source group) tt world l
+      at_edge_linked (edge_of (scenario_of world) iface) (steps.Customer (steps.Active iface source group)) tt world l
   event_linked world (events.Idle iface source group) l =
-      at_edge_linked (edge_of (scenario_of world) iface) (steps.Idle iface source group) tt world l
-  event_linked world (events.Select vrf pattern) l = at_edge_linked (edge_of_vrf (scenario_of world) vrf) (steps.Select vrf pattern) tt world l
-  event_linked world (events.Unselect vrf pattern) l = at_edge_linked (edge_of_vrf (scenario_of world) vrf) (steps.Unselect vrf pattern) tt world l
+      at_edge_linked (edge_of (scenario_of world) iface) (steps.Customer (steps.Idle iface source group)) tt world l
+  event_linked world (events.Select vrf pattern) l = at_edge_linked (edge_of_vrf (scenario_of world) vrf) (steps.Customer (steps.Select vrf pattern)) tt world l
+  event_linked world (events.Unselect vrf pattern) l =
+      at_edge_linked (edge_of_vrf (scenario_of world) vrf) (steps.Customer (steps.Unselect vrf pattern)) tt world l
   event_linked world (events.Hop from to place) l = one_row (Land from to place) tt world l
   event_linked world (events.DropCopy from to place) l = one_row (Drop from to place) tt world l
   event_linked world (events.Cost a b cost) l =

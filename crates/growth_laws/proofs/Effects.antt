@@ -21,14 +21,14 @@ use Rattle.mv_base.specs.declared.table_defs.change.Change.{Change}
 use Rattle.mv_base.specs.declared.table_defs.change.Change.TheVariants.{Reach, Unreach}
 use Rattle.label_defs.specs.Keys.{node_cmp}
 use Rattle.label_defs.proofs.KeyLemmas.{node_cases}
-use Rattle.label_defs.proofs.SetLemmas.{put_here, get-changed}
+use Rattle.label_defs.proofs.SetLemmas.{get-changed}
 use Rattle.label_defs.proofs.SetLemmas as sets_of
 use Rattle.pim_defs.specs.Single.{join_of}
 use Rattle.edge_defs.specs.Edge.{VrfPattern, pattern_cmp, Selected, TakenRoute, Taken, Control}
 use Rattle.edge_defs.specs.Keys.{Value, key_cmp, same_value}
 use Rattle.edge_defs.specs.Place.{EdgePlace, OwnVrf, own_addr, own_vrfs, lsp, tunnel_number}
 use Rattle.edge_defs.specs.Steps as steps
-use Rattle.edge_defs.specs.Steps.{learned, taken_change, with_update, with_selection, selection_run, selections_run, peers_run, effect}
+use Rattle.edge_defs.specs.Steps.{learned, taken_change, with_update, selection_run, selections_run, peers_run, effect}
 use Rattle.edge_defs.proofs.KeyLemmas.{pattern_total, pattern_exact}
 use Rattle.edge_words.specs.edge_laws.Acts.{message_of}
 use Rattle.edge_words.proofs.edge_laws.Local.{taken_behind}
@@ -274,7 +274,7 @@ module _ (horizon : ℕ) (trees : List Fec) (at : NodeId → EdgePlace) (kept : 
   -- ---- a join
 
   pub join_grows : (clock : ℕ) (iface : IfaceId) (neighbour source group : Addr) → horizon < clock + 210
-      → GrowsTo horizon trees at kept n old (steps.effect (at n) clock old (steps.Pim iface (join_of neighbour (entries.Source source group))))
+      → GrowsTo horizon trees at kept n old (steps.effect (at n) clock old (steps.Customer (steps.Pim iface (join_of neighbour (entries.Source source group)))))
   join_grows clock iface neighbour source group lt = record {
     grown = record {
       lasting = λ own expiry h. (joins_stay old.entries clock horizon (λ x e k. g.lasting x e k) iface neighbour source group own lt).1 expiry h;

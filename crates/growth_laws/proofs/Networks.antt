@@ -31,7 +31,7 @@ use Rattle.selective_defs.specs.Selective.{free_number}
 use Rattle.edge_defs.specs.Edge.{Control, pattern_cmp, Selected, EdgeData}
 use Rattle.edge_defs.specs.Place.{EdgePlace, OwnVrf, own_addr, own_vrfs, lsp, tunnel_number}
 use Rattle.edge_defs.specs.Steps as steps
-use Rattle.edge_defs.specs.Steps.{is_used, own_label_call, one_call}
+use Rattle.edge_defs.specs.Steps.{is_used}
 use Rattle.edge_words.specs.edge_laws.Acts.{message_of}
 use Rattle.network_defs.specs.Counts.{direction, is_bgp_up, is_end_up}
 use Rattle.network_defs.specs.Nodes.{NodeState, Edge, Nodes, place_of, label_place_of, part_of}
@@ -198,10 +198,10 @@ module _ (horizon clock : ℕ) (trees : List Fec) (network : MessageNetwork Node
       (timers_grow horizon trees (place_of nodes) (kept nodes) n edge.control (edge_grown edge at) nodes.clock g.nodes.early))
 
   pub join_called : (iface : IfaceId) (neighbour source group : Addr) → horizon < 210 →
-      let call : steps.Call = steps.Pim iface (join_of neighbour (entries.Source source group)) in
+      let call : steps.Call = steps.Customer (steps.Pim iface (join_of neighbour (entries.Source source group))) in
       NodeGrows horizon trees nodes n call (node_called nodes n (nodes.node n) call)
   join_called iface neighbour source group short =
-      let call : steps.Call = steps.Pim iface (join_of neighbour (entries.Source source group)) in
+      let call : steps.Call = steps.Customer (steps.Pim iface (join_of neighbour (entries.Source source group))) in
       node_grows horizon trees nodes n call g.nodes tt
       (λ edge at. effect_by call edge.control _ (join_grows horizon trees (place_of nodes) (kept nodes) n edge.control (edge_grown edge at)
       nodes.clock iface neighbour source group (omega (arith, short))))
@@ -211,11 +211,12 @@ module _ (horizon clock : ℕ) (trees : List Fec) (network : MessageNetwork Node
       → maps.get (kept nodes n).selections (record { vrf = vrf; pattern = pattern }) ≡ None
       → ((own : OwnVrf) → Among own (own_vrfs (place_of nodes n)) → own.id ≡ vrf
       → Among (lsp (own_addr (place_of nodes n)) (tunnel_number own.vrf (new_number vrf (kept nodes n).selections))) trees)
-      → NodeGrows horizon trees nodes n (steps.Select vrf pattern) (node_called nodes n (nodes.node n) (steps.Select vrf pattern))
+      → NodeGrows horizon trees nodes n (steps.Customer (steps.Select vrf pattern))
+      (node_called nodes n (nodes.node n) (steps.Customer (steps.Select vrf pattern)))
   select_called vrf pattern narrow free there =
-      node_grows horizon trees nodes n (steps.Select vrf pattern) g.nodes tt
+      node_grows horizon trees nodes n (steps.Customer (steps.Select vrf pattern)) g.nodes tt
       (λ edge at. (let control : kept nodes n ≡ edge.control = ap control_of at in
-      effect_by (steps.Select vrf pattern) edge.control _
+      effect_by (steps.Customer (steps.Select vrf pattern)) edge.control _
       (select_grows horizon trees (place_of nodes) (kept nodes) n edge.control (edge_grown edge at) vrf pattern
       (record { number = new_number vrf edge.control.selections; since = nodes.clock; run = false }) narrow
       (ap (λ (c : Control). maps.get c.selections (record { vrf = vrf; pattern = pattern })) (sym control) ∙ free)

@@ -21,7 +21,7 @@ use Rattle.label_defs.specs.LabelData as label_data
 use Rattle.label_defs.specs.LabelData.{Place, LabelData}
 use Rattle.label_defs.specs.Settling as settling
 use Rattle.label_defs.specs.Steps as labels
-use Rattle.label_defs.specs.Steps.{Numbered, numbered, told, effect, label_step, step_puts}
+use Rattle.label_defs.specs.Steps.{Numbered, numbered, told, effect, step_puts}
 use Rattle.label_defs.specs.declared.end.End.{End}
 use Rattle.label_defs.specs.declared.put.Put as label_put_of
 use Rattle.label_defs.proofs.KeyLemmas.{node_equal, node_itself}
@@ -33,7 +33,7 @@ use Rattle.edge_defs.specs.Imported.{taken_from}
 use Rattle.edge_defs.specs.Keys.{Value, key_cmp}
 use Rattle.edge_defs.specs.Place.{EdgePlace, addr_of}
 use Rattle.edge_defs.specs.Steps as steps
-use Rattle.edge_defs.specs.Steps.{LabelStep, EdgeStepped, is_vrf_step, refreshed, control_step, own_label_call, changed_leaves, one_call, label_row, part_after, raised_after, edge_step}
+use Rattle.edge_defs.specs.Steps.{LabelStep, EdgeStepped, is_vrf_step, refreshed_if, control_step, own_label_call, changed_leaves, one_call, part_after, raised_after}
 use Rattle.edge_defs.specs.Tunnels.{leaves}
 use Rattle.edge_words.specs.edge_laws.Acts.{message_of}
 use Rattle.edge_words.proofs.edge_laws.Taken.{table_in}
@@ -210,11 +210,7 @@ module _ (horizon : ℕ) (trees : List Fec) (nodes : Nodes) (g : NodesGrown hori
       by steps.Rerouted (inl e) = absurd (raised_rerouted to e)
       by steps.Rerouted (inr b) = absurd b
       by (steps.Update peer message) b = absurd b
-      by (steps.Pim iface message) b = absurd b
-      by (steps.Active iface source group) b = absurd b
-      by (steps.Idle iface source group) b = absurd b
-      by (steps.Select vrf pattern) b = absurd b
-      by (steps.Unselect vrf pattern) b = absurd b
+      by (steps.Customer call) b = absurd b
       by (steps.Raised kinds.Bgp peer) b = absurd b
       by (steps.Noticed kinds.Bgp peer) b = absurd b
 
@@ -254,7 +250,7 @@ module _ (horizon : ℕ) (trees : List Fec) (nodes : Nodes) (g : NodesGrown hori
         × ((peer : NodeId) → is_some (maps.get new.peers peer) ≡ true
         → (is_some (maps.get old.peers peer) ≡ true) ⊎ (call ≡ steps.Raised kinds.Bgp peer))
 
-    step_is : (b : Bool) → StepIs (cond b (refreshed place nodes.clock own) own)
+    step_is : (b : Bool) → StepIs (refreshed_if b place nodes.clock own)
     step_is true = (
       record { lasting = e.grown.lasting; picked = e.grown.picked; told = e.grown.told; alone = e.grown.alone },
       e.taken,

@@ -139,21 +139,21 @@ module _ (scenario : Scenario) (horizon now : ℕ) (trees : List Fec) where
   -- ---- calls
 
   join_comes : (o : Option NodeId) → IsFoundNode scenario o → (iface : IfaceId) (neighbour source group : Addr) → horizon < 210
-      → IsSoundCall (steps.Pim iface (join_of neighbour (entries.Source source group)))
-      → (world : World) → Good world → Comes Good (at_edge o (steps.Pim iface (join_of neighbour (entries.Source source group))) world)
+      → IsSoundCall (steps.Customer (steps.Pim iface (join_of neighbour (entries.Source source group))))
+      → (world : World) → Good world → Comes Good (at_edge o (steps.Customer (steps.Pim iface (join_of neighbour (entries.Source source group)))) world)
   join_comes None within iface neighbour source group short is world s = s
   join_comes (Some n) within iface neighbour source group short is world s =
-      let call : steps.Call = steps.Pim iface (join_of neighbour (entries.Source source group)) in
+      let call : steps.Call = steps.Customer (steps.Pim iface (join_of neighbour (entries.Source source group))) in
       alone_comes Good (At n call) world (called_must scenario horizon now trees world n call s within is
       (λ kind peer e. no_raise kind peer iface _ e)
       (join_called horizon now trees (seen world.network s.0) s.3 n iface neighbour source group short))
     where
-      no_raise : (kind : Kind) (peer : NodeId) (iface : IfaceId) (message : _) → steps.Pim iface message ≡ steps.Raised kind peer → ⊥
+      no_raise : (kind : Kind) (peer : NodeId) (iface : IfaceId) (message : _) → steps.Customer (steps.Pim iface message) ≡ steps.Raised kind peer → ⊥
       no_raise kind peer iface message e = absurd cc
 
 -- ---- a selection
 
-no_select : (vrf : VrfId) (pattern : Pattern) (kind : Kind) (peer : NodeId) → steps.Select vrf pattern ≡ steps.Raised kind peer → ⊥
+no_select : (vrf : VrfId) (pattern : Pattern) (kind : Kind) (peer : NodeId) → steps.Customer (steps.Select vrf pattern) ≡ steps.Raised kind peer → ⊥
 no_select vrf pattern kind peer e = absurd cc
 
 not_there : {A : Type 0} (o : Option A) → is_some o ≡ false → o ≡ None
@@ -169,11 +169,11 @@ pub record EventGrows (scenario : Scenario) (horizon now : ℕ) (trees : List Fe
   pub comes : Comes (WorldGrown scenario horizon later more) o
 
 select_comes : (scenario : Scenario) (horizon now : ℕ) (trees : List Fec) (world : World) (vrf : VrfId) (pattern : Pattern) → rank pattern ≡ 4
-    → IsSoundCall (steps.Select vrf pattern) → scenario_of world ≡ scenario
+    → IsSoundCall (steps.Customer (steps.Select vrf pattern)) → scenario_of world ≡ scenario
     → length trees + 1 < scenario.labels → is_selected world vrf pattern ≡ false → IsFoundNode scenario (edge_of_vrf (scenario_of world) vrf)
     → WorldGrown scenario horizon now trees world
     → EventGrows scenario horizon now trees (events.Select vrf pattern)
-    (at_edge (edge_of_vrf (scenario_of world) vrf) (steps.Select vrf pattern) world)
+    (at_edge (edge_of_vrf (scenario_of world) vrf) (steps.Customer (steps.Select vrf pattern)) world)
 select_comes scenario horizon now trees world vrf pattern narrow is same room free within s =
     by (slice_get (scenario_of world).vrfs vrf.0) refl free within
   where
@@ -185,7 +185,7 @@ select_comes scenario horizon now trees world vrf pattern narrow is same room fr
         [ None ↦ None | Some own ↦ Some own.edge ])).selections (record { vrf = vrf; pattern = pattern }) ≡ false
         → IsFoundNode scenario (elim found as (λ (o : Option Vrf). Option NodeId) [ None ↦ None | Some own ↦ Some own.edge ])
         → EventGrows scenario horizon now trees (events.Select vrf pattern)
-        (at_edge (elim found as (λ (o : Option Vrf). Option NodeId) [ None ↦ None | Some own ↦ Some own.edge ]) (steps.Select vrf pattern) world)
+        (at_edge (elim found as (λ (o : Option Vrf). Option NodeId) [ None ↦ None | Some own ↦ Some own.edge ]) (steps.Customer (steps.Select vrf pattern)) world)
     by None e off lt = record { later = now; soon = omega arith; more = trees; few = omega arith; comes = s }
     by (Some found) e off lt =
         let n : NodeId = found.edge in
@@ -202,8 +202,8 @@ select_comes scenario horizon now trees world vrf pattern narrow is same room fr
           soon = omega arith;
           more = fec ∷ trees;
           few = omega (arith, long);
-          comes = alone_comes (WorldGrown scenario horizon now (fec ∷ trees)) (At n (steps.Select vrf pattern)) world
-              (called_must scenario horizon now (fec ∷ trees) world n (steps.Select vrf pattern) grown lt is (no_select vrf pattern)
+          comes = alone_comes (WorldGrown scenario horizon now (fec ∷ trees)) (At n (steps.Customer (steps.Select vrf pattern))) world
+              (called_must scenario horizon now (fec ∷ trees) world n (steps.Customer (steps.Select vrf pattern)) grown lt is (no_select vrf pattern)
               (select_called horizon now (fec ∷ trees) network more n vrf pattern narrow
               (not_there (maps.get (kept world.network.state n).selections (record { vrf = vrf; pattern = pattern })) off)
               (λ own a id.

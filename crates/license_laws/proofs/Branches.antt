@@ -234,11 +234,7 @@ own_other : (place : Place) (now : ℕ) (part : LabelData) (from : NodeId) (ms :
 own_other place now part from ms (steps.Update peer message) ne q = q
 own_other place now part from ms (steps.Label n message) ne q =
     λ first e fec label h. q fec label (step_fewer place now part (labels.Taken n message) first from fec label ne e h)
-own_other place now part from ms (steps.Pim iface message) ne q = q
-own_other place now part from ms (steps.Active iface source group) ne q = q
-own_other place now part from ms (steps.Idle iface source group) ne q = q
-own_other place now part from ms (steps.Select vrf pattern) ne q = q
-own_other place now part from ms (steps.Unselect vrf pattern) ne q = q
+own_other place now part from ms (steps.Customer call) ne q = q
 own_other place now part from ms (steps.Raised kinds.Bgp peer) ne q = q
 own_other place now part from ms (steps.Raised kinds.Ldp peer) ne q =
     λ first e fec label h. q fec label (step_fewer place now part (labels.Raised peer) first from fec label tt e h)

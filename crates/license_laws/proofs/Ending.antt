@@ -101,15 +101,7 @@ call_end : (scenario : Scenario) (m : NodeId) (call : steps.Call) (old : Session
     → is_some (old.end kinds.Ldp n peer) ≡ is_some ((call_stand scenario m call old).end kinds.Ldp n peer)
 call_end scenario m (steps.Update p message) old n peer world sound fit = absurd sound.1
 call_end scenario m (steps.Label p message) old n peer world sound fit = absurd sound.1
-call_end scenario m (steps.Pim iface message) old n peer world sound fit =
-    same_both (n.0 == m.0) (old.end kinds.Ldp n peer) (old.end kinds.Ldp n peer) refl
-call_end scenario m (steps.Active iface source group) old n peer world sound fit =
-    same_both (n.0 == m.0) (old.end kinds.Ldp n peer) (old.end kinds.Ldp n peer) refl
-call_end scenario m (steps.Idle iface source group) old n peer world sound fit =
-    same_both (n.0 == m.0) (old.end kinds.Ldp n peer) (old.end kinds.Ldp n peer) refl
-call_end scenario m (steps.Select vrf pattern) old n peer world sound fit =
-    same_both (n.0 == m.0) (old.end kinds.Ldp n peer) (old.end kinds.Ldp n peer) refl
-call_end scenario m (steps.Unselect vrf pattern) old n peer world sound fit =
+call_end scenario m (steps.Customer call) old n peer world sound fit =
     same_both (n.0 == m.0) (old.end kinds.Ldp n peer) (old.end kinds.Ldp n peer) refl
 call_end scenario m (steps.Raised kind p) old n peer world sound fit = absurd fit
 call_end scenario m (steps.Noticed kind p) old n peer world sound fit = absurd fit

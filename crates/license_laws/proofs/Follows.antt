@@ -414,25 +414,25 @@ message_follows : (K : List Traced → World → Type 0) (H : List Traced → Ty
     → InStep (scenario_of world) world → K before world → Follows K H number (InStep (scenario_of world)) before (with_message o world)
 message_follows K H number before world keeps leaves sound None is s k = nothing K H number leaves.whole (InStep (scenario_of world)) before world s k
 message_follows K H number before world keeps leaves sound (Some given) is s k =
-    edge_follows (scenario_of world) K keeps H leaves number (edge_of (scenario_of world) given.iface) (steps.Pim given.iface given.message)
-    (edge_within (scenario_of world) sound given.iface) is before world (λ n e. tt) s k
+    edge_follows (scenario_of world) K keeps H leaves number (edge_of (scenario_of world) given.iface) (steps.Customer (steps.Pim given.iface given.message))
+    (edge_within (scenario_of world) sound given.iface) is before world (λ n e. (tt, refl)) s k
 
 select_follows : (K : List Traced → World → Type 0) (H : List Traced → Type 0) (number : ℕ) (before : List Traced) (world : World)
     → Keeps (scenario_of world) K → Leaves (scenario_of world) K H → SoundScenario (scenario_of world) → InStep (scenario_of world) world
-    → (vrf : VrfId) (pattern : Pattern) → IsSoundCall (steps.Select vrf pattern)
+    → (vrf : VrfId) (pattern : Pattern) → IsSoundCall (steps.Customer (steps.Select vrf pattern))
     → (maps.len (control_at world (edge_of_vrf (scenario_of world) vrf)).selections < 1000000) × (is_selected world vrf pattern ≡ false)
     → K before world → Follows K H number (InStep (scenario_of world)) before
-    (at_edge (edge_of_vrf (scenario_of world) vrf) (steps.Select vrf pattern) world)
+    (at_edge (edge_of_vrf (scenario_of world) vrf) (steps.Customer (steps.Select vrf pattern)) world)
 select_follows K H number before world keeps leaves sound s vrf pattern is room k =
     by (edge_of_vrf (scenario_of world) vrf) (vrf_within (scenario_of world) sound vrf) room
   where
     by : (o : Option NodeId) → IsFoundNode (scenario_of world) o
         → (maps.len (control_at world o).selections < 1000000)
         × (maps.contains_key (control_at world o).selections (record { vrf = vrf; pattern = pattern }) ≡ false)
-        → Follows K H number (InStep (scenario_of world)) before (at_edge o (steps.Select vrf pattern) world)
+        → Follows K H number (InStep (scenario_of world)) before (at_edge o (steps.Customer (steps.Select vrf pattern)) world)
     by None within fits = nothing K H number leaves.whole (InStep (scenario_of world)) before world s k
     by (Some n) within fits =
-        lone_act (scenario_of world) K keeps H leaves number (At n (steps.Select vrf pattern)) (within, is) before world fits s k
+        lone_act (scenario_of world) K keeps H leaves number (At n (steps.Customer (steps.Select vrf pattern))) (within, is) before world fits s k
 
 done_follows : (K : List Traced → World → Type 0) (H : List Traced → Type 0) (number : ℕ) (before : List Traced) (world : World)
     → Keeps (scenario_of world) K → Leaves (scenario_of world) K H → SoundScenario (scenario_of world) → InStep (scenario_of world) world
@@ -467,11 +467,11 @@ done_follows K H number before world keeps leaves lines s (events.Pim iface octe
     message_follows K H number before world keeps leaves lines (message_of (scenario_of world) (events.Pim iface octets))
     (read_is_sound iface octets sound) s k
 done_follows K H number before world keeps leaves lines s (events.Active iface source group) free sound k =
-    edge_follows (scenario_of world) K keeps H leaves number (edge_of (scenario_of world) iface) (steps.Active iface source group)
-    (edge_within (scenario_of world) lines iface) sound before world (λ n e. tt) s k
+    edge_follows (scenario_of world) K keeps H leaves number (edge_of (scenario_of world) iface) (steps.Customer (steps.Active iface source group))
+    (edge_within (scenario_of world) lines iface) sound before world (λ n e. (tt, refl)) s k
 done_follows K H number before world keeps leaves lines s (events.Idle iface source group) free sound k =
-    edge_follows (scenario_of world) K keeps H leaves number (edge_of (scenario_of world) iface) (steps.Idle iface source group)
-    (edge_within (scenario_of world) lines iface) tt before world (λ n e. tt) s k
+    edge_follows (scenario_of world) K keeps H leaves number (edge_of (scenario_of world) iface) (steps.Customer (steps.Idle iface source group))
+    (edge_within (scenario_of world) lines iface) tt before world (λ n e. (tt, refl)) s k
 done_follows K H number before world keeps leaves lines s (events.Send site source group payload) free sound k =
     sent_follows (scenario_of world) K keeps H leaves number site source group (packet source group payload) before world s k
 done_follows K H number before world keeps leaves lines s (events.Packet site octets) free sound k =
@@ -485,8 +485,8 @@ done_follows K H number before world keeps leaves lines s (events.Select vrf pat
     select_follows K H number before world keeps leaves lines s vrf pattern sound
     (omega (arith, few), not_refused (is_selected world vrf pattern) refusals.State x.0) k
 done_follows K H number before world keeps leaves lines s (events.Unselect vrf pattern) free sound k =
-    edge_follows (scenario_of world) K keeps H leaves number (edge_of_vrf (scenario_of world) vrf) (steps.Unselect vrf pattern)
-    (vrf_within (scenario_of world) lines vrf) tt before world (λ n e. tt) s k
+    edge_follows (scenario_of world) K keeps H leaves number (edge_of_vrf (scenario_of world) vrf) (steps.Customer (steps.Unselect vrf pattern))
+    (vrf_within (scenario_of world) lines vrf) tt before world (λ n e. (tt, refl)) s k
 done_follows K H number before world keeps leaves lines s (events.Hop from to place) free sound k =
     lone_act (scenario_of world) K keeps H leaves number (Land from to place) tt before world (two_ends (scenario_of world) lines from to place sound)
     s k

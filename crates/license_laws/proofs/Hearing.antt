@@ -64,11 +64,7 @@ behaved world before (Some new) node acted e = record { new = new; is = refl; sa
 sound_own : (call : steps.Call) → IsSoundCall call → IsOwnCall call
 sound_own (steps.Update peer message) s = s
 sound_own (steps.Label neighbour message) s = s
-sound_own (steps.Pim iface message) s = tt
-sound_own (steps.Active iface source group) s = tt
-sound_own (steps.Idle iface source group) s = tt
-sound_own (steps.Select vrf pattern) s = tt
-sound_own (steps.Unselect vrf pattern) s = tt
+sound_own (steps.Customer call) s = tt
 sound_own (steps.Raised kind peer) s = tt
 sound_own (steps.Noticed kind peer) s = tt
 sound_own steps.Timers s = tt

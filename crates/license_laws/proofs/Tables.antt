@@ -28,7 +28,7 @@ use Rattle.edge_defs.specs.Edge.{TakenRoute, Taken, Control, no_control}
 use Rattle.edge_defs.specs.Keys.{Value, key_cmp, same_value}
 use Rattle.edge_defs.specs.Place.{EdgePlace, addr_of}
 use Rattle.edge_defs.specs.Steps as steps
-use Rattle.edge_defs.specs.Steps.{EdgeStepped, LabelStep, learned, taken_change, with_update, effect, is_vrf_step, refreshed, control_step, own_label_call, one_call, changed_leaves, label_row, part_after, raised_after, edge_step}
+use Rattle.edge_defs.specs.Steps.{EdgeStepped, LabelStep, learned, taken_change, with_update, effect, control_step, own_label_call, one_call, changed_leaves, label_row, part_after, raised_after, edge_step}
 use Rattle.edge_defs.specs.Tunnels.{leaves}
 use Rattle.rule_laws.proofs.edge_words.edge_laws.Taken.{run_at, get-peers_run, table_in, run_taken}
 use Rattle.network_defs.specs.Nodes.{NodeState, Edge, CoreNode, Nodes, with_node, place_of, label_place_of}
@@ -222,11 +222,7 @@ effect_has : (place : EdgePlace) (now : ℕ) (from : NodeId) (changes : List Cha
 effect_has place now from changes old (steps.Update peer message) ne h =
     update_has now from peer message changes changes old (λ same. absurd (ne same)) (λ e. h) (λ e n. h) h
 effect_has place now from changes old (steps.Label neighbour message) ne h = h
-effect_has place now from changes old (steps.Pim iface message) ne h = h
-effect_has place now from changes old (steps.Active iface source group) ne h = h
-effect_has place now from changes old (steps.Idle iface source group) ne h = h
-effect_has place now from changes old (steps.Select vrf pattern) ne h = h
-effect_has place now from changes old (steps.Unselect vrf pattern) ne h = h
+effect_has place now from changes old (steps.Customer call) ne h = h
 effect_has place now from changes old (steps.Raised kinds.Bgp peer) ne h =
     insert_other from peer changes old.peers maps.empty (λ same. none_announced changes) h
 effect_has place now from changes old (steps.Raised kinds.Ldp peer) ne h = h
@@ -234,11 +230,6 @@ effect_has place now from changes old (steps.Noticed kinds.Bgp peer) ne h = remo
 effect_has place now from changes old (steps.Noticed kinds.Ldp peer) ne h = h
 effect_has place now from changes old steps.Timers ne h = run_other place now from changes old.peers h
 effect_has place now from changes old steps.Rerouted ne h = h
-
-flows_apart : (place : EdgePlace) (now : ℕ) (from : NodeId) (changes : List Change) (own : Control) (vrf : Bool) → PeerHas from changes own.peers
-    → PeerHas from changes (cond vrf (refreshed place now own) own).peers
-flows_apart place now from changes own true h = h
-flows_apart place now from changes own false h = h
 
 -- ---- a node
 
@@ -284,7 +275,7 @@ node_control nodes n from changes (Edge edge) call new at e h =
     (subst (λ (t : Bool). PeerHas from changes (control_of
     (cond t (Edge (record { control = control; part = part_after edge.part y.0; raised = raised_after nodes.clock edge.raised call }))
     (nodes.node n))).peers) (sym (node_itself n n refl))
-    (flows_apart place nodes.clock from changes (effect place nodes.clock edge.control call) (is_vrf_step call) (h edge refl)))
+    (h edge refl))
 node_control nodes n from changes (CoreNode part) call new at e h = by (own_label_call call) e
   where
     none : PeerHas from changes no_control.peers

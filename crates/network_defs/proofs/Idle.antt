@@ -112,11 +112,7 @@ raises_stay now old (steps.Raised kinds.Bgp peer) own e = absurd cc
 raises_stay now old (steps.Noticed kinds.Ldp peer) own e = refl
 raises_stay now old (steps.Noticed kinds.Bgp peer) own e = absurd cc
 raises_stay now old (steps.Update peer message) own e = refl
-raises_stay now old (steps.Pim iface message) own e = refl
-raises_stay now old (steps.Active iface source group) own e = refl
-raises_stay now old (steps.Idle iface source group) own e = refl
-raises_stay now old (steps.Select vrf pattern) own e = refl
-raises_stay now old (steps.Unselect vrf pattern) own e = refl
+raises_stay now old (steps.Customer call) own e = refl
 raises_stay now old steps.Timers own e = refl
 raises_stay now old steps.Rerouted own e = refl
 

@@ -142,7 +142,7 @@ at_edge (Some n) call world = row (At n call ∷ []) world
 
 abbrev pub with_message : Option Given → World → Outcome
 with_message None world = Done [] world
-with_message (Some given) world = at_edge (edge_of (scenario_of world) given.iface) (steps.Pim given.iface given.message) world
+with_message (Some given) world = at_edge (edge_of (scenario_of world) given.iface) (steps.Customer (steps.Pim given.iface given.message)) world
 
 -- what comes of an event that is not refused
 abbrev pub done : World → Event → Outcome
@@ -156,12 +156,12 @@ done world (events.Raise kind a b) = row (raises (sessions (scenario_of world)) 
 done world (events.Join iface entry) = with_message (message_of (scenario_of world) (events.Join iface entry)) world
 done world (events.Prune iface entry) = with_message (message_of (scenario_of world) (events.Prune iface entry)) world
 done world (events.Pim iface octets) = with_message (message_of (scenario_of world) (events.Pim iface octets)) world
-done world (events.Active iface source group) = at_edge (edge_of (scenario_of world) iface) (steps.Active iface source group) world
-done world (events.Idle iface source group) = at_edge (edge_of (scenario_of world) iface) (steps.Idle iface source group) world
+done world (events.Active iface source group) = at_edge (edge_of (scenario_of world) iface) (steps.Customer (steps.Active iface source group)) world
+done world (events.Idle iface source group) = at_edge (edge_of (scenario_of world) iface) (steps.Customer (steps.Idle iface source group)) world
 done world (events.Send site source group payload) = sent site source group (packet source group payload) world
 done world (events.Packet site octets) = sent site (source_in octets) (group_in octets) octets world
-done world (events.Select vrf pattern) = at_edge (edge_of_vrf (scenario_of world) vrf) (steps.Select vrf pattern) world
-done world (events.Unselect vrf pattern) = at_edge (edge_of_vrf (scenario_of world) vrf) (steps.Unselect vrf pattern) world
+done world (events.Select vrf pattern) = at_edge (edge_of_vrf (scenario_of world) vrf) (steps.Customer (steps.Select vrf pattern)) world
+done world (events.Unselect vrf pattern) = at_edge (edge_of_vrf (scenario_of world) vrf) (steps.Customer (steps.Unselect vrf pattern)) world
 done world (events.Hop from to place) = row (Land from to place ∷ []) world
 done world (events.DropCopy from to place) = row (Drop from to place ∷ []) world
 done world (events.Cost a b cost) = row (cost_acts (scenario_of world) a b cost) world

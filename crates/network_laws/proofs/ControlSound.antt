@@ -1,6 +1,6 @@
 -- What an edge keeps of its customers and of BGP stays sound: by a call of its own, by a message of a peer that is spelled in octets, and
 -- by a label message.
-use Rattle.std.proofs.Common.{ℕ, Bool, true, false, cond, List, [], ◌∷◌}
+use Rattle.std.proofs.Common.{ℕ, Bool, true, false, List, [], ◌∷◌}
 use Rattle.mv_base.specs.Octets.{IsOctets}
 use Rattle.mv_base.specs.declared.ids.NodeId.{NodeId}
 use Rattle.mldp.specs.declared.mldp_msgs.message.LabelMessage.{LabelMessage}
@@ -9,7 +9,7 @@ use Rattle.bgp_messages.specs.bgp_update.Spelling.{SpellsMessage}
 use Rattle.network_defs.specs.edge_defs.Edge.{Control}
 use Rattle.network_defs.specs.edge_defs.Place.{EdgePlace}
 use Rattle.network_defs.specs.edge_defs.Steps as steps
-use Rattle.network_defs.specs.edge_defs.Steps.{with_update, effect, is_vrf_step, refreshed, control_step}
+use Rattle.network_defs.specs.edge_defs.Steps.{with_update, effect, is_vrf_step, refreshed, refreshed_if, control_step}
 use Rattle.network_laws.specs.Sound.{SoundScenario, SoundControl}
 use Rattle.network_laws.specs.Honest.{IsSoundCall}
 use Rattle.network_laws.proofs.ControlFlows.{SoundSources, flows_are_sound}
@@ -31,7 +31,7 @@ refreshed_sound place now control h =
     }
 
 -- the flows become those that some interface asks for at the clock, or stay as they were
-stepped_sound : (place : EdgePlace) (now : ℕ) (own : Control) (vrf : Bool) → SoundControl own → SoundControl (cond vrf (refreshed place now own) own)
+stepped_sound : (place : EdgePlace) (now : ℕ) (own : Control) (vrf : Bool) → SoundControl own → SoundControl (refreshed_if vrf place now own)
 stepped_sound place now own true h = refreshed_sound place now own h
 stepped_sound place now own false h = h
 

@@ -117,7 +117,7 @@ pub effect_sound : (place : EdgePlace) (now : ℕ) (old : Control) (call : steps
     → SoundControl (effect place now old call)
 effect_sound place now old (steps.Update peer message) h heard = absurd heard
 effect_sound place now old (steps.Label neighbour message) h heard = absurd heard
-effect_sound place now old (steps.Pim iface message) h heard =
+effect_sound place now old (steps.Customer (steps.Pim iface message)) h heard =
     record {
       entries = applied_sound old.entries iface message now h.entries heard;
       notes = h.notes;
@@ -126,10 +126,11 @@ effect_sound place now old (steps.Pim iface message) h heard =
           h.flows;
       peers = h.peers;
     }
-effect_sound place now old (steps.Active iface source group) h heard =
+effect_sound place now old (steps.Customer (steps.Active iface source group)) h heard =
     with_notes old (record { iface = iface; source = source; group = group }) h heard
-effect_sound place now old (steps.Idle iface source group) h heard = without_note old (record { iface = iface; source = source; group = group }) h
-effect_sound place now old (steps.Select vrf pattern) h heard =
+effect_sound place now old (steps.Customer (steps.Idle iface source group)) h heard =
+    without_note old (record { iface = iface; source = source; group = group }) h
+effect_sound place now old (steps.Customer (steps.Select vrf pattern)) h heard =
     with_selections old (with_selection now vrf pattern old.selections) h
     (put_meets pattern_total pattern_exact SoundSelection old.selections (record { vrf = vrf; pattern = pattern })
     (record {
@@ -138,7 +139,7 @@ effect_sound place now old (steps.Select vrf pattern) h heard =
           now;
       run = false;
     }) h.selections heard)
-effect_sound place now old (steps.Unselect vrf pattern) h heard =
+effect_sound place now old (steps.Customer (steps.Unselect vrf pattern)) h heard =
     with_selections old (maps.remove old.selections (record { vrf = vrf; pattern = pattern })) h
     (cut_meets pattern_total pattern_exact SoundSelection old.selections (record { vrf = vrf; pattern = pattern }) h.selections)
 effect_sound place now old (steps.Raised kinds.Bgp peer) h heard =

@@ -72,11 +72,7 @@ own_call_sound (steps.Noticed kinds.Bgp peer) s = tt
 own_call_sound steps.Timers s = (tt, tt)
 own_call_sound steps.Rerouted s = (tt, tt)
 own_call_sound (steps.Update peer message) s = tt
-own_call_sound (steps.Pim iface message) s = tt
-own_call_sound (steps.Active iface source group) s = tt
-own_call_sound (steps.Idle iface source group) s = tt
-own_call_sound (steps.Select vrf pattern) s = tt
-own_call_sound (steps.Unselect vrf pattern) s = tt
+own_call_sound (steps.Customer call) s = tt
 
 -- the label calls of a step of an edge
 pub edge_calls_are_sound : (place : EdgePlace) (old new : Control) (call : steps.Call) → SoundControl old → SoundControl new → TakesSound call
@@ -104,11 +100,7 @@ own_call_raises (steps.Noticed kinds.Bgp peer) r = tt
 own_call_raises steps.Timers r = (tt, tt)
 own_call_raises steps.Rerouted r = (tt, tt)
 own_call_raises (steps.Update peer message) r = tt
-own_call_raises (steps.Pim iface message) r = tt
-own_call_raises (steps.Active iface source group) r = tt
-own_call_raises (steps.Idle iface source group) r = tt
-own_call_raises (steps.Select vrf pattern) r = tt
-own_call_raises (steps.Unselect vrf pattern) r = tt
+own_call_raises (steps.Customer call) r = tt
 
 pub own_call_raises_none : (call : steps.Call) (own : labels.Call) → RaisesNone call → own_label_call call ≡ Some own → IsNoRaise own
 own_call_raises_none call own r e = (subst (λ (o : Option labels.Call). AllByRecursion IsNoRaise (one_call o)) e (own_call_raises call r)).0

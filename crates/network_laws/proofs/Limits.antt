@@ -38,7 +38,7 @@ use Rattle.label_defs.specs.Steps.{label_step}
 use Rattle.network_defs.specs.edge_defs.Edge as edges
 use Rattle.network_defs.specs.edge_defs.Edge.{Control, EdgeData, Note, VrfPattern, Selected, no_control, note_cmp, pattern_cmp}
 use Rattle.network_defs.specs.edge_defs.Steps as steps
-use Rattle.network_defs.specs.edge_defs.Steps.{effect, control_step, refreshed, is_vrf_step, taken_change, with_update, is_used, with_selection, selections_run, selection_run}
+use Rattle.network_defs.specs.edge_defs.Steps.{effect, control_step, taken_change, with_update, is_used, with_selection, selections_run, selection_run}
 use Rattle.network_defs.specs.mvpn_model.declared.message.Given.{Given}
 use Rattle.network_defs.specs.Acts.{Act, Tick, Timers, Move, Lose, Notice, RaiseFirst, RaiseSecond, Restart, At, Enter, Land, Drop, Tell, SetCost, Reroute, Acted, with_network, at_node, is_of_session, is_at, leads_to, is_from_peer, with_aged, act}
 use Rattle.network_defs.specs.Counts.{direction, all_nodes}
@@ -151,10 +151,10 @@ removed_few false n = omega arith
 
 -- a call for which there is room
 abbrev pub HasRoom : ℕ → Control → steps.Call → Type 0
-HasRoom now old (steps.Pim iface message) = maps.len (applied old.entries iface message now) ≤ entry_limit
-HasRoom now old (steps.Active iface source group) =
+HasRoom now old (steps.Customer (steps.Pim iface message)) = maps.len (applied old.entries iface message now) ≤ entry_limit
+HasRoom now old (steps.Customer (steps.Active iface source group)) =
     (sets.contains old.notes (record { iface = iface; source = source; group = group }) ≡ true) ⊎ (sets.len old.notes < note_limit)
-HasRoom now old (steps.Select vrf pattern) = maps.len old.selections < selection_limit
+HasRoom now old (steps.Customer (steps.Select vrf pattern)) = maps.len old.selections < selection_limit
 HasRoom now old other = ⊤
 
 noted_few : (t : Bool) (n : ℕ) → n ≤ note_limit → (t ≡ true) ⊎ (n < note_limit) → cond t n (n + 1) ≤ note_limit
@@ -176,12 +176,12 @@ effect_within : (place : EdgePlace) (now : ℕ) (old : Control) (call : steps.Ca
     → IsWithin (effect place now old call)
 effect_within place now old (steps.Update peer message) room w = updated_same now peer message old w
 effect_within place now old (steps.Label neighbour message) room w = w
-effect_within place now old (steps.Pim iface message) room w = record { entries = room; notes = w.notes; selections = w.selections }
-effect_within place now old (steps.Active iface source group) room w =
+effect_within place now old (steps.Customer (steps.Pim iface message)) room w = record { entries = room; notes = w.notes; selections = w.selections }
+effect_within place now old (steps.Customer (steps.Active iface source group)) room w =
     let note : Note = record { iface = iface; source = source; group = group } in
     let le = noted_few (sets.contains old.notes note) (sets.len old.notes) w.notes room in
     record { entries = w.entries; notes = (let e = sets.len-insert note_total old.notes note in omega (arith, e, le)); selections = w.selections }
-effect_within place now old (steps.Idle iface source group) room w =
+effect_within place now old (steps.Customer (steps.Idle iface source group)) room w =
     let note : Note = record { iface = iface; source = source; group = group } in
     let few = w.notes in
     let le = removed_few (sets.contains old.notes note) (sets.len old.notes) in
@@ -191,7 +191,7 @@ effect_within place now old (steps.Idle iface source group) room w =
       selections =
           w.selections;
     }
-effect_within place now old (steps.Select vrf pattern) room w =
+effect_within place now old (steps.Customer (steps.Select vrf pattern)) room w =
     record { entries = w.entries; notes = w.notes; selections = selected }
   where
     selected : maps.len (with_selection now vrf pattern old.selections) ≤ selection_limit
@@ -201,7 +201,7 @@ effect_within place now old (steps.Select vrf pattern) room w =
         let e = maps.len-insert pattern_total old.selections (record { vrf = vrf; pattern = pattern }) new in
         let le = inserted_few (maps.contains_key old.selections (record { vrf = vrf; pattern = pattern })) (maps.len old.selections) in
         omega (arith, e, le, room)
-effect_within place now old (steps.Unselect vrf pattern) room w =
+effect_within place now old (steps.Customer (steps.Unselect vrf pattern)) room w =
     let few = w.selections in
     let e = maps.len-remove pattern_total old.selections (record { vrf = vrf; pattern = pattern }) in
     let le = removed_few (maps.contains_key old.selections (record { vrf = vrf; pattern = pattern })) (maps.len old.selections) in
@@ -222,12 +222,8 @@ effect_within place now old steps.Rerouted room w = w
 
 control_within : (place : EdgePlace) (now : ℕ) (old : Control) (call : steps.Call) → HasRoom now old call → IsWithin old
     → IsWithin (control_step place now old call)
-control_within place now old call room w = by (is_vrf_step call) (effect_within place now old call room w)
-  where
-    by : (t : Bool) → IsWithin (effect place now old call)
-        → IsWithin (cond t (refreshed place now (effect place now old call)) (effect place now old call))
-    by true own = record { entries = own.entries; notes = own.notes; selections = own.selections }
-    by false own = own
+control_within place now old call room w =
+    let own = effect_within place now old call room w in record { entries = own.entries; notes = own.notes; selections = own.selections }
 
 no_control_within : IsWithin no_control
 no_control_within = record {
@@ -481,7 +477,7 @@ message_comes world (Some given) free all =
     passed_if (not (is_ours (scenario_of world) given)) refusals.Ours
     (if are_sessions_full world then Some refusals.Full else refused_if many refusals.Full) free in
     let few = refused_not many refusals.Full (passed_if (are_sessions_full world) refusals.Full (refused_if many refusals.Full) after_ours) in
-    edge_comes edge (steps.Pim given.iface given.message) world
+    edge_comes edge (steps.Customer (steps.Pim given.iface given.message)) world
     (ltb-false entry_limit (maps.len (applied (control_at world edge).entries given.iface given.message (clock_of world))) few) all
 
 noted_room : (t u : Bool) (n : ℕ) → nat_le note_limit n ≡ u → (not t && u) ≡ false → (t ≡ true) ⊎ (n < note_limit)
@@ -490,24 +486,24 @@ noted_room false false n is e = inr (let lt = leb-false note_limit n is in omega
 noted_room false true n is e = absurd cc
 
 note_comes : (world : World) (note : Note) → note_refusal world note ≡ None → AreWithin world
-    → Comes AreWithin (at_edge (edge_of (scenario_of world) note.iface) (steps.Active note.iface note.source note.group) world)
+    → Comes AreWithin (at_edge (edge_of (scenario_of world) note.iface) (steps.Customer (steps.Active note.iface note.source note.group)) world)
 note_comes world note free all =
     let edge = edge_of (scenario_of world) note.iface in
     let notes = (control_at world edge).notes in
     let full = refused_not (are_sessions_full world || (not (sets.contains notes note) && nat_le note_limit (sets.len notes))) refusals.Full free in
     let parts = or_parts (are_sessions_full world) (not (sets.contains notes note) && nat_le note_limit (sets.len notes)) full in
-    edge_comes edge (steps.Active note.iface note.source note.group) world
+    edge_comes edge (steps.Customer (steps.Active note.iface note.source note.group)) world
     (noted_room (sets.contains notes note) (nat_le note_limit (sets.len notes)) (sets.len notes) refl parts.1) all
 
 select_comes : (world : World) (vrf : VrfId) (pattern : Pattern) → refusal world (events.Select vrf pattern) ≡ None → AreWithin world
-    → Comes AreWithin (at_edge (edge_of_vrf (scenario_of world) vrf) (steps.Select vrf pattern) world)
+    → Comes AreWithin (at_edge (edge_of_vrf (scenario_of world) vrf) (steps.Customer (steps.Select vrf pattern)) world)
 select_comes world vrf pattern free all =
     let full = are_sessions_full world || nat_le selection_limit (selections_at world vrf) in
     let later = (first_not (refused_if (is_selected world vrf pattern) refusals.State) (refused_if full refusals.Full) free).1 in
     let few =
     leb-false selection_limit (selections_at world vrf)
     (or_parts (are_sessions_full world) (nat_le selection_limit (selections_at world vrf)) (refused_not full refusals.Full later)).1 in
-    edge_comes (edge_of_vrf (scenario_of world) vrf) (steps.Select vrf pattern) world few all
+    edge_comes (edge_of_vrf (scenario_of world) vrf) (steps.Customer (steps.Select vrf pattern)) world few all
 
 -- ---- events
 
@@ -533,9 +529,10 @@ done_within world (events.Pim iface bytes) free all =
     (first_not (octets_refusal bytes) (message_refusal world (message_of (scenario_of world) (events.Pim iface bytes))) free).1 all
 done_within world (events.Active iface source group) free all = note_comes world (record { iface = iface; source = source; group = group }) free all
 done_within world (events.Idle iface source group) free all =
-    edge_comes (edge_of (scenario_of world) iface) (steps.Idle iface source group) world tt all
+    edge_comes (edge_of (scenario_of world) iface) (steps.Customer (steps.Idle iface source group)) world tt all
 done_within world (events.Select vrf pattern) free all = select_comes world vrf pattern free all
-done_within world (events.Unselect vrf pattern) free all = edge_comes (edge_of_vrf (scenario_of world) vrf) (steps.Unselect vrf pattern) world tt all
+done_within world (events.Unselect vrf pattern) free all =
+    edge_comes (edge_of_vrf (scenario_of world) vrf) (steps.Customer (steps.Unselect vrf pattern)) world tt all
 done_within world (events.Cost a b cost) free all = cost_comes world a b cost all
 done_within world other free all = routine other tt world all
 

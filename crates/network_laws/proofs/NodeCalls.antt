@@ -41,11 +41,7 @@ pub record IsGoodCall (call : steps.Call) : Type 0 where
 own_takes : (call : steps.Call) → IsSoundCall call → TakesSound call
 own_takes (steps.Update peer message) s = absurd s
 own_takes (steps.Label neighbour message) s = absurd s
-own_takes (steps.Pim iface message) s = tt
-own_takes (steps.Active iface source group) s = tt
-own_takes (steps.Idle iface source group) s = tt
-own_takes (steps.Select vrf pattern) s = tt
-own_takes (steps.Unselect vrf pattern) s = tt
+own_takes (steps.Customer call) s = tt
 own_takes (steps.Raised kind peer) s = tt
 own_takes (steps.Noticed kind peer) s = tt
 own_takes steps.Timers s = tt

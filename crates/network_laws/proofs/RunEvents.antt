@@ -167,7 +167,7 @@ message_stays : (world : World) → SoundScenario (scenario_of world) → (o : O
     → Comes (WorldStays (scenario_of world)) (with_message o world)
 message_stays world lines None sound s = s
 message_stays world lines (Some given) sound s =
-    edge_stays (scenario_of world) (edge_of (scenario_of world) given.iface) (steps.Pim given.iface given.message)
+    edge_stays (scenario_of world) (edge_of (scenario_of world) given.iface) (steps.Customer (steps.Pim given.iface given.message))
     (edge_within (scenario_of world) lines given.iface) sound world s
 
 -- two nodes that are linked are two
@@ -195,19 +195,23 @@ done_stays world lines s (events.Prune iface entry) sound =
 done_stays world lines s (events.Pim iface octets) sound =
     message_stays world lines (message_of (scenario_of world) (events.Pim iface octets)) (read_is_sound iface octets sound) s
 done_stays world lines s (events.Active iface source group) sound =
-    edge_stays (scenario_of world) (edge_of (scenario_of world) iface) (steps.Active iface source group) (edge_within (scenario_of world) lines iface)
+    edge_stays (scenario_of world) (edge_of (scenario_of world) iface) (steps.Customer (steps.Active iface source group))
+    (edge_within (scenario_of world) lines iface)
     sound world s
 done_stays world lines s (events.Idle iface source group) sound =
-    edge_stays (scenario_of world) (edge_of (scenario_of world) iface) (steps.Idle iface source group) (edge_within (scenario_of world) lines iface)
+    edge_stays (scenario_of world) (edge_of (scenario_of world) iface) (steps.Customer (steps.Idle iface source group))
+    (edge_within (scenario_of world) lines iface)
     tt world s
 done_stays world lines s (events.Send site source group payload) sound =
     sent_stays (scenario_of world) site source group (packet source group payload) world s
 done_stays world lines s (events.Packet site octets) sound = sent_stays (scenario_of world) site (source_in octets) (group_in octets) octets world s
 done_stays world lines s (events.Select vrf pattern) sound =
-    edge_stays (scenario_of world) (edge_of_vrf (scenario_of world) vrf) (steps.Select vrf pattern) (vrf_within (scenario_of world) lines vrf) sound
+    edge_stays (scenario_of world) (edge_of_vrf (scenario_of world) vrf) (steps.Customer (steps.Select vrf pattern))
+    (vrf_within (scenario_of world) lines vrf) sound
     world s
 done_stays world lines s (events.Unselect vrf pattern) sound =
-    edge_stays (scenario_of world) (edge_of_vrf (scenario_of world) vrf) (steps.Unselect vrf pattern) (vrf_within (scenario_of world) lines vrf) tt
+    edge_stays (scenario_of world) (edge_of_vrf (scenario_of world) vrf) (steps.Customer (steps.Unselect vrf pattern))
+    (vrf_within (scenario_of world) lines vrf) tt
     world s
 done_stays world lines s (events.Hop from to place) sound = row_stays (scenario_of world) (Land from to place ∷ []) (tt, tt) world s
 done_stays world lines s (events.DropCopy from to place) sound = row_stays (scenario_of world) (Drop from to place ∷ []) (tt, tt) world s

@@ -183,7 +183,7 @@ module _ (P : World → Type 0) (keeps : (one : Act) → IsSteady one → (world
 
   message_keeps : (o : Option Given) (world : World) → P world → Comes P (with_message o world)
   message_keeps None world p = p
-  message_keeps (Some given) world p = edge_keeps (edge_of (scenario_of world) given.iface) (steps.Pim given.iface given.message) world p
+  message_keeps (Some given) world p = edge_keeps (edge_of (scenario_of world) given.iface) (steps.Customer (steps.Pim given.iface given.message)) world p
 
   routine : (event : Event) → IsRoutine event → (world : World) → P world → Comes P (done world event)
   routine event is world p = routine_event P (λ one plain. keeps one (plain_steady one plain)) sends event is world p
@@ -193,9 +193,10 @@ module _ (P : World → Type 0) (keeps : (one : Act) → IsSteady one → (world
   steady_event (events.Prune iface entry) is world p = message_keeps (message_of (scenario_of world) (events.Prune iface entry)) world p
   steady_event (events.Pim iface octets) is world p = message_keeps (message_of (scenario_of world) (events.Pim iface octets)) world p
   steady_event (events.Active iface source group) is world p =
-      edge_keeps (edge_of (scenario_of world) iface) (steps.Active iface source group) world p
-  steady_event (events.Idle iface source group) is world p = edge_keeps (edge_of (scenario_of world) iface) (steps.Idle iface source group) world p
-  steady_event (events.Select vrf pattern) is world p = edge_keeps (edge_of_vrf (scenario_of world) vrf) (steps.Select vrf pattern) world p
-  steady_event (events.Unselect vrf pattern) is world p = edge_keeps (edge_of_vrf (scenario_of world) vrf) (steps.Unselect vrf pattern) world p
+      edge_keeps (edge_of (scenario_of world) iface) (steps.Customer (steps.Active iface source group)) world p
+  steady_event (events.Idle iface source group) is world p =
+      edge_keeps (edge_of (scenario_of world) iface) (steps.Customer (steps.Idle iface source group)) world p
+  steady_event (events.Select vrf pattern) is world p = edge_keeps (edge_of_vrf (scenario_of world) vrf) (steps.Customer (steps.Select vrf pattern)) world p
+  steady_event (events.Unselect vrf pattern) is world p = edge_keeps (edge_of_vrf (scenario_of world) vrf) (steps.Customer (steps.Unselect vrf pattern)) world p
   steady_event (events.Cost a b cost) is world p = absurd is
   steady_event other is world p = routine other tt world p

@@ -29,11 +29,11 @@ SoundMessage message = AllByRecursion SoundGroup message.groups
 abbrev pub IsSoundCall : steps.Call → Type 0
 IsSoundCall (steps.Update peer message) = ⊥
 IsSoundCall (steps.Label neighbour message) = ⊥
-IsSoundCall (steps.Pim iface message) = SoundMessage message
-IsSoundCall (steps.Active iface source group) = IsFlow source group
-IsSoundCall (steps.Idle iface source group) = Unit {0}
-IsSoundCall (steps.Select vrf pattern) = SoundPattern pattern
-IsSoundCall (steps.Unselect vrf pattern) = Unit {0}
+IsSoundCall (steps.Customer (steps.Pim iface message)) = SoundMessage message
+IsSoundCall (steps.Customer (steps.Active iface source group)) = IsFlow source group
+IsSoundCall (steps.Customer (steps.Idle iface source group)) = Unit {0}
+IsSoundCall (steps.Customer (steps.Select vrf pattern)) = SoundPattern pattern
+IsSoundCall (steps.Customer (steps.Unselect vrf pattern)) = Unit {0}
 IsSoundCall (steps.Raised kind peer) = Unit {0}
 IsSoundCall (steps.Noticed kind peer) = Unit {0}
 IsSoundCall steps.Timers = Unit {0}

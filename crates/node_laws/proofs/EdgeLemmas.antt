@@ -16,7 +16,7 @@ use Rattle.edge_defs.specs.Edge.{Control, EdgeData}
 use Rattle.edge_defs.specs.Held.{put_to}
 use Rattle.edge_defs.specs.Keys.{Value}
 use Rattle.edge_defs.specs.Place.{EdgePlace, addr_of, label_place}
-use Rattle.edge_defs.specs.Steps.{Call, Update, Label, Pim, Active, Idle, Select, Unselect, Raised, Noticed, Timers, Rerouted}
+use Rattle.edge_defs.specs.Steps.{Call, Customer, Update, Label, Raised, Noticed, Timers, Rerouted}
 use Rattle.edge_defs.specs.Steps.{EdgeStepped, LabelStep, edge_step, control_step, own_label_call, changed_leaves, label_row, part_after, raised_after}
 use Rattle.edge_defs.specs.Tunnels.{leaves}
 use Rattle.network_defs.specs.mvpn_model.Sessions.{edges}
@@ -32,11 +32,7 @@ use Rattle.node_laws.proofs.RowLemmas.{changes_notice_none, lacks_behind, octets
 edge_data : (call : Call) (old : EdgeState) → (prepared call old).edge ≡ old.edge
 edge_data (Update peer message) old = refl
 edge_data (Label neighbour message) old = refl
-edge_data (Pim iface message) old = refl
-edge_data (Active iface source group) old = refl
-edge_data (Idle iface source group) old = refl
-edge_data (Select vrf pattern) old = refl
-edge_data (Unselect vrf pattern) old = refl
+edge_data (Customer call) old = refl
 edge_data (Raised kind peer) old = refl
 edge_data (Noticed kind peer) old = refl
 edge_data Timers old = refl
@@ -45,11 +41,7 @@ edge_data Rerouted old = refl
 edge_spent : (call : Call) (old : EdgeState) → (prepared call old).spent ≡ old.spent
 edge_spent (Update peer message) old = refl
 edge_spent (Label neighbour message) old = refl
-edge_spent (Pim iface message) old = refl
-edge_spent (Active iface source group) old = refl
-edge_spent (Idle iface source group) old = refl
-edge_spent (Select vrf pattern) old = refl
-edge_spent (Unselect vrf pattern) old = refl
+edge_spent (Customer call) old = refl
 edge_spent (Raised kind peer) old = refl
 edge_spent (Noticed kind peer) old = refl
 edge_spent Timers old = refl
@@ -59,11 +51,7 @@ edge_waits : (call : Call) (old : EdgeState) (node : LabelNode) → AreLabelOcte
     → AreLabelOctets (prepared call old).waiting (prepared_by (own_label_call call) node).waiting
 edge_waits (Update peer message) old node same = same
 edge_waits (Label neighbour message) old node same = same
-edge_waits (Pim iface message) old node same = same
-edge_waits (Active iface source group) old node same = same
-edge_waits (Idle iface source group) old node same = same
-edge_waits (Select vrf pattern) old node same = same
-edge_waits (Unselect vrf pattern) old node same = same
+edge_waits (Customer call) old node same = same
 edge_waits (Raised kinds.Bgp peer) old node same = same
 edge_waits (Raised kinds.Ldp peer) old node same = same
 edge_waits (Noticed kinds.Bgp peer) old node same =
@@ -77,11 +65,7 @@ edge_raises : (call : Call) (old : EdgeState) (node : LabelNode) → node.raises
     → (prepared_by (own_label_call call) node).raises ≡ (prepared call old).raises
 edge_raises (Update peer message) old node same = same
 edge_raises (Label neighbour message) old node same = same
-edge_raises (Pim iface message) old node same = same
-edge_raises (Active iface source group) old node same = same
-edge_raises (Idle iface source group) old node same = same
-edge_raises (Select vrf pattern) old node same = same
-edge_raises (Unselect vrf pattern) old node same = same
+edge_raises (Customer call) old node same = same
 edge_raises (Raised kinds.Bgp peer) old node same = same
 edge_raises (Raised kinds.Ldp peer) old node same = λ i. maps.insert (same i) peer (one_more (raises_of (same i) peer))
 edge_raises (Noticed kinds.Bgp peer) old node same = same

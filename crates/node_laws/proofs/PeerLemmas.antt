@@ -23,7 +23,7 @@ use Rattle.edge_defs.specs.Edge.{Control}
 use Rattle.edge_defs.specs.Held.{put_to}
 use Rattle.edge_defs.specs.Keys.{Value}
 use Rattle.edge_defs.specs.Place.{EdgePlace, addr_of, label_place}
-use Rattle.edge_defs.specs.Steps.{Call, Update, Label, Pim, Active, Idle, Select, Unselect, Raised, Noticed, Timers, Rerouted}
+use Rattle.edge_defs.specs.Steps.{Call, Customer, Update, Label, Raised, Noticed, Timers, Rerouted}
 use Rattle.edge_defs.specs.Steps.{EdgeStepped, LabelStep, edge_step}
 use Rattle.network_defs.specs.mvpn_model.Sessions.{edges, edges_from}
 use Rattle.network_defs.specs.node_defs.EdgeState.{EdgeState, called, prepared, waiting_at, with_puts}
@@ -150,11 +150,7 @@ kept : (call : Call) (old : EdgeState) (peer : NodeId)
     → waiting_at (prepared call old).waiting (bgp_session peer) ≡ kept_for call peer (waiting_at old.waiting (bgp_session peer))
 kept (Update from message) old peer = refl
 kept (Label neighbour message) old peer = refl
-kept (Pim iface message) old peer = refl
-kept (Active iface source group) old peer = refl
-kept (Idle iface source group) old peer = refl
-kept (Select vrf pattern) old peer = refl
-kept (Unselect vrf pattern) old peer = refl
+kept (Customer call) old peer = refl
 kept (Raised kind from) old peer = refl
 kept (Noticed kinds.Bgp lost) old peer =
     waiting_less old.waiting (bgp_session lost) (bgp_session peer)

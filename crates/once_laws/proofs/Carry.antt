@@ -266,13 +266,13 @@ module _ (F : Nodes → Type 0) (Fits : Kind → NodeId → NodeId → Type 0)
   EventMay (events.Timers node) = May (Own node steps.Timers)
   EventMay events.Settle = (n : NodeId) → May (Own n steps.Timers)
   EventMay (events.Restart node) = May (Reset node)
-  EventMay (events.Join iface entry) = (n : NodeId) (at : IfaceId) (message : JoinPrune) → May (Own n (steps.Pim at message))
-  EventMay (events.Prune iface entry) = (n : NodeId) (at : IfaceId) (message : JoinPrune) → May (Own n (steps.Pim at message))
-  EventMay (events.Pim iface bytes) = (n : NodeId) (at : IfaceId) (message : JoinPrune) → May (Own n (steps.Pim at message))
-  EventMay (events.Active iface source group) = (n : NodeId) → May (Own n (steps.Active iface source group))
-  EventMay (events.Idle iface source group) = (n : NodeId) → May (Own n (steps.Idle iface source group))
-  EventMay (events.Select vrf pattern) = (n : NodeId) → May (Own n (steps.Select vrf pattern))
-  EventMay (events.Unselect vrf pattern) = (n : NodeId) → May (Own n (steps.Unselect vrf pattern))
+  EventMay (events.Join iface entry) = (n : NodeId) (at : IfaceId) (message : JoinPrune) → May (Own n (steps.Customer (steps.Pim at message)))
+  EventMay (events.Prune iface entry) = (n : NodeId) (at : IfaceId) (message : JoinPrune) → May (Own n (steps.Customer (steps.Pim at message)))
+  EventMay (events.Pim iface bytes) = (n : NodeId) (at : IfaceId) (message : JoinPrune) → May (Own n (steps.Customer (steps.Pim at message)))
+  EventMay (events.Active iface source group) = (n : NodeId) → May (Own n (steps.Customer (steps.Active iface source group)))
+  EventMay (events.Idle iface source group) = (n : NodeId) → May (Own n (steps.Customer (steps.Idle iface source group)))
+  EventMay (events.Select vrf pattern) = (n : NodeId) → May (Own n (steps.Customer (steps.Select vrf pattern)))
+  EventMay (events.Unselect vrf pattern) = (n : NodeId) → May (Own n (steps.Customer (steps.Unselect vrf pattern)))
   EventMay (events.Cost a b cost) = May (Price a b cost) × ((n : NodeId) → May (Follow n))
   EventMay other = ⊤
 
@@ -314,11 +314,12 @@ module _ (F : Nodes → Type 0) (Fits : Kind → NodeId → NodeId → Type 0)
   at_edge_holds None call w world c = (tt, c)
   at_edge_holds (Some n) call w world c = rows (At n call ∷ []) (w n, tt) world c
 
-  message_holds : ((n : NodeId) (at : IfaceId) (message : JoinPrune) → May (Own n (steps.Pim at message))) → (o : Option Given) (world : World)
+  message_holds : ((n : NodeId) (at : IfaceId) (message : JoinPrune) → May (Own n (steps.Customer (steps.Pim at message)))) → (o : Option Given) (world : World)
       → Holding world → Leads Any Holding (with_message o world)
   message_holds w None world c = (tt, c)
   message_holds w (Some given) world c =
-      at_edge_holds (edge_of (scenario_of world) given.iface) (steps.Pim given.iface given.message) (λ n. w n given.iface given.message) world c
+      at_edge_holds (edge_of (scenario_of world) given.iface) (steps.Customer (steps.Pim given.iface given.message)) (λ n. w n given.iface given.message)
+      world c
 
   turn_holds : (over : Direction) (world : World) → Holding world → Leads Any Holding (turn over world)
   turn_holds over world c = by (world.network.transit over)
@@ -377,10 +378,12 @@ module _ (F : Nodes → Type 0) (Fits : Kind → NodeId → NodeId → Type 0)
   event_holds world (events.Prune iface entry) w c = message_holds w (message_of (scenario_of world) (events.Prune iface entry)) world c
   event_holds world (events.Pim iface bytes) w c = message_holds w (message_of (scenario_of world) (events.Pim iface bytes)) world c
   event_holds world (events.Active iface source group) w c =
-      at_edge_holds (edge_of (scenario_of world) iface) (steps.Active iface source group) w world c
-  event_holds world (events.Idle iface source group) w c = at_edge_holds (edge_of (scenario_of world) iface) (steps.Idle iface source group) w world c
-  event_holds world (events.Select vrf pattern) w c = at_edge_holds (edge_of_vrf (scenario_of world) vrf) (steps.Select vrf pattern) w world c
-  event_holds world (events.Unselect vrf pattern) w c = at_edge_holds (edge_of_vrf (scenario_of world) vrf) (steps.Unselect vrf pattern) w world c
+      at_edge_holds (edge_of (scenario_of world) iface) (steps.Customer (steps.Active iface source group)) w world c
+  event_holds world (events.Idle iface source group) w c =
+      at_edge_holds (edge_of (scenario_of world) iface) (steps.Customer (steps.Idle iface source group)) w world c
+  event_holds world (events.Select vrf pattern) w c = at_edge_holds (edge_of_vrf (scenario_of world) vrf) (steps.Customer (steps.Select vrf pattern)) w world c
+  event_holds world (events.Unselect vrf pattern) w c =
+      at_edge_holds (edge_of_vrf (scenario_of world) vrf) (steps.Customer (steps.Unselect vrf pattern)) w world c
   event_holds world (events.Cost a b cost) w c =
       rows (SetCost a b cost ∷ map (λ n. Reroute n) (all_nodes (scenario_of world))) (w.0, reroutes_fine w.1 (all_nodes (scenario_of world))) world c
   event_holds world (events.Hop from to place) w c = rows (Land from to place ∷ []) (tt, tt) world c

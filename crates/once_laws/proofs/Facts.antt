@@ -140,11 +140,7 @@ step_peers place now old (steps.Noticed kinds.Bgp from) w h = λ peer up. h peer
 step_peers place now old (steps.Noticed kinds.Ldp from) w h = h
 step_peers place now old steps.Timers w h = λ peer up. h peer (run_up place now old peer up)
 step_peers place now old (steps.Label neighbour message) w h = h
-step_peers place now old (steps.Pim iface message) w h = h
-step_peers place now old (steps.Active iface source group) w h = h
-step_peers place now old (steps.Idle iface source group) w h = h
-step_peers place now old (steps.Select vrf pattern) w h = h
-step_peers place now old (steps.Unselect vrf pattern) w h = h
+step_peers place now old (steps.Customer call) w h = h
 step_peers place now old steps.Rerouted w h = h
 
 -- ---- an edge

@@ -73,10 +73,13 @@ record NotesStand (scenario : Scenario) (noted : Noted) (nodes : Nodes) : Type 0
   kinds : (n : NodeId) → is_edge scenario n ≡ true → IsEdgeNode (nodes.node n)
   notes : (note : Note) (n : NodeId) → edge_of scenario note.iface ≡ Some n → noted note ≡ has (nodes.node n) note
 
+-- the call of a customer leaves notes as they are
+abbrev LeavesNotes : steps.CustomerCall → Type 0
+LeavesNotes call = (old : sets.FinSet note_cmp) → steps.notes_after old call ≡ old
+
 -- no call that changes notes, and no restart
 abbrev MayStand : NodeCall → Type 0
-MayStand (Own n (steps.Active iface source group)) = ⊥
-MayStand (Own n (steps.Idle iface source group)) = ⊥
+MayStand (Own n (steps.Customer call)) = LeavesNotes call
 MayStand (Own n call) = ⊤
 MayStand (Elapse ticks) = ⊤
 MayStand (Reset n) = ⊥
@@ -97,11 +100,7 @@ step_notes : (place : EdgePlace) (now : ℕ) (n : NodeId) (old : Control) (call 
     → (control_step place now old call).notes ≡ old.notes
 step_notes place now n old (steps.Update peer message) w = update_notes now peer message old
 step_notes place now n old (steps.Label neighbour message) w = refl
-step_notes place now n old (steps.Pim at message) w = refl
-step_notes place now n old (steps.Active at s g) w = absurd w
-step_notes place now n old (steps.Idle at s g) w = absurd w
-step_notes place now n old (steps.Select vrf pattern) w = refl
-step_notes place now n old (steps.Unselect vrf pattern) w = refl
+step_notes place now n old (steps.Customer call) w = w old.notes
 step_notes place now n old (steps.Raised kinds.Bgp peer) w = refl
 step_notes place now n old (steps.Raised kinds.Ldp peer) w = refl
 step_notes place now n old (steps.Noticed kinds.Bgp peer) w = refl
@@ -167,8 +166,7 @@ step scenario noted nodes (Follow n) w s =
     called_stands scenario noted (following nodes n) n steps.Rerouted tt (record { same = s.same; kinds = s.kinds; notes = s.notes })
 
 may_free : (n : NodeId) (call : steps.Call) → IsOfSession Free n call → MayStand (Own n call)
-may_free n (steps.Active iface source group) h = absurd h
-may_free n (steps.Idle iface source group) h = absurd h
+may_free n (steps.Customer call) h = absurd h
 may_free n other h = tt
 
 -- ---- events that leave notes as they are
@@ -300,7 +298,7 @@ active_stands : (scenario : Scenario) → Rules scenario → (noted : Noted) (wo
     (done world (events.Active iface source group))
 active_stands scenario rules noted world iface source group s =
     let note : Note = record { iface = iface; source = source; group = group } in
-    flow_stands scenario rules noted iface source group (steps.Active iface source group) (λ a b. a || b) or_off
+    flow_stands scenario rules noted iface source group (steps.Customer (steps.Active iface source group)) (λ a b. a || b) or_off
     (λ place now old x. or_turned (sets.contains old.notes x) (eq_by_cmp note_cmp x note) ∙ sym (sets.contains-insert note_total old.notes note x))
     world s
 
@@ -309,7 +307,7 @@ idle_stands : (scenario : Scenario) → Rules scenario → (noted : Noted) (worl
     (done world (events.Idle iface source group))
 idle_stands scenario rules noted world iface source group s =
     let note : Note = record { iface = iface; source = source; group = group } in
-    flow_stands scenario rules noted iface source group (steps.Idle iface source group) (λ a b. a && not b) and_on
+    flow_stands scenario rules noted iface source group (steps.Customer (steps.Idle iface source group)) (λ a b. a && not b) and_on
     (λ place now old x. and_turned (sets.contains old.notes x) (eq_by_cmp note_cmp x note) ∙ sym (sets.contains-remove note_total old.notes note x))
     world s
 
@@ -351,15 +349,15 @@ event_stands scenario rules noted world s r (events.Idle iface source group) = i
 event_stands scenario rules noted world s r (events.Restart node) = (tt, restart_stands scenario noted world.network.state node s)
 event_stands scenario rules noted world s r events.Settle = other_event scenario noted world events.Settle (λ n. tt) s r
 event_stands scenario rules noted world s r (events.Join iface entry) =
-    other_event scenario noted world (events.Join iface entry) (λ n at message. tt) s r
+    other_event scenario noted world (events.Join iface entry) (λ n at message old. refl) s r
 event_stands scenario rules noted world s r (events.Prune iface entry) =
-    other_event scenario noted world (events.Prune iface entry) (λ n at message. tt) s r
+    other_event scenario noted world (events.Prune iface entry) (λ n at message old. refl) s r
 event_stands scenario rules noted world s r (events.Pim iface bytes) =
-    other_event scenario noted world (events.Pim iface bytes) (λ n at message. tt) s r
-event_stands scenario rules noted world s r (events.Select vrf pattern) = other_event scenario noted world (events.Select vrf pattern) (λ n. tt) s r
+    other_event scenario noted world (events.Pim iface bytes) (λ n at message old. refl) s r
+event_stands scenario rules noted world s r (events.Select vrf pattern) = other_event scenario noted world (events.Select vrf pattern) (λ n old. refl) s r
 event_stands scenario rules noted world s r (events.Cost a b cost) = other_event scenario noted world (events.Cost a b cost) (tt, λ n. tt) s r
 event_stands scenario rules noted world s r (events.Unselect vrf pattern) =
-    other_event scenario noted world (events.Unselect vrf pattern) (λ n. tt) s r
+    other_event scenario noted world (events.Unselect vrf pattern) (λ n old. refl) s r
 event_stands scenario rules noted world s r other = other_event scenario noted world other tt s r
 
 -- ---- runs

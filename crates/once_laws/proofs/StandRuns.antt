@@ -80,7 +80,7 @@ all_fit [] = tt
 all_fit (session ∷ more) = ((tt, tt), all_fit more)
 
 may_free : (n : NodeId) (call : steps.Call) → IsOfSession Free n call → MayStand (Own n call)
-may_free n (steps.Pim iface message) h = absurd h
+may_free n (steps.Customer call) h = absurd h
 may_free n other h = tt
 
 -- ---- octets at rest, behind any event
@@ -181,27 +181,27 @@ told_given c given told iface entry = expiry_given iface entry c (told iface ent
 pim_stands : (scenario : Scenario) → Rules scenario → (c : ℕ) (told : Told) (nodes : Nodes) (m : NodeId) (given : Given)
     → edge_of scenario given.iface ≡ Some m → Stands scenario c told nodes
     → Holds (λ (new : Stepped Nodes). Stands scenario c (told_given c given told) new.state)
-    (node_called nodes m (nodes.node m) (steps.Pim given.iface given.message))
+    (node_called nodes m (nodes.node m) (steps.Customer (steps.Pim given.iface given.message)))
 pim_stands scenario rules c told nodes m given at s = by (nodes.node m) refl (s.kinds m (iface_edge scenario rules given.iface m at))
   where
     call : steps.Call
-    call = steps.Pim given.iface given.message
+    call = steps.Customer (steps.Pim given.iface given.message)
 
     by : (state : NodeState) → nodes.node m ≡ state → IsEdgeNode state
         → Holds (λ (new : Stepped Nodes). Stands scenario c (told_given c given told) new.state)
-        (node_called nodes m state (steps.Pim given.iface given.message))
+        (node_called nodes m state (steps.Customer (steps.Pim given.iface given.message)))
     by (CoreNode part) e kind = absurd kind
     by (Edge edge) e kind =
         holds_then (λ (new : EdgeStepped). new.edge.control
-        ≡ control_step (place_of nodes m) nodes.clock edge.control (steps.Pim given.iface given.message))
+        ≡ control_step (place_of nodes m) nodes.clock edge.control (steps.Customer (steps.Pim given.iface given.message)))
         (λ (new : Stepped Nodes). Stands scenario c (told_given c given told) new.state)
-        (edge_step (place_of nodes m) nodes.clock edge (steps.Pim given.iface given.message)) _
-        (edge_control (place_of nodes m) nodes.clock edge (steps.Pim given.iface given.message))
+        (edge_step (place_of nodes m) nodes.clock edge (steps.Customer (steps.Pim given.iface given.message))) _
+        (edge_control (place_of nodes m) nodes.clock edge (steps.Customer (steps.Pim given.iface given.message)))
         (λ new is. one_stands scenario c told (told_given c given told) nodes m (Edge new.edge) s (λ k. tt)
         (λ iface n entry found t. here new.edge.control is iface n entry found t)
         (λ iface n entry found f. away iface n entry found f))
       where
-        here : (control : Control) → control ≡ control_step (place_of nodes m) nodes.clock edge.control (steps.Pim given.iface given.message)
+        here : (control : Control) → control ≡ control_step (place_of nodes m) nodes.clock edge.control (steps.Customer (steps.Pim given.iface given.message))
             → (iface : IfaceId) (n : NodeId) (entry : JoinEntry) → edge_of scenario iface ≡ Some n → (n.0 == m.0) ≡ true
             → Alike c (told_given c given told iface entry) (kept_of control iface entry)
         here control is iface n entry found t =
@@ -244,7 +244,7 @@ given_stands scenario rules c told world s (Some given) =
     by (edge_of (scenario_of world) given.iface) (ap (λ (x : Scenario). edge_of x given.iface) (sym s.same))
   where
     by : (o : Option NodeId) → edge_of scenario given.iface ≡ o
-        → Leads Any (Kept scenario c (told_given c given told)) (at_edge o (steps.Pim given.iface given.message) world)
+        → Leads Any (Kept scenario c (told_given c given told)) (at_edge o (steps.Customer (steps.Pim given.iface given.message)) world)
     by None e = (
       tt,
       record {
@@ -265,10 +265,10 @@ given_stands scenario rules c told world s (Some given) =
             absurd (none-some n (sym e ∙ ap (edge_of scenario) (sym one) ∙ at)))
     by (Some m) e =
         then_leads Any any_lines (Kept scenario c (told_given c given told)) (Kept scenario c (told_given c given told))
-        (one_act world (At m (steps.Pim given.iface given.message))) (row [])
-        (one_leads Any any_lines (Kept scenario c (told_given c given told)) world (At m (steps.Pim given.iface given.message))
+        (one_act world (At m (steps.Customer (steps.Pim given.iface given.message)))) (row [])
+        (one_leads Any any_lines (Kept scenario c (told_given c given told)) world (At m (steps.Customer (steps.Pim given.iface given.message)))
         (call_gives (Stands scenario c (told_given c given told)) world m
-        (node_called world.network.state m (world.network.state.node m) (steps.Pim given.iface given.message))
+        (node_called world.network.state m (world.network.state.node m) (steps.Customer (steps.Pim given.iface given.message)))
         (pim_stands scenario rules c told world.network.state m given e s)))
         (λ next v. (tt, v))
 
@@ -357,19 +357,19 @@ event_stands scenario rules c told world s r events.Settle =
     (quiet_event scenario c told world events.Settle (λ n. tt) s r)
 event_stands scenario rules c told world s r (events.Active iface source group) =
     no_ticks scenario c told told world (events.Active iface source group) (λ i a. refl)
-    (quiet_event scenario c told world (events.Active iface source group) (λ n. tt) s r)
+    (quiet_event scenario c told world (events.Active iface source group) (λ n now old. refl) s r)
 event_stands scenario rules c told world s r (events.Idle iface source group) =
     no_ticks scenario c told told world (events.Idle iface source group) (λ i a. refl)
-    (quiet_event scenario c told world (events.Idle iface source group) (λ n. tt) s r)
+    (quiet_event scenario c told world (events.Idle iface source group) (λ n now old. refl) s r)
 event_stands scenario rules c told world s r (events.Select vrf pattern) =
     no_ticks scenario c told told world (events.Select vrf pattern) (λ i a. refl)
-    (quiet_event scenario c told world (events.Select vrf pattern) (λ n. tt) s r)
+    (quiet_event scenario c told world (events.Select vrf pattern) (λ n now old. refl) s r)
 event_stands scenario rules c told world s r (events.Cost a b cost) =
     no_ticks scenario c told told world (events.Cost a b cost) (λ i a. refl)
     (quiet_event scenario c told world (events.Cost a b cost) (tt, λ n. tt) s r)
 event_stands scenario rules c told world s r (events.Unselect vrf pattern) =
     no_ticks scenario c told told world (events.Unselect vrf pattern) (λ i a. refl)
-    (quiet_event scenario c told world (events.Unselect vrf pattern) (λ n. tt) s r)
+    (quiet_event scenario c told world (events.Unselect vrf pattern) (λ n now old. refl) s r)
 event_stands scenario rules c told world s r (events.Move kind from to count) =
     no_ticks scenario c told told world (events.Move kind from to count) (λ i a. refl)
     (quiet_event scenario c told world (events.Move kind from to count) tt s r)

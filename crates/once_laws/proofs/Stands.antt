@@ -154,9 +154,13 @@ pub record Stands (scenario : Scenario) (clock : ℕ) (told : Told) (nodes : Nod
   pub expiry : (iface : IfaceId) (n : NodeId) (entry : JoinEntry) → edge_of scenario iface ≡ Some n
       → Alike clock (told iface entry) (kept_of (control_of (nodes.node n)) iface entry)
 
--- no call by a message of a customer, no time, no restart
+-- the call of a customer leaves entries as they are
+abbrev pub LeavesEntries : steps.CustomerCall → Type 0
+LeavesEntries call = (now : ℕ) (old : Entries) → steps.entries_after now old call ≡ old
+
+-- no call of a customer that changes entries, no time, no restart
 abbrev pub MayStand : NodeCall → Type 0
-MayStand (Own n (steps.Pim iface message)) = ⊥
+MayStand (Own n (steps.Customer call)) = LeavesEntries call
 MayStand (Own n call) = ⊤
 MayStand (Elapse ticks) = ⊥
 MayStand (Reset n) = ⊥
@@ -178,11 +182,7 @@ step_kept : (place : EdgePlace) (now : ℕ) (n : NodeId) (old : Control) (call :
 step_kept place now n old (steps.Update peer message) w iface entry =
     ap (λ (e : Entries). remaining now (expiry_at e iface entry)) (update_entries now peer message old)
 step_kept place now n old (steps.Label neighbour message) w iface entry = refl
-step_kept place now n old (steps.Pim at message) w iface entry = absurd w
-step_kept place now n old (steps.Active at s g) w iface entry = refl
-step_kept place now n old (steps.Idle at s g) w iface entry = refl
-step_kept place now n old (steps.Select vrf pattern) w iface entry = refl
-step_kept place now n old (steps.Unselect vrf pattern) w iface entry = refl
+step_kept place now n old (steps.Customer call) w iface entry = ap (λ (e : Entries). remaining now (expiry_at e iface entry)) (w now old.entries)
 step_kept place now n old (steps.Raised kinds.Bgp peer) w iface entry = refl
 step_kept place now n old (steps.Raised kinds.Ldp peer) w iface entry = refl
 step_kept place now n old (steps.Noticed kinds.Bgp peer) w iface entry = refl

@@ -20,7 +20,7 @@ use Rattle.edge_defs.specs.pim_defs.Single.{join_of}
 use Rattle.edge_defs.specs.Edge.{no_control}
 use Rattle.edge_defs.specs.Keys.{Table}
 use Rattle.edge_defs.specs.Place.{EdgePlace}
-use Rattle.edge_defs.specs.Steps.{Pim, Raised, Update}
+use Rattle.edge_defs.specs.Steps.{Customer, Pim, Raised, Update}
 use Rattle.network_defs.specs.node_defs.EdgeState.{EdgeState, all_taken, called, called_unless, fed_octets, fresh_state, prepared, stepped, took, took_unless}
 use Rattle.network_defs.specs.session_defs.Message.{Bgp, BgpFault, SessionFault, front_of}
 use Rattle.network_defs.specs.session_defs.Octets.{Stream}
@@ -133,17 +133,17 @@ module _ (place : EdgePlace) (peer : NodeId) where
   fold_joined at (x ∷ joins) entries = fold_joined at joins (applied entries x.iface (join_of (own_addr place.scenario x.iface) x.entry) 0)
 
   join_goes : (octets : List ℕ) (joins : List IfaceEntry) (old : EdgeState) (at : IfaceEntry) → Keeps octets joins old
-      → Keeps octets (joins ++ at ∷ []) (called place 0 old (Pim at.iface (join_of (own_addr place.scenario at.iface) at.entry)))
+      → Keeps octets (joins ++ at ∷ []) (called place 0 old (Customer (Pim at.iface (join_of (own_addr place.scenario at.iface) at.entry))))
   join_goes octets joins old at keeps =
       let message = join_of (own_addr place.scenario at.iface) at.entry in
       let table : Table = table_of (cut_of octets).messages in
       let entries : Entries = joined place.scenario joins in
       let step =
-      step_goes place old (Pim at.iface message) (edge_with place peer table entries) _ refl keeps.goes
+      step_goes place old (Customer (Pim at.iface message)) (edge_with place peer table entries) _ refl keeps.goes
       (join_keeps place peer table entries at.iface message) in
-      let new : EdgeState = stepped place 0 old (Pim at.iface message) in
-      let same : called place 0 old (Pim at.iface message) ≡ new =
-      ap (λ (spent : Option _). called_unless spent place 0 old (Pim at.iface message)) keeps.goes.unspent in
+      let new : EdgeState = stepped place 0 old (Customer (Pim at.iface message)) in
+      let same : called place 0 old (Customer (Pim at.iface message)) ≡ new =
+      ap (λ (spent : Option _). called_unless spent place 0 old (Customer (Pim at.iface message))) keeps.goes.unspent in
       subst (Keeps octets (joins ++ at ∷ [])) (sym same) (record {
         goes = subst (λ (es : Entries). Goes (edge_with place peer table es) new) (sym (fold_joined at joins maps.empty)) step.goes;
         stream = ap (λ (streams : _). stream_at streams (peer_session peer)) step.streams ∙ keeps.stream;

@@ -22,7 +22,7 @@ use Rattle.edge_defs.specs.pim_defs.Entries.{Entries, applied}
 use Rattle.edge_defs.specs.Edge.{Control, Taken, no_control}
 use Rattle.edge_defs.specs.Keys.{Table}
 use Rattle.edge_defs.specs.Place.{EdgePlace}
-use Rattle.edge_defs.specs.Steps.{Call, EdgeStepped, LabelStep, Pim, Raised, Update, changed_leaves, control_step, label_row, one_call, own_label_call, part_after, raised_after, refreshed, taken_change}
+use Rattle.edge_defs.specs.Steps.{Call, Customer, EdgeStepped, LabelStep, Pim, Raised, Update, changed_leaves, control_step, label_row, one_call, own_label_call, part_after, raised_after, refreshed, taken_change}
 use Rattle.edge_defs.specs.Tunnels.{leaves}
 use Rattle.network_defs.specs.node_defs.EdgeState.{EdgeState, behind, stepped, stepped_unless}
 use Rattle.probe_defs.specs.Probed.{as_table_change, edge_with, taken_at_once}
@@ -85,7 +85,7 @@ step_goes place old call control next none goes is =
 -- ---- what it keeps
 
 pub join_keeps : (place : EdgePlace) (peer : NodeId) (table : Table) (entries : Entries) (iface : _) (message : _)
-    → control_step place 0 (edge_with place peer table entries) (Pim iface message) ≡ edge_with place peer table (applied entries iface message 0)
+    → control_step place 0 (edge_with place peer table entries) (Customer (Pim iface message)) ≡ edge_with place peer table (applied entries iface message 0)
 join_keeps place peer table entries iface message = refl
 
 put_again : (peer : NodeId) (one other : Taken)

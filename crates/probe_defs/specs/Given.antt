@@ -10,7 +10,7 @@ use Rattle.scenario_defs.specs.declared.event.JoinEntry.TheVariants.{Source}
 use Rattle.scenario_defs.specs.declared.event.Kind.TheVariants as kinds
 use Rattle.network_defs.specs.mvpn_model.Messages.{own_addr}
 use Rattle.edge_defs.specs.Place.{EdgePlace}
-use Rattle.edge_defs.specs.Steps.{Pim, Raised}
+use Rattle.edge_defs.specs.Steps.{Customer, Pim, Raised}
 use Rattle.edge_defs.specs.pim_defs.Single.{join_of}
 use Rattle.network_defs.specs.node_defs.EdgeState.{EdgeState, called, fresh_state, took}
 use Rattle.network_defs.specs.session_defs.Message.{BgpFault}
@@ -28,7 +28,7 @@ peer_session peer = session kinds.Bgp peer
 -- the edge behind a line, at clock 0: a customer's message for the interface's own address, or octets of the peer
 abbrev pub given : EdgePlace → NodeId → EdgeState → ProbeLine → EdgeState
 given place peer old (Join iface source group) =
-    called place 0 old (Pim iface (join_of (own_addr place.scenario iface) (Source source group)))
+    called place 0 old (Customer (Pim iface (join_of (own_addr place.scenario iface) (Source source group))))
 given place peer old (Piece octets) = took place 0 (peer_session peer) octets old
 
 -- the edge whose session with the peer has come up

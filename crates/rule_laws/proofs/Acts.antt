@@ -1,6 +1,6 @@
 -- Each act of the whole network keeps the label rule.
 use Rattle.std.specs.Prelude.{take}
-use Rattle.std.proofs.Common.{◌≡◌, ◌≢◌, ◌<◌, ℕ, ◌+◌, ◌-◌, ◌++◌, nat_le, ◌&&◌, not, Bool, true, false, cond, List, [], ◌∷◌, length, filter, slice_get, is_some, Option, Some, None, refl, sym, subst}
+use Rattle.std.proofs.Common.{◌≡◌, ◌≢◌, ◌<◌, ℕ, ◌+◌, ◌-◌, ◌++◌, nat_le, ◌&&◌, not, Bool, true, false, cond, List, [], ◌∷◌, length, filter, slice_get, Option, Some, None, refl, sym, subst}
 use Rattle.std.proofs.lemmas.Option.{same_Some}
 use Rattle.mv_base.specs.declared.addr.Addr.{Addr}
 use Rattle.mv_base.specs.declared.ids.NodeId.{NodeId}
@@ -46,7 +46,6 @@ use Rattle.rule_laws.proofs.Copies.{branches_by, fate_is, put_kept, drop_kept, l
 use Rattle.rule_laws.proofs.Numbers.{HasRoom}
 use Rattle.network_defs.specs.Refusals.{control_of}
 use Rattle.rule_laws.proofs.Octets.{OctetsGood, BehindGood, earlier_good, called_good, move_good}
-use Rattle.std.specs.FinMap as maps
 use Rattle.edge_words.specs.edge_laws.Acts as edge_acts
 use Rattle.rule_laws.proofs.EdgeCalls.{IsEdgeFit}
 use Rattle.mv_base.specs.core_walks.Costs.{with_cost}
@@ -279,9 +278,9 @@ IsFit world (RaiseFirst kind a b) = ⊥
 IsFit world (RaiseSecond kind a b) = ⊥
 IsFit world (Enter vrf) = IsFitEnter world vrf
 IsFit world (Land from to place) = from ≢ to
-IsFit world (At n (steps.Select vrf pattern)) =
-    HasRoom (control_of (world.network.state.node n)) (steps.Select vrf pattern)
-    × (is_some (maps.get (control_of (world.network.state.node n)).selections (record { vrf = vrf; pattern = pattern })) ≡ false)
+IsFit world (At n (steps.Customer call)) =
+    HasRoom (control_of (world.network.state.node n)) (steps.Customer call)
+    × (edge_acts.selects_again (control_of (world.network.state.node n)) call ≡ false)
 IsFit world (At n (steps.Raised kind peer)) = ⊥
 IsFit world (At n (steps.Noticed kind peer)) = ⊥
 IsFit world other = Unit {0}
@@ -290,11 +289,7 @@ at_fit : (scenario : Scenario) (world : World) (pending : Direction → List Ses
     → IsFit world (At n call) → IsFitCall (seen world.network pending) n call × IsEdgeFit (seen world.network pending) n call
 at_fit scenario world pending n (steps.Update peer message) sound fit = absurd sound
 at_fit scenario world pending n (steps.Label neighbour message) sound fit = absurd sound
-at_fit scenario world pending n (steps.Pim iface message) sound fit = (tt, tt)
-at_fit scenario world pending n (steps.Active iface source group) sound fit = (tt, tt)
-at_fit scenario world pending n (steps.Idle iface source group) sound fit = (tt, tt)
-at_fit scenario world pending n (steps.Select vrf pattern) sound fit = (fit.0, (fit.1, fit.0))
-at_fit scenario world pending n (steps.Unselect vrf pattern) sound fit = (tt, tt)
+at_fit scenario world pending n (steps.Customer call) sound fit = (fit.0, (fit.1, fit.0))
 at_fit scenario world pending n (steps.Raised kind peer) sound fit = absurd fit
 at_fit scenario world pending n (steps.Noticed kind peer) sound fit = absurd fit
 at_fit scenario world pending n steps.Timers sound fit = (tt, tt)

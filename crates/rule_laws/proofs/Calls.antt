@@ -200,7 +200,7 @@ IsFitCall network n (steps.Noticed kinds.Ldp peer) =
     (network.joined (direction kinds.Ldp n peer) ≡ false) × (is_up (part_of (network.state.node n)) peer ≡ true)
 IsFitCall network n (steps.Label neighbour message) = ⊥
 IsFitCall network n steps.Rerouted = ⊥
-IsFitCall network n (steps.Select vrf pattern) = HasRoom (control_of (network.state.node n)) (steps.Select vrf pattern)
+IsFitCall network n (steps.Customer call) = HasRoom (control_of (network.state.node n)) (steps.Customer call)
 IsFitCall network n other = Unit {0}
 
 fit_cut : (network : MessageNetwork Nodes) (n : NodeId) (call : steps.Call) → IsFitCall network n call → (to : NodeId)
@@ -212,11 +212,7 @@ fit_cut network n (steps.Raised kinds.Ldp peer) fit to joined = tt
 fit_cut network n (steps.Raised kinds.Bgp peer) fit to joined = tt
 fit_cut network n (steps.Update peer message) fit to joined = tt
 fit_cut network n (steps.Label neighbour message) fit to joined = tt
-fit_cut network n (steps.Pim iface message) fit to joined = tt
-fit_cut network n (steps.Active iface source group) fit to joined = tt
-fit_cut network n (steps.Idle iface source group) fit to joined = tt
-fit_cut network n (steps.Select vrf pattern) fit to joined = tt
-fit_cut network n (steps.Unselect vrf pattern) fit to joined = tt
+fit_cut network n (steps.Customer call) fit to joined = tt
 fit_cut network n steps.Timers fit to joined = tt
 fit_cut network n steps.Rerouted fit to joined = tt
 
@@ -234,23 +230,15 @@ fit_first network copies datagrams n (steps.Raised kinds.Bgp peer) fit k = k
 fit_first network copies datagrams n (steps.Update peer message) fit k = k
 fit_first network copies datagrams n (steps.Label neighbour message) fit k = absurd fit
 fit_first network copies datagrams n steps.Rerouted fit k = absurd fit
-fit_first network copies datagrams n (steps.Pim iface message) fit k = k
-fit_first network copies datagrams n (steps.Active iface source group) fit k = k
-fit_first network copies datagrams n (steps.Idle iface source group) fit k = k
-fit_first network copies datagrams n (steps.Select vrf pattern) fit k = k
-fit_first network copies datagrams n (steps.Unselect vrf pattern) fit k = k
+fit_first network copies datagrams n (steps.Customer call) fit k = k
 
 fit_room : (network : MessageNetwork Nodes) (n : NodeId) (call : steps.Call) → IsFitCall network n call
     → HasRoom (control_of (network.state.node n)) call
-fit_room network n (steps.Select vrf pattern) fit = fit
-fit_room network n (steps.Unselect vrf pattern) fit = tt
+fit_room network n (steps.Customer call) fit = fit
 fit_room network n (steps.Noticed kind peer) fit = tt
 fit_room network n (steps.Raised kind peer) fit = tt
 fit_room network n (steps.Update peer message) fit = tt
 fit_room network n (steps.Label neighbour message) fit = tt
-fit_room network n (steps.Pim iface message) fit = tt
-fit_room network n (steps.Active iface source group) fit = tt
-fit_room network n (steps.Idle iface source group) fit = tt
 fit_room network n steps.Timers fit = tt
 fit_room network n steps.Rerouted fit = tt
 

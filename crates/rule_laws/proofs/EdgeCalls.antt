@@ -182,23 +182,17 @@ IsEdgeFit network n steps.Rerouted = ⊥
 IsEdgeFit network n (steps.Noticed kinds.Bgp peer) =
     (network.joined (direction kinds.Bgp n peer) ≡ false) × (network.joined (direction kinds.Bgp peer n) ≡ false)
     × (is_up (control_of (network.state.node n)) peer ≡ true)
-IsEdgeFit network n (steps.Select vrf pattern) =
-    (is_some (maps.get (control_of (network.state.node n)).selections (record { vrf = vrf; pattern = pattern })) ≡ false)
-    × HasRoom (control_of (network.state.node n)) (steps.Select vrf pattern)
+IsEdgeFit network n (steps.Customer call) =
+    (acts.selects_again (control_of (network.state.node n)) call ≡ false) × HasRoom (control_of (network.state.node n)) (steps.Customer call)
 IsEdgeFit network n other = Unit {0}
 
 pub fit_rule : (network : MessageNetwork Nodes) (changes : InTransit) (n : NodeId) (call : steps.Call) → IsEdgeFit network n call
     → EdgeRule (edge_network network changes) → EdgeRule (stepped (edge_network network changes) n call)
 fit_rule network changes n (steps.Update peer message) fit rule = absurd fit
 fit_rule network changes n (steps.Label neighbour message) fit rule = act_both (edge_network network changes) (acts.Label n neighbour message) tt rule
-fit_rule network changes n (steps.Pim iface message) fit rule = act_both (edge_network network changes) (acts.Pim n iface message) tt rule
-fit_rule network changes n (steps.Active iface source group) fit rule =
-    act_both (edge_network network changes) (acts.Active n iface source group) tt rule
-fit_rule network changes n (steps.Idle iface source group) fit rule = act_both (edge_network network changes) (acts.Idle n iface source group) tt rule
-fit_rule network changes n (steps.Select vrf pattern) fit rule =
-    subst (λ (b : Bool). EdgeRule (acts.selected (edge_network network changes) n vrf pattern b)) fit.0
-    (act_both (edge_network network changes) (acts.Select n vrf pattern) fit.1 rule)
-fit_rule network changes n (steps.Unselect vrf pattern) fit rule = act_both (edge_network network changes) (acts.Unselect n vrf pattern) tt rule
+fit_rule network changes n (steps.Customer call) fit rule =
+    subst (λ (b : Bool). EdgeRule (acts.called (edge_network network changes) n call b)) fit.0
+    (act_both (edge_network network changes) (acts.Customer n call) fit.1 rule)
 fit_rule network changes n (steps.Raised kinds.Ldp peer) fit rule = act_both (edge_network network changes) (acts.LabelRaise n peer) tt rule
 fit_rule network changes n (steps.Raised kinds.Bgp peer) fit rule = absurd fit
 fit_rule network changes n (steps.Noticed kinds.Ldp peer) fit rule = act_both (edge_network network changes) (acts.LabelNotice n peer) tt rule

@@ -372,8 +372,8 @@ message_in_step : (world : World) → SoundScenario (scenario_of world) → (o :
     → Goes LabelRule (InStep (scenario_of world)) world (with_message o world)
 message_in_step world sound None is s = nothing_goes LabelRule (InStep (scenario_of world)) world (world_rule (scenario_of world) world s) s
 message_in_step world sound (Some given) is s =
-    edge_in_step (scenario_of world) (edge_of (scenario_of world) given.iface) (steps.Pim given.iface given.message)
-    (edge_within (scenario_of world) sound given.iface) is (λ n e old. tt) world s
+    edge_in_step (scenario_of world) (edge_of (scenario_of world) given.iface) (steps.Customer (steps.Pim given.iface given.message))
+    (edge_within (scenario_of world) sound given.iface) is (λ n e old. (tt, refl)) world s
 
 pub notice_fits : (scenario : Scenario) (world : World) (kind : Kind) (a b : NodeId) → InStep scenario world
     → (is_session_joined world kind a b || not (is_end world kind a b)) ≡ false → IsFit world (Notice kind a b)
@@ -384,17 +384,17 @@ notice_fits scenario world kinds.Ldp a b s e = let x = or_parts (is_session_join
     (x.0, not-false (is_end world kinds.Ldp a b) x.1)
 
 select_in_step : (world : World) → SoundScenario (scenario_of world) → InStep (scenario_of world) world → (vrf : VrfId) (pattern : Pattern)
-    → IsSoundCall (steps.Select vrf pattern) → (maps.len (control_at world (edge_of_vrf (scenario_of world) vrf)).selections < 1000000)
+    → IsSoundCall (steps.Customer (steps.Select vrf pattern)) → (maps.len (control_at world (edge_of_vrf (scenario_of world) vrf)).selections < 1000000)
     × (is_selected world vrf pattern ≡ false)
-    → Goes LabelRule (InStep (scenario_of world)) world (at_edge (edge_of_vrf (scenario_of world) vrf) (steps.Select vrf pattern) world)
+    → Goes LabelRule (InStep (scenario_of world)) world (at_edge (edge_of_vrf (scenario_of world) vrf) (steps.Customer (steps.Select vrf pattern)) world)
 select_in_step world sound s vrf pattern is room = by (edge_of_vrf (scenario_of world) vrf) (vrf_within (scenario_of world) sound vrf) room
   where
     by : (o : Option NodeId) → IsFoundNode (scenario_of world) o
         → (maps.len (control_at world o).selections < 1000000)
         × (maps.contains_key (control_at world o).selections (record { vrf = vrf; pattern = pattern }) ≡ false)
-        → Goes LabelRule (InStep (scenario_of world)) world (at_edge o (steps.Select vrf pattern) world)
+        → Goes LabelRule (InStep (scenario_of world)) world (at_edge o (steps.Customer (steps.Select vrf pattern)) world)
     by None within fits = nothing_goes LabelRule (InStep (scenario_of world)) world (world_rule (scenario_of world) world s) s
-    by (Some n) within fits = alone (scenario_of world) (At n (steps.Select vrf pattern)) (within, is) world fits s
+    by (Some n) within fits = alone (scenario_of world) (At n (steps.Customer (steps.Select vrf pattern))) (within, is) world fits s
 
 done_in_step : Enters → (world : World) → SoundScenario (scenario_of world) → InStep (scenario_of world) world → (event : Event)
     → refusal world event ≡ None → IsSoundEvent (scenario_of world) event → GoesWith LabelRule (InStep (scenario_of world)) world (done world event)
@@ -431,13 +431,13 @@ done_in_step enters world lines s (events.Pim iface octets) free sound =
     (world.datagrams, message_in_step world lines (message_of (scenario_of world) (events.Pim iface octets)) (read_is_sound iface octets sound) s)
 done_in_step enters world lines s (events.Active iface source group) free sound = (
   world.datagrams,
-  edge_in_step (scenario_of world) (edge_of (scenario_of world) iface) (steps.Active iface source group)
-      (edge_within (scenario_of world) lines iface) sound (λ n e old. tt) world s,
+  edge_in_step (scenario_of world) (edge_of (scenario_of world) iface) (steps.Customer (steps.Active iface source group))
+      (edge_within (scenario_of world) lines iface) sound (λ n e old. (tt, refl)) world s,
 )
 done_in_step enters world lines s (events.Idle iface source group) free sound = (
   world.datagrams,
-  edge_in_step (scenario_of world) (edge_of (scenario_of world) iface) (steps.Idle iface source group)
-      (edge_within (scenario_of world) lines iface) tt (λ n e old. tt) world s,
+  edge_in_step (scenario_of world) (edge_of (scenario_of world) iface) (steps.Customer (steps.Idle iface source group))
+      (edge_within (scenario_of world) lines iface) tt (λ n e old. (tt, refl)) world s,
 )
 done_in_step enters world lines s (events.Send site source group payload) free sound =
     sent_in_step (scenario_of world) enters site source group (packet source group payload) world s
@@ -455,8 +455,8 @@ done_in_step enters world lines s (events.Select vrf pattern) free sound =
     )
 done_in_step enters world lines s (events.Unselect vrf pattern) free sound = (
   world.datagrams,
-  edge_in_step (scenario_of world) (edge_of_vrf (scenario_of world) vrf) (steps.Unselect vrf pattern)
-      (vrf_within (scenario_of world) lines vrf) tt (λ n e old. tt) world s,
+  edge_in_step (scenario_of world) (edge_of_vrf (scenario_of world) vrf) (steps.Customer (steps.Unselect vrf pattern))
+      (vrf_within (scenario_of world) lines vrf) tt (λ n e old. (tt, refl)) world s,
 )
 done_in_step enters world lines s (events.Hop from to place) free sound =
     (world.datagrams, alone (scenario_of world) (Land from to place) tt world (two_ends (scenario_of world) lines from to place sound) s)

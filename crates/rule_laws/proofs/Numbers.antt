@@ -13,7 +13,7 @@ use Rattle.edge_defs.specs.Edge.{VrfPattern, pattern_cmp, Selected, Taken, Contr
 use Rattle.edge_defs.specs.Place.{EdgePlace}
 use Rattle.selective_defs.specs.Selective.{free_number}
 use Rattle.edge_defs.specs.Steps as steps
-use Rattle.edge_defs.specs.Steps.{is_used, selection_run, selections_run, taken_change, effect, is_vrf_step, refreshed, control_step}
+use Rattle.edge_defs.specs.Steps.{is_used, selection_run, selections_run, taken_change, effect, control_step}
 use Rattle.network_laws.proofs.Lists.{each_map}
 use Rattle.network_laws.proofs.Maps.{Each, all_entries, made_meets, put_meets, cut_meets}
 
@@ -26,7 +26,7 @@ NumbersOk control = Each IsSmall control.selections
 
 -- there is room for one more selection
 abbrev pub HasRoom : Control → steps.Call → Type 0
-HasRoom control (steps.Select vrf pattern) = maps.len control.selections < 1000000
+HasRoom control (steps.Customer (steps.Select vrf pattern)) = maps.len control.selections < 1000000
 HasRoom control other = Unit {0}
 
 number_within : (used : ℕ → Bool) (count number : ℕ) → free_number used count number ≤ number + count
@@ -55,15 +55,15 @@ effect_numbers : (place : EdgePlace) (now : ℕ) (old : Control) (call : steps.C
     → NumbersOk (effect place now old call)
 effect_numbers place now old (steps.Update peer message) room h = updated_numbers now peer message old (maps.get old.peers peer) h
 effect_numbers place now old (steps.Label neighbour message) room h = h
-effect_numbers place now old (steps.Pim iface message) room h = h
-effect_numbers place now old (steps.Active iface source group) room h = h
-effect_numbers place now old (steps.Idle iface source group) room h = h
-effect_numbers place now old (steps.Select vrf pattern) room h =
+effect_numbers place now old (steps.Customer (steps.Pim iface message)) room h = h
+effect_numbers place now old (steps.Customer (steps.Active iface source group)) room h = h
+effect_numbers place now old (steps.Customer (steps.Idle iface source group)) room h = h
+effect_numbers place now old (steps.Customer (steps.Select vrf pattern)) room h =
     let used = λ (number : ℕ). list_any (is_used vrf number) (maps.entries old.selections) in
     let within = number_within used (maps.len old.selections) 1 in
     put_meets pattern_total pattern_exact IsSmall old.selections (record { vrf = vrf; pattern = pattern })
     (record { number = free_number used (maps.len old.selections) 1; since = now; run = false }) h (omega (arith, within, room))
-effect_numbers place now old (steps.Unselect vrf pattern) room h =
+effect_numbers place now old (steps.Customer (steps.Unselect vrf pattern)) room h =
     cut_meets pattern_total pattern_exact IsSmall old.selections (record { vrf = vrf; pattern = pattern }) h
 effect_numbers place now old (steps.Raised kinds.Bgp peer) room h = h
 effect_numbers place now old (steps.Raised kinds.Ldp peer) room h = h
@@ -72,14 +72,9 @@ effect_numbers place now old (steps.Noticed kinds.Ldp peer) room h = h
 effect_numbers place now old steps.Rerouted room h = h
 effect_numbers place now old steps.Timers room h = run_numbers place.scenario.delay now old.selections h
 
-stepped_numbers : (place : EdgePlace) (now : ℕ) (own : Control) (vrf : Bool) → NumbersOk own → NumbersOk (cond vrf (refreshed place now own) own)
-stepped_numbers place now own true h = h
-stepped_numbers place now own false h = h
-
 pub step_numbers : (place : EdgePlace) (now : ℕ) (old : Control) (call : steps.Call) → HasRoom old call → NumbersOk old
     → NumbersOk (control_step place now old call)
-step_numbers place now old call room h =
-    stepped_numbers place now (effect place now old call) (is_vrf_step call) (effect_numbers place now old call room h)
+step_numbers place now old call room h = effect_numbers place now old call room h
 
 pub no_numbers : NumbersOk no_control
 no_numbers key selected e = absurd (none-some selected (sym (maps.get-empty pattern_cmp key) ∙ e))

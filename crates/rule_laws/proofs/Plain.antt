@@ -148,7 +148,7 @@ module _ (Q : Happened → Type 0) (plain : (one : Act) → IsPlain one → (wor
 
   pub message_does : (o : Option Given) (world : World) → AllDo Q (with_message o world)
   message_does None world = tt
-  message_does (Some given) world = edge_does (edge_of (scenario_of world) given.iface) (steps.Pim given.iface given.message) world
+  message_does (Some given) world = edge_does (edge_of (scenario_of world) given.iface) (steps.Customer (steps.Pim given.iface given.message)) world
 
 -- ---- acts without a label
 
@@ -323,12 +323,12 @@ done_halts world (events.Raise kind a b) =
 done_halts world (events.Join iface entry) = message_halts world (message_of (scenario_of world) (events.Join iface entry))
 done_halts world (events.Prune iface entry) = message_halts world (message_of (scenario_of world) (events.Prune iface entry))
 done_halts world (events.Pim iface bytes) = message_halts world (message_of (scenario_of world) (events.Pim iface bytes))
-done_halts world (events.Active iface source group) = edge_halts world (edge_of (scenario_of world) iface) (steps.Active iface source group)
-done_halts world (events.Idle iface source group) = edge_halts world (edge_of (scenario_of world) iface) (steps.Idle iface source group)
+done_halts world (events.Active iface source group) = edge_halts world (edge_of (scenario_of world) iface) (steps.Customer (steps.Active iface source group))
+done_halts world (events.Idle iface source group) = edge_halts world (edge_of (scenario_of world) iface) (steps.Customer (steps.Idle iface source group))
 done_halts world (events.Send site source group payload) = sent_halts world site source group (packet source group payload)
 done_halts world (events.Packet site bytes) = sent_halts world site (source_in bytes) (group_in bytes) bytes
-done_halts world (events.Select vrf pattern) = edge_halts world (edge_of_vrf (scenario_of world) vrf) (steps.Select vrf pattern)
-done_halts world (events.Unselect vrf pattern) = edge_halts world (edge_of_vrf (scenario_of world) vrf) (steps.Unselect vrf pattern)
+done_halts world (events.Select vrf pattern) = edge_halts world (edge_of_vrf (scenario_of world) vrf) (steps.Customer (steps.Select vrf pattern))
+done_halts world (events.Unselect vrf pattern) = edge_halts world (edge_of_vrf (scenario_of world) vrf) (steps.Customer (steps.Unselect vrf pattern))
 done_halts world (events.Hop from to place) =
     as_ends (done world (events.Hop from to place)) (row_ends (Land from to place ∷ []) (λ old. tt, tt) world)
 done_halts world (events.DropCopy from to place) = plain_halts world (Drop from to place ∷ []) (tt, tt)

@@ -217,7 +217,7 @@ module _ (all : List Datagram) where
 
   message_those : (o : Option Given) (world : World) → HasThose all world → Comes (HasThose all) (with_message o world)
   message_those None world e = e
-  message_those (Some given) world e = edge_those (edge_of (scenario_of world) given.iface) (steps.Pim given.iface given.message) world e
+  message_those (Some given) world e = edge_those (edge_of (scenario_of world) given.iface) (steps.Customer (steps.Pim given.iface given.message)) world e
 
 -- ---- events
 
@@ -361,12 +361,14 @@ module _ (scenario : Scenario) where
   done_says world s (events.Join iface entry) sound = message_event world (message_of (scenario_of world) (events.Join iface entry))
   done_says world s (events.Prune iface entry) sound = message_event world (message_of (scenario_of world) (events.Prune iface entry))
   done_says world s (events.Pim iface bytes) sound = message_event world (message_of (scenario_of world) (events.Pim iface bytes))
-  done_says world s (events.Active iface source group) sound = edge_event world (edge_of (scenario_of world) iface) (steps.Active iface source group)
-  done_says world s (events.Idle iface source group) sound = edge_event world (edge_of (scenario_of world) iface) (steps.Idle iface source group)
+  done_says world s (events.Active iface source group) sound =
+      edge_event world (edge_of (scenario_of world) iface) (steps.Customer (steps.Active iface source group))
+  done_says world s (events.Idle iface source group) sound =
+      edge_event world (edge_of (scenario_of world) iface) (steps.Customer (steps.Idle iface source group))
   done_says world s (events.Send site source group payload) sound = sent_event site source group (packet source group payload) world s
   done_says world s (events.Packet site bytes) sound = sent_event site (source_in bytes) (group_in bytes) bytes world s
-  done_says world s (events.Select vrf pattern) sound = edge_event world (edge_of_vrf (scenario_of world) vrf) (steps.Select vrf pattern)
-  done_says world s (events.Unselect vrf pattern) sound = edge_event world (edge_of_vrf (scenario_of world) vrf) (steps.Unselect vrf pattern)
+  done_says world s (events.Select vrf pattern) sound = edge_event world (edge_of_vrf (scenario_of world) vrf) (steps.Customer (steps.Select vrf pattern))
+  done_says world s (events.Unselect vrf pattern) sound = edge_event world (edge_of_vrf (scenario_of world) vrf) (steps.Customer (steps.Unselect vrf pattern))
   done_says world s (events.Hop from to place) sound = hop_event world from to place (two_ends scenario s.2.base.sound.lines from to place sound) s
   done_says world s (events.DropCopy from to place) sound = plain_event world (Drop from to place ∷ []) (tt, tt)
   done_says world s events.Heal sound =

@@ -24,7 +24,7 @@ use Rattle.wire_laws.specs.AnyNodes.{AnyNode, Edge, CoreNode, HasSessions, IsEls
 use Rattle.wire_laws.specs.CoreNodes.{CoreState, IsCoreAt, IsCoreBefore}
 use Rattle.wire_laws.specs.Edges.{begins}
 use Rattle.wire_laws.proofs.Calls as edge_acts
-use Rattle.wire_laws.proofs.Calls.{with_none, with_some}
+use Rattle.wire_laws.proofs.Calls.{with_some}
 use Rattle.wire_laws.proofs.CoreCalls as core_acts
 use Rattle.wire_laws.proofs.Others.{messages_elsewhere, stepped_elsewhere, steps_at}
 
@@ -50,11 +50,7 @@ calm Rerouted e peer = refl
 calm (steps.Raised kinds.Bgp from) e peer = refl
 calm (steps.Noticed kinds.Bgp from) e peer = refl
 calm (steps.Update from message) e peer = refl
-calm (steps.Pim iface message) e peer = refl
-calm (steps.Active iface source group) e peer = refl
-calm (steps.Idle iface source group) e peer = refl
-calm (steps.Select vrf pattern) e peer = refl
-calm (steps.Unselect vrf pattern) e peer = refl
+calm (steps.Customer call) e peer = refl
 
 core_made : (n : NodeId) (network : OctetNetwork Nodes) (core : CoreState) (call : Call) (own : Option labels.Call) → own_label_call call ≡ own
     → IsCoreBefore n network call core

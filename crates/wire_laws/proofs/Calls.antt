@@ -21,7 +21,7 @@ use Rattle.network_defs.specs.session_defs.PeerSession.{PeerSession, fault_at, p
 use Rattle.network_defs.specs.session_defs.System.{Behind, Put, Stepped, octets_over, with_earlier}
 use Rattle.network_defs.specs.declared.session_defs.direction.Direction.{Direction}
 use Rattle.edge_defs.specs.Place.{EdgePlace}
-use Rattle.edge_defs.specs.Steps.{Call, Update, Label, Pim, Active, Idle, Select, Unselect, Raised, Noticed, Timers, Rerouted, EdgeStepped, edge_step}
+use Rattle.edge_defs.specs.Steps.{Call, Customer, Update, Label, Raised, Noticed, Timers, Rerouted, EdgeStepped, edge_step}
 use Rattle.network_defs.specs.node_defs.EdgeState.{EdgeState, all_taken, call_of, called, edge_puts, prepared, took, took_unless, waiting_at}
 use Rattle.node_laws.proofs.EdgeLemmas.{edge_after, edge_called}
 use Rattle.node_laws.proofs.OctetLemmas.{peer_total, waiting_less}
@@ -57,11 +57,7 @@ waits_prepared (Noticed kind peer) edge own none =
     by false = none
 waits_prepared (Update peer message) edge own none = none
 waits_prepared (Label peer message) edge own none = none
-waits_prepared (Pim iface message) edge own none = none
-waits_prepared (Active iface source group) edge own none = none
-waits_prepared (Idle iface source group) edge own none = none
-waits_prepared (Select vrf pattern) edge own none = none
-waits_prepared (Unselect vrf pattern) edge own none = none
+waits_prepared (Customer call) edge own none = none
 waits_prepared (Raised kind peer) edge own none = none
 waits_prepared Timers edge own none = none
 waits_prepared Rerouted edge own none = none
@@ -69,11 +65,7 @@ waits_prepared Rerouted edge own none = none
 prepared_spent : (call : Call) (edge : EdgeState) → (prepared call edge).spent ≡ edge.spent
 prepared_spent (Update peer message) edge = refl
 prepared_spent (Label peer message) edge = refl
-prepared_spent (Pim iface message) edge = refl
-prepared_spent (Active iface source group) edge = refl
-prepared_spent (Idle iface source group) edge = refl
-prepared_spent (Select vrf pattern) edge = refl
-prepared_spent (Unselect vrf pattern) edge = refl
+prepared_spent (Customer call) edge = refl
 prepared_spent (Raised kind peer) edge = refl
 prepared_spent (Noticed kind peer) edge = refl
 prepared_spent Timers edge = refl
@@ -107,11 +99,7 @@ module _ (n : NodeId) (network : OctetNetwork Nodes) (edge : EdgeState) where
       ∙ begun_or own from kind peer (is.begun kind peer) (is.streams kind peer) None refl
   streams_prepared (Update peer message) is kind q = is.streams kind q refl
   streams_prepared (Label peer message) is kind q = is.streams kind q refl
-  streams_prepared (Pim iface message) is kind q = is.streams kind q refl
-  streams_prepared (Active iface source group) is kind q = is.streams kind q refl
-  streams_prepared (Idle iface source group) is kind q = is.streams kind q refl
-  streams_prepared (Select vrf pattern) is kind q = is.streams kind q refl
-  streams_prepared (Unselect vrf pattern) is kind q = is.streams kind q refl
+  streams_prepared (Customer call) is kind q = is.streams kind q refl
   streams_prepared Timers is kind q = is.streams kind q refl
   streams_prepared Rerouted is kind q = is.streams kind q refl
 

@@ -14,7 +14,7 @@ use Rattle.mv_base.specs.framing.Feed.{fed, unfed}
 use Rattle.scenario_defs.specs.declared.event.Kind.TheVariants as kinds
 use Rattle.label_defs.specs.Keys.{node_cmp}
 use Rattle.label_defs.specs.LabelData.{LabelData, Place}
-use Rattle.label_defs.specs.Node.{LabelNode, LacksLabel, NodePlace, Spent, addr_in, called_unless, place_in, prepared, waiting_for, with_pdus}
+use Rattle.label_defs.specs.Node.{LabelNode, LacksLabel, NodePlace, Spent, called_unless, prepared, waiting_for, with_pdus}
 use Rattle.label_defs.specs.Node as nodes
 use Rattle.label_defs.specs.Settling as settling
 use Rattle.label_defs.specs.Steps.{Call, Numbered, Taken, Want, Unwant, Raised, Noticed, Timers, Rerouted, label_step, step_puts}
@@ -28,7 +28,7 @@ use Rattle.network_defs.specs.session_defs.System.{Behind, Put, Stepped, octets_
 use Rattle.network_defs.specs.declared.session_defs.direction.Direction.{Direction}
 use Rattle.edge_defs.specs.Place.{addr_of}
 use Rattle.edge_defs.specs.Steps as steps
-use Rattle.edge_defs.specs.Steps.{LabelStep, own_label_call}
+use Rattle.edge_defs.specs.Steps.{own_label_call}
 use Rattle.network_defs.specs.node_defs.Puts.{label_put, label_puts}
 use Rattle.node_laws.specs.Places.{node_place}
 use Rattle.node_laws.proofs.OctetLemmas.{peer_total}
@@ -36,7 +36,7 @@ use Rattle.node_laws.proofs.PlaceLemmas.{one_addr, one_place}
 use Rattle.network_defs.specs.Counts.{direction}
 use Rattle.network_defs.specs.Nodes.{Nodes, CoreNode, core_at, label_place_of, with_node}
 use Rattle.network_defs.specs.System as world_steps
-use Rattle.network_defs.specs.System.{NodeCall, Own, node_called, system, unchanged}
+use Rattle.network_defs.specs.System.{node_called, system, unchanged}
 use Rattle.wire_laws.specs.CoreNodes.{CoreState, IsCoreAt, IsCoreBefore, core_all_taken, core_called, core_called_unless, core_took, core_took_unless, ldp_with, streams_behind}
 use Rattle.wire_laws.specs.Edges.{IsWay}
 use Rattle.wire_laws.proofs.Calls.{earlier_none, earlier_some, one_way, over_both, some_either, stream_or, with_none, with_some}
@@ -252,11 +252,7 @@ module _ (n : NodeId) (network : OctetNetwork Nodes) (core : CoreState) where
   streams_prepared (steps.Raised kinds.Bgp from) own e is = absurd (none-some own e)
   streams_prepared (steps.Noticed kinds.Bgp from) own e is = absurd (none-some own e)
   streams_prepared (steps.Update from message) own e is = absurd (none-some own e)
-  streams_prepared (steps.Pim iface message) own e is = absurd (none-some own e)
-  streams_prepared (steps.Active iface source group) own e is = absurd (none-some own e)
-  streams_prepared (steps.Idle iface source group) own e is = absurd (none-some own e)
-  streams_prepared (steps.Select vrf pattern) own e is = absurd (none-some own e)
-  streams_prepared (steps.Unselect vrf pattern) own e is = absurd (none-some own e)
+  streams_prepared (steps.Customer call) own e is = absurd (none-some own e)
 
 nothing_put : (n peer : NodeId) → octets_over (direction kinds.Bgp n peer) [] ≡ []
 nothing_put n peer = refl

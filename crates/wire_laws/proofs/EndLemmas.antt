@@ -26,7 +26,7 @@ use Rattle.network_defs.specs.declared.session_defs.direction.Direction.{Directi
 use Rattle.edge_defs.specs.Edge.{Control, EdgeData, Taken}
 use Rattle.edge_defs.specs.Place.{EdgePlace, addr_of}
 use Rattle.edge_defs.specs.Steps as steps
-use Rattle.edge_defs.specs.Steps.{Call, EdgeStepped, LabelStep, Noticed, Raised, Rerouted, Timers, changed_leaves, control_step, edge_step, label_row, one_call, own_label_call, part_after, peers_run, raised_after, taken_change, taken_run, with_update}
+use Rattle.edge_defs.specs.Steps.{Call, EdgeStepped, Noticed, Raised, Rerouted, Timers, changed_leaves, control_step, edge_step, label_row, one_call, own_label_call, part_after, peers_run, raised_after, taken_change, taken_run, with_update}
 use Rattle.edge_defs.specs.Tunnels.{leaves}
 use Rattle.network_defs.specs.node_defs.EdgeState.{call_of, edge_puts}
 use Rattle.network_defs.specs.node_defs.Puts.{label_puts}
@@ -118,11 +118,7 @@ peers_up place now control (Noticed kinds.Bgp own) peer = peers_cut control.peer
 peers_up place now control (Noticed kinds.Ldp own) peer = refl
 peers_up place now control (steps.Update own message) peer = updated now own message control peer
 peers_up place now control (steps.Label own message) peer = refl
-peers_up place now control (steps.Pim iface message) peer = refl
-peers_up place now control (steps.Active iface source group) peer = refl
-peers_up place now control (steps.Idle iface source group) peer = refl
-peers_up place now control (steps.Select vrf pattern) peer = refl
-peers_up place now control (steps.Unselect vrf pattern) peer = refl
+peers_up place now control (steps.Customer call) peer = refl
 peers_up place now control Timers peer = timed place now control.peers peer
 peers_up place now control Rerouted peer = refl
 
@@ -194,11 +190,7 @@ core_stays (Noticed kinds.Bgp own) peer none = by (own.0 == peer.0)
 core_stays (Noticed kinds.Ldp own) peer none = refl
 core_stays (steps.Update own message) peer none = refl
 core_stays (steps.Label own message) peer none = refl
-core_stays (steps.Pim iface message) peer none = refl
-core_stays (steps.Active iface source group) peer none = refl
-core_stays (steps.Idle iface source group) peer none = refl
-core_stays (steps.Select vrf pattern) peer none = refl
-core_stays (steps.Unselect vrf pattern) peer none = refl
+core_stays (steps.Customer call) peer none = refl
 core_stays Timers peer none = refl
 core_stays Rerouted peer none = refl
 
@@ -352,11 +344,7 @@ ends_up life now (Raised kinds.Bgp own) peer old = refl
 ends_up life now (Noticed kinds.Bgp own) peer old = refl
 ends_up life now (steps.Update own message) peer old = refl
 ends_up life now (steps.Label own message) peer old = refl
-ends_up life now (steps.Pim iface message) peer old = refl
-ends_up life now (steps.Active iface source group) peer old = refl
-ends_up life now (steps.Idle iface source group) peer old = refl
-ends_up life now (steps.Select vrf pattern) peer old = refl
-ends_up life now (steps.Unselect vrf pattern) peer old = refl
+ends_up life now (steps.Customer call) peer old = refl
 ends_up life now Timers peer old = run_up life now old
 ends_up life now Rerouted peer old = refl
 
@@ -368,11 +356,7 @@ holds_run life now (Raised kinds.Bgp own) peer old other = refl
 holds_run life now (Noticed kinds.Bgp own) peer old other = refl
 holds_run life now (steps.Update own message) peer old other = refl
 holds_run life now (steps.Label own message) peer old other = refl
-holds_run life now (steps.Pim iface message) peer old other = refl
-holds_run life now (steps.Active iface source group) peer old other = refl
-holds_run life now (steps.Idle iface source group) peer old other = refl
-holds_run life now (steps.Select vrf pattern) peer old other = refl
-holds_run life now (steps.Unselect vrf pattern) peer old other = refl
+holds_run life now (steps.Customer call) peer old other = refl
 holds_run life now Timers peer old other = absurd (other refl)
 holds_run life now Rerouted peer old other = refl
 

@@ -23,7 +23,7 @@ use Rattle.pim_defs.specs.declared.expiry.Expiry.{Expiry}
 use Rattle.pim_defs.proofs.EntriesLemmas.{get-applied, get-kept}
 use Rattle.edge_defs.specs.Edge.{Note, note_cmp, pattern_cmp, flow_cmp, Selected, Taken, Control, no_control}
 use Rattle.edge_defs.specs.Place.{EdgePlace}
-use Rattle.edge_defs.specs.Steps.{Call, Update, Label, Pim, Active, Idle, Select, Unselect, Raised, Noticed, Timers, Rerouted, effect, with_selection, selections_run, peers_run, taken_change}
+use Rattle.edge_defs.specs.Steps.{Call, Customer, Update, Label, Pim, Active, Idle, Select, Unselect, Raised, Noticed, Timers, Rerouted, effect, with_selection, selections_run, peers_run, taken_change}
 use Rattle.edge_defs.proofs.KeyLemmas.{note_total, note_exact}
 use Rattle.control_laws.specs.group_laws.Groups.{IsFlow, HaveGroups, HasGroups, IsAllowed}
 
@@ -135,13 +135,14 @@ pub effect_groups : (place : EdgePlace) (now : ℕ) (control : Control) (call : 
 effect_groups place now control (Update peer message) have allowed =
     updated control have (maps.get control.peers peer) (λ taken. maps.insert control.peers peer (fold (taken_change now) taken (changes_of message)))
 effect_groups place now control (Label neighbour message) have allowed = have
-effect_groups place now control (Pim iface message) have allowed = joined control have iface message now allowed
-effect_groups place now control (Active iface source group) have allowed =
+effect_groups place now control (Customer (Pim iface message)) have allowed = joined control have iface message now allowed
+effect_groups place now control (Customer (Active iface source group)) have allowed =
     noted control have (record { iface = iface; source = source; group = group }) allowed
-effect_groups place now control (Idle iface source group) have allowed = ended control have (record { iface = iface; source = source; group = group })
-effect_groups place now control (Select vrf pattern) have allowed =
+effect_groups place now control (Customer (Idle iface source group)) have allowed =
+    ended control have (record { iface = iface; source = source; group = group })
+effect_groups place now control (Customer (Select vrf pattern)) have allowed =
     others control have (with_selection now vrf pattern control.selections) control.peers
-effect_groups place now control (Unselect vrf pattern) have allowed =
+effect_groups place now control (Customer (Unselect vrf pattern)) have allowed =
     others control have (maps.remove control.selections (record { vrf = vrf; pattern = pattern })) control.peers
 effect_groups place now control (Raised kinds.Bgp peer) have allowed =
     others control have control.selections (maps.insert control.peers peer maps.empty)

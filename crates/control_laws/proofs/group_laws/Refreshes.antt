@@ -1,5 +1,5 @@
 -- Flows have groups of the family of their source, and so they have after a step.
-use Rattle.std.proofs.Common.{◌≡◌, ℕ, Bool, true, false, cond, inl, inr, Option, None, Some, refl, subst, ap}
+use Rattle.std.proofs.Common.{◌≡◌, ℕ, Bool, true, false, inl, inr, Option, None, Some, refl, subst, ap}
 use Rattle.std.specs.Prelude.{is_some}
 use Rattle.std.specs.FinMap as maps
 use Rattle.mv_base.specs.declared.addr.Addr.{Addr}
@@ -19,7 +19,7 @@ use Rattle.edge_defs.specs.Edge.{VrfFlow, Upstream, Control}
 use Rattle.edge_defs.specs.Flows.{flows_at}
 use Rattle.edge_defs.specs.Imported.{FlowRoute, active_of}
 use Rattle.edge_defs.specs.Place.{EdgePlace, OwnVrf}
-use Rattle.edge_defs.specs.Steps.{Call, effect, is_vrf_step, refreshed, control_step}
+use Rattle.edge_defs.specs.Steps.{Call, effect, is_vrf_step, refreshed, refreshed_if, control_step}
 use Rattle.vrf_words.specs.edge_words.Asked.{IsKnown, Asks, IsAsked}
 use Rattle.vrf_words.proofs.edge_words.Flows.{flows_are}
 use Rattle.control_laws.specs.Peers.{AreWritable}
@@ -88,6 +88,6 @@ step_groups place now control call have writable allowed = by (is_vrf_step call)
     behind : HaveGroups (effect place now control call)
     behind = effect_groups place now control call have allowed
 
-    by : (b : Bool) → HaveGroups (cond b (refreshed place now (effect place now control call)) (effect place now control call))
+    by : (b : Bool) → HaveGroups (refreshed_if b place now (effect place now control call))
     by true = refreshed_groups place now (effect place now control call) behind writable
     by false = behind

@@ -10,7 +10,7 @@ use Rattle.scenario_defs.specs.declared.event.IfaceEntry.{IfaceEntry}
 use Rattle.scenario_defs.specs.declared.event.JoinEntry.TheVariants.{Source}
 use Rattle.pim_defs.specs.Mention.{joins}
 use Rattle.edge_defs.specs.Edge.{Note, VrfFlow, Control}
-use Rattle.edge_defs.specs.Steps.{Call, Pim, Active}
+use Rattle.edge_defs.specs.Steps.{Call, Customer, Pim, Active}
 
 -- the group is a multicast group of the source's family, such as the key of a route has (RFC 6514 section 4)
 abbrev pub IsFlow : Addr → Addr → Type 0
@@ -30,6 +30,6 @@ HasGroups message = (source group : Addr) → joins message (Source source group
 
 -- what the call joins or notes has such a group
 abbrev pub IsAllowed : Call → Type 0
-IsAllowed (Pim iface message) = HasGroups message
-IsAllowed (Active iface source group) = IsFlow source group
+IsAllowed (Customer (Pim iface message)) = HasGroups message
+IsAllowed (Customer (Active iface source group)) = IsFlow source group
 IsAllowed other = ⊤

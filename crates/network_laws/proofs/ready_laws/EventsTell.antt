@@ -117,7 +117,7 @@ message_tells : (told : SessionsStand) (world : World) (o : Option Given) → Te
     → Comes (Tells (scenario_of world) told) (with_message o world)
 message_tells told world None t = (refl, t)
 message_tells told world (Some given) t =
-    edge_tells (scenario_of world) told world (edge_of (scenario_of world) given.iface) (steps.Pim given.iface given.message)
+    edge_tells (scenario_of world) told world (edge_of (scenario_of world) given.iface) (steps.Customer (steps.Pim given.iface given.message))
     (λ life now peer old. refl) t
 
 -- ---- moves and copies
@@ -198,15 +198,16 @@ event_tells told world has t (events.Join iface entry) = message_tells told worl
 event_tells told world has t (events.Prune iface entry) = message_tells told world (message_of (scenario_of world) (events.Prune iface entry)) t
 event_tells told world has t (events.Pim iface octets) = message_tells told world (message_of (scenario_of world) (events.Pim iface octets)) t
 event_tells told world has t (events.Active iface source group) =
-    edge_tells (scenario_of world) told world (edge_of (scenario_of world) iface) (steps.Active iface source group) (λ life now peer old. refl) t
+    edge_tells (scenario_of world) told world (edge_of (scenario_of world) iface) (steps.Customer (steps.Active iface source group))
+    (λ life now peer old. refl) t
 event_tells told world has t (events.Idle iface source group) =
-    edge_tells (scenario_of world) told world (edge_of (scenario_of world) iface) (steps.Idle iface source group) (λ life now peer old. refl) t
+    edge_tells (scenario_of world) told world (edge_of (scenario_of world) iface) (steps.Customer (steps.Idle iface source group)) (λ life now peer old. refl) t
 event_tells told world has t (events.Send site source group payload) = sent_tells told world site source group (packet source group payload) t
 event_tells told world has t (events.Packet site octets) = sent_tells told world site (source_in octets) (group_in octets) octets t
 event_tells told world has t (events.Select vrf pattern) =
-    edge_tells (scenario_of world) told world (edge_of_vrf (scenario_of world) vrf) (steps.Select vrf pattern) (λ life now peer old. refl) t
+    edge_tells (scenario_of world) told world (edge_of_vrf (scenario_of world) vrf) (steps.Customer (steps.Select vrf pattern)) (λ life now peer old. refl) t
 event_tells told world has t (events.Unselect vrf pattern) =
-    edge_tells (scenario_of world) told world (edge_of_vrf (scenario_of world) vrf) (steps.Unselect vrf pattern) (λ life now peer old. refl) t
+    edge_tells (scenario_of world) told world (edge_of_vrf (scenario_of world) vrf) (steps.Customer (steps.Unselect vrf pattern)) (λ life now peer old. refl) t
 event_tells told world has t (events.Hop from to place) = one_tells (scenario_of world) told world (Land from to place) (λ standing. refl) t
 event_tells told world has t (events.DropCopy from to place) = one_tells (scenario_of world) told world (Drop from to place) (λ standing. refl) t
 event_tells told world has t (events.Cost a b cost) = cost_tells told world a b cost t

@@ -181,7 +181,8 @@ module _ (world : World) (b : Before (scenario_of world) world) where
 
   message_told : (o : Option Given) → IsSoundGiven o → Told (with_message o world)
   message_told None is = (tt, tt)
-  message_told (Some given) is = call_told (edge_of own given.iface) (steps.Pim given.iface given.message) (edge_within own b.sound given.iface) is
+  message_told (Some given) is =
+      call_told (edge_of own given.iface) (steps.Customer (steps.Pim given.iface given.message)) (edge_within own b.sound given.iface) is
 
   move_told : (kind : Kind) (from to : NodeId) (count : ℕ) → refusal world (events.Move kind from to count) ≡ None
       → Told (row (Move kind from to count ∷ []) world)
@@ -237,13 +238,14 @@ module _ (world : World) (b : Before (scenario_of world) world) where
   done_told (events.Prune iface entry) free is = message_told (message_of own (events.Prune iface entry)) (prune_is_sound own iface entry is.1)
   done_told (events.Pim iface octets) free is = message_told (message_of own (events.Pim iface octets)) (read_is_sound iface octets is)
   done_told (events.Active iface source group) free is =
-      call_told (edge_of own iface) (steps.Active iface source group) (edge_within own b.sound iface) is
+      call_told (edge_of own iface) (steps.Customer (steps.Active iface source group)) (edge_within own b.sound iface) is
   done_told (events.Idle iface source group) free is =
-      call_told (edge_of own iface) (steps.Idle iface source group) (edge_within own b.sound iface) tt
+      call_told (edge_of own iface) (steps.Customer (steps.Idle iface source group)) (edge_within own b.sound iface) tt
   done_told (events.Send site source group payload) free is = sent_told site source group (packet source group payload)
   done_told (events.Packet site octets) free is = sent_told site (source_in octets) (group_in octets) octets
-  done_told (events.Select vrf pattern) free is = call_told (edge_of_vrf own vrf) (steps.Select vrf pattern) (vrf_within own b.sound vrf) is
-  done_told (events.Unselect vrf pattern) free is = call_told (edge_of_vrf own vrf) (steps.Unselect vrf pattern) (vrf_within own b.sound vrf) tt
+  done_told (events.Select vrf pattern) free is = call_told (edge_of_vrf own vrf) (steps.Customer (steps.Select vrf pattern)) (vrf_within own b.sound vrf) is
+  done_told (events.Unselect vrf pattern) free is =
+      call_told (edge_of_vrf own vrf) (steps.Customer (steps.Unselect vrf pattern)) (vrf_within own b.sound vrf) tt
   done_told (events.Hop from to place) free is = hop_told from to place is
   done_told (events.DropCopy from to place) free is = acts (Drop from to place ∷ []) (tt, tt)
   done_told (events.Cost a c cost) free is = cost_told a c cost is

@@ -4,8 +4,10 @@ mod copying;
 mod home;
 mod octets;
 mod own_vrf;
+mod shared;
 
 pub use copying::copied_scenario;
 pub use home::EdgeHome;
 pub use octets::sites_have_octets;
 pub use own_vrf::OwnVrf;
+pub use shared::{SharedScenario, shared_copy};

@@ -4,10 +4,12 @@
 //! of a whole place reads only the edge's address and its autonomous system, so a clause holds at every place that has
 //! these (`IsAt` in `specs/Local.antt`). `route_order`: keys and values of routes as a table keeps them, in the order
 //! in which they are sent to a peer, with no memory of their own. That a key or a value has a spelling is the type's
-//! invariant, so no table has to say it of its entries. `edge_home`: an edge of a scenario: a copy of the scenario, the
-//! edge's VRFs in order, the addresses of nodes and the other edges. It asks that the scenario meets its rules and that
-//! the node is an edge (`IsHome`), and says so wherever it lends the scenario. Below it are `edge_defs` and
-//! `bgp_values`; above it `edge_tables`, `control_laws`, `edge_control` and `held_tables` keep such routes.
+//! invariant, so no table has to say it of its entries. `edge_home`: an edge of a scenario: the scenario, which is in
+//! memory once for all edges of a network, the edge's VRFs in order, the addresses of nodes and the other edges. It
+//! asks that the scenario meets its rules and that the node is an edge (`IsHome`), and says so wherever it lends the
+//! scenario. `Shared`: a value that several have, and that is in memory once; contracts see the value. Below it are
+//! `edge_defs` and `bgp_values`; above it `edge_tables`, `control_laws`, `edge_control` and `held_tables` keep such
+//! routes.
 #![tactic(auto)]
 
 pub mod edge_home;
@@ -15,6 +17,7 @@ mod imported;
 mod local;
 mod originated;
 pub mod route_order;
+mod shared;
 mod tunnel;
 
 pub use imported::{
@@ -26,4 +29,5 @@ pub use originated::{
     Import, RemoteUpstream, active_key, afi_of, import_target, inclusive_key, join_route,
     own_import, plain_value, selective_key, tunnel_value, unicast_key, unicast_value,
 };
+pub use shared::Shared;
 pub use tunnel::{lsp, lsp_of, tunnel_by, tunnel_number};

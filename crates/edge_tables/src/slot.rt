@@ -5,16 +5,22 @@ ghost use Rattle.edge_tables.specs.Slots.{peer_table};
 
 use crate::rib_sync::Outbox;
 use crate::writing::put_changes;
+use edge_routes::Shared;
 use edge_routes::route_order::{TableKey, TableValue};
 use mv_base::{Bytes, NoMemory, NodeId};
 use std::alloc::Global;
 use std::mem;
 
+/// A key, and a value, that the tables of several peers have.
+pub(crate) type SharedKey = Shared<TableKey>;
+
+pub(crate) type SharedValue = Shared<TableValue>;
+
 /// A peer with its table and the octets that wait for it.
 #[derive(Drop)]
 pub(crate) struct Slot {
     pub(crate) peer: NodeId,
-    pub(crate) table: Outbox<TableKey, TableValue>,
+    pub(crate) table: Outbox<SharedKey, SharedValue>,
     pub(crate) waiting: Bytes,
 }
 
@@ -31,12 +37,12 @@ impl Slot {
     }
 
     #[tactic(auto, using(edge_defs::proofs::KeyLemmas::key_exact, edge_defs::proofs::KeyLemmas::value_exact))]
-    pub(crate) fn set(&mut self, key: &TableKey, value: &TableValue) -> Result<(), NoMemory>
+    pub(crate) fn set(&mut self, key: &SharedKey, value: &SharedValue) -> Result<(), NoMemory>
         ensures peer { self.new.peer ≡ self.old.peer }
         ensures set { OnOk result (peer_table self.new ≡ with_route key.now value.now (peer_table self.old)) }
         ensures unchanged { OnErr result (self.new ≡ self.old) }
     {
-        self.table.set(*key, *value)
+        self.table.set(key.share()?, value.share()?)
     }
 
     #[tactic(auto, using(edge_defs::proofs::KeyLemmas::key_exact))]
@@ -45,7 +51,8 @@ impl Slot {
         ensures unset { OnOk result (peer_table self.new ≡ without_route key.now (peer_table self.old)) }
         ensures unchanged { OnErr result (self.new ≡ self.old) }
     {
-        self.table.unset(key)
+        let shared = Shared::of(self.waiting.alloc(), *key)?;
+        self.table.unset(&shared)
     }
 
     #[tactic(auto, using(edge_defs::proofs::KeyLemmas::key_exact))]

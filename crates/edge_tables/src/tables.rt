@@ -6,7 +6,8 @@ ghost use Rattle.edge_tables.specs.Tables.{AtPeer, EachPeer, IsPutPart, downed, 
 ghost use Rattle.edge_tables.specs.Tables.{with_route, without_route};
 ghost use Rattle.edge_tables.specs.Slots.{Becomes, is_of, peer_table};
 
-use crate::slot::Slot;
+use crate::slot::{SharedKey, SharedValue, Slot};
+use edge_routes::Shared;
 use edge_routes::route_order::{TableKey, TableValue};
 use mv_base::{Bytes, NoMemory, NodeId};
 use std::alloc::Global;
@@ -42,7 +43,7 @@ fn place_of(slots: &[Slot], peer: NodeId) -> Option<usize>
 }
 
 /// Sets the route in each table.
-fn set_each(slots: &mut [Slot], key: &TableKey, value: &TableValue) -> Result<(), NoMemory>
+fn set_each(slots: &mut [Slot], key: &SharedKey, value: &SharedValue) -> Result<(), NoMemory>
     ensures set { OnOk result (
         AllZip (Becomes (λ old new. new ≡ with_route key.now value.now old)) slots.old slots.new) }
     ensures partly { OnErr result (
@@ -97,7 +98,9 @@ impl EdgeTables {
         ensures partly { OnErr result (
             EachPeer (λ old new. (new ≡ old) ⊎ (new ≡ with_route key.now value.now old)) self.old self.new) }
     {
-        set_each(&mut self.slots, key, value)
+        let key = Shared::of(self.alloc, *key)?;
+        let value = Shared::of(self.alloc, *value)?;
+        set_each(&mut self.slots, &key, &value)
     }
 
     /// No peer is to have a route of this key. Where memory runs out, some of the tables have the change and the others are as
@@ -124,7 +127,11 @@ impl EdgeTables {
     {
         match place_of(&self.slots, peer) {
             None => Ok(()),
-            Some(place) => self.slots[place].set(key, value),
+            Some(place) => {
+                let key = Shared::of(self.alloc, *key)?;
+                let value = Shared::of(self.alloc, *value)?;
+                self.slots[place].set(&key, &value)
+            }
         }
     }
 

@@ -7,6 +7,7 @@ ghost use Rattle.edge_defs.specs.Messages.{as_update};
 ghost use Rattle.edge_tables.specs.Tables.{IsFront, advert_of, texts};
 
 use crate::rib_sync::Pending;
+use crate::slot::{SharedKey, SharedValue};
 use bgp_messages::bgp_attributes::{Advert, Comms};
 use bgp_messages::bgp_update::EncodeFault;
 use edge_routes::route_order::{TableKey, TableValue};
@@ -35,7 +36,7 @@ fn advert(alloc: Global, key: &TableKey, value: &TableValue) -> Result<Advert, N
 /// The change as an UPDATE message makes it, which has a spelling within the octets of a message.
 fn update(
     alloc: Global,
-    change: &Change<TableKey, TableValue>,
+    change: &Change<SharedKey, SharedValue>,
 ) -> Result<bgp_messages::bgp_attributes::Change, NoMemory>
     ensures update { IfOk result (λ update. update ≡ as_update change.now) }
     ensures writable { IfOk result (λ update. IsWritable update) }
@@ -43,15 +44,17 @@ fn update(
 {
     match change {
         Change::Reach(key, value) => {
-            let advert = advert(alloc, key, value)?;
+            let advert = advert(alloc, key.lent(), value.lent())?;
             Ok(bgp_messages::bgp_attributes::Change::Reach(advert))
         }
-        Change::Unreach(key) => Ok(bgp_messages::bgp_attributes::Change::Unreach(*key.key())),
+        Change::Unreach(key) => Ok(bgp_messages::bgp_attributes::Change::Unreach(
+            *key.lent().key(),
+        )),
     }
 }
 
 /// Appends the UPDATE message of the change.
-fn put_change(out: &mut Bytes, change: &Change<TableKey, TableValue>) -> Result<(), NoMemory>
+fn put_change(out: &mut Bytes, change: &Change<SharedKey, SharedValue>) -> Result<(), NoMemory>
     ensures ok { OnOk result (out.new ≡ out.old ++ written (as_update change.now)) }
     ensures err { OnErr result (out.new ≡ out.old) }
 {
@@ -66,7 +69,7 @@ fn put_change(out: &mut Bytes, change: &Change<TableKey, TableValue>) -> Result<
 /// Appends the UPDATE messages of the changes, one for each. Where memory runs out some first ones of them are there.
 pub(crate) fn put_changes(
     out: &mut Bytes,
-    mut pending: Pending<TableKey, TableValue>,
+    mut pending: Pending<SharedKey, SharedValue>,
 ) -> Result<(), NoMemory>
     ensures ok { OnOk result (out.new ≡ out.old ++ texts pending) }
     ensures err { OnErr result (IsFront pending out.old out.new) }

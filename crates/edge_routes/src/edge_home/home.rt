@@ -4,9 +4,9 @@ ghost use Rattle.mv_base.specs.declared.addr.Addr.TheVariants.{V4};
 ghost use Rattle.edge_defs.specs.Place.{HasPrefixes, addr_of};
 ghost use Rattle.edge_routes.specs.edge_home.Home.{AreOwn, IsHome, home_of, peers_from, peers_of};
 
-use crate::edge_home::copying::copied_scenario;
 use crate::edge_home::octets::sites_have_octets;
 use crate::edge_home::own_vrf::{OwnVrf, own_vrfs};
+use crate::edge_home::shared::SharedScenario;
 use mv_base::{Addr, NoMemory, NodeId};
 use scenario_defs::{Node, Scenario};
 use std::alloc::Global;
@@ -15,7 +15,7 @@ use std::marker::Model;
 /// An edge of a scenario. Contracts see the scenario, and which of its nodes the edge is.
 #[derive(Drop)]
 pub struct EdgeHome {
-    scenario: Scenario,
+    scenario: SharedScenario,
     me: NodeId,
     vrfs: Vec<OwnVrf>,
 }
@@ -64,16 +64,21 @@ fn peers(alloc: Global, nodes: &[Node], me: NodeId) -> Result<Vec<NodeId>, NoMem
 }
 
 impl EdgeHome {
-    /// The node of that number in the scenario, which is copied.
-    pub fn of(alloc: Global, scenario: &Scenario, me: NodeId) -> Result<EdgeHome, NoMemory>
+    /// The node of that number in the scenario, which it shares.
+    pub fn of(alloc: Global, scenario: &SharedScenario, me: NodeId) -> Result<EdgeHome, NoMemory>
         requires { IsHome scenario.now me }
         ensures { IfOk result (λ home. home ≡ home_of scenario.now me) }
     {
+        let shared = scenario.share()?;
+        let scenario = scenario.lent();
         sites_have_octets(scenario.sites.as_slice());
-        let scenario = copied_scenario(alloc, scenario)?;
-        let addr = own_octets(&scenario, me);
+        let addr = own_octets(scenario, me);
         let vrfs = own_vrfs(alloc, scenario.vrfs.as_slice(), me, addr, scenario.system)?;
-        Ok(EdgeHome { scenario, me, vrfs })
+        Ok(EdgeHome {
+            scenario: shared,
+            me,
+            vrfs,
+        })
     }
 
     /// The scenario.
@@ -82,7 +87,7 @@ impl EdgeHome {
         ensures is { IsHome self.now.scenario self.now.me }
         ensures octets { HasPrefixes self.now.scenario }
     {
-        &self.scenario
+        self.scenario.lent()
     }
 
     /// Which of the scenario's nodes the edge is.
@@ -105,13 +110,13 @@ impl EdgeHome {
         requires { node.0 < length self.now.scenario.nodes }
         ensures { result ≡ addr_of self.now.scenario node }
     {
-        self.scenario.nodes.as_slice()[usize::from(node.0)].addr
+        self.scenario.lent().nodes.as_slice()[usize::from(node.0)].addr
     }
 
     /// The other edges, in order.
     pub fn peers(&self, alloc: Global) -> Result<Vec<NodeId>, NoMemory>
         ensures { IfOk result (λ found. found.items ≡ peers_of self.now) }
     {
-        peers(alloc, self.scenario.nodes.as_slice(), self.me)
+        peers(alloc, self.scenario.lent().nodes.as_slice(), self.me)
     }
 }

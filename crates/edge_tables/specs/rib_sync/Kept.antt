@@ -10,6 +10,10 @@ use Rattle.edge_tables.specs.rib_sync.Ribs.{RibOut}
 use Rattle.edge_tables.specs.declared.rib_sync.kept.News.{News}
 use Rattle.edge_tables.specs.declared.rib_sync.kept.Kept.{Kept}
 
+-- A clone is the same again.
+abbrev pub IsCopying : {T : Type 0} → (T → T → Type 0) → Type 0
+IsCopying {T} is_clone = (own copy : T) → is_clone own copy → copy ≡ own
+
 -- what is set at a key
 abbrev pub set_at : {K V : Type 0} → (K → K → Ordering) → Kept K V → K → Option V
 set_at cmp kept key = get cmp kept.set key

@@ -37,7 +37,7 @@ impl<K: Ord + Drop, V: Drop> Model for Inbox<K, V> {
 }
 
 // Makes the change in a map.
-fn make<K: Copy + Ord, V: Drop>(
+fn make<K: Ord + Drop, V: Drop>(
     map: &mut BTreeMap<K, V>,
     change: Change<K, V>,
 ) -> Result<(), NoMemory>
@@ -57,7 +57,7 @@ fn make<K: Copy + Ord, V: Drop>(
     Ok(())
 }
 
-impl<K: Copy + Ord, V: Drop> Inbox<K, V> {
+impl<K: Ord + Drop, V: Drop> Inbox<K, V> {
     /// An empty inbox. It takes no memory.
     pub fn of(alloc: Global) -> Inbox<K, V>
         ensures { rib_in K.cmp result ≡ map.empty }

@@ -1,9 +1,9 @@
 //! What an outbox keeps: the table set, and beside it where the table told differs.
 ghost use Rattle.std.specs.Prelude.{◌≡◌, ◌↔◌, IsTrue, None, Some, [], true, false, OnOk, OnErr, IfOk, if◌then◌else◌};
 ghost use Rattle.std.specs.Ordering.{eq_by_cmp};
-ghost use Rattle.std.specs.Option.{option_map};
+ghost use Rattle.std.specs.Option.{option_copied, option_map};
 ghost use Rattle.std.specs.BTreeMap.{get, IsOrdered};
-ghost use Rattle.edge_tables.specs.rib_sync.Kept.{set_at, told_at, IsWell, as_news};
+ghost use Rattle.edge_tables.specs.rib_sync.Kept.{IsCopying, IsWell, as_news, set_at, told_at};
 
 use mv_base::NoMemory;
 use std::alloc::Global;
@@ -11,8 +11,8 @@ use std::collections::BTreeMap;
 use std::mem;
 
 /// A value that was set, and the one that was told before, if any.
-#[derive(Clone, Copy)]
-pub(crate) struct News<V> {
+#[derive(Drop)]
+pub(crate) struct News<V: Drop> {
     pub(crate) value: V,
     pub(crate) told: Option<V>,
 }
@@ -28,28 +28,46 @@ pub(crate) struct Kept<K: Ord + Drop, V: Drop> {
     pub(crate) news: BTreeMap<K, News<V>>,
 }
 
+// A copy of the value.
+fn copied<T: Clone>(value: &T) -> Result<T, NoMemory>
+    requires { IsCopying T.is_clone }
+    ensures { IfOk result (λ copy. copy ≡ value.now) }
+{
+    let copy = value.clone()?;
+    Ok(copy)
+}
+
+// A copy of the value, where there is one.
+fn copied_option<T: Clone>(value: Option<&T>) -> Result<Option<T>, NoMemory>
+    requires { IsCopying T.is_clone }
+    ensures { IfOk result (λ copy. copy ≡ option_copied value.entry) }
+{
+    match value {
+        None => Ok(None),
+        Some(value) => Ok(Some(copied(value)?)),
+    }
+}
+
 // Each entry, with nothing told.
-fn all_new<K: Copy + Ord, V: Copy>(
+fn all_new<K: Clone + Ord + Drop, V: Clone + Drop>(
     alloc: Global,
     set: &BTreeMap<K, V>,
 ) -> Result<BTreeMap<K, News<V>>, NoMemory>
+    requires keys { IsCopying K.is_clone }
+    requires values { IsCopying V.is_clone }
     ensures news { IfOk result (λ news. (q : K) → get K.cmp news q ≡ option_map as_news (get K.cmp set.now q)) }
     ensures ordered { IfOk result (λ news. IsOrdered K.cmp news) }
 {
     let mut news = BTreeMap::new(alloc);
     for (key, value) in set.iter() {
-        news.insert(
-            *key,
-            News {
-                value: *value,
-                told: None,
-            },
-        )?;
+        let own = copied(key)?;
+        let value = copied(value)?;
+        news.insert(own, News { value, told: None })?;
     }
     Ok(news)
 }
 
-impl<K: Copy + Ord, V: Copy + Eq> Kept<K, V> {
+impl<K: Clone + Ord + Drop, V: Clone + Eq + Drop> Kept<K, V> {
     pub(crate) fn of(alloc: Global) -> Kept<K, V>
         ensures well { IsWell K.cmp result }
         ensures up { result.up ≡ false }
@@ -67,6 +85,8 @@ impl<K: Copy + Ord, V: Copy + Eq> Kept<K, V> {
     pub(crate) fn set(&mut self, key: K, value: V) -> Result<(), NoMemory>
         requires well { IsWell K.cmp self.old }
         requires exact { (v w : V) → V.eq v w ≡ true → v ≡ w }
+        requires keys { IsCopying K.is_clone }
+        requires values { IsCopying V.is_clone }
         ensures well { IsWell K.cmp self.new }
         ensures up { self.new.up ≡ self.old.up }
         ensures told { (q : K) → told_at K.cmp self.new q ≡ told_at K.cmp self.old q }
@@ -78,15 +98,18 @@ impl<K: Copy + Ord, V: Copy + Eq> Kept<K, V> {
             self.set.insert(key, value)?;
             return Ok(());
         }
-        let told = self.told(&key);
-        if told == Some(value) {
-            self.set.insert(key, value)?;
+        let told = copied_option(self.told(&key))?;
+        let own = copied(&key)?;
+        if told.as_ref() == Some(&value) {
+            self.set.insert(own, value)?;
             self.news.remove(&key);
             self.gone.remove(&key);
             return Ok(());
         }
-        self.news.insert(key, News { value, told })?;
-        if self.set.insert(key, value).is_err() {
+        let again = copied(&key)?;
+        let news = copied(&value)?;
+        self.news.insert(again, News { value: news, told })?;
+        if self.set.insert(own, value).is_err() {
             self.news.remove(&key);
             return Err(NoMemory);
         }
@@ -96,6 +119,8 @@ impl<K: Copy + Ord, V: Copy + Eq> Kept<K, V> {
 
     pub(crate) fn unset(&mut self, key: &K) -> Result<(), NoMemory>
         requires well { IsWell K.cmp self.old }
+        requires keys { IsCopying K.is_clone }
+        requires values { IsCopying V.is_clone }
         ensures well { IsWell K.cmp self.new }
         ensures up { self.new.up ≡ self.old.up }
         ensures told { (q : K) → told_at K.cmp self.new q ≡ told_at K.cmp self.old q }
@@ -107,12 +132,12 @@ impl<K: Copy + Ord, V: Copy + Eq> Kept<K, V> {
             self.set.remove(key);
             return Ok(());
         }
-        let Some(told) = self.told(key) else {
+        let Some(told) = copied_option(self.told(key))? else {
             self.news.remove(key);
             self.set.remove(key);
             return Ok(());
         };
-        self.gone.insert(*key, told)?;
+        self.gone.insert(copied(key)?, told)?;
         self.news.remove(key);
         self.set.remove(key);
         Ok(())
@@ -120,6 +145,8 @@ impl<K: Copy + Ord, V: Copy + Eq> Kept<K, V> {
 
     pub(crate) fn replay_all(&mut self) -> Result<(), NoMemory>
         requires well { IsWell K.cmp self.old }
+        requires keys { IsCopying K.is_clone }
+        requires values { IsCopying V.is_clone }
         ensures well { IsWell K.cmp self.new }
         ensures up { OnOk result ((self.new.up ≡ true) × ((q : K) → told_at K.cmp self.new q ≡ None)) }
         ensures set { (q : K) → set_at K.cmp self.new q ≡ set_at K.cmp self.old q }
@@ -133,19 +160,19 @@ impl<K: Copy + Ord, V: Copy + Eq> Kept<K, V> {
     }
 
     // What was told at the key.
-    fn told(&self, key: &K) -> Option<V>
-        ensures { result ≡ told_at K.cmp self.now key.now }
+    fn told(&self, key: &K) -> Option<&V>
+        ensures { option_copied result ≡ told_at K.cmp self.now key.now }
     {
         if !self.up {
             return None;
         }
         if let Some(value) = self.gone.get(key) {
-            return Some(*value);
+            return Some(value);
         }
         if let Some(news) = self.news.get(key) {
-            return news.told;
+            return news.told.as_ref();
         }
-        self.set.get(key).copied()
+        self.set.get(key)
     }
 
     pub(crate) fn down(&mut self)

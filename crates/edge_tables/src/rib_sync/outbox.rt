@@ -4,6 +4,7 @@ ghost use Rattle.std.specs.Option.{option_copied};
 ghost use Rattle.std.specs.FinMap as map;
 ghost use Rattle.std.specs.FinMap.{IsAntisymmetric};
 ghost use Rattle.table_laws.specs.Words.{IsExact};
+ghost use Rattle.edge_tables.specs.rib_sync.Kept.{IsCopying};
 ghost use Rattle.edge_tables.specs.rib_sync.Ribs.{rib_out, pending, flushed};
 
 use crate::rib_sync::kept::Kept;
@@ -29,7 +30,7 @@ impl<K: Ord + Drop, V: Drop> Model for Outbox<K, V> {
     ghost invariant = { λ o. IsWell K.cmp o.kept };
 }
 
-impl<K: Copy + Ord, V: Copy + Eq> Outbox<K, V> {
+impl<K: Clone + Ord + Drop, V: Clone + Eq + Drop> Outbox<K, V> {
     /// An outbox that is down and empty. It takes no memory.
     pub fn of(alloc: Global) -> Outbox<K, V>
         ensures { rib_out K.cmp result ≡ record { up = false; set = map.empty; told = map.empty } }
@@ -43,6 +44,8 @@ impl<K: Copy + Ord, V: Copy + Eq> Outbox<K, V> {
     pub fn set(&mut self, key: K, value: V) -> Result<(), NoMemory>
         requires keys { IsAntisymmetric K.cmp }
         requires values { IsExact V.eq }
+        requires own_keys { IsCopying K.is_clone }
+        requires own_values { IsCopying V.is_clone }
         ensures set { OnOk result (
             let old = rib_out K.cmp self.old in rib_out K.cmp self.new ≡ record old { set = map.insert old.set key value }) }
         ensures unchanged { OnErr result (self.new ≡ self.old) }
@@ -52,7 +55,9 @@ impl<K: Copy + Ord, V: Copy + Eq> Outbox<K, V> {
 
     /// The peer is to have nothing at the key.
     pub fn unset(&mut self, key: &K) -> Result<(), NoMemory>
-        requires { IsAntisymmetric K.cmp }
+        requires keys { IsAntisymmetric K.cmp }
+        requires own_keys { IsCopying K.is_clone }
+        requires own_values { IsCopying V.is_clone }
         ensures unset { OnOk result (
             let old = rib_out K.cmp self.old in rib_out K.cmp self.new ≡ record old { set = map.remove old.set key.now }) }
         ensures unchanged { OnErr result (self.new ≡ self.old) }
@@ -62,7 +67,9 @@ impl<K: Copy + Ord, V: Copy + Eq> Outbox<K, V> {
 
     /// Brings the outbox up, with nothing told: each key that is set is pending.
     pub fn replay_all(&mut self) -> Result<(), NoMemory>
-        requires { IsAntisymmetric K.cmp }
+        requires keys { IsAntisymmetric K.cmp }
+        requires own_keys { IsCopying K.is_clone }
+        requires own_values { IsCopying V.is_clone }
         ensures up { OnOk result (
             let old = rib_out K.cmp self.old in rib_out K.cmp self.new ≡ record old { up = true; told = map.empty }) }
         ensures unchanged { OnErr result (self.new ≡ self.old) }

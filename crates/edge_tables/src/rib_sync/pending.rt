@@ -23,7 +23,7 @@ impl<K: Ord + Drop, V: Drop> Model for Pending<K, V> {
     ghost view = { λ p. changes_in p.gone p.news };
 }
 
-impl<K: Copy + Ord, V: Copy> Pending<K, V> {
+impl<K: Ord + Drop, V: Drop> Pending<K, V> {
     /// Takes the first change.
     pub fn next(&mut self) -> Option<Change<K, V>>
         ensures { MatchOption result ((self.old ≡ []) × (self.new ≡ [])) (λ change. self.old ≡ change ∷ self.new) }

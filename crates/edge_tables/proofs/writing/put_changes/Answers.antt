@@ -18,6 +18,11 @@ loop-change-preserved c =
     one_put c.args.pending c.args.out.now c.loop-change.out c.put_change.new.out c.loop-change.pending c.next.new.self c.in-Some.change
     c.loop-change.invariant c.in-Some.ensures c.in_ok-put_change.ensures.ok
 
+pub loop-change-preserved-in_ok-put_change : goal.loop-change-preserved-in_ok-put_change
+loop-change-preserved-in_ok-put_change c =
+    one_put c.args.pending c.args.out.now c.loop-change.out c.put_change.new.out c.loop-change.pending c.next.new.self c.in-Some.change
+    c.loop-change.invariant c.in-Some.ensures c.in_ok-put_change.ensures.ok
+
 pub returns-in_err-put_change-clause-err : goal.returns-in_err-put_change-clause-err
 returns-in_err-put_change-clause-err c =
     on_err c.from_residual.result _ (front_put c.args.pending c.args.out.now c.loop-change.out c.put_change.new.out c.loop-change.pending

@@ -34,12 +34,22 @@ impl Model for Standing {
     ghost invariant = { λ s. IsPlace (record { me = s.me; addrs = s.addrs; life = s.life }) };
 }
 
+/// Whether both are one address. Most addresses of IPv4 differ in their last octet, so that one is looked at first.
+fn is_addr(own: &Addr, addr: &Addr) -> bool
+    ensures { result ≡ same_addr own.now addr.now }
+{
+    match (own, addr) {
+        (Addr::V4([a, b, c, d]), Addr::V4([e, f, g, h])) => d == h && c == g && b == f && a == e,
+        _ => own.same(*addr),
+    }
+}
+
 /// The place of the address.
 fn place_of(addrs: &[Addr], addr: Addr) -> Option<usize>
     ensures value { result ≡ position (λ own. same_addr own addr) addrs.now }
     ensures within { IfSome result (λ place. place < length addrs.now) }
 {
-    addrs.iter().position(|own| *own == addr)
+    addrs.iter().position(|own| is_addr(own, &addr))
 }
 
 /// The node of the address, among so many.
@@ -58,7 +68,7 @@ fn node_at(addrs: &[Addr], count: u16, addr: Addr) -> Option<NodeId>
 fn has_node(addrs: &[Addr], addr: Addr) -> bool
     ensures { result ≡ list_any (λ own. same_addr own addr) addrs.now }
 {
-    addrs.iter().any(|own| *own == addr)
+    addrs.iter().any(|own| is_addr(own, &addr))
 }
 
 impl Standing {

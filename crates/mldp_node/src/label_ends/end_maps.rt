@@ -84,6 +84,9 @@ pub(crate) fn take(waiting: &mut Waiting, alloc: Global, peer: NodeId) -> Bytes
     ensures value { result ≡ octets_at waiting.old peer }
     ensures each { (other : NodeId) → get is_node waiting.new other ≡ (if is_node peer other then None else get is_node waiting.old other) }
 {
+    if waiting.is_empty() {
+        return Bytes::new(alloc);
+    }
     waiting.swap_remove(&peer).unwrap_or(Bytes::new(alloc))
 }
 

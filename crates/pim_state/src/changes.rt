@@ -45,35 +45,6 @@ pub(crate) fn count_after(entries: &IndexMap<IfaceEntry, Expiry>, changes: &Chan
     entries.len() + count_kept(changes) - count_present(entries, changes)
 }
 
-/// Gives an entry its expiry, or removes it.
-fn change(entries: &mut IndexMap<IfaceEntry, Expiry>, at: IfaceEntry, expiry: Option<Expiry>)
-    requires { (if is_some expiry then 1 else 0) ≤ spare entries.old }
-    ensures updates { Updates is_at entries.old entries.new at expiry }
-    ensures unique { IsUnique is_at entries.new }
-    ensures room { spare entries.old ≤ spare entries.new + (if is_some expiry then 1 else 0) }
-{
-    match expiry {
-        Some(expiry) => {
-            entries.insert(at, expiry).unwrap();
-        }
-        None => {
-            entries.swap_remove(&at);
-        }
-    }
-}
-
-/// Makes the changes. There is room for them.
-fn change_all(entries: &mut IndexMap<IfaceEntry, Expiry>, changes: &Changes)
-    requires unique { IsUnique is_at entries.old }
-    requires room { count_by is_some (values changes.now) ≤ spare entries.old }
-    ensures unique { IsUnique is_at entries.new }
-    ensures each { (at : IfaceEntry) → get is_at entries.new at ≡ then_at changes.now.entries (get is_at entries.old at) at }
-{
-    for (at, expiry) in changes.iter() {
-        change(entries, *at, *expiry);
-    }
-}
-
 /// Makes the changes, or none of them. The index lists each entry that is there and no other one, before and after.
 pub(crate) fn apply(
     entries: &mut IndexMap<IfaceEntry, Expiry>,
@@ -89,7 +60,16 @@ pub(crate) fn apply(
 {
     entries.reserve(count_kept(changes))?;
     list_all(index, alloc, entries, changes)?;
-    change_all(entries, changes);
+    for (at, expiry) in changes.iter() {
+        match expiry {
+            Some(expiry) => {
+                entries.insert(*at, *expiry).unwrap();
+            }
+            None => {
+                entries.swap_remove(at);
+            }
+        }
+    }
     unlist_gone(index, entries, changes);
     Ok(())
 }

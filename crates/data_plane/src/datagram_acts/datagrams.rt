@@ -13,6 +13,7 @@ use crate::datagram_acts::leaving;
 use crate::link_copies::{Hop, Landed, LinkCopies};
 use buf_pool::Pool;
 use label_defs::Branch;
+use label_forwarding::Branch as LabelBranch;
 use mv_base::{IfaceId, NoMemory, NodeId};
 use scenario_defs::Lines;
 use std::alloc::Global;
@@ -97,7 +98,16 @@ impl Datagrams {
     {
         leaving::leave_at(self.count, outs, octets, lines)?;
         leaving::tell_hops(node, FIRST_TTL, self.count, branches, lines)?;
-        leaving::keep_hops(&mut self.hops, node, branches)
+        for branch in branches {
+            self.hops.push(Hop {
+                from: node,
+                branch: LabelBranch {
+                    node: branch.node,
+                    label: branch.label,
+                },
+            })?;
+        }
+        Ok(())
     }
 
     /// The datagram that was being sent, of these octets, goes on its hops, over one buffer that counts its copies. Without a hop it

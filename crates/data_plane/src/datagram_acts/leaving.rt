@@ -1,12 +1,9 @@
-//! A datagram that leaves a node: its lines, and where its copies are to go.
+//! The lines of a datagram that leaves a node.
 ghost use Rattle.std.specs.Prelude.{◌≡◌, ◌++◌, [], ◌∷◌, map, IfOk, OnOk};
 ghost use Rattle.network_defs.specs.Acts.{hop_line};
 ghost use Rattle.scenario_defs.specs.declared.report.ReportLine.TheVariants as told;
-ghost use Rattle.data_plane.specs.datagram_acts.Stored.{hop_at};
 
-use crate::link_copies::Hop;
 use label_defs::Branch;
-use label_forwarding::Branch as LabelBranch;
 use mv_base::{Bytes, IfaceId, NoMemory, NodeId, Seq};
 use scenario_defs::{Lines, ReportLine};
 use std::alloc::Global;
@@ -63,26 +60,6 @@ pub(crate) fn tell_hops(
             label: branch.label,
             ttl,
             number,
-        })?;
-    }
-    Ok(())
-}
-
-/// Keeps a hop for each branch of the node, behind the others.
-pub(crate) fn keep_hops(
-    hops: &mut Vec<Hop>,
-    node: NodeId,
-    branches: &[Branch],
-) -> Result<(), NoMemory>
-    ensures { OnOk result (hops.new.items ≡ hops.old.items ++ map (hop_at node) branches.now) }
-{
-    for branch in branches {
-        hops.push(Hop {
-            from: node,
-            branch: LabelBranch {
-                node: branch.node,
-                label: branch.label,
-            },
         })?;
     }
     Ok(())

@@ -48,39 +48,6 @@ pub(crate) fn take_out(ways: &mut Ways, way: (NodeId, NodeId), place: usize)
     }
 }
 
-/// Puts the first copy on a way where there was none before.
-fn put_first(
-    ways: &mut Ways,
-    alloc: Global,
-    way: (NodeId, NodeId),
-    kept: Kept,
-) -> Result<(), NoMemory>
-    requires { IsUnique is_way ways.old }
-    ensures put { OnOk result ((w : NodeId × NodeId) → get is_way ways.new w ≡
-        (if is_way way w then Some (kept ∷ []) else get is_way ways.old w)) }
-    ensures same { OnErr result ((w : NodeId × NodeId) → get is_way ways.new w ≡ get is_way ways.old w) }
-    ensures unique { IsUnique is_way ways.new }
-{
-    let mut queue = Queue::new(alloc);
-    queue.put(kept)?;
-    ways.insert(way, queue)?;
-    Ok(())
-}
-
-/// Puts a copy behind the others of a way.
-fn put_behind(ways: &mut Ways, way: (NodeId, NodeId), kept: Kept) -> Result<(), NoMemory>
-    requires { IsUnique is_way ways.old }
-    ensures put { OnOk result ((w : NodeId × NodeId) → get is_way ways.new w ≡
-        (if is_way way w then option_map (λ copies. copies ++ kept ∷ []) (get is_way ways.old w) else get is_way ways.old w)) }
-    ensures same { OnErr result ((w : NodeId × NodeId) → get is_way ways.new w ≡ get is_way ways.old w) }
-    ensures unique { IsUnique is_way ways.new }
-{
-    match ways.get_mut(&way) {
-        None => Ok(()),
-        Some(queue) => queue.put(kept),
-    }
-}
-
 /// Puts a copy behind the others of the way.
 pub(crate) fn put(
     ways: &mut Ways,
@@ -94,8 +61,14 @@ pub(crate) fn put(
     ensures same { OnErr result ((w : NodeId × NodeId) → get is_way ways.new w ≡ get is_way ways.old w) }
     ensures unique { IsUnique is_way ways.new }
 {
-    if ways.contains_key(&way) {
-        return put_behind(ways, way, kept);
+    if !ways.contains_key(&way) {
+        let mut queue = Queue::new(alloc);
+        queue.put(kept)?;
+        ways.insert(way, queue)?;
+        return Ok(());
     }
-    put_first(ways, alloc, way, kept)
+    match ways.get_mut(&way) {
+        None => unreachable!(),
+        Some(queue) => queue.put(kept),
+    }
 }

@@ -1,4 +1,4 @@
-use Rattle.std.proofs.Common.{◌≡◌, ◌||◌, ◌&&◌, not, is_some, Bool, Option, sym, ap, ◌∙◌, List}
+use Rattle.std.proofs.Common.{rules, ◌≡◌, ◌||◌, ◌&&◌, not, is_some, Bool, Option, sym, ap, ◌∙◌, List}
 use Rattle.std.specs.List.{list_any}
 use Rattle.std.specs.Map.{keys_of, lookup}
 use Rattle.indexmap.specs.IndexMap.{get}
@@ -25,8 +25,11 @@ returns-in_err-list_all-clause-exact c = λ at.
     ∙ (c.requires at ∙ ap (λ (es : List (IfaceEntry × Expiry)). is_some (lookup (is_at at) es)) (sym c.reserve.ensures.entries))
 
 pub returns-clause-ok : goal.returns-clause-ok
-returns-clause-ok c = made-changes c.args.entries.now.entries c.change_all.new.entries.entries c.args.changes.now.entries (λ at.
-    c.change_all.ensures.each at ∙ ap (λ (es : List (IfaceEntry × Expiry)). then_at c.args.changes.now.entries (lookup (is_at at) es) at)
+returns-clause-ok c =
+    let made : (at : IfaceEntry) → get is_at c.loop-at.entries at ≡ then_at c.args.changes.now.entries (get is_at c.reserve.new.self at) at =
+    λ at. search rules in
+    made-changes c.args.entries.now.entries c.loop-at.entries.entries c.args.changes.now.entries (λ at.
+    made at ∙ ap (λ (es : List (IfaceEntry × Expiry)). then_at c.args.changes.now.entries (lookup (is_at at) es) at)
     c.reserve.ensures.entries)
 
 pub returns-clause-exact : goal.returns-clause-exact
@@ -34,7 +37,7 @@ returns-clause-exact c = λ at.
     let there = get is_at c.reserve.new.self at in
     let own : is_listed c.args.index.now at ≡ is_some (get is_at c.reserve.new.self at) =
     c.requires at ∙ ap (λ (es : List (IfaceEntry × Expiry)). is_some (lookup (is_at at) es)) (sym c.reserve.ensures.entries) in
-    let behind = c.change_all.ensures.each at in
+    let behind : get is_at c.loop-at.entries at ≡ then_at c.args.changes.now.entries there at = search rules in
     c.unlist_gone.ensures at
     ∙ (ap (λ (o : Option Expiry). is_listed c.list_all.new.index at && (not (list_any (λ own. is_at own at) (keys_of c.args.changes.now.entries))
     || is_some o)) behind

@@ -4,7 +4,7 @@ use Rattle.indexmap.specs.IndexMap.{get, spare, IsUnique}
 use Rattle.scenario_defs.specs.declared.event.IfaceEntry.{IfaceEntry}
 use Rattle.pim_state.specs.Changes.{then_at}
 use Rattle.pim_state.specs.Plan.{is_at}
-use Rattle.pim_state.proofs.changes.change_all.Given as goal
+use Rattle.pim_state.proofs.changes.apply.Given as goal
 
 abbrev pub invariant-loop-at : goal.invariant-loop-at
 invariant-loop-at l = record {

@@ -8,3 +8,4 @@ pub mod CostLemmas
 pub mod EntryLemmas
 pub mod CoverLemmas
 pub mod NamedLemmas
+pub mod MarkLemmas

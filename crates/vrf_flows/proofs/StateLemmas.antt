@@ -153,6 +153,17 @@ mid-keeps old held es now cost sound listed each =
     sound.keeps.needed
     (λ q h. absent-none old.ifaces old.entries old.sent.keys (chosen_for old.routes cost) now q h)
 
+-- Where no flow is stale, no time has passed and costs count for none, the flows are what they are at the clock.
+pub fresh-flows : (old : State) (now : ℕ) → IsSound old → now ≡ old.clock → compares_costs old.rule ≡ false
+    → ((q : Flow) → is_stale (get same_flow old.flows q) ≡ false) → (cost : NodeId → ℕ) (q : Flow)
+    → maps.get (vrf_of old).flows q ≡ flow_of (vrf_of old) cost now q
+fresh-flows old now sound clock costless fresh cost q =
+    flows-got old.flows q sound.unique
+    ∙ (ap choice_in (sound.keeps.fresh q (fresh q)
+    ∙ (λ i. flow_by (asking_of old.ifaces old.entries (is_sent old.sent.keys q) old.clock q)
+    (steady old.routes sound.cost cost q (sym (ap compares_costs sound.rule) ∙ costless) i)))
+    ∙ (given-flow old cost old.clock q sound.sent ∙ ap (λ (at : ℕ). flow_of (vrf_of old) cost at q) (sym clock)))
+
 -- What is kept of a flow then is what was.
 pub mid-kept : (old : State) (held : Flow → Option Held) (es : List (IfaceEntry × Expiry)) (now : ℕ) →
     ((q : Flow) → held q ≡ marked (list_any (lapsed old.clock now q) es) (marked (compares_costs old.rule) (get same_flow old.flows q))) → (q : Flow)

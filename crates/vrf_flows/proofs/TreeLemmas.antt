@@ -154,7 +154,7 @@ keeps-grown held next given needed keeps grown = record {
 
 -- ---- refresh
 
-gained-same : (o : Option Upstream) → gained o o ≡ None
+pub gained-same : (o : Option Upstream) → gained o o ≡ None
 gained-same o = ap (λ (b : Bool). cond b None o) (same_upstream_itself o)
 
 -- What is planned and settled is what is computed.

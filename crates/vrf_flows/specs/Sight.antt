@@ -1,5 +1,5 @@
 -- What flows are recomputed from.
-use Rattle.std.specs.Prelude.{ℕ, ◌||◌, ◌&&◌, ◌==◌, is_some, Bool, List, [], ◌∷◌, None, Some}
+use Rattle.std.specs.Prelude.{ℕ, ◌||◌, ◌&&◌, ◌==◌, ◌%◌, is_some, Bool, true, false, List, [], ◌∷◌, replicate, slice_set, None, Some}
 use Rattle.std.specs.List.{list_any, filter}
 use Rattle.mv_base.specs.declared.ids.IfaceId.{IfaceId}
 use Rattle.mv_base.specs.declared.ids.NodeId.{NodeId}
@@ -28,6 +28,14 @@ is_named listed iface = list_any (λ (own : IfaceEntry). own.iface.0 == iface.0)
 -- the same, of two lists of entries
 abbrev pub is_among : List IfaceEntry → List IfaceEntry → IfaceId → Bool
 is_among joined shared iface = is_named joined iface || is_named shared iface
+
+-- the marks, and one for the interface of each of these entries, by the remainder of its number
+abbrev pub mark_named : List Bool → List IfaceEntry → List Bool
+mark_named marks [] = marks
+mark_named marks (own ∷ more) = mark_named (slice_set marks (own.iface.0 % 256) true) more
+
+abbrev pub marks_of : List IfaceEntry → List IfaceEntry → List Bool
+marks_of joined shared = mark_named (mark_named (replicate 256 false) joined) shared
 
 -- those of the interfaces that have one of these entries and ask for the flow
 abbrev pub asking_among : List IfaceEntry → List IfaceEntry → List SiteIface → Entries → Bool → ℕ → Flow → List SiteIface

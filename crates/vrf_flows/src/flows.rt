@@ -11,6 +11,8 @@ ghost use Rattle.vrf_words.specs.tree_defs.Keys.{same_flow};
 ghost use Rattle.vrf_words.specs.tree_defs.Flows.{chosen_for, flow_of, gained, is_from, is_noted, lost, outgoing, upstream_of};
 ghost use Rattle.vrf_flows.specs.State.{active_by, flow_by_addrs, no_vrf, note_at};
 
+use crate::held::hold_message;
+use crate::marks::mark_message;
 use crate::state::{FlowChanges, State};
 use core_paths::Core;
 use mv_base::{Addr, IfaceId, NoMemory, NodeId, Prefix, Rd, Rule, SiteId};
@@ -79,7 +81,10 @@ impl VrfFlows {
         ensures full { result ≡ Err TakeFault.Full → are_too_many (applied self.old.entries iface message.now now) ≡ true }
         ensures unchanged { OnErr result (self.new ≡ self.old) }
     {
-        self.state.pim_take(iface, message, now)
+        hold_message(&mut self.state.flows, message.groups.as_slice())?;
+        self.state.entries.take(iface, message, now)?;
+        mark_message(&mut self.state.flows, message.groups.as_slice());
+        Ok(())
     }
 
     /// Removes the entries that have ended at the clock. It takes no memory.
@@ -239,6 +244,13 @@ impl VrfFlows {
     }
 
     // ---- flows
+
+    /// Whether it is known, without a look at the flows, that a refresh at the clock changes none of them. It takes no memory.
+    pub fn is_fresh(&self, now: u64) -> bool
+        ensures { result ≡ true → (cost : NodeId → ℕ) (q : Flow) → maps.get self.now.flows q ≡ flow_of self.now cost now q }
+    {
+        self.state.is_fresh(now)
+    }
 
     /// Brings the flows up to date at the clock, in the core as the edge `me` knows it: they are those for which some interface
     /// asks, each with its upstream. It answers what changed since the last refresh. After want of memory nothing is said of

@@ -4,6 +4,7 @@ ghost use Rattle.mv_base.specs.declared.ids.NodeId.{NodeId};
 ghost use Rattle.umh_select.specs.Routes.{AreCosts, AreOfCore};
 ghost use Rattle.vrf_words.specs.tree_defs.Flows.{chosen_for};
 ghost use Rattle.vrf_flows.specs.Sight.{asking_among, asking_of, is_among, is_named, is_joined, is_needed, is_sent, flow_by, seen};
+ghost use Rattle.vrf_flows.specs.Sight.{mark_named, marks_of};
 
 use crate::held::Kept;
 use core_paths::Core;
@@ -37,11 +38,45 @@ fn is_named(listed: &[IfaceEntry], iface: IfaceId) -> bool
     listed.iter().any(|own| own.iface.0 == iface.0)
 }
 
+/// How many marks there are: one for each remainder of the numbers of interfaces.
+const MARKS: usize = 256;
+
+/// The marks, and one for the interface of each of these entries.
+fn mark_named(marks: [bool; MARKS], listed: &[IfaceEntry]) -> [bool; MARKS]
+    ensures { result ≡ mark_named marks listed.now }
+{
+    let mut marks = marks;
+    for own in listed {
+        marks[usize::from(own.iface.0) % MARKS] = true;
+    }
+    marks
+}
+
+/// A mark for the interface of each of these entries.
+fn marks_of(joined: &[IfaceEntry], shared: &[IfaceEntry]) -> [bool; MARKS]
+    ensures { result ≡ marks_of joined.now shared.now }
+{
+    mark_named(mark_named([false; MARKS], joined), shared)
+}
+
 /// Whether an entry of the interface is among those that may join the flow, or among those that may join its group.
 fn is_among(joined: &[IfaceEntry], shared: &[IfaceEntry], iface: IfaceId) -> bool
     ensures { result ≡ is_among joined.now shared.now iface }
 {
     is_named(joined, iface) || is_named(shared, iface)
+}
+
+/// The same by these marks, of which most interfaces have none.
+fn is_marked(
+    marks: &[bool; MARKS],
+    joined: &[IfaceEntry],
+    shared: &[IfaceEntry],
+    iface: IfaceId,
+) -> bool
+    requires { marks.now ≡ marks_of joined.now shared.now }
+    ensures { result ≡ is_among joined.now shared.now iface }
+{
+    marks[usize::from(iface.0) % MARKS] && is_among(joined, shared, iface)
 }
 
 /// Those of the interfaces that have one of these entries and ask for the flow, in their order.
@@ -56,10 +91,11 @@ fn asking_among(
     ensures { IfOk result (λ found.
         found ≡ asking_among joined.now shared.now sight.now.ifaces.now sight.now.entries.now active sight.now.clock flow) }
 {
+    let marks = marks_of(joined, shared);
     let mut found = Seq::new(alloc);
     let ifaces = sight.ifaces;
     for own in ifaces {
-        if is_among(joined, shared, own.iface)
+        if is_marked(&marks, joined, shared, own.iface)
             && sight
                 .entries
                 .asks(own.iface, flow.source, flow.group, active, sight.clock)

@@ -1,5 +1,5 @@
 //! Which flows of a table are stale.
-ghost use Rattle.std.specs.Prelude.{◌≡◌, true, IfSome};
+ghost use Rattle.std.specs.Prelude.{◌≡◌, true, false, IfSome};
 ghost use Rattle.std.specs.List.{list_any};
 ghost use Rattle.vrf_words.specs.declared.tree_defs.flow.Flow.{Flow};
 ghost use Rattle.vrf_words.specs.tree_defs.Keys.{same_flow};
@@ -51,6 +51,13 @@ impl StaleFlows {
         ensures { (q : Flow) → is_listed self.new q ≡ true }
     {
         self.all = true;
+    }
+
+    /// Whether no flow may be stale.
+    pub fn is_empty(&self) -> bool
+        ensures { result ≡ true → (q : Flow) → is_listed self.now q ≡ false }
+    {
+        !self.all && self.flows.is_empty()
     }
 
     /// No flow is stale any more. It takes no memory.

@@ -1,5 +1,5 @@
 //! What a VRF keeps, with its flows as the last refresh left them.
-ghost use Rattle.std.specs.Prelude.{◌≡◌, ◌<◌, ◌≤◌, ◌^◌, ◌||◌, ◌++◌, [], ◌∷◌, ℕ, filter, map, min, true, false, if◌then◌else◌, Err};
+ghost use Rattle.std.specs.Prelude.{◌≡◌, ◌<◌, ◌≤◌, ◌||◌, ◌++◌, [], ◌∷◌, ℕ, filter, map, min, true, false, if◌then◌else◌};
 ghost use Rattle.std.specs.Prelude.{is_some, IfOk, IfSome, OnOk, OnErr};
 ghost use Rattle.std.specs.FinMap as maps;
 ghost use Rattle.std.specs.FinSet as sets;
@@ -7,7 +7,7 @@ ghost use Rattle.std.specs.List.{list_any};
 ghost use Rattle.indexmap.specs.IndexMap.{get, IsUnique};
 ghost use Rattle.indexmap.specs.IndexSet.{spare};
 ghost use Rattle.mv_base.specs.declared.ids.NodeId.{NodeId};
-ghost use Rattle.pim_defs.specs.Entries.{applied, are_too_many, kept_at};
+ghost use Rattle.pim_defs.specs.Entries.{kept_at};
 ghost use Rattle.umh_select.specs.Routes.{AreCosts, AreOfCore, held_of, key_from, key_here, without_peer};
 ghost use Rattle.vrf_words.specs.declared.tree_defs.flow.Flow.{Flow};
 ghost use Rattle.vrf_words.specs.tree_defs.Keys.{same_flow};
@@ -17,16 +17,15 @@ ghost use Rattle.vrf_flows.specs.Sight.{ifaces_of, is_sent};
 ghost use Rattle.vrf_flows.specs.State.{IsSound, iface_in, no_vrf, compares_costs};
 ghost use Rattle.vrf_flows.specs.State.{given_at, is_announced_in, is_noted_in, needed_in, vrf_of};
 
-use crate::held::{Cause, Kept, hold, hold_entries, hold_message};
-use crate::marks::{mark, mark_between, mark_ended, mark_message};
+use crate::held::{Cause, Kept, hold, hold_entries};
+use crate::marks::{mark, mark_between, mark_ended};
 use crate::plan::{Joins, joined_before, joins_of, leaves_of, plan, settle};
 use crate::sight::{Sight, asking_now};
 use crate::table::FlowTable;
 use core_paths::Core;
 use indexmap::IndexSet;
 use mv_base::{IfaceId, NoMemory, NodeId, Prefix, Rd, Rule, Seq, SiteId};
-use pim_joinprune::JoinPrune;
-use pim_state::{Downstream, TakeFault};
+use pim_state::Downstream;
 use scenario_defs::IfaceList;
 use std::alloc::Global;
 use umh_select::{Choice, Learned, Umh};
@@ -50,7 +49,7 @@ pub(crate) struct State {
     /// The flows of the notes and of the Source Active routes.
     sent: IndexSet<Flow>,
     routes: Umh,
-    flows: FlowTable,
+    pub(crate) flows: FlowTable,
     /// The clock of the last refresh.
     clock: u64,
 }
@@ -93,6 +92,13 @@ fn unsend(flows: &mut FlowTable, sent: &mut IndexSet<Flow>, flow: Flow, told: bo
     if !told {
         sent.swap_remove(&flow);
     }
+}
+
+/// Whether the rule compares costs.
+fn compares_costs(rule: Rule) -> bool
+    ensures { result ≡ compares_costs rule }
+{
+    matches!(rule, Rule::Nearest)
 }
 
 /// Marks all flows, where the rule compares costs: the core is not what it was.
@@ -187,27 +193,6 @@ impl State {
         hold_entries(&mut self.flows, self.entries.expiries())?;
         self.ifaces.push(SiteIface { iface, site })?;
         mark(&mut self.flows, &Cause::All);
-        Ok(())
-    }
-
-    pub(crate) fn pim_take(
-        &mut self,
-        iface: IfaceId,
-        message: &JoinPrune,
-        now: u64,
-    ) -> Result<(), TakeFault>
-        requires clock { now < 2 ^ 63 }
-        requires sound { IsSound self.old }
-        ensures sound { IsSound self.new }
-        ensures taken { OnOk result (vrf_of self.new
-            ≡ record (vrf_of self.old) { entries = applied self.old.entries iface message.now now }) }
-        ensures fits { OnOk result (are_too_many (applied self.old.entries iface message.now now) ≡ false) }
-        ensures full { result ≡ Err TakeFault.Full → are_too_many (applied self.old.entries iface message.now now) ≡ true }
-        ensures unchanged { OnErr result (vrf_of self.new ≡ vrf_of self.old) }
-    {
-        hold_message(&mut self.flows, message.groups.as_slice())?;
-        self.entries.take(iface, message, now)?;
-        mark_message(&mut self.flows, message.groups.as_slice());
         Ok(())
     }
 
@@ -345,6 +330,22 @@ impl State {
         self.routes.attach(prefix, site)?;
         mark(&mut self.flows, &Cause::All);
         Ok(())
+    }
+
+    /// Whether it is known, without a look at the flows, that each is what it is at the clock: no time passed since the last refresh,
+    /// no flow is stale, and costs count for none.
+    pub(crate) fn is_fresh(&self, now: u64) -> bool
+        requires sound { IsSound self.now }
+        ensures { result ≡ true → (cost : NodeId → ℕ) (q : Flow) →
+            maps.get (vrf_of self.now).flows q ≡ flow_of (vrf_of self.now) cost now q }
+    {
+        if now != self.clock {
+            return false;
+        }
+        if compares_costs(self.rule) {
+            return false;
+        }
+        self.flows.all_fresh()
     }
 
     pub(crate) fn refresh(

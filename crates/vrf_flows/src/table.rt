@@ -84,6 +84,13 @@ impl FlowTable {
         self.stale.listed()
     }
 
+    /// Whether it is known that no flow is stale, without a look at the flows.
+    pub fn all_fresh(&self) -> bool
+        ensures { result ≡ true → (q : Flow) → is_stale_in self.now q ≡ false }
+    {
+        self.stale.is_empty()
+    }
+
     /// Holds a flow of which nothing is known.
     pub fn hold(&mut self, flow: Flow) -> Result<(), NoMemory>
         requires unique { IsUnique same_flow self.old }

@@ -1,12 +1,12 @@
 -- What a refresh leaves is what the flows want, and what it tells is what changed.
-use Rattle.std.proofs.Common.{◌≡◌, Bool, true, false, cond, List, [], ◌∷◌, map, Option, None, Some, is_some, refl, sym, ap, subst, ◌∙◌}
+use Rattle.std.proofs.Common.{◌≡◌, Bool, true, false, cond, not, ◌&&◌, List, [], ◌∷◌, map, Option, None, Some, is_some, refl, sym, ap, subst, ◌∙◌}
 use Rattle.std.specs.List.{IsDistinct, list_any}
 use Rattle.std.specs.Map.{keys_of, lookup}
 use Rattle.std.specs.Cmp.{both_ways}
 use Rattle.std.specs.FinMap as maps
 use Rattle.std.specs.FinMap.{FinMap, entries, find, get-empty, get-entries}
 use Rattle.std.specs.FinSet as sets
-use Rattle.std.specs.FinSet.{same_set}
+use Rattle.std.specs.FinSet.{FinSet, same_set}
 use Rattle.std.proofs.lemmas.Map.Keys.{IsDistinct-from_sorted}
 use Rattle.indexmap.specs.IndexMap.{IsUnique, get}
 use Rattle.mv_base.specs.declared.ids.NodeId.{NodeId}
@@ -24,8 +24,9 @@ use Rattle.vrf_words.specs.tree_defs.Flows.{gained, lost, same_upstream, upstrea
 use Rattle.vrf_words.specs.tree_defs.Trees.{flow_wants, wanted_by}
 use Rattle.vrf_words.proofs.tree_defs.KeyLemmas.{flow_ties, same_upstream_equal, same_upstream_itself}
 use Rattle.vrf_flows.proofs.SetLemmas.{listed}
+use Rattle.vrf_flows.proofs.TreeLemmas.{gained-same}
 use Rattle.vrf_trees.specs.declared.wants.Wants.{Wants}
-use Rattle.vrf_trees.specs.Changes.{AreJoins, flow_in, join_of, joined_at}
+use Rattle.vrf_trees.specs.Changes.{AreJoins, AreNew, flow_in, join_of, joined_at}
 use Rattle.vrf_trees.specs.Plan.{carried, planned, with_joins, with_leaves}
 use Rattle.vrf_trees.specs.Wants.{Holds, IsSound, WantTable, edge_in, edge_to, is_fec, is_in, is_stale, tunnels_in, ups_in, wants_by, wants_of}
 use Rattle.vrf_trees.proofs.TableLemmas.{fec_ties, in-flat, passed, passes, wants_at}
@@ -188,3 +189,23 @@ joins-are es given once each = record {
   each = λ q. joins-found es q ∙ each q;
   once = subst (λ (l : List Flow). IsDistinct same_flow l) (sym (join-flows es)) once;
 }
+
+-- ---- a refresh with nothing stale
+
+-- Where each flow is as it was, no join is made, and none is left.
+pub none-joins : (before after : Flow → Option Choice) → ((q : Flow) → before q ≡ after q)
+    → AreJoins [] (λ q. gained (upstream_of (before q)) (upstream_of (after q)))
+unfolding IsDistinct
+none-joins before after same = record {
+  each = λ q. sym (ap (λ (c : Option Choice). gained (upstream_of (before q)) (upstream_of c)) (sym (same q)) ∙ gained-same (upstream_of (before q)));
+  once = tt;
+}
+
+-- No tunnel is new among those that are there already.
+pub none-new : (there : FinSet fec_cmp) → AreNew [] there there
+unfolding IsDistinct
+none-new there = record { each = λ fec. by (sets.contains there fec); once = tt }
+  where
+    by : (b : Bool) → false ≡ (b && not b)
+    by true = refl
+    by false = refl

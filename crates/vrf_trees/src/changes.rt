@@ -1,5 +1,5 @@
 //! What changed since the last refresh.
-ghost use Rattle.std.specs.Prelude.{◌≡◌, map, IfOk};
+ghost use Rattle.std.specs.Prelude.{◌≡◌, [], map, IfOk};
 ghost use Rattle.vrf_trees.specs.Changes.{join_of};
 
 use mv_base::{Addr, NoMemory, NodeId, Rd, Seq};
@@ -31,6 +31,21 @@ pub struct TreeChanges {
     pub leaves: TreeJoins,
     pub wants: Fecs,
     pub unwants: Fecs,
+}
+
+impl TreeChanges {
+    /// Nothing changed. It takes no memory.
+    pub(crate) fn none(alloc: Global) -> TreeChanges
+        ensures joins { (result.joins ≡ []) × (result.leaves ≡ []) }
+        ensures tunnels { (result.wants ≡ []) × (result.unwants ≡ []) }
+    {
+        TreeChanges {
+            joins: Seq::new(alloc),
+            leaves: Seq::new(alloc),
+            wants: Seq::new(alloc),
+            unwants: Seq::new(alloc),
+        }
+    }
 }
 
 /// The join of a flow for its upstream.

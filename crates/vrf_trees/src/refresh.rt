@@ -21,7 +21,7 @@ use selective::LeafTunnels;
 use std::alloc::Global;
 use vrf_flows::VrfFlows;
 
-/// Brings the flows and what they want up to date. After want of memory nothing is known of these; all else is as it was.
+/// Brings the flows and what they want up to date. Where nothing is stale that is seen at once. After want of memory nothing is known of these; all else is as it was.
 pub(crate) fn refresh(
     alloc: Global,
     flows: &mut VrfFlows,
@@ -51,6 +51,9 @@ pub(crate) fn refresh(
 {
     // The core is asked, so that it is known here that each node is reached.
     let _ = core.nodes();
+    if flows.is_fresh(now) && wants.all_fresh() {
+        return Ok(TreeChanges::none(alloc));
+    }
     let changes = flows.refresh(now, me, core)?;
     let plan = plan(alloc, leaf, wants, &changes.joins, &changes.leaves)?;
     let told = exchange(alloc, wants, plan)?;

@@ -1,5 +1,5 @@
 //! The table of what flows want, with a list of those that are stale.
-ghost use Rattle.std.specs.Prelude.{◌≡◌, false, None, Some, if◌then◌else◌, IfSome, OnOk};
+ghost use Rattle.std.specs.Prelude.{◌≡◌, true, false, None, Some, if◌then◌else◌, IfSome, OnOk};
 ghost use Rattle.indexmap.specs.IndexMap.{get, IsEmpty, IsUnique};
 ghost use Rattle.vrf_words.specs.declared.tree_defs.flow.Flow.{Flow};
 ghost use Rattle.vrf_words.specs.tree_defs.Keys.{same_flow};
@@ -64,6 +64,13 @@ impl WantTable {
         ensures { IfSome result (λ flows. AreAmong (is_stale_in self.now) flows.now) }
     {
         self.stale.listed()
+    }
+
+    /// Whether it is known that no flow is stale, without a look at the flows.
+    pub fn all_fresh(&self) -> bool
+        ensures { result ≡ true → (q : Flow) → is_stale_in self.now q ≡ false }
+    {
+        self.stale.is_empty()
     }
 
     /// Holds what the flow wants.

@@ -1,6 +1,6 @@
 //! What one VRF keeps.
 ghost use Rattle.std.specs.Prelude.{◌≡◌, ◌<◌, ◌≤◌, ◌^◌, ◌+◌, ◌++◌, ◌↔◌, [], ◌∷◌, ℕ, min, not, filter, map, length, count_by, option_map};
-ghost use Rattle.std.specs.Prelude.{true, false, Err, IsTrue, IfOk, OnOk, OnErr};
+ghost use Rattle.std.specs.Prelude.{true, IsTrue, IfOk, OnOk, OnErr};
 ghost use Rattle.std.specs.FinMap as maps;
 ghost use Rattle.std.specs.FinSet as sets;
 ghost use Rattle.mv_base.specs.declared.ids.NodeId.{NodeId};
@@ -10,7 +10,7 @@ ghost use Rattle.selective.specs.Roots.{is_waiting as selection_waits};
 ghost use Rattle.selective.specs.Leaves.{key_of, learned_now, routes_run};
 ghost use Rattle.selective.specs.Leaves.{is_waiting as route_waits};
 ghost use Rattle.selective.specs.Leaves.{without_peer as without_leaves};
-ghost use Rattle.vrf_flows.specs.pim_defs.Entries.{applied, are_too_many, due, kept_at};
+ghost use Rattle.vrf_flows.specs.pim_defs.Entries.{applied, due, kept_at};
 ghost use Rattle.umh_select.specs.Routes.{AreCosts, AreOfCore, held_of, key_from, key_here, without_peer};
 ghost use Rattle.vrf_words.specs.declared.tree_defs.flow.Flow.{Flow};
 ghost use Rattle.vrf_words.specs.tree_defs.Flows.{chosen_for, flow_of, gained, is_from, is_noted, lost, outgoing, upstream_of};
@@ -36,7 +36,6 @@ use std::alloc::Global;
 use std::marker::Model;
 use umh_select::Learned;
 use vrf_flows::VrfFlows;
-use vrf_flows::of_pim_state::TakeFault;
 use vrf_words::tree_defs::{Flow, Origin, TakenJoin, Upstream};
 
 /// What one VRF keeps: its flows with the upstream of each, and what they are found by; what it selected as a root; the
@@ -45,7 +44,8 @@ use vrf_words::tree_defs::{Flow, Origin, TakenJoin, Upstream};
 #[derive(Drop)]
 pub struct VrfTree {
     alloc: Global,
-    flows: VrfFlows,
+    /// A call that leaves the flows of the last refresh as they are may be made here.
+    pub flows: VrfFlows,
     root: RootTunnels,
     leaf: LeafTunnels,
     joined: TakenJoins,
@@ -113,27 +113,6 @@ impl VrfTree {
     }
 
     // ---- joined state (RFC 7761 section 4.1)
-
-    /// What stands behind a message that the interface takes at the clock. Where that would be more entries than an edge
-    /// holds, or there is no memory, nothing changes.
-    pub fn pim_take(
-        &mut self,
-        iface: IfaceId,
-        message: &JoinPrune,
-        now: u64,
-    ) -> Result<(), TakeFault>
-        requires { now < 2 ^ 63 }
-        ensures taken { OnOk result (self.new ≡ record self.old {
-          vrf = record self.old.vrf {
-            entries = applied self.old.vrf.entries iface message.now now;
-          };
-        }) }
-        ensures fits { OnOk result (are_too_many (applied self.old.vrf.entries iface message.now now) ≡ false) }
-        ensures full { result ≡ Err TakeFault.Full → are_too_many (applied self.old.vrf.entries iface message.now now) ≡ true }
-        ensures unchanged { OnErr result (self.new ≡ self.old) }
-    {
-        self.flows.pim_take(iface, message, now)
-    }
 
     /// Removes the entries that have ended at the clock. It takes no memory.
     pub fn pim_timers(&mut self, now: u64)

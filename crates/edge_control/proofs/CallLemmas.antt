@@ -16,7 +16,7 @@ use Rattle.vrf_words.specs.tree_defs.Trees.{TreeData}
 use Rattle.edge_defs.specs.Edge.{Control}
 use Rattle.edge_defs.specs.Originated.{is_iface_of}
 use Rattle.edge_defs.specs.Place.{OwnVrf}
-use Rattle.edge_defs.specs.Steps.{Active, Idle, Pim, effect}
+use Rattle.edge_defs.specs.Steps.{Customer, Active, Idle, Pim, effect}
 use Rattle.edge_routes.specs.edge_home.Home.{place_of}
 use Rattle.vrf_words.specs.tree_laws.TreeOf.{edge_note}
 use Rattle.control_laws.specs.Control.{Kept, OwnTree, AreTrees, control_of, trees_of, with_tree, with_trees}
@@ -112,36 +112,36 @@ module _ (kept : Kept) (sound : IsSound kept) (place : ℕ) (iface : IfaceId)
 
   pub pim_made : (message : JoinPrune) (now : ℕ) (core : Core)
       → IsMade kept (changed_at place (pim_taken iface message now) kept.trees)
-      (effect (place_of kept.home core) now (control_of kept) (Pim iface message))
+      (effect (place_of kept.home core) now (control_of kept) (Customer (Pim iface message)))
   pim_made message now core =
       subst (IsMade kept (changed_at place (pim_taken iface message now) kept.trees))
-      (again (λ c. effect (place_of kept.home core) now c (Pim iface message)))
+      (again (λ c. effect (place_of kept.home core) now c (Customer (Pim iface message))))
       (made kept sound place its is (pim_taken iface message now) (λ tree. refl)
-      (effect (place_of kept.home core) now (control_of (with_trees as_wanted kept)) (Pim iface message))
+      (effect (place_of kept.home core) now (control_of (with_trees as_wanted kept)) (Customer (Pim iface message)))
       (pim_makes (with_trees as_wanted kept) sound.trees place (wanted_it kept sound place its is) (wanted_at kept sound place its is) iface passes
       message now core)
       (single_here kept sound place its is))
 
   pub noted_made : (source group : Addr) (now : ℕ) (core : Core)
       → IsMade kept (changed_at place (noted iface source group) kept.trees)
-      (effect (place_of kept.home core) now (control_of kept) (Active iface source group))
+      (effect (place_of kept.home core) now (control_of kept) (Customer (Active iface source group)))
   noted_made source group now core =
       subst (IsMade kept (changed_at place (noted iface source group) kept.trees))
-      (again (λ c. effect (place_of kept.home core) now c (Active iface source group)))
+      (again (λ c. effect (place_of kept.home core) now c (Customer (Active iface source group))))
       (made kept sound place its is (noted iface source group) (λ tree. refl)
-      (effect (place_of kept.home core) now (control_of (with_trees as_wanted kept)) (Active iface source group))
+      (effect (place_of kept.home core) now (control_of (with_trees as_wanted kept)) (Customer (Active iface source group)))
       (noted_makes (with_trees as_wanted kept) sound.trees place (wanted_it kept sound place its is) (wanted_at kept sound place its is) iface passes
       source group core now)
       (single_here kept sound place its is))
 
   pub unnoted_made : (source group : Addr) (now : ℕ) (core : Core)
       → IsMade kept (changed_at place (unnoted iface source group) kept.trees)
-      (effect (place_of kept.home core) now (control_of kept) (Idle iface source group))
+      (effect (place_of kept.home core) now (control_of kept) (Customer (Idle iface source group)))
   unnoted_made source group now core =
       subst (IsMade kept (changed_at place (unnoted iface source group) kept.trees))
-      (again (λ c. effect (place_of kept.home core) now c (Idle iface source group)))
+      (again (λ c. effect (place_of kept.home core) now c (Customer (Idle iface source group))))
       (made kept sound place its is (unnoted iface source group) (λ tree. refl)
-      (effect (place_of kept.home core) now (control_of (with_trees as_wanted kept)) (Idle iface source group))
+      (effect (place_of kept.home core) now (control_of (with_trees as_wanted kept)) (Customer (Idle iface source group)))
       (unnoted_makes (with_trees as_wanted kept) sound.trees place (wanted_it kept sound place its is) (wanted_at kept sound place its is) iface
       passes source group core now)
       (single_here kept sound place its is))

@@ -14,7 +14,7 @@ use Rattle.selective.specs.Roots.{IsSelected, is_of, lsp_number}
 use Rattle.vrf_words.specs.tree_defs.Trees.{TreeData}
 use Rattle.edge_defs.specs.Edge.{Control}
 use Rattle.edge_defs.specs.Place.{OwnVrf, tunnel_number}
-use Rattle.edge_defs.specs.Steps.{Select, Unselect, effect}
+use Rattle.edge_defs.specs.Steps.{Customer, Select, Unselect, effect}
 use Rattle.edge_routes.specs.edge_home.Home.{place_of}
 use Rattle.control_laws.proofs.edge_words.calm_laws.Lists.{map_among}
 use Rattle.control_laws.specs.Control.{Kept, OwnTree, control_of, trees_of, with_trees}
@@ -124,9 +124,10 @@ module _ (kept : Kept) (sound : IsSound kept) (place : ℕ) (vrf : VrfId) (is : 
 
   pub selected_made : (pattern : Pattern) (now : ℕ) → maps.get (control_of kept).selections (record { vrf = vrf; pattern = pattern }) ≡ None
       → (core : Core)
-      → IsMade kept (changed_at place (selected pattern now) kept.trees) (effect (place_of kept.home core) now (control_of kept) (Select vrf pattern))
+      → IsMade kept (changed_at place (selected pattern now) kept.trees)
+      (effect (place_of kept.home core) now (control_of kept) (Customer (Select vrf pattern)))
   selected_made pattern now none core =
-      let made_by : Control → VrfId → Control = λ c v. effect (place_of kept.home core) now c (Select v pattern) in
+      let made_by : Control → VrfId → Control = λ c v. effect (place_of kept.home core) now c (Customer (Select v pattern)) in
       subst (IsMade kept (changed_at place (selected pattern now) kept.trees)) (λ i. made_by (wanted_control kept i) (its_id i))
       (made kept sound place its is (selected pattern now) (λ tree. refl) (made_by (control_of (with_trees as_wanted kept)) own.own.id)
       (selected_makes (with_trees as_wanted kept) sound.trees place (wanted_it kept sound place its is) (wanted_at kept sound place its is) pattern
@@ -134,9 +135,10 @@ module _ (kept : Kept) (sound : IsSound kept) (place : ℕ) (vrf : VrfId) (is : 
       (single_selected pattern now selections (single_here kept sound place its is) (new_here pattern none)))
 
   pub unselected_made : (pattern : Pattern) (now : ℕ) (core : Core)
-      → IsMade kept (changed_at place (unselected pattern) kept.trees) (effect (place_of kept.home core) now (control_of kept) (Unselect vrf pattern))
+      → IsMade kept (changed_at place (unselected pattern) kept.trees)
+      (effect (place_of kept.home core) now (control_of kept) (Customer (Unselect vrf pattern)))
   unselected_made pattern now core =
-      let made_by : Control → VrfId → Control = λ c v. effect (place_of kept.home core) now c (Unselect v pattern) in
+      let made_by : Control → VrfId → Control = λ c v. effect (place_of kept.home core) now c (Customer (Unselect v pattern)) in
       subst (IsMade kept (changed_at place (unselected pattern) kept.trees)) (λ i. made_by (wanted_control kept i) (its_id i))
       (made kept sound place its is (unselected pattern) (λ tree. refl) (made_by (control_of (with_trees as_wanted kept)) own.own.id)
       (unselected_makes (with_trees as_wanted kept) sound.trees place (wanted_it kept sound place its is) (wanted_at kept sound place its is) pattern

@@ -8,10 +8,9 @@ ghost use Rattle.edge_control.specs.Sound.{IsSound};
 
 use crate::places::place_of_vrf;
 use crate::starting::first_trees;
-use edge_routes::edge_home::EdgeHome;
+use edge_routes::edge_home::{EdgeHome, SharedScenario};
 use edge_tables::taken_tables::TakenTables;
 use mv_base::{NoMemory, NodeId, VrfId};
-use scenario_defs::Scenario;
 use std::alloc::Global;
 use std::marker::Model;
 use vrf_trees::VrfTree;
@@ -40,8 +39,8 @@ impl Model for EdgeControl {
 }
 
 impl EdgeControl {
-    /// What an edge keeps before anything has happened: nothing. The scenario is copied.
-    pub fn of(alloc: Global, scenario: &Scenario, me: NodeId) -> Result<EdgeControl, NoMemory>
+    /// What an edge keeps before anything has happened: nothing. It shares the scenario.
+    pub fn of(alloc: Global, scenario: &SharedScenario, me: NodeId) -> Result<EdgeControl, NoMemory>
         requires { IsHome scenario.now me }
         ensures home { IfOk result (λ edge. edge.home ≡ home_of scenario.now me) }
         ensures nothing { IfOk result (λ edge. control_of edge ≡ no_control) }

@@ -3,7 +3,7 @@ ghost use Rattle.std.specs.Prelude.{◌≡◌, ◌&&◌, ℕ, ◌<◌, ◌^◌, 
 ghost use Rattle.mv_base.specs.core_walks.Core.{Core};
 ghost use Rattle.pim_defs.specs.Entries.{applied, are_too_many};
 ghost use Rattle.edge_defs.specs.Originated.{is_iface_of};
-ghost use Rattle.edge_defs.specs.Steps.{Active, Idle, Pim, effect};
+ghost use Rattle.edge_defs.specs.Steps.{Customer, Active, Idle, Pim, effect};
 ghost use Rattle.edge_routes.specs.edge_home.Home.{place_of};
 ghost use Rattle.control_laws.specs.Control.{control_of};
 ghost use Rattle.edge_control.specs.Places.{IsPlace, is_note_too_many, is_own_iface, note_limit};
@@ -46,27 +46,6 @@ impl EdgeControl {
         Ok(is_over(entries_in(&self.trees), own, behind))
     }
 
-    /// The tree at that place takes the message, after which the entries are not too many.
-    fn take_fitting(
-        &mut self,
-        place: usize,
-        iface: IfaceId,
-        message: &JoinPrune,
-        now: u64,
-    ) -> Result<(), ControlFault>
-        requires place { IsPlace self.old.home place (λ own. is_iface_of self.old.home.scenario own.id iface) }
-        requires now { now < 2 ^ 63 }
-        requires fits { are_too_many (applied (control_of self.old).entries iface message.now now) ≡ false }
-        ensures taken { (core : Core) → OnOk result (control_of self.new
-            ≡ effect (place_of self.old.home core) now (control_of self.old) (Pim iface message.now)) }
-        ensures home { self.new.home ≡ self.old.home }
-        ensures wants { wants_of self.new.trees ≡ wants_of self.old.trees }
-        ensures memory { OnErr result (result ≡ Err ControlFault.NoMemory) }
-        ensures unchanged { OnErr result (self.new ≡ self.old) }
-    {
-        take_at(&mut self.trees, place, iface, message, now)
-    }
-
     /// Takes a Join/Prune message at the interface, which is one of a VRF of the edge (RFC 7761 section 4.5).
     pub fn take_pim(
         &mut self,
@@ -77,7 +56,7 @@ impl EdgeControl {
         requires own { is_own_iface self.old.home iface ≡ true }
         requires now { now < 2 ^ 63 }
         ensures taken { (core : Core) → OnOk result (control_of self.new
-            ≡ effect (place_of self.old.home core) now (control_of self.old) (Pim iface message.now)) }
+            ≡ effect (place_of self.old.home core) now (control_of self.old) (Customer (Pim iface message.now))) }
         ensures home { self.new.home ≡ self.old.home }
         ensures wants { wants_of self.new.trees ≡ wants_of self.old.trees }
         ensures fits { OnOk result (are_too_many (applied (control_of self.old).entries iface message.now now) ≡ false) }
@@ -89,7 +68,7 @@ impl EdgeControl {
         match self.is_over_behind(place, iface, message, now) {
             Err(NoMemory) => Err(ControlFault::NoMemory),
             Ok(true) => Err(ControlFault::Full),
-            Ok(false) => self.take_fitting(place, iface, message, now),
+            Ok(false) => take_at(&mut self.trees, place, iface, message, now),
         }
     }
 
@@ -113,7 +92,7 @@ impl EdgeControl {
     ) -> Result<(), ControlFault>
         requires place { IsPlace self.old.home place (λ own. is_iface_of self.old.home.scenario own.id iface) }
         ensures noted { (core : Core) (now : ℕ) → OnOk result (control_of self.new
-            ≡ effect (place_of self.old.home core) now (control_of self.old) (Active iface source group)) }
+            ≡ effect (place_of self.old.home core) now (control_of self.old) (Customer (Active iface source group))) }
         ensures home { self.new.home ≡ self.old.home }
         ensures wants { wants_of self.new.trees ≡ wants_of self.old.trees }
         ensures memory { OnErr result (result ≡ Err ControlFault.NoMemory) }
@@ -126,7 +105,7 @@ impl EdgeControl {
     pub fn note(&mut self, iface: IfaceId, source: Addr, group: Addr) -> Result<(), ControlFault>
         requires own { is_own_iface self.old.home iface ≡ true }
         ensures noted { (core : Core) (now : ℕ) → OnOk result (control_of self.new
-            ≡ effect (place_of self.old.home core) now (control_of self.old) (Active iface source group)) }
+            ≡ effect (place_of self.old.home core) now (control_of self.old) (Customer (Active iface source group))) }
         ensures home { self.new.home ≡ self.old.home }
         ensures wants { wants_of self.new.trees ≡ wants_of self.old.trees }
         ensures fits { OnOk result (is_note_too_many (control_of self.old) iface source group ≡ false) }
@@ -144,7 +123,7 @@ impl EdgeControl {
     pub fn unnote(&mut self, iface: IfaceId, source: Addr, group: Addr)
         requires own { is_own_iface self.old.home iface ≡ true }
         ensures unnoted { (core : Core) (now : ℕ) → control_of self.new
-            ≡ effect (place_of self.old.home core) now (control_of self.old) (Idle iface source group) }
+            ≡ effect (place_of self.old.home core) now (control_of self.old) (Customer (Idle iface source group)) }
         ensures home { self.new.home ≡ self.old.home }
         ensures wants { wants_of self.new.trees ≡ wants_of self.old.trees }
     {

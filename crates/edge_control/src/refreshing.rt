@@ -18,7 +18,7 @@ use core_paths::Core;
 use edge_routes::edge_home::EdgeHome;
 use edge_tables::taken_tables::TakenTables;
 use mldp::mldp_fec::Fec;
-use mv_base::{NoMemory, NodeId};
+use mv_base::{NoMemory, NodeId, Seq};
 use std::alloc::Global;
 use vrf_trees::{TreeChanges, TreeJoin, VrfTree};
 
@@ -30,16 +30,26 @@ pub struct ControlChanges {
     pub tunnels: Vec<Fec>,
 }
 
+/// Appends these, of which there are most often none.
+fn append<T: Copy>(all: &mut Vec<T>, more: &Seq<T>) -> Result<(), NoMemory>
+    ensures { OnOk result (all.new.items ≡ all.old.items ++ more.now) }
+{
+    if more.is_empty() {
+        return Ok(());
+    }
+    all.extend_from_slice(more.as_slice())?;
+    Ok(())
+}
+
 /// Adds what the refresh of one tree changes.
 fn add(all: &mut ControlChanges, changes: &TreeChanges) -> Result<(), NoMemory>
     ensures joins { OnOk result (all.new.joins.items ≡ (all.old.joins.items ++ changes.now.joins) ++ changes.now.leaves) }
     ensures tunnels { OnOk result (all.new.tunnels.items ≡ (all.old.tunnels.items ++ changes.now.wants) ++ changes.now.unwants) }
 {
-    all.joins.extend_from_slice(changes.joins.as_slice())?;
-    all.joins.extend_from_slice(changes.leaves.as_slice())?;
-    all.tunnels.extend_from_slice(changes.wants.as_slice())?;
-    all.tunnels.extend_from_slice(changes.unwants.as_slice())?;
-    Ok(())
+    append(&mut all.joins, &changes.joins)?;
+    append(&mut all.joins, &changes.leaves)?;
+    append(&mut all.tunnels, &changes.wants)?;
+    append(&mut all.tunnels, &changes.unwants)
 }
 
 /// Refreshes each of the trees. Where memory runs out, each is as before, but for its flows and what they want.

@@ -4,7 +4,7 @@ ghost use Rattle.std.specs.FinMap as maps;
 ghost use Rattle.mv_base.specs.Lists.{Among};
 ghost use Rattle.mv_base.specs.core_walks.Core.{Core};
 ghost use Rattle.edge_defs.specs.Place.{OwnVrf, tunnel_number};
-ghost use Rattle.edge_defs.specs.Steps.{Select, Unselect, effect};
+ghost use Rattle.edge_defs.specs.Steps.{Customer, Select, Unselect, effect};
 ghost use Rattle.edge_routes.specs.edge_home.Home.{place_of};
 ghost use Rattle.control_laws.specs.Control.{control_of};
 ghost use Rattle.edge_control.specs.Places.{IsPlace, is_own_vrf, is_selection_too_many, number_behind, selection_limit, vrfs_of};
@@ -65,7 +65,7 @@ impl EdgeControl {
         requires few { is_selection_too_many (control_of self.old) ≡ false }
         requires now { now < 2 ^ 63 }
         ensures selected { (core : Core) → OnOk result (control_of self.new
-            ≡ effect (place_of self.old.home core) now (control_of self.old) (Select vrf pattern)) }
+            ≡ effect (place_of self.old.home core) now (control_of self.old) (Customer (Select vrf pattern))) }
         ensures number { (own : OwnVrf) → Among own (vrfs_of self.old.home) → own.id ≡ vrf →
             IfOk result (λ lsp. lsp ≡ tunnel_number own.vrf (number_behind (control_of self.old) vrf)) }
         ensures home { self.new.home ≡ self.old.home }
@@ -83,7 +83,7 @@ impl EdgeControl {
         requires new { maps.get (control_of self.old).selections (record { vrf = vrf; pattern = pattern }) ≡ None }
         requires now { now < 2 ^ 63 }
         ensures selected { (core : Core) → OnOk result (control_of self.new
-            ≡ effect (place_of self.old.home core) now (control_of self.old) (Select vrf pattern)) }
+            ≡ effect (place_of self.old.home core) now (control_of self.old) (Customer (Select vrf pattern))) }
         ensures number { (own : OwnVrf) → Among own (vrfs_of self.old.home) → own.id ≡ vrf →
             IfOk result (λ lsp. lsp ≡ tunnel_number own.vrf (number_behind (control_of self.old) vrf)) }
         ensures home { self.new.home ≡ self.old.home }
@@ -103,7 +103,7 @@ impl EdgeControl {
     pub fn unselect(&mut self, vrf: VrfId, pattern: Pattern)
         requires own { is_own_vrf self.old.home vrf ≡ true }
         ensures unselected { (core : Core) (now : ℕ) → control_of self.new
-            ≡ effect (place_of self.old.home core) now (control_of self.old) (Unselect vrf pattern) }
+            ≡ effect (place_of self.old.home core) now (control_of self.old) (Customer (Unselect vrf pattern)) }
         ensures home { self.new.home ≡ self.old.home }
         ensures wants { wants_of self.new.trees ≡ wants_of self.old.trees }
     {

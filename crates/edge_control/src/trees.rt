@@ -30,7 +30,8 @@ pub(crate) fn take_at(
     ensures memory { OnErr result (result ≡ Err faults.NoMemory) }
     ensures unchanged { OnErr result (trees.new.items ≡ trees.old.items) }
 {
-    match trees[place].pim_take(iface, message, now) {
+    let tree = &mut trees[place];
+    match tree.flows.pim_take(iface, message, now) {
         Ok(()) => Ok(()),
         Err(TakeFault::NoMemory) => Err(ControlFault::NoMemory),
         Err(TakeFault::Full) => unreachable!(),

@@ -1,20 +1,22 @@
 -- What the calls of an edge answer, by what its parts answer.
-use Rattle.std.proofs.Common.{◌≡◌, ◌∙◌, refl, sym, ap, subst, ℕ, inl, inr, false, List, [], ◌∷◌, Option, None, Some, Result, Ok, Err, option_map}
+use Rattle.std.proofs.Common.{◌≡◌, ◌∙◌, refl, sym, ap, subst, ℕ, inl, inr, true, false, List, [], ◌∷◌, Option, None, Some, Result, Ok, Err, option_map}
 use Rattle.std.proofs.lemmas.Option.{none-some, same_Some}
 use Rattle.mv_base.specs.Lists.{Among}
+use Rattle.mv_base.specs.declared.ids.IfaceId.{IfaceId}
 use Rattle.mv_base.specs.core_walks.Topology.{Topology}
+use Rattle.pim_joinprune.specs.declared.message.JoinPrune.{JoinPrune}
 use Rattle.label_defs.specs.Node.{Spent, LacksLabel, LacksMemory}
 use Rattle.edge_defs.specs.Edge.{Control}
-use Rattle.edge_defs.specs.Steps.{Call, Active, Idle, Label, Noticed, Pim, Raised, Rerouted, Select, Timers, Unselect, Update}
+use Rattle.edge_defs.specs.Steps.{Call, Customer, Label, Noticed, Pim, Raised, Rerouted, Timers, Update}
 use Rattle.mldp_node.specs.NodeData.{NodeData, cause}
 use Rattle.mldp_node.specs.declared.fault.NodeFault.{NodeFault}
 use Rattle.edge_core.specs.declared.fault.EdgeFault.{EdgeFault}
 use Rattle.edge_core.specs.declared.fault.EdgeFault.TheVariants as faults
 use Rattle.edge_core.specs.declared.parts.Parts.{Parts}
-use Rattle.edge_core.specs.Answers.{IsOneOf, OnTaken, fault_of}
+use Rattle.edge_core.specs.Answers.{IsOneOf, OnTaken, fault_of, spent_by}
 use Rattle.edge_core.specs.Called.{SettlesCall, behind, going, seen, spent_after}
 use Rattle.edge_core.specs.Calls.{AnswersCall, IsToward, MakesCall, is_full, refusals_of}
-use Rattle.edge_core.specs.State.{data_of}
+use Rattle.edge_core.specs.State.{IsLive, data_of}
 use Rattle.edge_core.specs.View.{EdgeView}
 use Rattle.edge_core.proofs.StepLemmas.{one_fault}
 
@@ -55,11 +57,7 @@ not_toward : (core : Topology) (call : Call) (labels : NodeData) (fault : EdgeFa
 not_toward core Rerouted labels fault = tt
 not_toward core (Update peer message) labels fault = tt
 not_toward core (Label neighbour message) labels fault = tt
-not_toward core (Pim iface message) labels fault = tt
-not_toward core (Active iface source group) labels fault = tt
-not_toward core (Idle iface source group) labels fault = tt
-not_toward core (Select vrf pattern) labels fault = tt
-not_toward core (Unselect vrf pattern) labels fault = tt
+not_toward core (Customer call) labels fault = tt
 not_toward core (Raised kind peer) labels fault = tt
 not_toward core (Noticed kind peer) labels fault = tt
 not_toward core Timers labels fault = tt
@@ -127,3 +125,83 @@ plain_call core now call old new result room none settles only toward = record {
     spending (inl is) = absurd cc
     spending (inr (inl is)) = absurd cc
     spending (inr (inr is)) = is
+
+-- A call for which there was room.
+pub roomy_call : (core : Topology) (now : ℕ) (call : Call) (old new : Parts) (result : Result (Unit {0}) EdgeFault)
+    → is_full (data_of (going old)).control now call ≡ false → SettlesCall core now call (going old) new result → IsOneOf [] result
+    → IsToward core call new.labels result → MakesCall core now call old new result
+roomy_call core now call old new result room settles only toward = record {
+  settles = settles;
+  only = λ fault e. more fault (only fault e);
+  fits = always (is_full (data_of (going old)).control now call ≡ false) room result;
+  full = λ e. absurd (not_spending (only faults.Full e));
+  toward = toward;
+}
+  where
+    more : (fault : EdgeFault) → Among fault (faults.NoLabel ∷ faults.NoMemory ∷ [])
+        → Among fault (faults.NoLabel ∷ faults.NoMemory ∷ refusals_of call)
+    more fault (inl is) = inl is
+    more fault (inr (inl is)) = inr (inl is)
+    more fault (inr (inr none)) = absurd none
+
+    not_spending : Among faults.Full (faults.NoLabel ∷ faults.NoMemory ∷ []) → ⊥
+    not_spending (inl is) = absurd cc
+    not_spending (inr (inl is)) = absurd cc
+    not_spending (inr (inr is)) = is
+
+-- A message for which there was no room.
+pub full_call : (core : Topology) (now : ℕ) (iface : IfaceId) (message : JoinPrune) (old new : Parts)
+    → IsLive old.routing old.labels old.streams → is_full (data_of (going old)).control now (Customer (Pim iface message)) ≡ true → new ≡ old
+    → MakesCall core now (Customer (Pim iface message)) old new (Err faults.Full)
+full_call core now iface message old new live over same =
+    subst (λ (parts : Parts). MakesCall core now (Customer (Pim iface message)) old parts (Err faults.Full)) (sym same) (record {
+      settles = record {
+        answers = record {
+          home = refl;
+          before = λ spent is. absurd (none-some spent is);
+          unspent = tt;
+          made = tt;
+          goes_on = tt;
+          toward = λ none own is waits. waits;
+          lacks = λ e none. absurd (no_label e);
+          spends = λ fault e none. ap spent_by (one_fault faults.Full fault e);
+        };
+        live = λ none. live;
+      };
+      only = λ fault e. inr (inr (inl (sym (one_fault faults.Full fault e))));
+      fits = tt;
+      full = λ e. (over, refl);
+      toward = tt;
+    })
+  where
+    no_label : ◌≡◌ {A = Result (Unit {0}) EdgeFault} (Err faults.Full) (Err faults.NoLabel) → ⊥
+    no_label e = absurd cc
+
+-- A message for which memory was wanted.
+pub lacking_call : (core : Topology) (now : ℕ) (iface : IfaceId) (message : JoinPrune) (old new : Parts)
+    → new.routing.control.home ≡ old.routing.control.home → MakesCall core now (Customer (Pim iface message)) old new (Err faults.NoMemory)
+lacking_call core now iface message old new home = record {
+  settles = record {
+    answers = record {
+      home = home;
+      before = λ spent is. absurd (none-some spent is);
+      unspent = tt;
+      made = tt;
+      goes_on = tt;
+      toward = λ none. absurd (none-some LacksMemory (sym none));
+      lacks = λ e none. absurd (no_label e);
+      spends = λ fault e none. ap spent_by (one_fault faults.NoMemory fault e);
+    };
+    live = λ none. absurd (none-some LacksMemory (sym none));
+  };
+  only = λ fault e. inr (inl (sym (one_fault faults.NoMemory fault e)));
+  fits = tt;
+  full = λ e. absurd (not_full e);
+  toward = tt;
+}
+  where
+    no_label : ◌≡◌ {A = Result (Unit {0}) EdgeFault} (Err faults.NoMemory) (Err faults.NoLabel) → ⊥
+    no_label e = absurd cc
+
+    not_full : ◌≡◌ {A = Result (Unit {0}) EdgeFault} (Err faults.NoMemory) (Err faults.Full) → ⊥
+    not_full e = absurd cc

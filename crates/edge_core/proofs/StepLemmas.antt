@@ -25,7 +25,7 @@ use Rattle.scenario_defs.specs.declared.event.Kind.TheVariants as kinds
 use Rattle.edge_routing.specs.edge_streams.Kept.{session}
 use Rattle.edge_defs.specs.Edge.{Control}
 use Rattle.edge_defs.specs.Place.{EdgePlace}
-use Rattle.edge_defs.specs.Steps.{Call, Update, Label, Pim, Active, Idle, Select, Unselect, Raised, Noticed, Timers, Rerouted, changed_leaves, control_step, one_call, raised_after}
+use Rattle.edge_defs.specs.Steps.{Call, Customer, Update, Label, Raised, Noticed, Timers, Rerouted, changed_leaves, control_step, one_call, raised_after}
 use Rattle.edge_defs.specs.Tunnels.{leaves}
 use Rattle.edge_routes.specs.edge_home.Home.{Home, IsHome, peers_of, place_of}
 use Rattle.edge_routing.specs.edge_tables.Tables.{waiting_at}
@@ -124,11 +124,7 @@ still_quiet (Noticed kind peer) streams quiet own =
     ap waiting_of (maps.get-remove peer_total streams lost own) ∙ either (eq_by_cmp peer_cmp own lost) None (maps.get streams own) refl (quiet own)
 still_quiet (Update peer message) streams quiet own = quiet own
 still_quiet (Label peer message) streams quiet own = quiet own
-still_quiet (Pim iface message) streams quiet own = quiet own
-still_quiet (Active iface source group) streams quiet own = quiet own
-still_quiet (Idle iface source group) streams quiet own = quiet own
-still_quiet (Select vrf pattern) streams quiet own = quiet own
-still_quiet (Unselect vrf pattern) streams quiet own = quiet own
+still_quiet (Customer call) streams quiet own = quiet own
 still_quiet Timers streams quiet own = quiet own
 still_quiet Rerouted streams quiet own = quiet own
 
@@ -262,11 +258,7 @@ module _ (core : Topology) (now : ℕ) (own : OwnCall) (call : Call) (old : Edge
           by_call : (c : Call) → (prepared c state).streams ≡ streams_behind c state.streams
           by_call (Update peer message) = refl
           by_call (Label peer message) = refl
-          by_call (Pim iface message) = refl
-          by_call (Active iface source group) = refl
-          by_call (Idle iface source group) = refl
-          by_call (Select vrf pattern) = refl
-          by_call (Unselect vrf pattern) = refl
+          by_call (Customer call) = refl
           by_call (Raised kind peer) = refl
           by_call (Noticed kind peer) = refl
           by_call Timers = refl

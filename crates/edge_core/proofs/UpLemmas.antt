@@ -34,7 +34,7 @@ use Rattle.network_defs.specs.session_defs.Octets.{Stream}
 use Rattle.network_defs.specs.session_defs.PeerSession.{peer_cmp}
 use Rattle.edge_defs.specs.Edge.{Control, Taken}
 use Rattle.edge_defs.specs.Place.{EdgePlace, label_place}
-use Rattle.edge_defs.specs.Steps.{Call, Update, Label, Pim, Active, Idle, Select, Unselect, Raised, Noticed, Timers, Rerouted, LabelStep, changed_leaves, control_step, label_row, one_call, own_label_call, part_after, peers_run, taken_change, with_update}
+use Rattle.edge_defs.specs.Steps.{Call, Customer, Update, Label, Raised, Noticed, Timers, Rerouted, LabelStep, changed_leaves, control_step, label_row, one_call, own_label_call, part_after, peers_run, taken_change, with_update}
 use Rattle.edge_routing.proofs.edge_words.edge_laws.Taken.{get-peers_run, table_run}
 use Rattle.node_laws.specs.Places.{node_place}
 use Rattle.node_laws.specs.Rows.{all_called}
@@ -77,11 +77,7 @@ streams_up kind (Noticed own peer) streams q =
     ∙ ap (λ (b : Bool). cond b false (is_some (maps.get streams (session kind q)))) (session_tie kind own q peer)
 streams_up kind (Update peer message) streams q = refl
 streams_up kind (Label peer message) streams q = refl
-streams_up kind (Pim iface message) streams q = refl
-streams_up kind (Active iface source group) streams q = refl
-streams_up kind (Idle iface source group) streams q = refl
-streams_up kind (Select vrf pattern) streams q = refl
-streams_up kind (Unselect vrf pattern) streams q = refl
+streams_up kind (Customer call) streams q = refl
 streams_up kind Timers streams q = refl
 streams_up kind Rerouted streams q = refl
 
@@ -132,11 +128,7 @@ peers_up place now control (Noticed kinds.Bgp peer) q = peers_lost control.peers
 peers_up place now control (Noticed kinds.Ldp peer) q = refl
 peers_up place now control (Update peer message) q = peers_updated now peer message control q
 peers_up place now control (Label peer message) q = refl
-peers_up place now control (Pim iface message) q = refl
-peers_up place now control (Active iface source group) q = refl
-peers_up place now control (Idle iface source group) q = refl
-peers_up place now control (Select vrf pattern) q = refl
-peers_up place now control (Unselect vrf pattern) q = refl
+peers_up place now control (Customer call) q = refl
 peers_up place now control Timers q = peers_timed place now control.peers q
 peers_up place now control Rerouted q = refl
 
@@ -213,11 +205,7 @@ own_up (Noticed kinds.Bgp peer) changes q was none = none was
 own_up (Noticed kinds.Ldp peer) changes q was none = none (cond (eq_by_cmp node_cmp q peer) false was)
 own_up (Update peer message) changes q was none = none was
 own_up (Label peer message) changes q was none = none was
-own_up (Pim iface message) changes q was none = none was
-own_up (Active iface source group) changes q was none = none was
-own_up (Idle iface source group) changes q was none = none was
-own_up (Select vrf pattern) changes q was none = none was
-own_up (Unselect vrf pattern) changes q was none = none was
+own_up (Customer call) changes q was none = none was
 own_up Timers changes q was none = none was
 own_up Rerouted changes q was none = none was
 

@@ -8,7 +8,7 @@ use Rattle.mv_base.specs.core_walks.Topology.{Topology}
 use Rattle.pim_defs.specs.Entries.{applied, are_too_many}
 use Rattle.edge_defs.specs.Edge.{Control}
 use Rattle.edge_defs.specs.Originated.{afi_by}
-use Rattle.edge_defs.specs.Steps.{Call, Active, Idle, Label, Noticed, Pim, Raised, Rerouted, Select, Timers, Unselect, Update}
+use Rattle.edge_defs.specs.Steps.{Call, Customer, Active, Idle, Label, Noticed, Pim, Raised, Rerouted, Select, Timers, Unselect, Update}
 use Rattle.edge_routing.specs.control_laws.group_laws.Groups.{HasGroups}
 use Rattle.edge_routing.specs.edge_control.Places.{is_note_too_many, is_own_iface, is_own_vrf, is_selection_too_many}
 use Rattle.mldp_node.specs.NodeData.{NodeData, WaitsTowardRootsOf}
@@ -27,11 +27,11 @@ use Rattle.edge_core.specs.View.{EdgeView}
 -- ---- which calls they are
 
 abbrev pub customer_call : CustomerCall → Call
-customer_call (customers.Pim iface message) = Pim iface message.now
-customer_call (customers.Active iface source group) = Active iface source group
-customer_call (customers.Idle iface source group) = Idle iface source group
-customer_call (customers.Select vrf pattern) = Select vrf pattern
-customer_call (customers.Unselect vrf pattern) = Unselect vrf pattern
+customer_call (customers.Pim iface message) = Customer (Pim iface message.now)
+customer_call (customers.Active iface source group) = Customer (Active iface source group)
+customer_call (customers.Idle iface source group) = Customer (Idle iface source group)
+customer_call (customers.Select vrf pattern) = Customer (Select vrf pattern)
+customer_call (customers.Unselect vrf pattern) = Customer (Unselect vrf pattern)
 
 abbrev pub call_of : EdgeCall → Call
 call_of (edges.Customer call) = customer_call call
@@ -45,13 +45,13 @@ call_of edges.Rerouted = Rerouted
 -- What a call asks of the edge. Interfaces, VRFs and peers are its own; groups are those of their sources' families; a pattern that is to be
 -- selected is not, and an end that is to come up is down.
 abbrev pub Fits : EdgeView → Call → Type 0
-Fits edge (Pim iface message) = (is_own_iface (home_of edge) iface ≡ true) × HasGroups message
-Fits edge (Active iface source group) = (is_own_iface (home_of edge) iface ≡ true) × IsGroup (afi_of source) group
-Fits edge (Idle iface source group) = (is_own_iface (home_of edge) iface ≡ true) × IsGroup (afi_of source) group
-Fits edge (Select vrf pattern) =
+Fits edge (Customer (Pim iface message)) = (is_own_iface (home_of edge) iface ≡ true) × HasGroups message
+Fits edge (Customer (Active iface source group)) = (is_own_iface (home_of edge) iface ≡ true) × IsGroup (afi_of source) group
+Fits edge (Customer (Idle iface source group)) = (is_own_iface (home_of edge) iface ≡ true) × IsGroup (afi_of source) group
+Fits edge (Customer (Select vrf pattern)) =
     (is_own_vrf (home_of edge) vrf ≡ true) × IsAnyOr (IsGroup (afi_by pattern.source pattern.group)) pattern.group
     × (edge.spent ≡ None → maps.get (data_of edge).control.selections (record { vrf = vrf; pattern = pattern }) ≡ None)
-Fits edge (Unselect vrf pattern) =
+Fits edge (Customer (Unselect vrf pattern)) =
     (is_own_vrf (home_of edge) vrf ≡ true) × IsAnyOr (IsGroup (afi_by pattern.source pattern.group)) pattern.group
 Fits edge (Raised kind peer) = IsPeer edge kind peer × (edge.spent ≡ None → is_up edge kind peer ≡ false)
 Fits edge (Noticed kind peer) = Unit {0}
@@ -64,16 +64,16 @@ Fits edge (Label neighbour message) = ⊥
 
 -- whether an edge that keeps this would hold too many entries, notes or selections after the call at the clock
 abbrev pub is_full : Control → ℕ → Call → Bool
-is_full control now (Pim iface message) = are_too_many (applied control.entries iface message now)
-is_full control now (Active iface source group) = is_note_too_many control iface source group
-is_full control now (Select vrf pattern) = is_selection_too_many control
+is_full control now (Customer (Pim iface message)) = are_too_many (applied control.entries iface message now)
+is_full control now (Customer (Active iface source group)) = is_note_too_many control iface source group
+is_full control now (Customer (Select vrf pattern)) = is_selection_too_many control
 is_full control now other = false
 
 -- the faults by which the call may be refused
 abbrev pub refusals_of : Call → List EdgeFault
-refusals_of (Pim iface message) = faults.Full ∷ []
-refusals_of (Active iface source group) = faults.Full ∷ []
-refusals_of (Select vrf pattern) = faults.Full ∷ []
+refusals_of (Customer (Pim iface message)) = faults.Full ∷ []
+refusals_of (Customer (Active iface source group)) = faults.Full ∷ []
+refusals_of (Customer (Select vrf pattern)) = faults.Full ∷ []
 refusals_of other = []
 
 -- ---- what they answer

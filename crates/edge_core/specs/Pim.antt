@@ -10,7 +10,7 @@ use Rattle.pim_joinprune.specs.declared.message.JoinPrune.{JoinPrune}
 use Rattle.pim_joinprune.specs.Reading.{decoded}
 use Rattle.pim_defs.specs.Entries.{applied, are_too_many}
 use Rattle.network_defs.specs.mvpn_model.Messages.{own_addr}
-use Rattle.edge_defs.specs.Steps.{Pim}
+use Rattle.edge_defs.specs.Steps.{Customer, Pim}
 use Rattle.edge_core.specs.declared.fault.EdgeFault.{EdgeFault}
 use Rattle.edge_core.specs.declared.fault.EdgeFault.TheVariants as faults
 use Rattle.edge_core.specs.Answers.{Answers, OnTaken, fault_of, spent_by, step_of}
@@ -40,7 +40,7 @@ refusal edge now iface (Ok message) =
 -- wanted, and change nothing. Others are a message, and its step is made.
 pub record AnswersPim (core : Topology) (now : ℕ) (iface : IfaceId) (octets : List ℕ) (old new : EdgeView)
     (result : Result (Unit {0}) EdgeFault) : Type 0 where
-  pub answers : (message : JoinPrune) → decoded octets ≡ Ok message → Answers core (step_of old now (Pim iface message)) old new result
+  pub answers : (message : JoinPrune) → decoded octets ≡ Ok message → Answers core (step_of old now (Customer (Pim iface message))) old new result
   pub home : home_of new ≡ home_of old
   pub before : (spent : Spent) → old.spent ≡ Some spent → (result ≡ Err (fault_of spent)) × (new ≡ old)
   pub spends : (fault : EdgeFault) → result ≡ Err fault → old.spent ≡ None → new.spent ≡ spent_by fault

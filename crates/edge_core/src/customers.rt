@@ -3,8 +3,7 @@ ghost use Rattle.std.specs.Prelude.{◌≡◌, ◌<◌, ◌^◌, ◌⊎◌, [], 
 ghost use Rattle.bgp_messages.specs.bgp_update.Written.{afi_of};
 ghost use Rattle.bgp_values.specs.mvpn_nlri.Spelling.{IsGroup};
 ghost use Rattle.pim_joinprune.specs.Reading.{decoded};
-ghost use Rattle.pim_defs.specs.Entries.{applied, are_too_many};
-ghost use Rattle.edge_defs.specs.Steps.{Active, Idle, Pim};
+ghost use Rattle.edge_defs.specs.Steps.{Customer, Active, Idle};
 ghost use Rattle.edge_routing.specs.control_laws.Control.{control_of};
 ghost use Rattle.edge_routing.specs.edge_control.Places.{is_note_too_many, is_own_iface};
 ghost use Rattle.edge_routing.specs.control_laws.group_laws.Groups.{HasGroups};
@@ -15,6 +14,7 @@ ghost use Rattle.edge_core.specs.State.{IsLive};
 ghost use Rattle.edge_core.specs.declared.fault.EdgeFault.{EdgeFault as EdgeFaults};
 ghost use Rattle.edge_core.specs.declared.fault.EdgeFault.TheVariants as EdgeFault;
 
+use crate::edge_call::{CustomerCall, EdgeCall};
 use crate::fault::EdgeFault;
 use crate::parts::Parts;
 use core_paths::Core;
@@ -47,32 +47,6 @@ fn is_ours(home: &EdgeHome, iface: IfaceId, message: &JoinPrune) -> bool
 }
 
 impl Parts {
-    /// Takes a Join/Prune message at the interface (RFC 7761 section 4.5).
-    pub(crate) fn join_prune(
-        &mut self,
-        iface: IfaceId,
-        message: &JoinPrune,
-        now: u64,
-        core: &Core,
-    ) -> Result<(), EdgeFault>
-        requires live { IsLive self.old.routing self.old.labels self.old.streams }
-        requires nodes { core.now.nodes ≡ length self.old.routing.control.home.scenario.nodes }
-        requires own { is_own_iface self.old.routing.control.home iface ≡ true }
-        requires groups { HasGroups message.now }
-        requires now { now < 2 ^ 63 }
-        ensures settles { SettlesCall core.now now (Pim iface message.now) (going self.old) self.new result }
-        ensures only { IsOneOf (EdgeFault.Full ∷ []) result }
-        ensures fits { OnTaken result (are_too_many (applied (control_of self.old.routing.control).entries iface message.now now) ≡ false) }
-        ensures full { result ≡ Err EdgeFault.Full →
-            (are_too_many (applied (control_of self.old.routing.control).entries iface message.now now) ≡ true) × (self.new ≡ self.old) }
-    {
-        match self.routing.take_pim(self.alloc, iface, message, now, core) {
-            Ok(told) => self.settle(&OwnCall::None, Ok(told), now, core),
-            Err(ControlFault::Full) => Err(EdgeFault::Full),
-            Err(ControlFault::NoMemory) => Err(EdgeFault::NoMemory),
-        }
-    }
-
     /// Takes the octets of a Join/Prune message at the interface.
     pub(crate) fn take_pim(
         &mut self,
@@ -92,7 +66,11 @@ impl Parts {
         if !is_ours(self.routing.control.home(), iface, &message) {
             return Err(EdgeFault::NotOurs);
         }
-        self.join_prune(iface, &message, now, core)
+        let call = CustomerCall::Pim {
+            iface,
+            message: &message,
+        };
+        self.call(EdgeCall::Customer(call), now, core)
     }
 
     /// Notes at the interface that the source sends to the group.
@@ -109,7 +87,7 @@ impl Parts {
         requires own { is_own_iface self.old.routing.control.home iface ≡ true }
         requires group { IsGroup (afi_of source) group }
         requires now { now < 2 ^ 63 }
-        ensures settles { SettlesCall core.now now (Active iface source group) (going self.old) self.new result }
+        ensures settles { SettlesCall core.now now (Customer (Active iface source group)) (going self.old) self.new result }
         ensures only { IsOneOf (EdgeFault.Full ∷ []) result }
         ensures fits { OnTaken result (is_note_too_many (control_of self.old.routing.control) iface source group ≡ false) }
         ensures full { result ≡ Err EdgeFault.Full →
@@ -139,7 +117,7 @@ impl Parts {
         requires own { is_own_iface self.old.routing.control.home iface ≡ true }
         requires group { IsGroup (afi_of source) group }
         requires now { now < 2 ^ 63 }
-        ensures settles { SettlesCall core.now now (Idle iface source group) (going self.old) self.new result }
+        ensures settles { SettlesCall core.now now (Customer (Idle iface source group)) (going self.old) self.new result }
         ensures only { IsOneOf [] result }
     {
         let told = self

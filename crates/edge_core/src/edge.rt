@@ -18,6 +18,7 @@ ghost use Rattle.edge_core.specs.State.{IsIn, IsLive, IsTreeIn, home_of};
 use crate::clocks::RaiseClocks;
 use crate::fault::EdgeFault;
 use crate::parts::Parts;
+use edge_routes::edge_home::SharedScenario;
 use edge_routing::EdgeRouting;
 use edge_routing::of_edge_labels::EdgeLabels;
 use edge_routing::of_edge_streams::EdgeStreams;
@@ -87,8 +88,8 @@ fn first_labels(alloc: Global, scenario: &Scenario, me: NodeId) -> Result<EdgeLa
 }
 
 impl Edge {
-    /// The node of that number, which is an edge of the scenario, before anything has happened. The scenario is copied.
-    pub fn of(alloc: Global, scenario: &Scenario, me: NodeId) -> Result<Edge, NoMemory>
+    /// The node of that number, which is an edge of the scenario, before anything has happened. It shares the scenario.
+    pub fn of(alloc: Global, scenario: &SharedScenario, me: NodeId) -> Result<Edge, NoMemory>
         requires { IsHome scenario.now me }
         ensures home { IfOk result (λ edge. home_of edge ≡ homes.home_of scenario.now me) }
         ensures unspent { IfOk result (λ edge. edge.spent ≡ None) }
@@ -97,7 +98,7 @@ impl Edge {
     {
         let routing = EdgeRouting::of(alloc, scenario, me)?;
         let streams = EdgeStreams::of(alloc);
-        let labels = first_labels(alloc, scenario, me)?;
+        let labels = first_labels(alloc, scenario.lent(), me)?;
         Ok(Edge {
             parts: Parts {
                 alloc,

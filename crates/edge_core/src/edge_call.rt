@@ -2,12 +2,14 @@
 ghost use Rattle.std.specs.Prelude.{◌≡◌, ◌<◌, ◌^◌, length};
 ghost use Rattle.edge_defs.specs.Steps.{Noticed, Raised};
 ghost use Rattle.edge_core.specs.Called.{going};
-ghost use Rattle.edge_core.specs.Calls.{Fits, MakesCall, call_of, customer_call};
+ghost use Rattle.edge_core.specs.Calls.{Fits, MakesCall, call_of};
 ghost use Rattle.edge_core.specs.State.{IsLive};
 
 use crate::fault::EdgeFault;
 use crate::parts::Parts;
 use core_paths::Core;
+use edge_routing::of_edge_control::ControlFault;
+use edge_routing::of_edge_labels::OwnCall;
 use mv_base::{Addr, IfaceId, NodeId, Pattern, VrfId};
 use pim_joinprune::JoinPrune;
 use scenario_defs::Kind;
@@ -60,31 +62,6 @@ pub enum EdgeCall<'a> {
 }
 
 impl Parts {
-    /// A call of a customer or of the operator.
-    fn customer(&mut self, call: CustomerCall<'_>, now: u64, core: &Core) -> Result<(), EdgeFault>
-        requires live { IsLive self.old.routing self.old.labels self.old.streams }
-        requires nodes { core.now.nodes ≡ length self.old.routing.control.home.scenario.nodes }
-        requires now { now < 2 ^ 63 }
-        requires fits { Fits (going self.old) (customer_call call) }
-        ensures { MakesCall core.now now (customer_call call.entry) self.old self.new result }
-    {
-        match call {
-            CustomerCall::Pim { iface, message } => self.join_prune(iface, message, now, core),
-            CustomerCall::Active {
-                iface,
-                source,
-                group,
-            } => self.note(iface, source, group, now, core),
-            CustomerCall::Idle {
-                iface,
-                source,
-                group,
-            } => self.unnote(iface, source, group, now, core),
-            CustomerCall::Select { vrf, pattern } => self.select(vrf, pattern, now),
-            CustomerCall::Unselect { vrf, pattern } => self.unselect(vrf, pattern),
-        }
-    }
-
     /// The end of the session comes up.
     fn raise(&mut self, kind: Kind, peer: NodeId, now: u64, core: &Core) -> Result<(), EdgeFault>
         requires live { IsLive self.old.routing self.old.labels self.old.streams }
@@ -126,7 +103,27 @@ impl Parts {
         ensures { MakesCall core.now now (call_of call.entry) self.old self.new result }
     {
         match call {
-            EdgeCall::Customer(call) => self.customer(call, now, core),
+            EdgeCall::Customer(own) => match own {
+                CustomerCall::Pim { iface, message } => {
+                    match self.routing.take_pim(self.alloc, iface, message, now, core) {
+                        Ok(told) => self.settle(&OwnCall::None, Ok(told), now, core),
+                        Err(ControlFault::Full) => Err(EdgeFault::Full),
+                        Err(ControlFault::NoMemory) => Err(EdgeFault::NoMemory),
+                    }
+                }
+                CustomerCall::Active {
+                    iface,
+                    source,
+                    group,
+                } => self.note(iface, source, group, now, core),
+                CustomerCall::Idle {
+                    iface,
+                    source,
+                    group,
+                } => self.unnote(iface, source, group, now, core),
+                CustomerCall::Select { vrf, pattern } => self.select(vrf, pattern, now),
+                CustomerCall::Unselect { vrf, pattern } => self.unselect(vrf, pattern),
+            },
             EdgeCall::Raised { kind, peer } => self.raise(kind, peer, now, core),
             EdgeCall::Noticed { kind, peer } => self.lose(kind, peer, now, core),
             EdgeCall::Timers => self.run_timers(now, core),

@@ -1,7 +1,7 @@
 //! The calls of an edge by their names. Each is the call of its value (`calls.rt`); those for which no core is needed take none.
 ghost use Rattle.std.specs.Prelude.{◌≡◌, ◌<◌, ◌^◌, ℕ, length};
 ghost use Rattle.mv_base.specs.core_walks.Topology.{Topology};
-ghost use Rattle.edge_defs.specs.Steps.{Active, Idle, Noticed, Raised, Rerouted, Select, Timers, Unselect};
+ghost use Rattle.edge_defs.specs.Steps.{Customer, Active, Idle, Noticed, Raised, Rerouted, Select, Timers, Unselect};
 ghost use Rattle.edge_core.specs.Calls.{AnswersCall, Fits};
 ghost use Rattle.edge_core.specs.State.{home_of};
 
@@ -24,8 +24,8 @@ impl Edge {
     ) -> Result<(), EdgeFault>
         requires nodes { core.now.nodes ≡ length (home_of self.old).scenario.nodes }
         requires now { now < 2 ^ 63 }
-        requires fits { Fits self.old (Active iface source group) }
-        ensures { AnswersCall core.now now (Active iface source group) self.old self.new result }
+        requires fits { Fits self.old (Customer (Active iface source group)) }
+        ensures { AnswersCall core.now now (Customer (Active iface source group)) self.old self.new result }
     {
         let call = CustomerCall::Active {
             iface,
@@ -46,8 +46,8 @@ impl Edge {
     ) -> Result<(), EdgeFault>
         requires nodes { core.now.nodes ≡ length (home_of self.old).scenario.nodes }
         requires now { now < 2 ^ 63 }
-        requires fits { Fits self.old (Idle iface source group) }
-        ensures { AnswersCall core.now now (Idle iface source group) self.old self.new result }
+        requires fits { Fits self.old (Customer (Idle iface source group)) }
+        ensures { AnswersCall core.now now (Customer (Idle iface source group)) self.old self.new result }
     {
         let call = CustomerCall::Idle {
             iface,
@@ -60,8 +60,8 @@ impl Edge {
     /// Selects the pattern in the VRF, where it is not selected (RFC 6514 section 12.1).
     pub fn select(&mut self, vrf: VrfId, pattern: Pattern, now: u64) -> Result<(), EdgeFault>
         requires now { now < 2 ^ 63 }
-        requires fits { Fits self.old (Select vrf pattern) }
-        ensures { (core : Topology) → AnswersCall core now (Select vrf pattern) self.old self.new result }
+        requires fits { Fits self.old (Customer (Select vrf pattern)) }
+        ensures { (core : Topology) → AnswersCall core now (Customer (Select vrf pattern)) self.old self.new result }
     {
         if let Some(fault) = self.spent {
             return Err(EdgeFault::from(fault));
@@ -73,8 +73,8 @@ impl Edge {
 
     /// The pattern is selected no more in the VRF.
     pub fn unselect(&mut self, vrf: VrfId, pattern: Pattern) -> Result<(), EdgeFault>
-        requires fits { Fits self.old (Unselect vrf pattern) }
-        ensures { (core : Topology) (now : ℕ) → AnswersCall core now (Unselect vrf pattern) self.old self.new result }
+        requires fits { Fits self.old (Customer (Unselect vrf pattern)) }
+        ensures { (core : Topology) (now : ℕ) → AnswersCall core now (Customer (Unselect vrf pattern)) self.old self.new result }
     {
         if let Some(fault) = self.spent {
             return Err(EdgeFault::from(fault));

@@ -4,7 +4,7 @@ ghost use Rattle.std.specs.FinMap as maps;
 ghost use Rattle.mv_base.specs.core_walks.Topology.{Topology};
 ghost use Rattle.bgp_values.specs.mvpn_nlri.Spelling.{IsAnyOr, IsGroup};
 ghost use Rattle.edge_defs.specs.Originated.{afi_by};
-ghost use Rattle.edge_defs.specs.Steps.{Select, Unselect};
+ghost use Rattle.edge_defs.specs.Steps.{Customer, Select, Unselect};
 ghost use Rattle.edge_routing.specs.control_laws.Control.{control_of};
 ghost use Rattle.edge_routing.specs.edge_control.Places.{is_own_vrf, is_selection_too_many};
 ghost use Rattle.edge_core.specs.Answers.{IsOneOf, OnTaken};
@@ -25,7 +25,7 @@ impl Parts {
         requires pattern { IsAnyOr (IsGroup (afi_by pattern.source pattern.group)) pattern.group }
         requires new { maps.get (control_of self.old.routing.control).selections (record { vrf = vrf; pattern = pattern }) ≡ None }
         requires now { now < 2 ^ 63 }
-        ensures settles { (core : Topology) → SettlesCall core now (Select vrf pattern) (going self.old) self.new result }
+        ensures settles { (core : Topology) → SettlesCall core now (Customer (Select vrf pattern)) (going self.old) self.new result }
         ensures only { IsOneOf (EdgeFault.Full ∷ []) result }
         ensures fits { OnTaken result (is_selection_too_many (control_of self.old.routing.control) ≡ false) }
         ensures full { result ≡ Err EdgeFault.Full →
@@ -43,7 +43,7 @@ impl Parts {
         requires live { IsLive self.old.routing self.old.labels self.old.streams }
         requires own { is_own_vrf self.old.routing.control.home vrf ≡ true }
         requires pattern { IsAnyOr (IsGroup (afi_by pattern.source pattern.group)) pattern.group }
-        ensures settles { (core : Topology) (now : ℕ) → SettlesCall core now (Unselect vrf pattern) (going self.old) self.new result }
+        ensures settles { (core : Topology) (now : ℕ) → SettlesCall core now (Customer (Unselect vrf pattern)) (going self.old) self.new result }
         ensures only { IsOneOf [] result }
     {
         match self.routing.unselect(self.alloc, vrf, pattern) {

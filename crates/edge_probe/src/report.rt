@@ -1,8 +1,10 @@
 //! The probe.
-ghost use Rattle.std.specs.Prelude.{◌≡◌, length, IfOk};
-ghost use Rattle.edge_core.specs.State.{home_of};
+ghost use Rattle.std.specs.Prelude.{◌≡◌, length, None, IfOk};
+ghost use Rattle.edge_core.specs.State.{IsIn, home_of};
 ghost use Rattle.edge_probe.specs.Behind.{IsFresh};
 ghost use Rattle.edge_routes.specs.edge_home.Home as homes;
+ghost use Rattle.edge_routes.specs.edge_home.Home.{IsHome};
+ghost use Rattle.network_defs.specs.node_defs.EdgeState.{fresh_state};
 ghost use Rattle.probe_defs.specs.Lines.{IsProbe};
 ghost use Rattle.probe_defs.specs.Probed.{Probed};
 ghost use Rattle.scenario_defs.specs.Rules.{Rules};
@@ -11,6 +13,7 @@ use crate::given::{give_all, raise};
 use crate::told::imports_of;
 use core_paths::{Core, CoreFault};
 use edge_core::Edge;
+use edge_routes::edge_home::shared_copy;
 use mv_base::{NoMemory, NodeId};
 use network_laws::core_laws::each_scenario_has_cores;
 use probe_defs::{ProbeLines, ProbeReport, lines_make_a_probe};
@@ -28,6 +31,17 @@ fn first_core(alloc: Global, scenario: &Scenario) -> Result<Core, NoMemory>
         Err(CoreFault::NoMemory) => Err(NoMemory),
         Err(CoreFault::Disconnected(_)) => unreachable!(),
     }
+}
+
+/// The edge of that number, before anything has happened.
+fn first_edge(alloc: Global, scenario: &Scenario, me: NodeId) -> Result<Edge, NoMemory>
+    requires { IsHome scenario.now me }
+    ensures home { IfOk result (λ edge. home_of edge ≡ homes.home_of scenario.now me) }
+    ensures unspent { IfOk result (λ edge. edge.spent ≡ None) }
+    ensures is { IfOk result (IsIn (fresh_state scenario.now.labels)) }
+{
+    let shared = shared_copy(alloc, scenario)?;
+    Edge::of(alloc, &shared, me)
 }
 
 /// What is reported of an edge in which nothing has happened: its session with the peer comes up, it is given the lines, and is asked.
@@ -70,7 +84,7 @@ pub fn probe(
 {
     each_scenario_has_cores();
     let core = first_core(alloc, scenario)?;
-    let mut own = Edge::of(alloc, scenario, edge)?;
+    let mut own = first_edge(alloc, scenario, edge)?;
     let told = tell(&mut own, alloc, scenario, edge, peer, lines, &core);
     own.close();
     told

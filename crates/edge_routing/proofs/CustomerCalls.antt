@@ -9,7 +9,7 @@ use Rattle.pim_joinprune.specs.declared.message.JoinPrune.{JoinPrune}
 use Rattle.edge_defs.specs.Edge.{Control}
 use Rattle.edge_defs.specs.Originated.{is_iface_of}
 use Rattle.edge_defs.specs.Place.{own_vrfs}
-use Rattle.edge_defs.specs.Steps.{Active, Idle, Pim, effect}
+use Rattle.edge_defs.specs.Steps.{Customer, Active, Idle, Pim, effect}
 use Rattle.edge_routes.specs.edge_home.Home.{Home, as_own, place_of}
 use Rattle.edge_routes.specs.declared.edge_home.own_vrf.OwnVrf.{OwnVrf}
 use Rattle.edge_routes.specs.Local.{IsAt}
@@ -36,11 +36,11 @@ held_in old step core = holds (place_of old.control.home core) (control_of old.c
 -- Entries alone change, so each peer is to have what it was to have.
 pub pim_way : (iface : IfaceId) (message : JoinPrune) (now : ℕ) (old : EdgeRouting) (control : Kept) (tunnels : List Fec) → IsInStep old
     → control.home ≡ old.control.home
-    → ((core : Core) → control_of control ≡ effect (place_of old.control.home core) now (control_of old.control) (Pim iface message))
+    → ((core : Core) → control_of control ≡ effect (place_of old.control.home core) now (control_of old.control) (Customer (Pim iface message)))
     → wants_of control.trees ≡ wants_of old.control.trees → HasGroups message
-    → IsOnWay (Pim iface message) now old (record { control = control; tables = old.tables }) tunnels
+    → IsOnWay (Customer (Pim iface message)) now old (record { control = control; tables = old.tables }) tunnels
 pim_way iface message now old control tunnels step home made wants groups =
-    on_way (Pim iface message) now old control old.tables tunnels no_core step (record {
+    on_way (Customer (Pim iface message)) now old control old.tables tunnels no_core step (record {
       home = home;
       made = made;
       wants = wants;
@@ -59,12 +59,12 @@ pim_way iface message now old control tunnels step home made wants groups =
 -- Each peer is to have what the edge holds with the note.
 pub note_way : (iface : IfaceId) (source group : Addr) (now : ℕ) (old : EdgeRouting) (control : Kept) (tables : Tables) (tunnels : List Fec)
     → IsInStep old → control.home ≡ old.control.home
-    → ((core : Core) → control_of control ≡ effect (place_of old.control.home core) now (control_of old.control) (Active iface source group))
+    → ((core : Core) → control_of control ≡ effect (place_of old.control.home core) now (control_of old.control) (Customer (Active iface source group)))
     → wants_of control.trees ≡ wants_of old.control.trees → IsFlow source group
     → ((core : Core) → HoldAll (place_of control.home core) (with_note (control_of old.control) (note_of iface source group)) tables)
-    → AreToldAlike old.tables tables → IsOnWay (Active iface source group) now old (record { control = control; tables = tables }) tunnels
+    → AreToldAlike old.tables tables → IsOnWay (Customer (Active iface source group)) now old (record { control = control; tables = tables }) tunnels
 note_way iface source group now old control tables tunnels step home made wants flow hold alike =
-    on_way (Active iface source group) now old control tables tunnels no_core step (record {
+    on_way (Customer (Active iface source group)) now old control tables tunnels no_core step (record {
       home = home;
       made = made;
       wants = wants;
@@ -84,11 +84,11 @@ note_way iface source group now old control tables tunnels step home made wants 
 -- Each peer is to have what the edge holds without the note.
 pub idle_way : (iface : IfaceId) (source group : Addr) (now : ℕ) (old : EdgeRouting) (control : Kept) (tables : Tables) (tunnels : List Fec)
     → IsInStep old → control.home ≡ old.control.home
-    → ((core : Core) → control_of control ≡ effect (place_of old.control.home core) now (control_of old.control) (Idle iface source group))
+    → ((core : Core) → control_of control ≡ effect (place_of old.control.home core) now (control_of old.control) (Customer (Idle iface source group)))
     → wants_of control.trees ≡ wants_of old.control.trees → ((core : Core) → HoldAll (place_of control.home core) (control_of control) tables)
-    → AreToldAlike old.tables tables → IsOnWay (Idle iface source group) now old (record { control = control; tables = tables }) tunnels
+    → AreToldAlike old.tables tables → IsOnWay (Customer (Idle iface source group)) now old (record { control = control; tables = tables }) tunnels
 idle_way iface source group now old control tables tunnels step home made wants hold alike =
-    on_way (Idle iface source group) now old control tables tunnels no_core step (record {
+    on_way (Customer (Idle iface source group)) now old control tables tunnels no_core step (record {
       home = home;
       made = made;
       wants = wants;

@@ -1,5 +1,5 @@
 -- The rest of a step of each VRF, after the effect of the call itself.
-use Rattle.std.proofs.Common.{◌≡◌, ◌↔◌, ◌++◌, ℕ, Bool, true, false, cond, List, is_some, sym, ap, subst, subst₂, ◌∙◌}
+use Rattle.std.proofs.Common.{◌≡◌, ◌↔◌, ◌++◌, ℕ, Bool, true, false, List, is_some, sym, ap, subst, subst₂, ◌∙◌}
 use Rattle.std.specs.List.{list_any}
 use Rattle.std.specs.FinMap as maps
 use Rattle.std.specs.FinSet as sets
@@ -12,7 +12,7 @@ use Rattle.label_defs.specs.LabelData.{same_fec}
 use Rattle.edge_defs.specs.Edge.{Control}
 use Rattle.edge_defs.specs.Held.{put_to}
 use Rattle.edge_defs.specs.Place.{own_vrfs}
-use Rattle.edge_defs.specs.Steps.{Call, control_step, effect, is_vrf_step, refreshed}
+use Rattle.edge_defs.specs.Steps.{Call, control_step, effect, is_vrf_step, refreshed, refreshed_if}
 use Rattle.edge_defs.specs.Tunnels.{leaves}
 use Rattle.edge_words.specs.Leaf.{IsInclusive}
 use Rattle.edge_routes.specs.edge_home.Home.{Home, peers_of, place_of}
@@ -121,8 +121,7 @@ module _ (core : Topology) (now : ℕ) (call : Call) (old between new : EdgeRout
       subst (λ (h : Home). control_of new.control ≡ control_step (place_of h any) now (control_of old.control) call) way.home
       (is.control any any_core
       ∙ (ap (λ (c : Control). refreshed (place_of between.control.home any) now c) (way.control any)
-      ∙ ap (λ (b : Bool). cond b (refreshed (place_of between.control.home any) now
-      (effect (place_of between.control.home any) now (control_of old.control) call))
+      ∙ ap (λ (b : Bool). refreshed_if b (place_of between.control.home any) now
       (effect (place_of between.control.home any) now (control_of old.control) call)) (sym vrf)))
 
   waiting : (any : Core) (peer : NodeId) → Among peer (peers_of old.control.home)

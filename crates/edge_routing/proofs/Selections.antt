@@ -1,5 +1,5 @@
 -- What calls of the operator make, after which no flow is refreshed.
-use Rattle.std.proofs.Common.{◌≡◌, ◌++◌, ℕ, ◌≤◌, Bool, true, false, cond, List, [], is_some, refl, sym, ap, subst, ◌∙◌, arith}
+use Rattle.std.proofs.Common.{◌≡◌, ◌++◌, ℕ, ◌≤◌, Bool, true, false, List, [], is_some, refl, sym, ap, subst, ◌∙◌, arith}
 use Rattle.std.specs.List.{list_any}
 use Rattle.std.specs.FinMap as maps
 use Rattle.mv_base.specs.Lists.{Among}
@@ -14,7 +14,7 @@ use Rattle.label_defs.specs.LabelData.{same_fec}
 use Rattle.edge_defs.specs.Edge.{Control, Selected}
 use Rattle.edge_defs.specs.Held.{put_to}
 use Rattle.edge_defs.specs.Place.{OwnVrf, own_vrfs, tunnel_number}
-use Rattle.edge_defs.specs.Steps.{Call, Select, Unselect, control_step, effect, is_vrf_step, refreshed}
+use Rattle.edge_defs.specs.Steps.{Call, Customer, Select, Unselect, control_step, effect, is_vrf_step, refreshed_if}
 use Rattle.edge_defs.specs.Tunnels.{leaves}
 use Rattle.edge_routes.specs.edge_home.Home.{Home, as_own, peers_of, place_of}
 use Rattle.edge_routes.specs.declared.edge_home.own_vrf.OwnVrf as homes
@@ -84,7 +84,7 @@ module _ (core : Topology) (now : ℕ) (call : Call) (old : EdgeRouting) (contro
   step_control : (any : Core) → control_of control ≡ control_step (place_of old.control.home any) now (control_of old.control) call
   step_control any =
       let behind : Control = effect (place_of old.control.home any) now (control_of old.control) call in
-      has.made any ∙ ap (λ (b : Bool). cond b (refreshed (place_of old.control.home any) now behind) behind) (sym other)
+      has.made any ∙ ap (λ (b : Bool). refreshed_if b (place_of old.control.home any) now behind) (sym other)
 
   waiting : (any : Core) (peer : NodeId) → Among peer (peers_of old.control.home)
       → waiting_at after peer ≡ kept_for call peer (waiting_at old.tables peer)
@@ -129,11 +129,11 @@ abbrev pub selected_now : Control → VrfId → ℕ → Selected
 selected_now control vrf now = record { number = number_behind control vrf; since = now; run = false }
 
 pub select_made : (vrf : VrfId) (pattern : Pattern) (now : ℕ) (old : EdgeRouting) (control : Kept) (tables : Tables) → control.home ≡ old.control.home
-    → ((core : Core) → control_of control ≡ effect (place_of old.control.home core) now (control_of old.control) (Select vrf pattern))
+    → ((core : Core) → control_of control ≡ effect (place_of old.control.home core) now (control_of old.control) (Customer (Select vrf pattern)))
     → wants_of control.trees ≡ wants_of old.control.trees
     → ((core : Core) → HoldAll (place_of control.home core)
     (with_selected (control_of old.control) vrf pattern (selected_now (control_of old.control) vrf now)) tables)
-    → AreToldAlike old.tables tables → HasMade (Select vrf pattern) now old control tables []
+    → AreToldAlike old.tables tables → HasMade (Customer (Select vrf pattern)) now old control tables []
 select_made vrf pattern now old control tables home made wants hold alike = record {
   home = home;
   made = made;
@@ -151,10 +151,10 @@ select_made vrf pattern now old control tables home made wants hold alike = reco
 
 pub unselect_made : (vrf : VrfId) (pattern : Pattern) (now : ℕ) (old : EdgeRouting) (control : Kept) (tables : Tables)
     → control.home ≡ old.control.home
-    → ((core : Core) → control_of control ≡ effect (place_of old.control.home core) now (control_of old.control) (Unselect vrf pattern))
+    → ((core : Core) → control_of control ≡ effect (place_of old.control.home core) now (control_of old.control) (Customer (Unselect vrf pattern)))
     → wants_of control.trees ≡ wants_of old.control.trees
     → ((core : Core) → HoldAll (place_of control.home core) (without_selected (control_of old.control) vrf pattern) tables)
-    → AreToldAlike old.tables tables → HasMade (Unselect vrf pattern) now old control tables []
+    → AreToldAlike old.tables tables → HasMade (Customer (Unselect vrf pattern)) now old control tables []
 unselect_made vrf pattern now old control tables home made wants hold alike = record {
   home = home;
   made = made;

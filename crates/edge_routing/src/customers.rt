@@ -5,7 +5,7 @@ ghost use Rattle.bgp_values.specs.mvpn_nlri.Spelling.{IsGroup};
 ghost use Rattle.edge_defs.specs.pim_defs.Entries.{applied, are_too_many};
 ghost use Rattle.mv_base.specs.core_walks.Core.{Core as Walks};
 ghost use Rattle.edge_defs.specs.Edge.{Control};
-ghost use Rattle.edge_defs.specs.Steps.{Active, Idle, Pim};
+ghost use Rattle.edge_defs.specs.Steps.{Customer, Active, Idle, Pim};
 ghost use Rattle.edge_routes.specs.edge_home.Home.{place_of};
 ghost use Rattle.control_laws.specs.Control.{control_of};
 ghost use Rattle.edge_control.specs.Places.{is_note_too_many, is_own_iface};
@@ -63,7 +63,7 @@ impl EdgeRouting {
         requires own { is_own_iface self.old.control.home iface ≡ true }
         requires groups { HasGroups message.now }
         requires now { now < 2 ^ 63 }
-        ensures stepped { IfOk result (IsStepped core.now now (Pim iface message.now) self.old self.new) }
+        ensures stepped { IfOk result (IsStepped core.now now (Customer (Pim iface message.now)) self.old self.new) }
         ensures fits { OnOk result (are_too_many (applied (control_of self.old.control).entries iface message.now now) ≡ false) }
         ensures full { result ≡ Err ControlFault.Full →
             (are_too_many (applied (control_of self.old.control).entries iface message.now now) ≡ true) × (self.new ≡ self.old) }
@@ -88,7 +88,7 @@ impl EdgeRouting {
         requires core { core.now.nodes ≡ length self.old.control.home.scenario.nodes }
         requires own { is_own_iface self.old.control.home iface ≡ true }
         requires group { IsGroup (afi_of source) group }
-        ensures stepped { IfOk result (IsStepped core.now now (Active iface source group) self.old self.new) }
+        ensures stepped { IfOk result (IsStepped core.now now (Customer (Active iface source group)) self.old self.new) }
         ensures fits { OnOk result (is_note_too_many (control_of self.old.control) iface source group ≡ false) }
         ensures full { result ≡ Err ControlFault.Full →
             (is_note_too_many (control_of self.old.control) iface source group ≡ true) × (self.new ≡ self.old) }
@@ -114,7 +114,7 @@ impl EdgeRouting {
         requires core { core.now.nodes ≡ length self.old.control.home.scenario.nodes }
         requires own { is_own_iface self.old.control.home iface ≡ true }
         requires group { IsGroup (afi_of source) group }
-        ensures stepped { IfOk result (IsStepped core.now now (Idle iface source group) self.old self.new) }
+        ensures stepped { IfOk result (IsStepped core.now now (Customer (Idle iface source group)) self.old self.new) }
         ensures home { self.new.control.home ≡ self.old.control.home }
     {
         self.control.unnote(iface, source, group);

@@ -6,7 +6,7 @@ ghost use Rattle.bgp_values.specs.mvpn_nlri.Spelling.{IsAnyOr, IsGroup};
 ghost use Rattle.edge_defs.specs.Originated.{afi_by};
 ghost use Rattle.edge_defs.specs.Edge.{Control, Selected};
 ghost use Rattle.edge_defs.specs.Place.{EdgePlace, tunnel_number};
-ghost use Rattle.edge_defs.specs.Steps.{Select, Unselect};
+ghost use Rattle.edge_defs.specs.Steps.{Customer, Select, Unselect};
 ghost use Rattle.control_laws.specs.Control.{control_of};
 ghost use Rattle.edge_control.specs.Places.{is_own_vrf, is_selection_too_many};
 ghost use Rattle.edge_control.specs.declared.fault.ControlFault.TheVariants as ControlFault;
@@ -63,7 +63,7 @@ impl EdgeRouting {
         requires pattern { IsAnyOr (IsGroup (afi_by pattern.source pattern.group)) pattern.group }
         requires new { maps.get (control_of self.old.control).selections (record { vrf = vrf; pattern = pattern }) ≡ None }
         requires now { now < 2 ^ 63 }
-        ensures stepped { (core : Topology) → IfOk result (IsStepped core now (Select vrf pattern) self.old self.new) }
+        ensures stepped { (core : Topology) → IfOk result (IsStepped core now (Customer (Select vrf pattern)) self.old self.new) }
         ensures fits { OnOk result (is_selection_too_many (control_of self.old.control) ≡ false) }
         ensures full { result ≡ Err ControlFault.Full →
             (is_selection_too_many (control_of self.old.control) ≡ true) × (self.new ≡ self.old) }
@@ -86,7 +86,7 @@ impl EdgeRouting {
         requires step { IsInStep self.old }
         requires own { is_own_vrf self.old.control.home vrf ≡ true }
         requires pattern { IsAnyOr (IsGroup (afi_by pattern.source pattern.group)) pattern.group }
-        ensures stepped { (core : Topology) (now : ℕ) → IfOk result (IsStepped core now (Unselect vrf pattern) self.old self.new) }
+        ensures stepped { (core : Topology) (now : ℕ) → IfOk result (IsStepped core now (Customer (Unselect vrf pattern)) self.old self.new) }
         ensures home { self.new.control.home ≡ self.old.control.home }
     {
         self.control.unselect(vrf, pattern);

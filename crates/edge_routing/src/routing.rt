@@ -9,10 +9,10 @@ ghost use Rattle.edge_routing.specs.Routing.{IsInStep};
 
 use edge_control::EdgeControl;
 use edge_control::of_edge_tables::EdgeTables;
+use edge_routes::edge_home::SharedScenario;
 use held_tables::start;
 use mldp::mldp_fec::Fec;
 use mv_base::{NoMemory, NodeId};
-use scenario_defs::Scenario;
 use std::alloc::Global;
 
 /// What an edge keeps of its customers and of its peers, and the tables that it holds towards the peers.
@@ -57,8 +57,8 @@ fn first_tables(alloc: Global, control: &EdgeControl) -> Result<EdgeTables, NoMe
 }
 
 impl EdgeRouting {
-    /// Nothing has happened yet: each peer is to have what the edge originates for its VRFs alone. The scenario is copied.
-    pub fn of(alloc: Global, scenario: &Scenario, me: NodeId) -> Result<EdgeRouting, NoMemory>
+    /// Nothing has happened yet: each peer is to have what the edge originates for its VRFs alone. The scenario is shared.
+    pub fn of(alloc: Global, scenario: &SharedScenario, me: NodeId) -> Result<EdgeRouting, NoMemory>
         requires { IsHome scenario.now me }
         ensures home { IfOk result (λ edge. edge.control.home ≡ home_of scenario.now me) }
         ensures nothing { IfOk result (λ edge. control_of edge.control ≡ no_control) }

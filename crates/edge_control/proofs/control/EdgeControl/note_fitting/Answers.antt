@@ -2,7 +2,7 @@ use Rattle.std.proofs.Common.{List, sym, ap, subst, ◌∙◌, refl}
 use Rattle.std.proofs.lemmas.Result.{on_ok_weaker}
 use Rattle.vrf_words.specs.tree_defs.Trees.{TreeData}
 use Rattle.edge_defs.specs.Originated.{is_iface_of}
-use Rattle.edge_defs.specs.Steps.{Active, effect}
+use Rattle.edge_defs.specs.Steps.{Customer, Active, effect}
 use Rattle.edge_routes.specs.edge_home.Home.{place_of}
 use Rattle.control_laws.specs.Control.{Kept, control_of}
 use Rattle.control_laws.specs.Customers.{noted}
@@ -41,7 +41,7 @@ returns-clause-noted c =
     λ core now. on_ok_weaker c.note_at.result (λ e.
     ap (λ (trees : List TreeData). control_of (record kept { trees = trees })) e
     ∙ (noted_made kept c.self.invariant c.args.place c.args.iface place c.args.source c.args.group now core).is
-    ∙ ap (λ (k : Kept). effect (place_of k.home core) now (control_of k) (Active c.args.iface c.args.source c.args.group)) c.self.view_is)
+    ∙ ap (λ (k : Kept). effect (place_of k.home core) now (control_of k) (Customer (Active c.args.iface c.args.source c.args.group))) c.self.view_is)
     c.note_at.ensures.noted
 
 pub returns-clause-wants : goal.returns-clause-wants

@@ -4,7 +4,7 @@ use Rattle.std.proofs.lemmas.Result.{IfOk-weaker, on_ok_weaker}
 use Rattle.mv_base.specs.Lists.{Among}
 use Rattle.vrf_words.specs.tree_defs.Trees.{TreeData}
 use Rattle.edge_defs.specs.Place.{tunnel_number}
-use Rattle.edge_defs.specs.Steps.{Select, effect}
+use Rattle.edge_defs.specs.Steps.{Customer, Select, effect}
 use Rattle.edge_routes.specs.edge_home.Home.{place_of}
 use Rattle.control_laws.specs.Control.{Kept, control_of}
 use Rattle.control_laws.specs.Customers.{selected}
@@ -60,7 +60,7 @@ returns-clause-selected c =
     λ core. on_ok_weaker c.select_at.result (λ e.
     ap (λ (trees : List TreeData). control_of (record kept { trees = trees })) e
     ∙ (selected_made kept c.self.invariant c.args.place c.args.vrf place c.args.pattern c.args.now none core).is
-    ∙ ap (λ (k : Kept). effect (place_of k.home core) c.args.now (control_of k) (Select c.args.vrf c.args.pattern)) c.self.view_is)
+    ∙ ap (λ (k : Kept). effect (place_of k.home core) c.args.now (control_of k) (Customer (Select c.args.vrf c.args.pattern))) c.self.view_is)
     c.select_at.ensures.selected
 
 pub returns-clause-number : goal.returns-clause-number

@@ -1,6 +1,6 @@
 use Rattle.std.proofs.Common.{List, sym, ap, subst, ◌∙◌, refl}
 use Rattle.vrf_words.specs.tree_defs.Trees.{TreeData}
-use Rattle.edge_defs.specs.Steps.{Idle, effect}
+use Rattle.edge_defs.specs.Steps.{Customer, Idle, effect}
 use Rattle.edge_routes.specs.edge_home.Home.{place_of}
 use Rattle.control_laws.specs.Control.{Kept, control_of}
 use Rattle.control_laws.proofs.Parts.{no_core}
@@ -24,7 +24,7 @@ returns-clause-unnoted c =
     ap (λ (trees : List TreeData). control_of (record kept { trees = trees })) c.unnote_at.ensures
     ∙ (unnoted_made kept c.self.invariant c.place_of_iface-place.result c.args.iface c.place_of_iface-place.ensures c.args.source c.args.group now
     core).is
-    ∙ ap (λ (k : Kept). effect (place_of k.home core) now (control_of k) (Idle c.args.iface c.args.source c.args.group)) c.self.view_is
+    ∙ ap (λ (k : Kept). effect (place_of k.home core) now (control_of k) (Customer (Idle c.args.iface c.args.source c.args.group))) c.self.view_is
 
 pub returns-clause-wants : goal.returns-clause-wants
 returns-clause-wants c =

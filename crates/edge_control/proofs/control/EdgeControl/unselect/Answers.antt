@@ -1,6 +1,6 @@
 use Rattle.std.proofs.Common.{List, sym, ap, subst, ◌∙◌, refl}
 use Rattle.vrf_words.specs.tree_defs.Trees.{TreeData}
-use Rattle.edge_defs.specs.Steps.{Unselect, effect}
+use Rattle.edge_defs.specs.Steps.{Customer, Unselect, effect}
 use Rattle.edge_routes.specs.edge_home.Home.{place_of}
 use Rattle.control_laws.specs.Control.{Kept, control_of}
 use Rattle.control_laws.proofs.Parts.{no_core}
@@ -22,7 +22,7 @@ returns-clause-unselected c =
     λ core now.
     ap (λ (trees : List TreeData). control_of (record kept { trees = trees })) c.unselect_at.ensures
     ∙ (unselected_made kept c.self.invariant c.place_of_vrf-place.result c.args.vrf c.place_of_vrf-place.ensures c.args.pattern now core).is
-    ∙ ap (λ (k : Kept). effect (place_of k.home core) now (control_of k) (Unselect c.args.vrf c.args.pattern)) c.self.view_is
+    ∙ ap (λ (k : Kept). effect (place_of k.home core) now (control_of k) (Customer (Unselect c.args.vrf c.args.pattern))) c.self.view_is
 
 pub returns-clause-wants : goal.returns-clause-wants
 returns-clause-wants c =

@@ -1,4 +1,4 @@
-use Rattle.edge_defs.specs.Steps.{Select}
+use Rattle.edge_defs.specs.Steps.{Customer, Select}
 use Rattle.edge_core.specs.Calls.{MakesCall}
 use Rattle.edge_core.proofs.CallLemmas.{any_topology, call_seen, none_after}
 use Rattle.edge_core.proofs.edge.Edge.select.Goals as goal
@@ -10,7 +10,7 @@ invariant_of-self c = λ e.
 
 pub returns : goal.returns
 returns c = λ core.
-    let made : MakesCall core c.args.now (Select c.args.vrf c.args.pattern) c.self.inside.parts c.select-answer.new.self c.select-answer.result =
+    let made : MakesCall core c.args.now (Customer (Select c.args.vrf c.args.pattern)) c.self.inside.parts c.select-answer.new.self c.select-answer.result =
     record {
       settles = c.select-answer.ensures.settles core;
       only = c.select-answer.ensures.only;
@@ -18,5 +18,5 @@ returns c = λ core.
       full = c.select-answer.ensures.full;
       toward = tt;
     } in
-    call_seen core c.args.now (Select c.args.vrf c.args.pattern) c.self.inside.parts c.select-answer.new.self c.self.inside.spent
+    call_seen core c.args.now (Customer (Select c.args.vrf c.args.pattern)) c.self.inside.parts c.select-answer.new.self c.self.inside.spent
     c.spent_by-self-inside.result c.args.self.now c.select-answer.result c.in_default.is c.self.view_is c.spent_by-self-inside.ensures made

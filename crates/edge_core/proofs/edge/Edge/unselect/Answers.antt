@@ -1,5 +1,5 @@
 use Rattle.std.proofs.Common.{refl}
-use Rattle.edge_defs.specs.Steps.{Unselect}
+use Rattle.edge_defs.specs.Steps.{Customer, Unselect}
 use Rattle.edge_core.proofs.CallLemmas.{any_topology, call_seen, none_after, plain_call}
 use Rattle.edge_core.proofs.edge.Edge.unselect.Goals as goal
 
@@ -10,7 +10,7 @@ invariant_of-self c = λ e.
 
 pub returns : goal.returns
 returns c = λ core now.
-    call_seen core now (Unselect c.args.vrf c.args.pattern) c.self.inside.parts c.unselect-answer.new.self c.self.inside.spent
+    call_seen core now (Customer (Unselect c.args.vrf c.args.pattern)) c.self.inside.parts c.unselect-answer.new.self c.self.inside.spent
     c.spent_by-self-inside.result c.args.self.now c.unselect-answer.result c.in_default.is c.self.view_is c.spent_by-self-inside.ensures
-    (plain_call core now (Unselect c.args.vrf c.args.pattern) c.self.inside.parts c.unselect-answer.new.self c.unselect-answer.result (λ control. refl)
-    refl (c.unselect-answer.ensures.settles core now) c.unselect-answer.ensures.only tt)
+    (plain_call core now (Customer (Unselect c.args.vrf c.args.pattern)) c.self.inside.parts c.unselect-answer.new.self c.unselect-answer.result
+    (λ control. refl) refl (c.unselect-answer.ensures.settles core now) c.unselect-answer.ensures.only tt)

@@ -1,5 +1,5 @@
 use Rattle.std.proofs.Common.{refl, sym, ap, subst, Err}
-use Rattle.edge_defs.specs.Steps.{Select}
+use Rattle.edge_defs.specs.Steps.{Customer, Select}
 use Rattle.edge_routing.specs.edge_control.declared.fault.ControlFault.{ControlFault}
 use Rattle.edge_core.specs.declared.fault.EdgeFault.TheVariants as faults
 use Rattle.edge_core.specs.Called.{SettlesCall, going}
@@ -12,7 +12,7 @@ pub returns-clause-settles : goal.returns-clause-settles
 returns-clause-settles c = λ core.
     let old = c.args.self.now in
     let new = record old { routing = c.select.new.self } in
-    let call = Select c.args.vrf c.args.pattern in
+    let call = Customer (Select c.args.vrf c.args.pattern) in
     let home = c.select.ensures.home in
     elim c.match-select.branch [
       | in-Ok w ↦ subst (SettlesCall core c.args.now call (going old) new) (sym w.result-is)

@@ -1,5 +1,5 @@
 use Rattle.std.proofs.Common.{refl, sym, subst}
-use Rattle.edge_defs.specs.Steps.{Unselect}
+use Rattle.edge_defs.specs.Steps.{Customer, Unselect}
 use Rattle.edge_core.specs.declared.fault.EdgeFault.TheVariants as faults
 use Rattle.edge_core.specs.Called.{SettlesCall, going}
 use Rattle.edge_core.proofs.SelectionLemmas.{has_selected}
@@ -11,7 +11,7 @@ pub returns-clause-settles : goal.returns-clause-settles
 returns-clause-settles c = λ core now.
     let old = c.args.self.now in
     let new = record old { routing = c.unselect.new.self } in
-    let call = Unselect c.args.vrf c.args.pattern in
+    let call = Customer (Unselect c.args.vrf c.args.pattern) in
     let home = c.unselect.ensures.home in
     elim c.match-unselect.branch [
       | in-Ok w ↦ subst (SettlesCall core now call (going old) new) (sym w.result-is)

@@ -1,7 +1,7 @@
 use Rattle.std.proofs.Common.{refl, ap, subst}
 use Rattle.mv_base.specs.declared.ids.VrfId.{VrfId}
 use Rattle.edge_defs.specs.Edge.{Control}
-use Rattle.edge_defs.specs.Steps.{Select}
+use Rattle.edge_defs.specs.Steps.{Customer, Select}
 use Rattle.edge_routes.specs.edge_home.Home.{place_of}
 use Rattle.edge_words.specs.held_laws.Held.{with_selected}
 use Rattle.held_tables.specs.Holding.{HoldAll}
@@ -30,7 +30,7 @@ returns-clause-stepped c = λ core.
     let vrf = c.args.vrf in
     let pattern = c.args.pattern in
     let selected = selected_now (control_of old.control) vrf c.args.now in
-    settled core c.args.now (Select vrf pattern) old control tables c.put.new.self c.none.result c.requires.step refl
+    settled core c.args.now (Customer (Select vrf pattern)) old control tables c.put.new.self c.none.result c.requires.step refl
     (select_made vrf pattern c.args.now old control tables c.select.ensures.home c.in_ok-lsp.ensures.selected c.select.ensures.wants
     (λ walks. subst (λ (v : VrfId). HoldAll (place_of control.home walks) (with_selected (control_of old.control) v pattern selected) tables)
     c.own_of_vrf-own.ensures.of

@@ -1,5 +1,5 @@
 use Rattle.std.proofs.Common.{refl}
-use Rattle.edge_defs.specs.Steps.{Idle}
+use Rattle.edge_defs.specs.Steps.{Customer, Idle}
 use Rattle.control_laws.specs.Control.{control_of}
 use Rattle.edge_routing.proofs.CustomerCalls.{held_at, idle_way}
 use Rattle.edge_routing.proofs.routing.EdgeRouting.unnote.Goals as goal
@@ -19,7 +19,7 @@ pub returns-clause-stepped : goal.returns-clause-stepped
 returns-clause-stepped c =
     let old = c.args.self.now in
     let control = c.unnote.new.self in
-    c.finish.ensures.stepped (Idle c.args.iface c.args.source c.args.group) old refl c.requires.step
+    c.finish.ensures.stepped (Customer (Idle c.args.iface c.args.source c.args.group)) old refl c.requires.step
     (idle_way c.args.iface c.args.source c.args.group c.args.now old control c.drop_unnoted.new.tables c.new.result.items c.requires.step
     c.unnote.ensures.home
     (λ walks. c.unnote.ensures.unnoted walks c.args.now) c.unnote.ensures.wants

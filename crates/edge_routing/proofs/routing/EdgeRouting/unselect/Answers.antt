@@ -1,7 +1,7 @@
 use Rattle.std.proofs.Common.{refl, ap, subst}
 use Rattle.mv_base.specs.declared.ids.VrfId.{VrfId}
 use Rattle.edge_defs.specs.Edge.{Control}
-use Rattle.edge_defs.specs.Steps.{Unselect}
+use Rattle.edge_defs.specs.Steps.{Customer, Unselect}
 use Rattle.edge_routes.specs.edge_home.Home.{place_of}
 use Rattle.edge_words.specs.held_laws.Held.{without_selected}
 use Rattle.held_tables.specs.Holding.{HoldAll}
@@ -19,7 +19,7 @@ returns-clause-stepped c = λ core now.
     let own = c.own_of_vrf-own.result.now in
     let vrf = c.args.vrf in
     let pattern = c.args.pattern in
-    settled core now (Unselect vrf pattern) old control tables c.put.new.self c.none.result c.requires.step refl
+    settled core now (Customer (Unselect vrf pattern)) old control tables c.put.new.self c.none.result c.requires.step refl
     (unselect_made vrf pattern now old control tables c.unselect.ensures.home (λ walks. c.unselect.ensures.unselected walks now)
     c.unselect.ensures.wants
     (λ walks. subst (λ (v : VrfId). HoldAll (place_of control.home walks) (without_selected (control_of old.control) v pattern) tables)

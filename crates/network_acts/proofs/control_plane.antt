@@ -5,9 +5,9 @@ mod HandingLoop
 mod RestLemmas
 mod SteadyLemmas
 mod MidLemmas
-mod OwnLemmas
+pub mod OwnLemmas
 mod FollowLemmas
-mod CustomerLemmas
+pub mod CustomerLemmas
 mod HandLemmas
 mod NetworkLemmas
 mod StartLemmas

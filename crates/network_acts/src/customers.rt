@@ -21,6 +21,8 @@ impl Network {
         requires network { IsSome (OfPlane (FitsAt n (customer_call call))) self.old }
         ensures { CustomerActsAs n (customer_call call.entry) self.old self.new lines.old lines.new result }
     {
-        self.plane.call(n, call, lines)
+        let plane = &mut self.plane;
+        let answer = plane.nodes[usize::from(n.0)].call(call, plane.clock, &plane.core);
+        plane.settle_customer(n, answer, lines)
     }
 }

@@ -7,6 +7,7 @@ ghost use Rattle.network_acts.specs.Instant.{IsWorld, beginning};
 use crate::control_plane::ControlPlane;
 use data_plane::datagram_acts::Datagrams;
 use mv_base::NoMemory;
+use run_laws::of_edge_routes::edge_home::SharedScenario;
 use scenario_defs::Scenario;
 use std::alloc::Global;
 use std::marker::Model;
@@ -15,7 +16,7 @@ use std::marker::Model;
 ///
 /// An act that answers `NoLabel` or `NoMemory` is its last one: of what it does afterwards nothing is said.
 pub struct Network {
-    pub(crate) scenario: Scenario,
+    pub(crate) scenario: SharedScenario,
     pub(crate) plane: ControlPlane,
     pub(crate) datagrams: Datagrams,
 }
@@ -42,6 +43,7 @@ impl Network {
         ensures beginning { IfOk result (λ network. (cores : Cores) → AreCoresOf scenario cores →
             IsWorld (beginning scenario cores) network) }
     {
+        let scenario = SharedScenario::of(alloc, scenario)?;
         let plane = ControlPlane::of(alloc, &scenario)?;
         Ok(Network {
             scenario,
@@ -54,7 +56,7 @@ impl Network {
     pub fn scenario(&self) -> &Scenario
         ensures { result.now ≡ self.now.scenario }
     {
-        &self.scenario
+        self.scenario.lent()
     }
 
     /// Frees all that it has, and spends the label bindings of its nodes.

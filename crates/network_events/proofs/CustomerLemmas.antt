@@ -1,6 +1,6 @@
 -- Events of customers and of the operator, by the edges at which they call.
 use Rattle.std.specs.Prelude.{◌||◌, ◌&&◌, not, nat_le, IfSome, if◌then◌else◌}
-use Rattle.std.proofs.Common.{◌≡◌, ◌∙◌, ℕ, ◌<◌, refl, sym, ap, subst, Bool, true, false, List, [], ◌∷◌, length, Option, Some, None, Result, Ok, Err}
+use Rattle.std.proofs.Common.{◌≡◌, ◌∙◌, ℕ, ◌<◌, inl, inr, refl, sym, ap, subst, Bool, true, false, List, [], ◌∷◌, length, Option, Some, None, Result, Ok, Err}
 use Rattle.std.proofs.lemmas.Option.{none-some}
 use Rattle.std.specs.FinMap as maps
 use Rattle.std.specs.FinSet as sets
@@ -13,10 +13,9 @@ use Rattle.mv_base.specs.declared.ids.IfaceId.{IfaceId}
 use Rattle.mv_base.specs.declared.ids.NodeId.{NodeId}
 use Rattle.mv_base.specs.declared.ids.VrfId.{VrfId}
 use Rattle.mv_base.specs.declared.pattern.Pattern.{Pattern}
-use Rattle.pim_joinprune.proofs.WritingLemmas.{written_spells}
-use Rattle.pim_joinprune.proofs.pim_laws.DecodingLemmas.{spelled_read}
+use Rattle.pim_joinprune.specs.Answers.{IsOnly}
 use Rattle.pim_joinprune.specs.Reading.{decoded}
-use Rattle.pim_joinprune.specs.Spelling.{IsJoinPrune, Spells, written}
+use Rattle.pim_joinprune.specs.Spelling.{Spells}
 use Rattle.pim_joinprune.specs.declared.fault.PimFault.{PimFault}
 use Rattle.pim_joinprune.specs.declared.message.JoinPrune.{JoinPrune}
 use Rattle.pim_defs.proofs.SingleLemmas.{join_spelled, prune_spelled}
@@ -51,7 +50,7 @@ use Rattle.network_acts.specs.Instant.{Instant, IsSome, IsWorld, OfPlane, standi
 use Rattle.network_acts.specs.NetworkView.{NetworkView}
 use Rattle.network_acts.specs.Words.{FitsAt, IsIfaceEdge, IsVrfEdge}
 use Rattle.network_acts.specs.declared.control_plane.customers.Verdict.{Verdict}
-use Rattle.network_events.specs.Customers.{HandsMessage, IsAtIface, IsForIface, IsSpelledFor, verdict_at}
+use Rattle.network_events.specs.Customers.{HandsMessage, IsAtIface, IsForIface, verdict_at}
 use Rattle.network_events.specs.Meeting.{IsGiven, IsReady, Meets}
 use Rattle.network_events.proofs.CallLemmas.{call_meets}
 use Rattle.network_events.proofs.MeetLemmas.{meets_refused}
@@ -120,11 +119,11 @@ of_message iface message world other e = absurd (none-some (record { iface = ifa
 
 module _ (old : NetworkView) (iface : IfaceId) (message : JoinPrune) (own : IsForIface old.scenario iface message) where
   message_fits : (n : NodeId) → edge_of old.scenario iface ≡ Some n → (at : Instant) → IsReady at → IsWorld at old
-      → FitsAt n (steps.Pim iface message) (standing_of at)
+      → FitsAt n (steps.Customer (steps.Pim iface message)) (standing_of at)
   message_fits n e at ready is = (at_iface at old is.scenario is.plane n iface ready.resting.rest e, own.at.spelled, own.at.sound)
 
   pub some_message : (n : NodeId) → edge_of old.scenario iface ≡ Some n → IsSome IsReady old
-      → IsSome (OfPlane (FitsAt n (steps.Pim iface message))) old
+      → IsSome (OfPlane (FitsAt n (steps.Customer (steps.Pim iface message)))) old
   some_message n e (at, ready, is) = (at, message_fits n e at ready is, is)
 
   module _ (event : Event) (hands : HandsMessage old.scenario iface message event) (lines : List ReportLine) where
@@ -146,14 +145,14 @@ module _ (old : NetworkView) (iface : IfaceId) (message : JoinPrune) (own : IsFo
 
     pub message_taken : (n : NodeId) → edge_of old.scenario iface ≡ Some n → AreFull old false
         → (new : NetworkView) (new_lines : List ReportLine) (answer : Result Verdict NodeFault)
-        → CustomerActsAs n (steps.Pim iface message) old new lines new_lines answer → Meets event old new lines new_lines (verdict_at n answer)
+        → CustomerActsAs n (steps.Customer (steps.Pim iface message)) old new lines new_lines answer → Meets event old new lines new_lines (verdict_at n answer)
     message_taken n e free new new_lines answer acts =
-        call_meets event old lines n (steps.Pim iface message) new new_lines answer
+        call_meets event old lines n (steps.Customer (steps.Pim iface message)) new new_lines answer
         (λ at ready is.
         let fits = message_fits n e at ready is in
         record {
           fits = fits;
-          does = (is_of at is).does ∙ ap (λ (o : Option NodeId). at_edge o (steps.Pim iface message) at.world) fits.0.edge;
+          does = (is_of at is).does ∙ ap (λ (o : Option NodeId). at_edge o (steps.Customer (steps.Pim iface message)) at.world) fits.0.edge;
           why =
               (is_of at is).why
               ∙ (ours_free (is_ours (scenario_of at.world) (record { iface = iface; message = message })) (are_sessions_full at.world)
@@ -162,34 +161,12 @@ module _ (old : NetworkView) (iface : IfaceId) (message : JoinPrune) (own : IsFo
         })
         acts
 
--- ---- messages that are written
-
-same_message : (a b : JoinPrune) (octets : List ℕ) → decoded octets ≡ Ok a → decoded octets ≡ Ok b → a ≡ b
-same_message a b octets e f = ap (λ (r : Result JoinPrune (ℕ × PimFault)). elim r [ Ok m ↦ m | Err fault ↦ a ]) (sym e ∙ f)
-
--- what is read of octets that are a message for the interface is that message, and no fault
-module _ (scenario : Scenario) (iface : IfaceId) (octets : List ℕ) (own : IsSpelledFor scenario iface octets) where
-  pub spelled_for : (found : JoinPrune) → decoded octets ≡ Ok found → IsForIface scenario iface found
-  spelled_for found e = subst (IsForIface scenario iface) (same_message own.message found octets own.spelled e) own.is
-
-  pub spelled_hands : (event : Event) (message found : JoinPrune) → decoded octets ≡ Ok message → decoded octets ≡ Ok found
-      → HandsMessage scenario iface message event → HandsMessage scenario iface found event
-  spelled_hands event message found e f hands =
-      subst (λ (m : JoinPrune). HandsMessage scenario iface m event) (same_message message found octets e f) hands
-
-  pub spelled_sound : (place : ℕ) (fault : PimFault) → decoded octets ≡ Err (place, fault) → ⊥
-  spelled_sound place fault e =
-      (let t : ◌≡◌ {A = Result JoinPrune (ℕ × PimFault)} (Ok own.message) (Err (place, fault)) = sym own.spelled ∙ e in cc)
-
-pub written_read : (message : JoinPrune) (octets : List ℕ) → IsJoinPrune message → octets ≡ written message → decoded octets ≡ Ok message
-written_read message octets spelled e = ap decoded e ∙ spelled_read (written message) message (written_spells message spelled)
-
-pub written_for : (scenario : Scenario) (iface : IfaceId) (message : JoinPrune) (octets : List ℕ) → IsForIface scenario iface message
-    → octets ≡ written message → IsSpelledFor scenario iface octets
-written_for scenario iface message octets own e =
-    record { message = message; spelled = written_read message octets own.at.spelled e; is = own }
-
 -- ---- messages that are made
+
+-- what was written is read again
+pub only_read : (read message : JoinPrune) → IsOnly (Ok read) message → read ≡ message
+only_read read message (inl e) = cc
+only_read read message (inr e) = absurd cc
 
 -- what the rules say of an interface's own address
 record OwnAddr (scenario : Scenario) (iface : IfaceId) (group : Addr) : Type 0 where
@@ -301,20 +278,20 @@ module _ (old : NetworkView) (iface : IfaceId) (source group : Addr) (lines : Li
       (λ at ready is. full_first (are_sessions_full at.world) (lacks_room (control_at at.world (edge_of (scenario_of at.world) iface))) (full at is))
 
   pub some_note : (n : NodeId) → edge_of old.scenario iface ≡ Some n → IsFlow source group → IsSome IsReady old
-      → IsSome (OfPlane (FitsAt n (steps.Active iface source group))) old
+      → IsSome (OfPlane (FitsAt n (steps.Customer (steps.Active iface source group)))) old
   some_note n e flow (at, ready, is) = (at, (iface_fits old iface n e at ready is, flow), is)
 
   pub note_taken : (n : NodeId) → edge_of old.scenario iface ≡ Some n → IsFlow source group → AreFull old false
       → (new : NetworkView) (new_lines : List ReportLine) (answer : Result Verdict NodeFault)
-      → CustomerActsAs n (steps.Active iface source group) old new lines new_lines answer
+      → CustomerActsAs n (steps.Customer (steps.Active iface source group)) old new lines new_lines answer
       → Meets (events.Active iface source group) old new lines new_lines (verdict_at n answer)
   note_taken n e flow free new new_lines answer acts =
-      call_meets (events.Active iface source group) old lines n (steps.Active iface source group) new new_lines answer
+      call_meets (events.Active iface source group) old lines n (steps.Customer (steps.Active iface source group)) new new_lines answer
       (λ at ready is.
       let edge = iface_fits old iface n e at ready is in
       record {
         fits = (edge, flow);
-        does = ap (λ (o : Option NodeId). at_edge o (steps.Active iface source group) at.world) edge.edge;
+        does = ap (λ (o : Option NodeId). at_edge o (steps.Customer (steps.Active iface source group)) at.world) edge.edge;
         why =
             free_first (are_sessions_full at.world) (lacks_room (control_at at.world (edge_of (scenario_of at.world) iface))) (free at is)
             ∙ ap (λ (o : Option NodeId). refused_if (lacks_room (control_at at.world o)) refusals.Full) edge.edge;
@@ -327,20 +304,20 @@ module _ (old : NetworkView) (iface : IfaceId) (source group : Addr) (lines : Li
       (λ at ready is. ap (λ (b : Bool). refused_if b refusals.Full) (full at is))
 
   pub some_idle : (n : NodeId) → edge_of old.scenario iface ≡ Some n → IsFlow source group → IsSome IsReady old
-      → IsSome (OfPlane (FitsAt n (steps.Idle iface source group))) old
+      → IsSome (OfPlane (FitsAt n (steps.Customer (steps.Idle iface source group)))) old
   some_idle n e flow (at, ready, is) = (at, (iface_fits old iface n e at ready is, flow), is)
 
   pub idle_taken : (n : NodeId) → edge_of old.scenario iface ≡ Some n → IsFlow source group → AreFull old false
       → (new : NetworkView) (new_lines : List ReportLine) (answer : Result Verdict NodeFault)
-      → CustomerActsAs n (steps.Idle iface source group) old new lines new_lines answer
+      → CustomerActsAs n (steps.Customer (steps.Idle iface source group)) old new lines new_lines answer
       → Meets (events.Idle iface source group) old new lines new_lines (verdict_at n answer)
   idle_taken n e flow free new new_lines answer acts =
-      call_meets (events.Idle iface source group) old lines n (steps.Idle iface source group) new new_lines answer
+      call_meets (events.Idle iface source group) old lines n (steps.Customer (steps.Idle iface source group)) new new_lines answer
       (λ at ready is.
       let edge = iface_fits old iface n e at ready is in
       record {
         fits = (edge, flow);
-        does = ap (λ (o : Option NodeId). at_edge o (steps.Idle iface source group) at.world) edge.edge;
+        does = ap (λ (o : Option NodeId). at_edge o (steps.Customer (steps.Idle iface source group)) at.world) edge.edge;
         why = ap (λ (b : Bool). refused_if b refusals.Full) (free at is);
       })
       acts
@@ -385,13 +362,13 @@ module _ (old : NetworkView) (vrf : VrfId) (pattern : Pattern) (n : NodeId) (e :
     some_there (Some found) h = (found, refl)
 
     unselected_fits : IsSelected false → SoundPattern pattern → (at : Instant) → IsReady at → IsWorld at old
-        → FitsAt n (steps.Select vrf pattern) (standing_of at)
+        → FitsAt n (steps.Customer (steps.Select vrf pattern)) (standing_of at)
     unselected_fits h sound at ready is =
         let fits = vrf_fits at ready is in
         (fits, sound, none_there (maps.get (control_of (at.world.network.state.node n)).selections key) (h at fits is))
 
     pub some_unselected : IsSelected false → SoundPattern pattern → IsSome IsReady old
-        → IsSome (OfPlane (FitsAt n (steps.Select vrf pattern))) old
+        → IsSome (OfPlane (FitsAt n (steps.Customer (steps.Select vrf pattern)))) old
     some_unselected h sound (at, ready, is) = (at, unselected_fits h sound at ready is, is)
 
     -- a pattern that a node has selected is a sound one
@@ -428,15 +405,15 @@ module _ (old : NetworkView) (vrf : VrfId) (pattern : Pattern) (n : NodeId) (e :
 
     pub select_taken : IsSelected false → SoundPattern pattern → AreFull old false
         → (new : NetworkView) (new_lines : List ReportLine) (answer : Result Verdict NodeFault)
-        → CustomerActsAs n (steps.Select vrf pattern) old new lines new_lines answer
+        → CustomerActsAs n (steps.Customer (steps.Select vrf pattern)) old new lines new_lines answer
         → Meets (events.Select vrf pattern) old new lines new_lines (verdict_at n answer)
     select_taken h sound free new new_lines answer acts =
-        call_meets (events.Select vrf pattern) old lines n (steps.Select vrf pattern) new new_lines answer
+        call_meets (events.Select vrf pattern) old lines n (steps.Customer (steps.Select vrf pattern)) new new_lines answer
         (λ at ready is.
         let fits = unselected_fits h sound at ready is in
         record {
           fits = fits;
-          does = ap (λ (o : Option NodeId). at_edge o (steps.Select vrf pattern) at.world) fits.0.edge;
+          does = ap (λ (o : Option NodeId). at_edge o (steps.Customer (steps.Select vrf pattern)) at.world) fits.0.edge;
           why =
               select_why h at ready is
               ∙ (free_first (are_sessions_full at.world) (nat_le selection_limit (selections_at at.world vrf)) (free at is)
@@ -458,17 +435,17 @@ module _ (old : NetworkView) (vrf : VrfId) (pattern : Pattern) (n : NodeId) (e :
         meets_refused (events.Unselect vrf pattern) old lines refusals.Full
         (λ at ready is. ap (unselected_why at) (selected_there true h at ready is) ∙ ap (λ (b : Bool). refused_if b refusals.Full) (full at is))
 
-    pub some_selected : IsSelected true → IsSome IsReady old → IsSome (OfPlane (FitsAt n (steps.Unselect vrf pattern))) old
+    pub some_selected : IsSelected true → IsSome IsReady old → IsSome (OfPlane (FitsAt n (steps.Customer (steps.Unselect vrf pattern)))) old
     some_selected h (at, ready, is) = (at, (vrf_fits at ready is, selected_pattern h (at, ready, is)), is)
 
     pub unselect_taken : IsSelected true → AreFull old false → (new : NetworkView) (new_lines : List ReportLine) (answer : Result Verdict NodeFault)
-        → CustomerActsAs n (steps.Unselect vrf pattern) old new lines new_lines answer
+        → CustomerActsAs n (steps.Customer (steps.Unselect vrf pattern)) old new lines new_lines answer
         → Meets (events.Unselect vrf pattern) old new lines new_lines (verdict_at n answer)
     unselect_taken h free new new_lines answer acts =
-        call_meets (events.Unselect vrf pattern) old lines n (steps.Unselect vrf pattern) new new_lines answer
+        call_meets (events.Unselect vrf pattern) old lines n (steps.Customer (steps.Unselect vrf pattern)) new new_lines answer
         (λ at ready is. record {
           fits = (vrf_fits at ready is, selected_pattern h (at, ready, is));
-          does = ap (λ (o : Option NodeId). at_edge o (steps.Unselect vrf pattern) at.world) (vrf_fits at ready is).edge;
+          does = ap (λ (o : Option NodeId). at_edge o (steps.Customer (steps.Unselect vrf pattern)) at.world) (vrf_fits at ready is).edge;
           why =
               ap (unselected_why at) (selected_there true h at ready is) ∙ ap (λ (b : Bool). refused_if b refusals.Full) (free at is);
         })

@@ -1,8 +1,7 @@
 -- Events of customers: the messages that they hand to edges, and what comes of calls for which there may be no room.
-use Rattle.std.specs.Prelude.{◌≡◌, ◌<◌, ℕ, true, List, Option, None, Some, Result, Ok, Err, length}
+use Rattle.std.specs.Prelude.{◌≡◌, ◌<◌, true, Option, None, Some, Result, Ok, Err, length}
 use Rattle.mv_base.specs.declared.ids.IfaceId.{IfaceId}
 use Rattle.mv_base.specs.declared.ids.NodeId.{NodeId}
-use Rattle.pim_joinprune.specs.Reading.{decoded}
 use Rattle.pim_joinprune.specs.Spelling.{IsJoinPrune}
 use Rattle.pim_joinprune.specs.declared.message.JoinPrune.{JoinPrune}
 use Rattle.scenario_defs.specs.declared.event.Event.{Event}
@@ -28,12 +27,6 @@ pub record IsAtIface (scenario : Scenario) (iface : IfaceId) (message : JoinPrun
 pub record IsForIface (scenario : Scenario) (iface : IfaceId) (message : JoinPrune) : Type 0 where
   pub at : IsAtIface scenario iface message
   pub ours : is_ours scenario (record { iface = iface; message = message }) ≡ true
-
--- The octets are a message for the interface.
-pub record IsSpelledFor (scenario : Scenario) (iface : IfaceId) (octets : List ℕ) : Type 0 where
-  pub message : JoinPrune
-  pub spelled : decoded octets ≡ Ok message
-  pub is : IsForIface scenario iface message
 
 -- the event hands the message to the edge of the interface
 abbrev pub HandsMessage : Scenario → IfaceId → JoinPrune → Event → Type 0

@@ -1,14 +1,14 @@
 //! Events of customers at an interface: Join/Prune messages come there, and sources are noted (RFC 7761 section 4.5, RFC 6514 section 14).
-ghost use Rattle.std.specs.Prelude.{◌≡◌, Ok};
+ghost use Rattle.std.specs.Prelude.{◌≡◌, IfOk};
 ghost use Rattle.mv_base.specs.Address.{addr_octets};
 ghost use Rattle.mv_base.specs.Octets.{IsOctets};
-ghost use Rattle.pim_joinprune.specs.Reading.{decoded};
-ghost use Rattle.pim_joinprune.specs.declared.message.JoinPrune.{JoinPrune as MessageValue};
+ghost use Rattle.pim_joinprune.specs.Spelling.{IsJoinPrune};
+ghost use Rattle.pim_defs.specs.Single as single;
 ghost use Rattle.scenario_defs.specs.declared.event.Event.{Event};
 ghost use Rattle.scenario_defs.specs.declared.event.Event.TheVariants as events;
 ghost use Rattle.network_defs.specs.Refusals.{are_sessions_full};
 ghost use Rattle.network_acts.specs.Instant.{Instant, IsSome, IsWorld};
-ghost use Rattle.network_events.specs.Customers.{HandsMessage, IsAtIface, IsForIface, IsSpelledFor, verdict_at};
+ghost use Rattle.network_events.specs.Customers.{HandsMessage, IsAtIface, IsForIface, verdict_at};
 ghost use Rattle.network_events.specs.Meeting.{IsGiven, IsReady, Meets};
 
 use crate::halt::Halt;
@@ -18,8 +18,9 @@ use mvpn_model::{fault_word, own_addr};
 use network_acts::of_edge_routes::route_order::are_octets;
 use network_acts::{CustomerCall, Network, Verdict};
 use pim_defs::{join_of, prune_of};
-use pim_joinprune::{DecodeFault, JoinPrune, decode, encode};
+use pim_joinprune::{DecodeFault, JoinPrune, decode, round_trip};
 use scenario_defs::{JoinEntry, Lines, Refusal, edge_of};
+use std::alloc::Global;
 
 /// So many octets in transit are too many for an event of a customer.
 const OCTET_LIMIT: u64 = 268_435_456;
@@ -68,40 +69,36 @@ fn take(
     }
 }
 
-/// Octets of a message come to the interface that it is for.
-fn take_spelled(
-    network: &mut Network,
-    iface: IfaceId,
-    octets: &[u8],
-    lines: &mut Lines,
-) -> Result<Option<Refusal>, Halt>
-    requires network { IsSome IsReady network.old }
-    requires message { IsSpelledFor network.old.scenario iface octets.now }
-    ensures { (event : Event) (message : MessageValue) → decoded octets.now ≡ Ok message → HandsMessage network.old.scenario iface message event →
-        Meets event network.old network.new lines.old lines.new result }
+/// The message, as it is read of the octets that the customer router behind the interface writes.
+fn read_back(alloc: Global, message: &JoinPrune) -> Result<JoinPrune, NoMemory>
+    requires { IsJoinPrune message.now }
+    ensures { IfOk result (λ read. read ≡ message.now) }
 {
-    match decode(lines.alloc(), octets) {
-        Ok(message) => take(network, iface, &message, lines),
-        Err(DecodeFault::Bad { .. }) => unreachable!(),
-        Err(DecodeFault::NoMemory) => Err(Halt::NoMemory),
+    match round_trip(alloc, message) {
+        Ok(read) => Ok(read),
+        Err(_) => Err(NoMemory),
     }
 }
 
-/// A message for the interface, as the customer router behind it writes it, comes there.
-fn take_written(
-    network: &mut Network,
-    iface: IfaceId,
-    message: &JoinPrune,
-    lines: &mut Lines,
-) -> Result<Option<Refusal>, Halt>
-    requires network { IsSome IsReady network.old }
-    requires message { IsForIface network.old.scenario iface message.now }
-    ensures { (event : Event) → HandsMessage network.old.scenario iface message.now event →
-        Meets event network.old network.new lines.old lines.new result }
+/// The message that joins the entry, for that neighbour, as it is read of the octets that are written for it.
+fn joining(alloc: Global, neighbour: Addr, entry: &JoinEntry) -> Result<JoinPrune, NoMemory>
+    requires { IsJoinPrune (single.join_of neighbour entry.now) }
+    ensures { IfOk result (λ message. message ≡ single.join_of neighbour entry.now) }
 {
-    match encode(lines.alloc(), message) {
-        Ok(octets) => take_spelled(network, iface, octets.as_slice(), lines),
-        Err(NoMemory) => Err(Halt::NoMemory),
+    match join_of(alloc, neighbour, entry) {
+        Ok(message) => read_back(alloc, &message),
+        Err(NoMemory) => Err(NoMemory),
+    }
+}
+
+/// The message that prunes the entry, for that neighbour, as it is read of the octets that are written for it.
+fn pruning(alloc: Global, neighbour: Addr, entry: &JoinEntry) -> Result<JoinPrune, NoMemory>
+    requires { IsJoinPrune (single.prune_of neighbour entry.now) }
+    ensures { IfOk result (λ message. message ≡ single.prune_of neighbour entry.now) }
+{
+    match prune_of(alloc, neighbour, entry) {
+        Ok(message) => read_back(alloc, &message),
+        Err(NoMemory) => Err(NoMemory),
     }
 }
 
@@ -116,8 +113,8 @@ pub(crate) fn join(
     requires event { IsGiven network.old.scenario (events.Join iface entry.now) }
     ensures { Meets (events.Join iface entry.now) network.old network.new lines.old lines.new result }
 {
-    match join_of(lines.alloc(), own_addr(network.scenario(), iface), entry) {
-        Ok(message) => take_written(network, iface, &message, lines),
+    match joining(lines.alloc(), own_addr(network.scenario(), iface), entry) {
+        Ok(message) => take(network, iface, &message, lines),
         Err(NoMemory) => Err(Halt::NoMemory),
     }
 }
@@ -133,8 +130,8 @@ pub(crate) fn prune(
     requires event { IsGiven network.old.scenario (events.Prune iface entry.now) }
     ensures { Meets (events.Prune iface entry.now) network.old network.new lines.old lines.new result }
 {
-    match prune_of(lines.alloc(), own_addr(network.scenario(), iface), entry) {
-        Ok(message) => take_written(network, iface, &message, lines),
+    match pruning(lines.alloc(), own_addr(network.scenario(), iface), entry) {
+        Ok(message) => take(network, iface, &message, lines),
         Err(NoMemory) => Err(Halt::NoMemory),
     }
 }

@@ -14,6 +14,7 @@ use edge_core::{Edge, EdgeFault, addrs_of};
 use mv_base::{NoMemory, NodeId};
 use scenario_defs::Scenario;
 use std::alloc::Global;
+use wire_laws::of_edge_routes::edge_home::SharedScenario;
 
 /// A node of a scenario. It must be closed.
 ///
@@ -69,8 +70,8 @@ fn first_core(alloc: Global, scenario: &Scenario, n: NodeId) -> Result<CoreNode,
 }
 
 impl NetworkNode {
-    /// The node of that number of the scenario, before anything has happened. The scenario is copied.
-    pub fn of(alloc: Global, scenario: &Scenario, n: NodeId) -> Result<NetworkNode, NoMemory>
+    /// The node of that number of the scenario, before anything has happened. An edge shares the scenario.
+    pub fn of(alloc: Global, scenario: &SharedScenario, n: NodeId) -> Result<NetworkNode, NoMemory>
         requires rules { Rules scenario.now }
         requires within { n.0 < length scenario.now.nodes }
         ensures placed { IfOk result (IsPlacedAt scenario.now n) }
@@ -78,10 +79,10 @@ impl NetworkNode {
         ensures is { IfOk result (IsNode (first_node scenario.now n)) }
         ensures waits { IfOk result (λ node. (labels_in node).awaited ≡ maps.empty) }
     {
-        if is_edge(scenario, n) {
+        if is_edge(scenario.lent(), n) {
             Ok(NetworkNode::Edge(Edge::of(alloc, scenario, n)?))
         } else {
-            Ok(NetworkNode::CoreNode(first_core(alloc, scenario, n)?))
+            Ok(NetworkNode::CoreNode(first_core(alloc, scenario.lent(), n)?))
         }
     }
 

@@ -1,5 +1,5 @@
 //! Two edges with a core node between them, each with one VRF of one VPN.
-ghost use Rattle.std.specs.Prelude.{◌≡◌, ◌==◌, true, length, IfSome};
+ghost use Rattle.std.specs.Prelude.{◌≡◌, ◌==◌, true, length, IfOk, IfSome};
 ghost use Rattle.std.specs.List.{list_any};
 ghost use Rattle.mv_base.specs.Lists.{Among};
 ghost use Rattle.mv_base.specs.core_walks.Topology.{IsTopology};
@@ -14,10 +14,10 @@ ghost use Rattle.session_rows.specs.Roles.{IsRole};
 
 use core_paths::Core;
 use edge_core::{CustomerCall, Edge, EdgeCall, EdgeFault, Fate};
-use edge_routes::edge_home::{EdgeHome, OwnVrf};
+use edge_routes::edge_home::{EdgeHome, OwnVrf, shared_copy};
 use label_forwarding::Datagram;
 use mldp::mldp_fec::Fec;
-use mv_base::{Addr, Bytes, IfaceId, NodeId, Pattern, SiteId, VrfId};
+use mv_base::{Addr, Bytes, IfaceId, NoMemory, NodeId, Pattern, SiteId, VrfId};
 use scenario_defs::{Kind, Scenario};
 use scenario_text::read;
 use std::alloc::Global;
@@ -155,7 +155,10 @@ fn is_role(alloc: Global, scenario: &Scenario, role: Role) -> bool
     requires edge { IsEdge scenario.now role.me }
     ensures { result ≡ true → IsRole (home_in scenario.now role.me) role.peer role.vrf role.iface }
 {
-    match EdgeHome::of(alloc, scenario, role.me) {
+    let Ok(shared) = shared_copy(alloc, scenario) else {
+        return false;
+    };
+    match EdgeHome::of(alloc, &shared, role.me) {
         Err(_) => false,
         Ok(home) => has_role(alloc, &home, role),
     }
@@ -170,13 +173,23 @@ fn core_of(alloc: Global, scenario: &Scenario) -> Option<Core>
     Core::of(alloc, nodes, scenario.links.as_slice()).ok()
 }
 
+/// The edge of that number, before anything has happened, or memory runs out.
+fn first_of(alloc: Global, scenario: &Scenario, me: NodeId) -> Result<Edge, NoMemory>
+    requires rules { Rules scenario.now }
+    requires edge { IsEdge scenario.now me }
+    ensures { IfOk result (λ edge. home_of edge ≡ home_in scenario.now me) }
+{
+    let shared = shared_copy(alloc, scenario)?;
+    Edge::of(alloc, &shared, me)
+}
+
 /// The edge of that number, before anything has happened.
 fn new_edge(alloc: Global, scenario: &Scenario, me: NodeId) -> Option<Edge>
     requires rules { Rules scenario.now }
     requires edge { IsEdge scenario.now me }
     ensures { IfSome result (λ edge. home_of edge ≡ home_in scenario.now me) }
 {
-    match Edge::of(alloc, scenario, me) {
+    match first_of(alloc, scenario, me) {
         Err(_) => None,
         Ok(edge) => Some(edge),
     }

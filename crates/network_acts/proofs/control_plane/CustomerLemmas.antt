@@ -27,7 +27,7 @@ use Rattle.network_defs.specs.session_defs.Octets.{OctetAct, OctetNetwork}
 use Rattle.edge_defs.specs.Place.{OwnVrf, vrfs_from}
 use Rattle.edge_defs.specs.Edge.{Control}
 use Rattle.edge_defs.specs.Originated.{afi_by, is_iface_of}
-use Rattle.edge_defs.specs.Steps.{Call, Active, Idle, Pim, Select, Unselect}
+use Rattle.edge_defs.specs.Steps.{Call, Customer, Active, Idle, Pim, Select, Unselect}
 use Rattle.network_nodes.specs.wire_laws.edge_routes.edge_home.Home.{Home}
 use Rattle.control_laws.proofs.Parts.{no_core}
 use Rattle.control_laws.proofs.group_laws.Messages.{has_groups}
@@ -224,11 +224,11 @@ set_own (y ∷ xs) (suc place) x at = ap (λ l. y ∷ l) (set_own xs place x at)
 
 -- the node has acted on the present costs
 fits_current : (n : NodeId) (call : Call) (at : Standing) → FitsAt n call at → IsCurrent n at
-fits_current n (Pim iface message) at fits = fits.0.node
-fits_current n (Active iface source group) at fits = fits.0.node
-fits_current n (Idle iface source group) at fits = fits.0.node
-fits_current n (Select vrf pattern) at fits = fits.0.node
-fits_current n (Unselect vrf pattern) at fits = fits.0.node
+fits_current n (Customer (Pim iface message)) at fits = fits.0.node
+fits_current n (Customer (Active iface source group)) at fits = fits.0.node
+fits_current n (Customer (Idle iface source group)) at fits = fits.0.node
+fits_current n (Customer (Select vrf pattern)) at fits = fits.0.node
+fits_current n (Customer (Unselect vrf pattern)) at fits = fits.0.node
 fits_current n other at fits = absurd fits
 
 pub fits_within : (n : NodeId) (call : Call) (at : Standing) → FitsAt n call at → IsWithin n at
@@ -236,20 +236,16 @@ fits_within n call at fits = (fits_current n call at fits).within
 
 -- the call is of sound values
 fits_sound : (n : NodeId) (call : Call) (at : Standing) → FitsAt n call at → IsSoundCall call
-fits_sound n (Pim iface message) at fits = fits.2
-fits_sound n (Active iface source group) at fits = fits.1
-fits_sound n (Idle iface source group) at fits = tt
-fits_sound n (Select vrf pattern) at fits = fits.1
-fits_sound n (Unselect vrf pattern) at fits = tt
+fits_sound n (Customer (Pim iface message)) at fits = fits.2
+fits_sound n (Customer (Active iface source group)) at fits = fits.1
+fits_sound n (Customer (Idle iface source group)) at fits = tt
+fits_sound n (Customer (Select vrf pattern)) at fits = fits.1
+fits_sound n (Customer (Unselect vrf pattern)) at fits = tt
 fits_sound n other at fits = absurd fits
 
 -- it begins no stream
 fits_calm : (n : NodeId) (call : Call) (at : Standing) → FitsAt n call at → (kind : Kind) (peer : NodeId) → begins call kind peer ≡ false
-fits_calm n (Pim iface message) at fits kind peer = refl
-fits_calm n (Active iface source group) at fits kind peer = refl
-fits_calm n (Idle iface source group) at fits kind peer = refl
-fits_calm n (Select vrf pattern) at fits kind peer = refl
-fits_calm n (Unselect vrf pattern) at fits kind peer = refl
+fits_calm n (Customer call) at fits kind peer = refl
 fits_calm n other at fits kind peer = absurd fits
 
 -- an address of a customer has the octets of its family
@@ -271,22 +267,22 @@ fits_edge : (n : NodeId) (call : Call) (at : Standing) → FitsAt n call at → 
     → ((iface : IfaceId) → edge_of at.scenario iface ≡ Some n → HasIface node iface)
     → ((vrf : VrfId) → edge_of_vrf at.scenario vrf ≡ Some n → HasVrf node vrf)
     → control_at n at ≡ control_of (data_in node) → FitsIn node call
-fits_edge n (Pim iface message) at fits (nodes.Edge edge) ifaces vrfs keeps = (ifaces iface fits.0.edge, has_groups message fits.1)
-fits_edge n (Active iface source group) at fits (nodes.Edge edge) ifaces vrfs keeps =
+fits_edge n (Customer (Pim iface message)) at fits (nodes.Edge edge) ifaces vrfs keeps = (ifaces iface fits.0.edge, has_groups message fits.1)
+fits_edge n (Customer (Active iface source group)) at fits (nodes.Edge edge) ifaces vrfs keeps =
     (ifaces iface fits.0.edge, flow_group source group fits.1)
-fits_edge n (Idle iface source group) at fits (nodes.Edge edge) ifaces vrfs keeps = (ifaces iface fits.0.edge, flow_group source group fits.1)
-fits_edge n (Select vrf pattern) at fits (nodes.Edge edge) ifaces vrfs keeps = (
+fits_edge n (Customer (Idle iface source group)) at fits (nodes.Edge edge) ifaces vrfs keeps = (ifaces iface fits.0.edge, flow_group source group fits.1)
+fits_edge n (Customer (Select vrf pattern)) at fits (nodes.Edge edge) ifaces vrfs keeps = (
   vrfs vrf fits.0.edge,
   pattern_group pattern.source pattern.group fits.1.1 fits.1.2,
   λ unspent. ap (λ (control : Control). maps.get control.selections (record { vrf = vrf; pattern = pattern })) (sym keeps) ∙ fits.2,
 )
-fits_edge n (Unselect vrf pattern) at fits (nodes.Edge edge) ifaces vrfs keeps =
+fits_edge n (Customer (Unselect vrf pattern)) at fits (nodes.Edge edge) ifaces vrfs keeps =
     (vrfs vrf fits.0.edge, pattern_group pattern.source pattern.group fits.1.1 fits.1.2)
-fits_edge n (Pim iface message) at fits (nodes.CoreNode core) ifaces vrfs keeps = ifaces iface fits.0.edge
-fits_edge n (Active iface source group) at fits (nodes.CoreNode core) ifaces vrfs keeps = ifaces iface fits.0.edge
-fits_edge n (Idle iface source group) at fits (nodes.CoreNode core) ifaces vrfs keeps = ifaces iface fits.0.edge
-fits_edge n (Select vrf pattern) at fits (nodes.CoreNode core) ifaces vrfs keeps = vrfs vrf fits.0.edge
-fits_edge n (Unselect vrf pattern) at fits (nodes.CoreNode core) ifaces vrfs keeps = vrfs vrf fits.0.edge
+fits_edge n (Customer (Pim iface message)) at fits (nodes.CoreNode core) ifaces vrfs keeps = ifaces iface fits.0.edge
+fits_edge n (Customer (Active iface source group)) at fits (nodes.CoreNode core) ifaces vrfs keeps = ifaces iface fits.0.edge
+fits_edge n (Customer (Idle iface source group)) at fits (nodes.CoreNode core) ifaces vrfs keeps = ifaces iface fits.0.edge
+fits_edge n (Customer (Select vrf pattern)) at fits (nodes.CoreNode core) ifaces vrfs keeps = vrfs vrf fits.0.edge
+fits_edge n (Customer (Unselect vrf pattern)) at fits (nodes.CoreNode core) ifaces vrfs keeps = vrfs vrf fits.0.edge
 fits_edge n other at fits node ifaces vrfs keeps = absurd fits
 
 pub fits_node : (plane : PlaneView) (n : NodeId) (call : Call) (old : NetworkNode) → slice_get plane.nodes n.0 ≡ Some old
@@ -306,11 +302,11 @@ spending_only fault (inr (inr none)) = absurd none
 -- what it is refused for is want of room
 pub only_full : (n : NodeId) (call : Call) (at : Standing) → FitsAt n call at → (answer : Result (Unit {0}) EdgeFault)
     → IsOneOf (refusals_of call) answer → IsOneOf (faults.Full ∷ []) answer
-only_full n (Pim iface message) at fits answer only = only
-only_full n (Active iface source group) at fits answer only = only
-only_full n (Select vrf pattern) at fits answer only = only
-only_full n (Idle iface source group) at fits answer only = λ fault e. spending_only fault (only fault e)
-only_full n (Unselect vrf pattern) at fits answer only = λ fault e. spending_only fault (only fault e)
+only_full n (Customer (Pim iface message)) at fits answer only = only
+only_full n (Customer (Active iface source group)) at fits answer only = only
+only_full n (Customer (Select vrf pattern)) at fits answer only = only
+only_full n (Customer (Idle iface source group)) at fits answer only = λ fault e. spending_only fault (only fault e)
+only_full n (Customer (Unselect vrf pattern)) at fits answer only = λ fault e. spending_only fault (only fault e)
 only_full n other at fits answer only = absurd fits
 
 -- ---- the act of a call

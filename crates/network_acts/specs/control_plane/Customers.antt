@@ -10,7 +10,7 @@ use Rattle.scenario_defs.specs.declared.report.ReportLine.{ReportLine}
 use Rattle.network_defs.specs.session_defs.Octets as octets
 use Rattle.network_defs.specs.session_defs.Octets.{octet_run}
 use Rattle.edge_defs.specs.Edge.{Control}
-use Rattle.edge_defs.specs.Steps.{Call, Active, Idle, Pim, Select, Unselect}
+use Rattle.edge_defs.specs.Steps.{Call, Customer, Active, Idle, Pim, Select, Unselect}
 use Rattle.mldp_node.specs.declared.fault.NodeFault.{NodeFault}
 use Rattle.mldp_node.specs.declared.fault.NodeFault.TheVariants as halts
 use Rattle.network_defs.specs.Refusals.{control_of, edge_of_vrf}
@@ -44,13 +44,13 @@ control_at n at = control_of (at.network.state.node n)
 -- What a call asks of the network. The node is the edge of the interface or of the VRF, and the call is of sound values; a message can be
 -- written, and a pattern that is to be selected is not.
 abbrev pub FitsAt : NodeId → Call → Standing → Type 0
-FitsAt n (Pim iface message) at = IsIfaceEdge n iface at × IsJoinPrune message × SoundMessage message
-FitsAt n (Active iface source group) at = IsIfaceEdge n iface at × IsFlow source group
-FitsAt n (Idle iface source group) at = IsIfaceEdge n iface at × IsFlow source group
-FitsAt n (Select vrf pattern) at =
+FitsAt n (Customer (Pim iface message)) at = IsIfaceEdge n iface at × IsJoinPrune message × SoundMessage message
+FitsAt n (Customer (Active iface source group)) at = IsIfaceEdge n iface at × IsFlow source group
+FitsAt n (Customer (Idle iface source group)) at = IsIfaceEdge n iface at × IsFlow source group
+FitsAt n (Customer (Select vrf pattern)) at =
     IsVrfEdge n vrf at × SoundPattern pattern
     × (maps.get (control_at n at).selections (record { vrf = vrf; pattern = pattern }) ≡ None)
-FitsAt n (Unselect vrf pattern) at = IsVrfEdge n vrf at × SoundPattern pattern
+FitsAt n (Customer (Unselect vrf pattern)) at = IsVrfEdge n vrf at × SoundPattern pattern
 FitsAt n other at = ⊥
 
 -- whether the node has no room for the call

@@ -1,15 +1,15 @@
 //! Calls of customers and of the operator, at the edge of an interface or of a VRF (RFC 7761 section 4.5, RFC 6514 sections 12.1 and 14).
 ghost use Rattle.std.specs.Prelude.{[], ◌∷◌, OnOk};
-ghost use Rattle.network_nodes.specs.Edges.{IsOneOf, customer_call};
+ghost use Rattle.network_nodes.specs.Edges.{IsOneOf};
 ghost use Rattle.network_nodes.specs.Faults as faults;
-ghost use Rattle.network_acts.specs.control_plane.Acted.{IsSome, IsSomeMidway};
-ghost use Rattle.network_acts.specs.control_plane.Customers.{CustomerActs, FitsAt, SettlesCustomer};
+ghost use Rattle.network_acts.specs.control_plane.Acted.{IsSomeMidway};
+ghost use Rattle.network_acts.specs.control_plane.Customers.{SettlesCustomer};
 ghost use Rattle.network_acts.specs.control_plane.Plane.{KeepsPlaces};
 
 use crate::control_plane::plane::ControlPlane;
 use mldp_node::NodeFault;
 use mv_base::NodeId;
-use network_nodes::{CustomerCall, EdgeFault};
+use network_nodes::EdgeFault;
 use scenario_defs::Lines;
 
 /// What became of a call for which there may be no room.
@@ -23,7 +23,7 @@ pub enum Verdict {
 
 impl ControlPlane {
     /// What comes of a call of a customer or of the operator at node n, by what the node answered.
-    fn settle_customer(
+    pub(crate) fn settle_customer(
         &mut self,
         n: NodeId,
         answer: Result<(), EdgeFault>,
@@ -41,20 +41,5 @@ impl ControlPlane {
             Ok(()) => Ok(Verdict::Made),
             Err(halt) => Err(halt),
         }
-    }
-
-    /// Makes the call of a customer or of the operator at node n.
-    pub fn call(
-        &mut self,
-        n: NodeId,
-        call: CustomerCall<'_>,
-        lines: &mut Lines,
-    ) -> Result<Verdict, NodeFault>
-        requires plane { IsSome (FitsAt n (customer_call call)) self.old }
-        ensures acts { CustomerActs n (customer_call call.entry) self.old self.new lines.old lines.new result }
-        ensures places { KeepsPlaces self.old self.new }
-    {
-        let answer = self.nodes[usize::from(n.0)].call(call, self.clock, &self.core);
-        self.settle_customer(n, answer, lines)
     }
 }

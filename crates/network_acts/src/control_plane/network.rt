@@ -10,7 +10,8 @@ ghost use Rattle.network_acts.specs.control_plane.Plane.{ArePlaced, KeepsPlaces}
 use crate::control_plane::plane::ControlPlane;
 use mv_base::{NoMemory, NodeId};
 use network_nodes::NetworkNode;
-use scenario_defs::{Kind, Scenario};
+use run_laws::of_edge_routes::edge_home::SharedScenario;
+use scenario_defs::Kind;
 use std::mem;
 
 impl ControlPlane {
@@ -44,7 +45,7 @@ impl ControlPlane {
 
     /// The node, which is one of the scenario, begins anew: its sessions are lost, and it has forgotten all that it knew but the costs of
     /// links.
-    pub fn restart(&mut self, scenario: &Scenario, n: NodeId) -> Result<(), NoMemory>
+    pub fn restart(&mut self, scenario: &SharedScenario, n: NodeId) -> Result<(), NoMemory>
         requires plane { IsSome (IsOf scenario.now) self.old }
         requires within { n.0 < length scenario.now.nodes }
         ensures restarted { OnOk result ((at : Standing) → IsOf scenario.now at → IsIn at self.old →

@@ -15,6 +15,7 @@ use mv_base::{NoMemory, NodeId};
 use net_sessions::session_transit::Transit;
 use net_sessions::session_ways::{Ways, directions_of, sessions_of, ways_of};
 use network_nodes::NetworkNode;
+use run_laws::of_edge_routes::edge_home::SharedScenario;
 use run_laws::script_values::scenario_has_octets;
 use scenario_defs::Scenario;
 use std::alloc::Global;
@@ -44,7 +45,7 @@ fn with_more(mut nodes: Vec<NetworkNode>, node: NetworkNode) -> Result<Vec<Netwo
 /// The nodes with the one of that number of the scenario behind them. On want of memory all are closed.
 fn with_first(
     nodes: Vec<NetworkNode>,
-    scenario: &Scenario,
+    scenario: &SharedScenario,
     n: NodeId,
 ) -> Result<Vec<NetworkNode>, NoMemory>
     requires rules { Rules scenario.now }
@@ -61,12 +62,12 @@ fn with_first(
 }
 
 /// The nodes of the scenario, in order.
-fn first_nodes(alloc: Global, scenario: &Scenario) -> Result<Vec<NetworkNode>, NoMemory>
+fn first_nodes(alloc: Global, scenario: &SharedScenario) -> Result<Vec<NetworkNode>, NoMemory>
     requires { Rules scenario.now }
     ensures { IfOk result (λ nodes. AreFirst scenario.now (length scenario.now.nodes) nodes.items) }
 {
     let mut nodes = Vec::new(alloc);
-    for number in 0..scenario.nodes.len() {
+    for number in 0..scenario.lent().nodes.len() {
         nodes = with_first(nodes, scenario, NodeId(number as u16))?;
     }
     Ok(nodes)
@@ -97,15 +98,16 @@ fn first_core(alloc: Global, scenario: &Scenario) -> Result<Core, NoMemory>
 
 impl ControlPlane {
     /// The control plane of a scenario that meets its rules, before anything has happened.
-    pub fn of(alloc: Global, scenario: &Scenario) -> Result<ControlPlane, NoMemory>
+    pub fn of(alloc: Global, scenario: &SharedScenario) -> Result<ControlPlane, NoMemory>
         requires { Rules scenario.now }
         ensures begins { IfOk result (λ plane. (cores : Cores) → AreCoresOf scenario.now cores →
             IsPlane scenario.now cores at_rest (start scenario.now cores).network plane) }
         ensures placed { IfOk result (λ plane. ArePlaced scenario.now plane.nodes) }
     {
-        scenario_has_octets(scenario);
-        let ways = first_ways(alloc, scenario)?;
-        let core = first_core(alloc, scenario)?;
+        let known = scenario.lent();
+        scenario_has_octets(known);
+        let ways = first_ways(alloc, known)?;
+        let core = first_core(alloc, known)?;
         let nodes = first_nodes(alloc, scenario)?;
         Ok(ControlPlane {
             nodes,

@@ -10,7 +10,7 @@ returns c = λ at is.
     (λ world idle in_plane same.
     c.age.ensures world idle
     (sym (c.clock.ensures.is (record (standing_of at) { network = world.network }) in_plane))
-    (ap (λ (s : Scenario). s.life) (same ∙ sym (own_is _ c.args.self.now c.self.view_is at is).scenario)))
+    (ap (λ (s : Scenario). s.life) (same ∙ (sym (own_is _ c.args.self.now c.self.view_is at is).scenario ∙ sym c.lent.ensures))))
 
 pub invariant_of-self : goal.invariant_of-self
 invariant_of-self c = c.elapse.ensures.places.keeps c.self.inside.scenario c.self.invariant

@@ -5,3 +5,4 @@ pub mod AddrTextLemmas
 pub mod Fields
 pub mod SortedMaps
 pub mod AddressLemmas
+pub mod AlikeLemmas

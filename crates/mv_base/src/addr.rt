@@ -3,6 +3,7 @@ ghost use Rattle.std.specs.Prelude.{◌≡◌, option_map};
 ghost use Rattle.mv_base.specs.Address.{same_addr, addr_octets};
 ghost use Rattle.mv_base.specs.Dotted.{octet_of, octet_front_of, dotted_of, front_texts};
 
+use crate::alike::same_four;
 use crate::number::{cut_at, read_number};
 use std::hash::{Hash, Hasher};
 
@@ -52,7 +53,7 @@ impl Addr {
         ensures { result ≡ same_addr self other }
     {
         match (self, other) {
-            (Addr::V4(own), Addr::V4(others)) => own == others,
+            (Addr::V4(own), Addr::V4(others)) => same_four(own, others),
             (Addr::V6(own), Addr::V6(others)) => own == others,
             _ => false,
         }

@@ -3,6 +3,7 @@ ghost use Rattle.std.specs.Prelude.{◌≡◌, ◌≤◌, length, nat_eq};
 ghost use Rattle.std.specs.Cmp.Lexicographic.{pointwise};
 ghost use Rattle.std.specs.Option.{SomeIff};
 
+use crate::alike::same_octets;
 use std::hash::{Hash, Hasher};
 use std::marker::Model;
 
@@ -67,7 +68,7 @@ impl<const N: usize> PartialEq for Inline<N> {
     ghost laws = { partial_equiv_from_equiv nat_list_eq_equiv };
 
     fn eq(&self, other: &Self) -> bool {
-        self.octets() == other.octets()
+        same_octets(self.octets(), other.octets())
     }
 }
 

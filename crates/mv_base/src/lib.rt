@@ -13,6 +13,7 @@
 
 mod addr;
 mod addr_text;
+mod alike;
 mod checksum;
 mod core_link;
 pub mod core_walks;

@@ -45,6 +45,12 @@ impl From<NoMemory> for EncodeFault {
 /// Header and the two lengths of an UPDATE.
 const UPDATE_LEN: usize = 23;
 
+/// Room for the octets of most values of attributes.
+const VALUE_ROOM: usize = 64;
+
+/// Room for the octets of all attributes of most messages.
+const ATTRIBUTES_ROOM: usize = 128;
+
 /// As many communities as have the octets of a whole message.
 const COMM_LIMIT: usize = 512;
 
@@ -265,9 +271,9 @@ fn put_advert(out: &mut Bytes, advert: &Advert) -> Result<(), NoMemory>
     requires few { length advert.now.comms ≤ COMM_LIMIT }
     ensures { OnOk result (out.new ≡ out.old ++ advert_text advert.now) }
 {
-    let mut reach = Bytes::new(out.alloc());
+    let mut reach = Bytes::with_room(out.alloc(), VALUE_ROOM)?;
     put_reach(&mut reach, advert)?;
-    let mut comms = Bytes::new(out.alloc());
+    let mut comms = Bytes::with_room(out.alloc(), VALUE_ROOM)?;
     put_comms(&mut comms, advert.comms.as_slice())?;
     put_path(out)?;
     put_attribute(out, OPTIONAL, 14, reach.as_slice())?;
@@ -279,7 +285,7 @@ fn put_withdrawal(out: &mut Bytes, key: &Key) -> Result<(), NoMemory>
     requires { IsWritableKey key.now }
     ensures { OnOk result (out.new ≡ out.old ++ attribute OPTIONAL 15 (unreach_value key.now)) }
 {
-    let mut value = Bytes::new(out.alloc());
+    let mut value = Bytes::with_room(out.alloc(), VALUE_ROOM)?;
     put_unreach(&mut value, key)?;
     put_attribute(out, OPTIONAL, 15, value.as_slice())
 }
@@ -332,12 +338,12 @@ pub fn encode(alloc: Global, change: &Change) -> Result<Bytes, EncodeFault>
     if has_many(change) {
         return Err(EncodeFault::TooLong);
     }
-    let mut attributes = Bytes::new(alloc);
+    let mut attributes = Bytes::with_room(alloc, ATTRIBUTES_ROOM)?;
     put_attributes(&mut attributes, change)?;
     if MESSAGE_LIMIT < UPDATE_LEN + attributes.len() {
         return Err(EncodeFault::TooLong);
     }
-    let mut message = Bytes::new(alloc);
+    let mut message = Bytes::with_room(alloc, UPDATE_LEN + attributes.len())?;
     put_message(&mut message, attributes.as_slice())?;
     Ok(message)
 }

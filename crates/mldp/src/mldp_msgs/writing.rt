@@ -14,6 +14,15 @@ use std::alloc::Global;
 /// The most octets that a FEC element has.
 const MOST: usize = 86;
 
+/// The most octets of a FEC TLV and a label TLV.
+const TLVS: usize = 12 + MOST;
+
+/// The octets of a message before its TLVs (RFC 5036 section 3.5).
+const MESSAGE_HEAD: usize = 8;
+
+/// The octets of a PDU before its messages (RFC 5036 section 3.1).
+const PDU_HEAD: usize = 10;
+
 fn type_of(message: &LabelMessage) -> u16
     ensures { result ≡ type_of message.now }
 {
@@ -61,7 +70,7 @@ fn tlvs_of(alloc: Global, fec: &Fec, label: u32) -> Result<Bytes, NoMemory>
     requires { IsElement fec.now }
     ensures { IfOk result (λ octets. octets ≡ written_tlvs fec.now label) }
 {
-    let mut out = Bytes::new(alloc);
+    let mut out = Bytes::with_room(alloc, TLVS)?;
     push_fec(&mut out, fec)?;
     push_tlv(&mut out, GENERIC_LABEL, &label.to_be_bytes())?;
     Ok(out)
@@ -74,7 +83,7 @@ fn message_of(alloc: Global, kind: u16, id: u32, body: &[u8]) -> Result<Bytes, N
         to_be_bytes w16 kind
         ++ (to_be_bytes w16 (4 + length body.now) ++ (to_be_bytes w32 id ++ body.now))) }
 {
-    let mut out = Bytes::new(alloc);
+    let mut out = Bytes::with_room(alloc, MESSAGE_HEAD + body.len())?;
     push_header(&mut out, kind, 4 + body.len() as u16)?;
     out.extend(&id.to_be_bytes())?;
     out.extend(body)?;
@@ -88,7 +97,7 @@ fn pdu_of(alloc: Global, me: Addr, messages: &[u8]) -> Result<Bytes, NoMemory>
         to_be_bytes w16 1
         ++ (to_be_bytes w16 (6 + length messages.now) ++ ((addr_octets me ++ 0 ∷ 0 ∷ []) ++ messages.now))) }
 {
-    let mut out = Bytes::new(alloc);
+    let mut out = Bytes::with_room(alloc, PDU_HEAD + messages.len())?;
     push_header(&mut out, 1, 6 + messages.len() as u16)?;
     out.extend(me.octets())?;
     push_number(&mut out, 0)?;

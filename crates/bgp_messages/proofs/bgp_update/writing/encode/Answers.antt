@@ -10,5 +10,5 @@ returns-then-has_many-clause-written c = many_long c.args.change.now c.requires 
 pub returns-clause-octets : goal.returns-clause-octets
 returns-clause-octets c =
     let list = c.as_slice.result.now in
-    let is = c.in_ok-put_message.ensures.text ∙ ap (λ (xs : List ℕ). xs ++ message_text list) c.new-message.ensures in
+    let is = c.in_ok-put_message.ensures.text ∙ ap (λ (xs : List ℕ). xs ++ message_text list) c.in_ok-message.ensures in
     subst IsOctets (sym is) (message_octets list c.put_message.ensures.octets)

@@ -7,7 +7,7 @@ pub put_attribute-requires-2 : goal.put_attribute-requires-2
 put_attribute-requires-2 c =
     let advert = c.args.advert.now in
     let comms : c.as_slice-3.result.now ≡ comms_octets advert.comms =
-    c.as_slice-3.ensures ∙ c.in_ok-put_comms.ensures ∙ ap (λ (xs : List ℕ). xs ++ comms_octets c.as_slice.result.now) c.new-comms.ensures
+    c.as_slice-3.ensures ∙ c.in_ok-put_comms.ensures ∙ ap (λ (xs : List ℕ). xs ++ comms_octets c.as_slice.result.now) c.in_ok-comms.ensures
     ∙ ap comms_octets c.as_slice.ensures in
     omega (arith, ap (λ (xs : List ℕ). length xs) comms, comms_len advert.comms c.requires.writable.comms, c.requires.few)
 
@@ -15,9 +15,9 @@ pub returns : goal.returns
 returns c =
     let advert = c.args.advert.now in
     let reach : c.as_slice-2.result.now ≡ reach_value advert =
-    c.as_slice-2.ensures ∙ c.in_ok-put_reach.ensures ∙ ap (λ (xs : List ℕ). xs ++ reach_value advert) c.new-reach.ensures in
+    c.as_slice-2.ensures ∙ c.in_ok-put_reach.ensures ∙ ap (λ (xs : List ℕ). xs ++ reach_value advert) c.in_ok-reach.ensures in
     let comms : c.as_slice-3.result.now ≡ comms_octets advert.comms =
-    c.as_slice-3.ensures ∙ c.in_ok-put_comms.ensures ∙ ap (λ (xs : List ℕ). xs ++ comms_octets c.as_slice.result.now) c.new-comms.ensures
+    c.as_slice-3.ensures ∙ c.in_ok-put_comms.ensures ∙ ap (λ (xs : List ℕ). xs ++ comms_octets c.as_slice.result.now) c.in_ok-comms.ensures
     ∙ ap comms_octets c.as_slice.ensures in
     put_four c.put_tunnel.result c.args.out.now c.put_path.new.out c.put_attribute.new.out c.put_attribute-2.new.out c.put_tunnel.new.out path_text
     (attribute 128 14 (reach_value advert)) (attribute 192 16 (comms_octets advert.comms)) (tunnel_text advert.pmsi)

@@ -2,6 +2,7 @@
 use Rattle.std.specs.Prelude.{ℕ, ◌&&◌, Bool, true, false, List, [], ◌∷◌, ◌++◌, map, length, is_some, if◌then◌else◌}
 use Rattle.std.specs.List.{flat_map}
 use Rattle.scenario_defs.specs.declared.event.Event.{Event}
+use Rattle.scenario_defs.specs.declared.event.CustomerEvent.TheVariants as customers
 use Rattle.scenario_defs.specs.declared.event.Event.TheVariants as events
 use Rattle.scenario_defs.specs.declared.event.Script.{Script}
 use Rattle.scenario_defs.specs.declared.event.Timed.{Timed}
@@ -18,7 +19,7 @@ use Rattle.audit_defs.specs.Markers.{values, is_marker, named, marked_places}
 
 -- whether the event gives octets that are not in their grammar
 abbrev pub is_malformed : Event → Bool
-is_malformed (events.Pim iface octets) = is_some (octets_refusal octets)
+is_malformed (events.Customer (customers.Pim iface octets)) = is_some (octets_refusal octets)
 is_malformed (events.Packet site octets) = is_some (packet_fault octets)
 is_malformed other = false
 

@@ -29,7 +29,7 @@ use Rattle.label_defs.specs.Settling.{Stepped}
 use Rattle.label_defs.specs.Steps as labels
 use Rattle.label_defs.specs.Steps.{label_step}
 use Rattle.label_defs.specs.Members.{in_order}
-use Rattle.edge_defs.specs.Edge.{VrfPattern, note_cmp, pattern_cmp, Selected, TakenRoute, Taken, Control, EdgeData}
+use Rattle.edge_defs.specs.Edge.{Note, VrfPattern, note_cmp, pattern_cmp, Selected, TakenRoute, Taken, Control, EdgeData}
 use Rattle.edge_defs.specs.Flows.{flows_at}
 use Rattle.edge_defs.specs.Imported.{imported_selective}
 use Rattle.edge_defs.specs.Keys.{Value, same_value}
@@ -95,11 +95,26 @@ abbrev pub entries_after : ℕ → Entries → CustomerCall → Entries
 entries_after now old (Pim iface message) = applied old iface message now
 entries_after now old other = old
 
--- the notes after a call of a customer: a source is noted, or no longer is
+-- What a call makes of the notes: there is one more, there is one less, or they stay.
+pub data Noting : Type 0 where
+  Noted : (note : Note) → Noting
+  Unnoted : (note : Note) → Noting
+  Untouched : Noting
+
+-- what a call of a customer makes of the notes: a source is noted, or no longer is
+abbrev pub noting : CustomerCall → Noting
+noting (Active iface source group) = Noted (record { iface = iface; source = source; group = group })
+noting (Idle iface source group) = Unnoted (record { iface = iface; source = source; group = group })
+noting other = Untouched
+
+abbrev pub with_noting : FinSet note_cmp → Noting → FinSet note_cmp
+with_noting old (Noted note) = sets.insert old note
+with_noting old (Unnoted note) = sets.remove old note
+with_noting old Untouched = old
+
+-- the notes after a call of a customer
 abbrev pub notes_after : FinSet note_cmp → CustomerCall → FinSet note_cmp
-notes_after old (Active iface source group) = sets.insert old (record { iface = iface; source = source; group = group })
-notes_after old (Idle iface source group) = sets.remove old (record { iface = iface; source = source; group = group })
-notes_after old other = old
+notes_after old call = with_noting old (noting call)
 
 -- the selections after a call of a customer: a pattern is selected, or no longer is
 abbrev pub selections_after : ℕ → FinMap pattern_cmp Selected → CustomerCall → FinMap pattern_cmp Selected

@@ -5,6 +5,7 @@ use Rattle.mv_base.specs.declared.addr.Addr.{Addr}
 use Rattle.mv_base.specs.declared.addr.Addr.TheVariants.{V4}
 use Rattle.scenario_defs.specs.declared.scenario.Scenario.{Scenario}
 use Rattle.scenario_defs.specs.declared.event.Event.{Event}
+use Rattle.scenario_defs.specs.declared.event.CustomerEvent.TheVariants as customers
 use Rattle.scenario_defs.specs.declared.event.Event.TheVariants as events
 use Rattle.pim_defs.specs.pim_joinprune.declared.message.JoinPrune.{JoinPrune}
 use Rattle.pim_defs.specs.pim_joinprune.Reading.{decoded}
@@ -25,7 +26,7 @@ read_at iface octets = elim (decoded octets) [ Ok message ↦ handed iface messa
 -- The message that an event hands to the edge of an interface: that of a `join` or a `prune`, for the interface's own
 -- address, or the one that the octets of a `pim` spell.
 abbrev pub message_of : Scenario → Event → Option Given
-message_of scenario (events.Join iface entry) = handed iface (join_of (own_addr scenario iface) entry)
-message_of scenario (events.Prune iface entry) = handed iface (prune_of (own_addr scenario iface) entry)
-message_of scenario (events.Pim iface bytes) = read_at iface bytes
+message_of scenario (events.Customer (customers.Join iface entry)) = handed iface (join_of (own_addr scenario iface) entry)
+message_of scenario (events.Customer (customers.Prune iface entry)) = handed iface (prune_of (own_addr scenario iface) entry)
+message_of scenario (events.Customer (customers.Pim iface bytes)) = read_at iface bytes
 message_of scenario other = None

@@ -11,6 +11,8 @@ use Rattle.scenario_defs.specs.declared.scenario.Iface.{Iface}
 use Rattle.scenario_defs.specs.declared.scenario.Scenario.{Scenario}
 use Rattle.scenario_defs.specs.declared.event.Timed.{Timed}
 use Rattle.scenario_defs.specs.declared.event.Event.{Event}
+use Rattle.scenario_defs.specs.declared.event.CustomerEvent.{CustomerEvent}
+use Rattle.scenario_defs.specs.declared.event.CustomerEvent.TheVariants as customers
 use Rattle.scenario_defs.specs.declared.event.Event.TheVariants as events
 use Rattle.scenario_defs.specs.declared.event.JoinEntry.{JoinEntry}
 use Rattle.scenario_defs.specs.declared.event.JoinEntry.TheVariants as entries
@@ -81,6 +83,17 @@ stands_after scenario refused iface entry old timed =
 abbrev pub standing : Past → IfaceId → JoinEntry → Standing
 standing past iface entry = fold (stands_after past.scenario past.refused iface entry) (record { clock = 0; expiry = None }) past.events
 
+-- ---- events at an interface
+
+-- the interface at which an event of a customer is; a selection is at none
+abbrev pub event_iface : CustomerEvent → Option IfaceId
+event_iface (customers.Join iface entry) = Some iface
+event_iface (customers.Prune iface entry) = Some iface
+event_iface (customers.Pim iface bytes) = Some iface
+event_iface (customers.Active iface source group) = Some iface
+event_iface (customers.Idle iface source group) = Some iface
+event_iface other = None
+
 -- ---- active sources
 
 -- whether both are one flow at one interface
@@ -91,9 +104,9 @@ is_flow_at iface source group own own_source own_group =
 -- Whether S is noted at the interface as a sender to G behind an accepted event, by whether it was before: `active` for them
 -- there notes it, and `idle` for them there, or a restart of the interface's edge, ends that.
 abbrev pub noted_by : Scenario → IfaceId → Addr → Addr → Event → Bool → Bool
-noted_by scenario iface source group (events.Active own own_source own_group) old =
+noted_by scenario iface source group (events.Customer (customers.Active own own_source own_group)) old =
     old || is_flow_at iface source group own own_source own_group
-noted_by scenario iface source group (events.Idle own own_source own_group) old =
+noted_by scenario iface source group (events.Customer (customers.Idle own own_source own_group)) old =
     old && not (is_flow_at iface source group own own_source own_group)
 noted_by scenario iface source group (events.Restart node) old = old && not (is_of_edge scenario node iface)
 noted_by scenario iface source group other old = old

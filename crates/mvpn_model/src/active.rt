@@ -2,13 +2,14 @@
 ghost use Rattle.std.specs.Prelude.{◌≡◌, ◌≤◌, ◌^◌, ◌==◌, ◌&&◌, false, length};
 ghost use Rattle.std.specs.List.{fold, list_any};
 ghost use Rattle.mv_base.specs.Address.{same_addr};
+ghost use Rattle.scenario_defs.specs.declared.event.Event.TheVariants as events;
 ghost use Rattle.scenario_defs.specs.Vpn.{same_vpn, ifaces_where};
 ghost use Rattle.mvpn_model.specs.Past.{past_of, is_flow_at, noted_by, noted_after, is_noted, is_active, is_active_at};
 
 use crate::history::{History, events_of};
 use crate::standing::{is_accepted, is_of_edge};
 use mv_base::{Addr, IfaceId, VrfId};
-use scenario_defs::{Event, Scenario, Timed, same_vpn};
+use scenario_defs::{CustomerEvent, Event, Scenario, Timed, same_vpn};
 
 /// A flow of one interface that is followed through events.
 #[derive(Clone, Copy)]
@@ -27,21 +28,31 @@ fn is_flow_at(noted: &Noted<'_>, iface: IfaceId, source: Addr, group: Addr) -> b
     noted.iface.0 == iface.0 && noted.source.same(source) && noted.group.same(group)
 }
 
+/// Whether the flow is noted behind an accepted event of a customer, by whether it was before.
+fn noted_by_customer(noted: &Noted<'_>, event: &CustomerEvent, old: bool) -> bool
+    ensures { result ≡ noted_by noted.now.scenario.now noted.now.iface noted.now.source noted.now.group (events.Customer event.now) old }
+{
+    match event {
+        CustomerEvent::Active {
+            iface,
+            source,
+            group,
+        } => old || is_flow_at(noted, *iface, *source, *group),
+        CustomerEvent::Idle {
+            iface,
+            source,
+            group,
+        } => old && !is_flow_at(noted, *iface, *source, *group),
+        _ => old,
+    }
+}
+
 /// Whether the flow is noted behind an accepted event, by whether it was before.
 fn noted_by(noted: &Noted<'_>, event: &Event, old: bool) -> bool
     ensures { result ≡ noted_by noted.now.scenario.now noted.now.iface noted.now.source noted.now.group event.now old }
 {
     match event {
-        Event::Active {
-            iface,
-            source,
-            group,
-        } => old || is_flow_at(noted, *iface, *source, *group),
-        Event::Idle {
-            iface,
-            source,
-            group,
-        } => old && !is_flow_at(noted, *iface, *source, *group),
+        Event::Customer(event) => noted_by_customer(noted, event, old),
         Event::Restart { node } => old && !is_of_edge(noted.scenario, *node, noted.iface),
         _ => old,
     }

@@ -21,7 +21,7 @@ mod standing;
 mod vpn;
 
 pub use history::{History, LineNumbers, asks, home, receivers};
-pub use message::{Given, fault_word, message_of, own_addr};
+pub use message::{Given, customer_message, fault_word, message_of, own_addr};
 pub use readiness::{UpEnd, unready};
 pub use routing::{home_among, local_routes};
 pub use session::Session;

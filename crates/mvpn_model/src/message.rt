@@ -1,12 +1,13 @@
 //! The Join/Prune messages that events hand to an edge, and the words of their faults in a report.
 ghost use Rattle.std.specs.Prelude.{◌≡◌, IfOk};
+ghost use Rattle.scenario_defs.specs.declared.event.Event.TheVariants as events;
 ghost use Rattle.mvpn_model.specs.Messages.{own_addr, handed, read_at, message_of};
 ghost use Rattle.mvpn_model.specs.Refused.{fault_word};
 
 use mv_base::{Addr, IfaceId, NoMemory};
 use pim_defs::of_pim_joinprune::{DecodeFault, JoinPrune, PimFault, decode};
 use pim_defs::{join_of, prune_of};
-use scenario_defs::{Event, FaultWord, Scenario};
+use scenario_defs::{CustomerEvent, Event, FaultWord, Scenario};
 use std::alloc::Global;
 
 /// A message that came to an interface.
@@ -46,8 +47,30 @@ fn read_at(alloc: Global, iface: IfaceId, bytes: &[u8]) -> Result<Option<Given>,
     }
 }
 
-/// The message that the event hands to the edge of an interface: that of a `join` or a `prune`, or the one that the
-/// octets of a `pim` spell.
+/// The message that an event of a customer hands to the edge of an interface: that of a `join` or a `prune`, or the one
+/// that the octets of a `pim` spell.
+pub fn customer_message(
+    alloc: Global,
+    scenario: &Scenario,
+    event: &CustomerEvent,
+) -> Result<Option<Given>, NoMemory>
+    ensures { IfOk result (λ found. found ≡ message_of scenario.now (events.Customer event.now)) }
+{
+    match event {
+        CustomerEvent::Join { iface, entry } => {
+            let message = join_of(alloc, own_addr(scenario, *iface), entry)?;
+            Ok(handed(*iface, message))
+        }
+        CustomerEvent::Prune { iface, entry } => {
+            let message = prune_of(alloc, own_addr(scenario, *iface), entry)?;
+            Ok(handed(*iface, message))
+        }
+        CustomerEvent::Pim { iface, bytes } => read_at(alloc, *iface, bytes.as_slice()),
+        _ => Ok(None),
+    }
+}
+
+/// The message that the event hands to the edge of an interface.
 pub fn message_of(
     alloc: Global,
     scenario: &Scenario,
@@ -56,15 +79,7 @@ pub fn message_of(
     ensures { IfOk result (λ found. found ≡ message_of scenario.now event.now) }
 {
     match event {
-        Event::Join { iface, entry } => {
-            let message = join_of(alloc, own_addr(scenario, *iface), entry)?;
-            Ok(handed(*iface, message))
-        }
-        Event::Prune { iface, entry } => {
-            let message = prune_of(alloc, own_addr(scenario, *iface), entry)?;
-            Ok(handed(*iface, message))
-        }
-        Event::Pim { iface, bytes } => read_at(alloc, *iface, bytes.as_slice()),
+        Event::Customer(event) => customer_message(alloc, scenario, event),
         _ => Ok(None),
     }
 }

@@ -5,26 +5,25 @@ use Rattle.std.specs.List.{flat_map}
 use Rattle.mv_base.specs.declared.ids.NodeId.{NodeId}
 use Rattle.mv_base.specs.declared.ids.SiteId.{SiteId}
 use Rattle.mv_base.specs.declared.addr.Addr.{Addr}
-use Rattle.scenario_defs.specs.Vpn.{edge_of, entered}
+use Rattle.scenario_defs.specs.Vpn.{entered}
 use Rattle.scenario_defs.specs.declared.event.Event.{Event}
 use Rattle.scenario_defs.specs.declared.event.Event.TheVariants as events
 use Rattle.scenario_defs.specs.declared.event.Kind.{Kind}
 use Rattle.scenario_defs.specs.declared.report.ReportLine.{ReportLine}
 use Rattle.scenario_defs.specs.declared.scenario.Scenario.{Scenario}
-use Rattle.mvpn_model.specs.Messages.{message_of}
 use Rattle.mvpn_model.specs.Packet.{packet}
-use Rattle.mvpn_model.specs.declared.message.Given.{Given}
 use Rattle.mvpn_model.specs.Sessions.{sessions}
 use Rattle.label_defs.specs.Between.{is_between}
 use Rattle.mvpn_model.specs.declared.session.Session.{Session}
 use Rattle.scenario_defs.specs.Kinds.{same_kind}
 use Rattle.network_defs.specs.declared.session_defs.direction.Direction.{Direction}
 use Rattle.edge_defs.specs.Steps as steps
+use Rattle.edge_defs.specs.Steps.{CustomerCall}
 use Rattle.network_defs.specs.Acts.{Act, Tick, Timers, Move, Lose, Notice, RaiseFirst, RaiseSecond, Restart, At, Enter}
 use Rattle.network_defs.specs.Acts.{Land, Drop, Tell, SetCost, Reroute, act}
 use Rattle.network_defs.specs.Counts.{directions, link_ways, all_nodes, is_joined, is_up}
 use Rattle.mvpn_model.specs.Packets.{source_in, group_in}
-use Rattle.network_defs.specs.Refusals.{edge_of_vrf}
+use Rattle.network_defs.specs.Refusals.{call_for, edge_for}
 use Rattle.network_defs.specs.World.{World, scenario_of}
 
 -- An act that happened, with its lines; a refused event has its line and no act.
@@ -135,14 +134,15 @@ cost_acts scenario a b cost = SetCost a b cost ∷ map (λ n. Reroute n) (all_no
 
 -- ---- events
 
--- a call of a node, where there is one
-abbrev pub at_edge : Option NodeId → steps.Call → World → Outcome
+-- a call of a customer at a node, where there is one
+abbrev pub at_edge : Option NodeId → CustomerCall → World → Outcome
 at_edge None call world = Done [] world
-at_edge (Some n) call world = row (At n call ∷ []) world
+at_edge (Some n) call world = row (At n (steps.Customer call) ∷ []) world
 
-abbrev pub with_message : Option Given → World → Outcome
-with_message None world = Done [] world
-with_message (Some given) world = at_edge (edge_of (scenario_of world) given.iface) (steps.Customer (steps.Pim given.iface given.message)) world
+-- what a customer calls for, where it does
+abbrev pub called : Option CustomerCall → World → Outcome
+called None world = Done [] world
+called (Some call) world = at_edge (edge_for (scenario_of world) call) call world
 
 -- what comes of an event that is not refused
 abbrev pub done : World → Event → Outcome
@@ -153,15 +153,9 @@ done world (events.Move kind from to count) = row (Move kind from to count ∷ [
 done world (events.Lose kind a b) = row (Lose kind a b ∷ []) world
 done world (events.Notice kind a b) = row (Notice kind a b ∷ []) world
 done world (events.Raise kind a b) = row (raises (sessions (scenario_of world)) kind a b) world
-done world (events.Join iface entry) = with_message (message_of (scenario_of world) (events.Join iface entry)) world
-done world (events.Prune iface entry) = with_message (message_of (scenario_of world) (events.Prune iface entry)) world
-done world (events.Pim iface octets) = with_message (message_of (scenario_of world) (events.Pim iface octets)) world
-done world (events.Active iface source group) = at_edge (edge_of (scenario_of world) iface) (steps.Customer (steps.Active iface source group)) world
-done world (events.Idle iface source group) = at_edge (edge_of (scenario_of world) iface) (steps.Customer (steps.Idle iface source group)) world
+done world (events.Customer event) = called (call_for (scenario_of world) event) world
 done world (events.Send site source group payload) = sent site source group (packet source group payload) world
 done world (events.Packet site octets) = sent site (source_in octets) (group_in octets) octets world
-done world (events.Select vrf pattern) = at_edge (edge_of_vrf (scenario_of world) vrf) (steps.Customer (steps.Select vrf pattern)) world
-done world (events.Unselect vrf pattern) = at_edge (edge_of_vrf (scenario_of world) vrf) (steps.Customer (steps.Unselect vrf pattern)) world
 done world (events.Hop from to place) = row (Land from to place ∷ []) world
 done world (events.DropCopy from to place) = row (Drop from to place ∷ []) world
 done world (events.Cost a b cost) = row (cost_acts (scenario_of world) a b cost) world

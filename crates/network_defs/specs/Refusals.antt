@@ -10,6 +10,8 @@ use Rattle.mv_base.specs.declared.pattern.Pattern.{Pattern}
 use Rattle.edge_defs.specs.pim_defs.Entries.{applied, are_too_many}
 use Rattle.scenario_defs.specs.Vpn.{edge_of}
 use Rattle.scenario_defs.specs.declared.event.Event.{Event}
+use Rattle.scenario_defs.specs.declared.event.CustomerEvent.{CustomerEvent}
+use Rattle.scenario_defs.specs.declared.event.CustomerEvent.TheVariants as customers
 use Rattle.scenario_defs.specs.declared.event.Event.TheVariants as events
 use Rattle.scenario_defs.specs.declared.event.Kind.{Kind}
 use Rattle.scenario_defs.specs.declared.report.Refusal.{Refusal}
@@ -19,6 +21,8 @@ use Rattle.mvpn_model.specs.Messages.{message_of}
 use Rattle.mvpn_model.specs.declared.message.Given.{Given}
 use Rattle.mvpn_model.specs.Refused.{is_ours, octets_refusal}
 use Rattle.edge_defs.specs.Edge.{Note, Control, no_control}
+use Rattle.edge_defs.specs.Steps as steps
+use Rattle.edge_defs.specs.Steps.{CustomerCall}
 use Rattle.network_defs.specs.Counts.{direction, is_up, octets_in_transit, all_copies}
 use Rattle.network_defs.specs.Nodes.{NodeState, Edge, CoreNode}
 use Rattle.mvpn_model.specs.Packets.{packet_fault}
@@ -63,6 +67,29 @@ control_at world (Some n) = control_of (world.network.state.node n)
 abbrev pub edge_of_vrf : Scenario → VrfId → Option NodeId
 edge_of_vrf scenario vrf = elim (slice_get scenario.vrfs vrf.0) [ None ↦ None | Some found ↦ Some found.edge ]
 
+-- ---- calls of customers
+
+-- the message of an event, as a call
+abbrev pub message_call : Option Given → Option CustomerCall
+message_call None = None
+message_call (Some given) = Some (steps.Pim given.iface given.message)
+
+-- what an event of a customer calls for; octets that spell no message call for nothing
+abbrev pub call_for : Scenario → CustomerEvent → Option CustomerCall
+call_for scenario (customers.Active iface source group) = Some (steps.Active iface source group)
+call_for scenario (customers.Idle iface source group) = Some (steps.Idle iface source group)
+call_for scenario (customers.Select vrf pattern) = Some (steps.Select vrf pattern)
+call_for scenario (customers.Unselect vrf pattern) = Some (steps.Unselect vrf pattern)
+call_for scenario message = message_call (message_of scenario (events.Customer message))
+
+-- the edge at which a customer calls: that of the interface or of the VRF
+abbrev pub edge_for : Scenario → CustomerCall → Option NodeId
+edge_for scenario (steps.Pim iface message) = edge_of scenario iface
+edge_for scenario (steps.Active iface source group) = edge_of scenario iface
+edge_for scenario (steps.Idle iface source group) = edge_of scenario iface
+edge_for scenario (steps.Select vrf pattern) = edge_of_vrf scenario vrf
+edge_for scenario (steps.Unselect vrf pattern) = edge_of_vrf scenario vrf
+
 -- ---- refusals
 
 -- a message is for another neighbour, or there is no room for it
@@ -105,18 +132,20 @@ refusal world (events.Move kind from to count) =
 refusal world (events.Lose kind a b) = refused_if (not (is_session_joined world kind a b)) refusals.State
 refusal world (events.Notice kind a b) = refused_if (is_session_joined world kind a b || not (is_up world kind a b)) refusals.State
 refusal world (events.Raise kind a b) = refused_if (is_up world kind a b || is_up world kind b a) refusals.State
-refusal world (events.Join iface entry) = message_refusal world (message_of (scenario_of world) (events.Join iface entry))
-refusal world (events.Prune iface entry) = message_refusal world (message_of (scenario_of world) (events.Prune iface entry))
-refusal world (events.Pim iface octets) =
-    option_or (octets_refusal octets) (message_refusal world (message_of (scenario_of world) (events.Pim iface octets)))
-refusal world (events.Active iface source group) = note_refusal world (record { iface = iface; source = source; group = group })
-refusal world (events.Idle iface source group) = refused_if (are_sessions_full world) refusals.Full
+refusal world (events.Customer (customers.Join iface entry)) =
+    message_refusal world (message_of (scenario_of world) (events.Customer (customers.Join iface entry)))
+refusal world (events.Customer (customers.Prune iface entry)) =
+    message_refusal world (message_of (scenario_of world) (events.Customer (customers.Prune iface entry)))
+refusal world (events.Customer (customers.Pim iface octets)) =
+    option_or (octets_refusal octets) (message_refusal world (message_of (scenario_of world) (events.Customer (customers.Pim iface octets))))
+refusal world (events.Customer (customers.Active iface source group)) = note_refusal world (record { iface = iface; source = source; group = group })
+refusal world (events.Customer (customers.Idle iface source group)) = refused_if (are_sessions_full world) refusals.Full
 refusal world (events.Send site source group payload) = refused_if (are_links_full world) refusals.Full
 refusal world (events.Packet site octets) = option_or (packet_fault octets) (refused_if (are_links_full world) refusals.Full)
-refusal world (events.Select vrf pattern) =
+refusal world (events.Customer (customers.Select vrf pattern)) =
     option_or (refused_if (is_selected world vrf pattern) refusals.State)
     (refused_if (are_sessions_full world || nat_le selection_limit (selections_at world vrf)) refusals.Full)
-refusal world (events.Unselect vrf pattern) =
+refusal world (events.Customer (customers.Unselect vrf pattern)) =
     option_or (refused_if (not (is_selected world vrf pattern)) refusals.State) (refused_if (are_sessions_full world) refusals.Full)
 refusal world (events.Hop from to place) = refused_if (lacks_copy world from to place) refusals.Place
 refusal world (events.DropCopy from to place) = refused_if (lacks_copy world from to place) refusals.Place

@@ -25,6 +25,7 @@ use Rattle.scenario_defs.specs.declared.scenario.Scenario.{Scenario}
 use Rattle.scenario_defs.specs.declared.event.Timed.{Timed}
 use Rattle.scenario_defs.specs.declared.event.Script.{Script}
 use Rattle.scenario_defs.specs.declared.event.Event.{Event}
+use Rattle.scenario_defs.specs.declared.event.CustomerEvent.TheVariants as customers
 use Rattle.scenario_defs.specs.declared.event.Event.TheVariants as events
 use Rattle.scenario_defs.specs.declared.event.Kind.{Kind}
 use Rattle.scenario_defs.specs.declared.event.Kind.TheVariants as kinds
@@ -234,20 +235,20 @@ IsEventOf scenario (events.Move kind from to count) = HaveSession scenario kind 
 IsEventOf scenario (events.Lose kind a b) = HaveSession scenario kind a b
 IsEventOf scenario (events.Notice kind a b) = HaveSession scenario kind a b
 IsEventOf scenario (events.Raise kind a b) = HaveSession scenario kind a b
-IsEventOf scenario (events.Join iface entry) =
+IsEventOf scenario (events.Customer (customers.Join iface entry)) =
     (iface.0 < length scenario.ifaces) × IsEntry entry × IsOfIface scenario iface (group_of entry)
-IsEventOf scenario (events.Prune iface entry) =
+IsEventOf scenario (events.Customer (customers.Prune iface entry)) =
     (iface.0 < length scenario.ifaces) × IsEntry entry × IsOfIface scenario iface (group_of entry)
-IsEventOf scenario (events.Pim iface bytes) = (iface.0 < length scenario.ifaces) × (length bytes ≤ payload_limit)
-IsEventOf scenario (events.Active iface source group) =
+IsEventOf scenario (events.Customer (customers.Pim iface bytes)) = (iface.0 < length scenario.ifaces) × (length bytes ≤ payload_limit)
+IsEventOf scenario (events.Customer (customers.Active iface source group)) =
     (iface.0 < length scenario.ifaces) × NamesFlow source group × IsOfIface scenario iface group
-IsEventOf scenario (events.Idle iface source group) =
+IsEventOf scenario (events.Customer (customers.Idle iface source group)) =
     (iface.0 < length scenario.ifaces) × NamesFlow source group × IsOfIface scenario iface group
 IsEventOf scenario (events.Send site source group payload) =
     (site.0 < length scenario.sites) × NamesFlow source group × (length payload ≤ payload_limit)
 IsEventOf scenario (events.Packet site bytes) = (site.0 < length scenario.sites) × (length bytes ≤ payload_limit)
-IsEventOf scenario (events.Select vrf pattern) = (vrf.0 < length scenario.vrfs) × IsPattern pattern
-IsEventOf scenario (events.Unselect vrf pattern) = (vrf.0 < length scenario.vrfs) × IsPattern pattern
+IsEventOf scenario (events.Customer (customers.Select vrf pattern)) = (vrf.0 < length scenario.vrfs) × IsPattern pattern
+IsEventOf scenario (events.Customer (customers.Unselect vrf pattern)) = (vrf.0 < length scenario.vrfs) × IsPattern pattern
 IsEventOf scenario (events.Hop from to place) = AreLinked scenario from to × (1 ≤ place) × (place ≤ count_limit)
 IsEventOf scenario (events.DropCopy from to place) = AreLinked scenario from to × (1 ≤ place) × (place ≤ count_limit)
 IsEventOf scenario (events.Cost a b cost) = AreLinked scenario a b × (1 ≤ cost) × (cost ≤ 65535)

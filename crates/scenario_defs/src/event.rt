@@ -28,6 +28,41 @@ pub struct IfaceEntry {
     pub entry: JoinEntry,
 }
 
+/// What a customer does, or the operator for one.
+#[derive(Drop)]
+pub enum CustomerEvent {
+    Join {
+        iface: IfaceId,
+        entry: JoinEntry,
+    },
+    Prune {
+        iface: IfaceId,
+        entry: JoinEntry,
+    },
+    Pim {
+        iface: IfaceId,
+        bytes: Bytes,
+    },
+    Active {
+        iface: IfaceId,
+        source: Addr,
+        group: Addr,
+    },
+    Idle {
+        iface: IfaceId,
+        source: Addr,
+        group: Addr,
+    },
+    Select {
+        vrf: VrfId,
+        pattern: Pattern,
+    },
+    Unselect {
+        vrf: VrfId,
+        pattern: Pattern,
+    },
+}
+
 /// One event of a script.
 #[derive(Drop)]
 pub enum Event {
@@ -61,28 +96,8 @@ pub enum Event {
         a: NodeId,
         b: NodeId,
     },
-    Join {
-        iface: IfaceId,
-        entry: JoinEntry,
-    },
-    Prune {
-        iface: IfaceId,
-        entry: JoinEntry,
-    },
-    Pim {
-        iface: IfaceId,
-        bytes: Bytes,
-    },
-    Active {
-        iface: IfaceId,
-        source: Addr,
-        group: Addr,
-    },
-    Idle {
-        iface: IfaceId,
-        source: Addr,
-        group: Addr,
-    },
+    /// A customer, or the operator for one, does something at an interface or in a VRF.
+    Customer(CustomerEvent),
     Send {
         site: SiteId,
         source: Addr,
@@ -92,14 +107,6 @@ pub enum Event {
     Packet {
         site: SiteId,
         bytes: Bytes,
-    },
-    Select {
-        vrf: VrfId,
-        pattern: Pattern,
-    },
-    Unselect {
-        vrf: VrfId,
-        pattern: Pattern,
     },
     Hop {
         from: NodeId,

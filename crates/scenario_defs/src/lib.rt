@@ -16,7 +16,7 @@ mod report;
 mod scenario;
 mod vpn;
 
-pub use event::{Event, Events, IfaceEntry, JoinEntry, Kind, Script, Timed};
+pub use event::{CustomerEvent, Event, Events, IfaceEntry, JoinEntry, Kind, Script, Timed};
 // The names `of_..`: words of lower crates that this crate's contracts are made of.
 pub use mv_base as of_mv_base;
 pub use prefix::{prefixes_of, same_prefix, share_prefix};

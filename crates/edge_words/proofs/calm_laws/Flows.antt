@@ -69,11 +69,9 @@ step_stands place now old (steps.Label neighbour message) h = refreshed_stands p
 step_stands place now old (steps.Customer call) h = by call
   where
     by : (call : CustomerCall) → Stands place now (control_step place now old (steps.Customer call))
-    by (steps.Pim iface message) = refreshed_stands place now (after_customer now old (steps.Pim iface message))
-    by (steps.Active iface source group) = refreshed_stands place now (after_customer now old (steps.Active iface source group))
-    by (steps.Idle iface source group) = refreshed_stands place now (after_customer now old (steps.Idle iface source group))
     by (steps.Select vrf pattern) = (h.0, h.1, h.2)
     by (steps.Unselect vrf pattern) = (h.0, h.1, h.2)
+    by other = refreshed_stands place now (after_customer now old other)
 step_stands place now old (steps.Raised kind peer) h = refreshed_stands place now (steps.effect place now old (steps.Raised kind peer))
 step_stands place now old (steps.Noticed kind peer) h = refreshed_stands place now (steps.effect place now old (steps.Noticed kind peer))
 step_stands place now old steps.Timers h = refreshed_stands place now (steps.effect place now old steps.Timers)

@@ -27,12 +27,10 @@ pub core_rule : (network : EdgeNetwork) (n : NodeId) (core : Core) → Rule netw
 core_rule network n core rule = record { view = rule.view; alike = rule.alike; ends = rule.ends; scenario = rule.scenario }
 
 customer_rule : (network : EdgeNetwork) (n : NodeId) (call : CustomerCall) → Rule network → Rule (act network (Customer n call))
-customer_rule network n (steps.Pim iface message) rule = plain_rule network n _ refl refl rule
-customer_rule network n (steps.Active iface source group) rule = plain_rule network n _ refl refl rule
-customer_rule network n (steps.Idle iface source group) rule = plain_rule network n _ refl refl rule
 customer_rule network n (steps.Select vrf pattern) rule =
     select_rule network n vrf pattern (selects_again (network.node n) (steps.Select vrf pattern)) refl rule
 customer_rule network n (steps.Unselect vrf pattern) rule = unselect_rule network n vrf pattern rule
+customer_rule network n other rule = plain_rule network n _ refl refl rule
 
 pub act_rule : (network : EdgeNetwork) (next : Act) → Rule network → Rule (act network next)
 act_rule network (Deliver a b) rule =

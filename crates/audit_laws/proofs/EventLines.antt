@@ -17,22 +17,21 @@ use Rattle.network_defs.specs.declared.session_defs.direction.Direction.{Directi
 use Rattle.edge_defs.specs.Datagrams.{Fate, entering_fate}
 use Rattle.edge_defs.specs.Place.{OwnVrf}
 use Rattle.edge_defs.specs.Steps as steps
+use Rattle.edge_defs.specs.Steps.{CustomerCall}
 use Rattle.network_defs.specs.Acts.{Act, Tick, Timers, Move, Lose, Notice, RaiseFirst, RaiseSecond, Restart, At, Enter, Land, Drop, Tell, SetCost, Reroute, Acted, act, put_line, put_lines, with_network, at_node, is_of_session, is_at, leads_to, is_from_peer, hop_line, fated, datagram_at, enters_at, entering, fate_at, with_ttl, landed, without_copy, landing, with_aged}
 use Rattle.network_defs.specs.Counts.{direction, directions, link_ways, all_nodes, is_joined, is_up}
-use Rattle.network_defs.specs.Events.{Happened, Done, done, row, each, times, raise_acts, raises, is_session_of, notices, healed, turn, landings, drain_round, sent, cost_acts, at_edge, with_message}
+use Rattle.network_defs.specs.Events.{Happened, Done, done, row, each, times, raise_acts, raises, is_session_of, notices, healed, turn, landings, drain_round, sent, cost_acts, at_edge, called}
 use Rattle.network_defs.specs.Nodes.{NodeState, Edge, CoreNode, Nodes, place_of}
-use Rattle.network_defs.specs.Refusals.{edge_of_vrf}
+use Rattle.network_defs.specs.Refusals.{call_for, edge_for}
 use Rattle.network_defs.specs.System.{NodeCall, Own, Elapse, Reset, Price, Follow, system}
 use Rattle.network_defs.specs.World.{World, Datagram, LinkCopy, scenario_of, clock_of}
 use Rattle.once_laws.specs.delivery_laws.Flood.{lines_in}
 use Rattle.once_laws.proofs.delivery_laws.Outcomes.{IsOfLines, Leads, Gives, then_leads, row_leads, each_leads, times_leads}
 use Rattle.mv_base.specs.declared.addr.Addr.{Addr}
 use Rattle.mv_base.specs.declared.ids.SiteId.{SiteId}
-use Rattle.scenario_defs.specs.Vpn.{edge_of, entered}
+use Rattle.scenario_defs.specs.Vpn.{entered}
 use Rattle.scenario_defs.specs.declared.event.Kind.{Kind}
-use Rattle.mvpn_model.specs.Messages.{message_of}
 use Rattle.mvpn_model.specs.Packet.{packet}
-use Rattle.mvpn_model.specs.declared.message.Given.{Given}
 use Rattle.mvpn_model.specs.Sessions.{sessions}
 use Rattle.mvpn_model.specs.declared.session.Session.{Session}
 use Rattle.mvpn_model.specs.Packets.{source_in, group_in}
@@ -189,13 +188,13 @@ module _ (L : List ReportLine → Type 0) (l : IsOfLines L) (W : World → Type 
   one_row : (one : Act) → IsOther one → (world : World) → W world → Leads L W (row (one ∷ []) world)
   one_row one k world w = rows (one ∷ []) (k, tt) world w
 
-  at_edge_leads : (o : Option NodeId) (call : steps.Call) (world : World) → W world → Leads L W (at_edge o call world)
+  at_edge_leads : (o : Option NodeId) (call : CustomerCall) (world : World) → W world → Leads L W (at_edge o call world)
   at_edge_leads None call world w = (l.none, w)
-  at_edge_leads (Some n) call world w = one_row (At n call) tt world w
+  at_edge_leads (Some n) call world w = one_row (At n (steps.Customer call)) tt world w
 
-  message_leads : (o : Option Given) (world : World) → W world → Leads L W (with_message o world)
-  message_leads None world w = (l.none, w)
-  message_leads (Some given) world w = at_edge_leads (edge_of (scenario_of world) given.iface) (steps.Customer (steps.Pim given.iface given.message)) world w
+  customer_leads : (o : Option CustomerCall) (world : World) → W world → Leads L W (called o world)
+  customer_leads None world w = (l.none, w)
+  customer_leads (Some call) world w = at_edge_leads (edge_for (scenario_of world) call) call world w
 
   turn_leads : (over : Direction) (world : World) → W world → Leads L W (turn over world)
   turn_leads over world w = by (world.network.transit over)
@@ -232,17 +231,7 @@ module _ (L : List ReportLine → Type 0) (l : IsOfLines L) (W : World → Type 
   event_leads world (events.Notice kind a b) other w = one_row (Notice kind a b) tt world w
   event_leads world (events.Raise kind a b) other w =
       rows (raises (sessions (scenario_of world)) kind a b) (raises_are_other (sessions (scenario_of world)) kind a b) world w
-  event_leads world (events.Join iface entry) other w = message_leads (message_of (scenario_of world) (events.Join iface entry)) world w
-  event_leads world (events.Prune iface entry) other w = message_leads (message_of (scenario_of world) (events.Prune iface entry)) world w
-  event_leads world (events.Pim iface octets) other w = message_leads (message_of (scenario_of world) (events.Pim iface octets)) world w
-  event_leads world (events.Active iface source group) other w =
-      at_edge_leads (edge_of (scenario_of world) iface) (steps.Customer (steps.Active iface source group)) world w
-  event_leads world (events.Idle iface source group) other w =
-      at_edge_leads (edge_of (scenario_of world) iface) (steps.Customer (steps.Idle iface source group)) world w
-  event_leads world (events.Select vrf pattern) other w =
-      at_edge_leads (edge_of_vrf (scenario_of world) vrf) (steps.Customer (steps.Select vrf pattern)) world w
-  event_leads world (events.Unselect vrf pattern) other w =
-      at_edge_leads (edge_of_vrf (scenario_of world) vrf) (steps.Customer (steps.Unselect vrf pattern)) world w
+  event_leads world (events.Customer event) other w = customer_leads (call_for (scenario_of world) event) world w
   event_leads world (events.Hop from to place) other w = one_row (Land from to place) tt world w
   event_leads world (events.DropCopy from to place) other w = one_row (Drop from to place) tt world w
   event_leads world (events.Cost a b cost) other w =

@@ -3,6 +3,7 @@ use Rattle.std.proofs.Common.{◌≡◌, ℕ, true, false, List, [], ◌∷◌, 
 use Rattle.mv_base.specs.declared.addr.Addr.{Addr}
 use Rattle.mv_base.specs.declared.ids.IfaceId.{IfaceId}
 use Rattle.mv_base.specs.declared.ids.SiteId.{SiteId}
+use Rattle.scenario_defs.specs.declared.event.CustomerEvent.TheVariants as customers
 use Rattle.scenario_defs.specs.declared.event.Event.TheVariants as event
 use Rattle.scenario_defs.specs.declared.event.JoinEntry.{JoinEntry}
 use Rattle.scenario_defs.specs.declared.event.Timed.{Timed}
@@ -24,7 +25,7 @@ module _ (iface : IfaceId) (entry : JoinEntry) (site : SiteId) (source group : A
     -- join, state, send, drain, state
     abbrev row : List Timed
     row =
-        record { line = 8; event = event.Join iface entry } ∷ record { line = 9; event = event.State }
+        record { line = 8; event = event.Customer (customers.Join iface entry) } ∷ record { line = 9; event = event.State }
         ∷ record { line = 10; event = event.Send site source group payload } ∷ record { line = 11; event = event.Drain }
         ∷ record { line = 12; event = event.State } ∷ []
 

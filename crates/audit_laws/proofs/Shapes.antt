@@ -10,6 +10,7 @@ use Rattle.std.proofs.lemmas.List.Elements.{filter-append}
 use Rattle.std.proofs.lemmas.List.Folds.{list_any-append}
 use Rattle.std.proofs.lemmas.Option.{none-some}
 use Rattle.scenario_defs.specs.declared.event.Event.{Event}
+use Rattle.scenario_defs.specs.declared.event.CustomerEvent.TheVariants as customers
 use Rattle.scenario_defs.specs.declared.event.Event.TheVariants as events
 use Rattle.scenario_defs.specs.declared.event.Timed.{Timed}
 use Rattle.scenario_defs.specs.declared.report.Refusal.{Refusal}
@@ -191,15 +192,9 @@ refusable world (events.Move kind from to count) reason e = refl
 refusable world (events.Lose kind a b) reason e = refl
 refusable world (events.Notice kind a b) reason e = refl
 refusable world (events.Raise kind a b) reason e = refl
-refusable world (events.Join iface entry) reason e = refl
-refusable world (events.Prune iface entry) reason e = refl
-refusable world (events.Pim iface octets) reason e = refl
-refusable world (events.Active iface source group) reason e = refl
-refusable world (events.Idle iface source group) reason e = refl
+refusable world (events.Customer event) reason e = refl
 refusable world (events.Send site source group payload) reason e = refl
 refusable world (events.Packet site octets) reason e = refl
-refusable world (events.Select vrf pattern) reason e = refl
-refusable world (events.Unselect vrf pattern) reason e = refl
 refusable world (events.Hop from to place) reason e = refl
 refusable world (events.DropCopy from to place) reason e = refl
 
@@ -209,8 +204,8 @@ or_first None p e = absurd (true≢false (sym e))
 or_first (Some reason) p e = refl
 
 malformed_refused : (world : World) (event : Event) → is_malformed event ≡ true → accepts (refusal world event) ≡ false
-malformed_refused world (events.Pim iface octets) e =
-    or_first (octets_refusal octets) (message_refusal world (message_of (scenario_of world) (events.Pim iface octets))) e
+malformed_refused world (events.Customer (customers.Pim iface octets)) e =
+    or_first (octets_refusal octets) (message_refusal world (message_of (scenario_of world) (events.Customer (customers.Pim iface octets)))) e
 malformed_refused world (events.Packet site octets) e = or_first (packet_fault octets) (refused_if (are_links_full world) refusals.Full) e
 malformed_refused world other e = absurd (true≢false (sym e))
 

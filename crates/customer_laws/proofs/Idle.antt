@@ -15,6 +15,7 @@ use Rattle.pim_defs.specs.pim_joinprune.Reading.{decoded}
 use Rattle.pim_defs.specs.Single.{join_of, prune_of}
 use Rattle.scenario_defs.specs.Vpn.{same_vpn}
 use Rattle.scenario_defs.specs.declared.event.Event.{Event}
+use Rattle.scenario_defs.specs.declared.event.CustomerEvent.TheVariants as customers
 use Rattle.scenario_defs.specs.declared.event.Event.TheVariants as events
 use Rattle.scenario_defs.specs.declared.event.JoinEntry.{JoinEntry}
 use Rattle.scenario_defs.specs.declared.event.Timed.{Timed}
@@ -66,11 +67,11 @@ module _ (scenario : Scenario) (vrf : VrfId) (iface : IfaceId) (member : Member 
 
   expiry_idle : (entry : JoinEntry) (clock : ℕ) (old : Option Expiry) (event : Event) → concerns scenario vrf event ≡ false →
       expiry_by scenario iface entry clock event old ≡ old
-  expiry_idle entry clock old (events.Join own named) h =
+  expiry_idle entry clock old (events.Customer (customers.Join own named)) h =
       given_apart entry clock old (record { iface = own; message = join_of (own_addr scenario own) named }) h
-  expiry_idle entry clock old (events.Prune own named) h =
+  expiry_idle entry clock old (events.Customer (customers.Prune own named)) h =
       given_apart entry clock old (record { iface = own; message = prune_of (own_addr scenario own) named }) h
-  expiry_idle entry clock old (events.Pim own bytes) h = read_apart entry clock old own (decoded bytes) h
+  expiry_idle entry clock old (events.Customer (customers.Pim own bytes)) h = read_apart entry clock old own (decoded bytes) h
   expiry_idle entry clock old (events.Tick count) h = absurd (true≢false h)
   expiry_idle entry clock old events.Settle h = absurd (true≢false h)
   expiry_idle entry clock old (events.Timers node) h = (let e = elsewhere node h in rw e refl)
@@ -123,8 +124,10 @@ module _ (scenario : Scenario) (vrf : VrfId) (iface : IfaceId) (member : Member 
 
   noted_idle : (source group : Addr) (event : Event) (old : Bool) → concerns scenario vrf event ≡ false
       → noted_by scenario iface source group event old ≡ old
-  noted_idle source group (events.Active own own_source own_group) old h = or_idle old _ (flow_apart source group own own_source own_group h)
-  noted_idle source group (events.Idle own own_source own_group) old h = and_idle old _ (flow_apart source group own own_source own_group h)
+  noted_idle source group (events.Customer (customers.Active own own_source own_group)) old h =
+      or_idle old _ (flow_apart source group own own_source own_group h)
+  noted_idle source group (events.Customer (customers.Idle own own_source own_group)) old h =
+      and_idle old _ (flow_apart source group own own_source own_group h)
   noted_idle source group (events.Restart node) old h = and_idle old _ (elsewhere node h)
   noted_idle source group other old h = refl
 

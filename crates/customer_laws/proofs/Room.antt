@@ -8,6 +8,8 @@ use Rattle.mv_base.specs.declared.ids.VrfId.{VrfId}
 use Rattle.pim_defs.specs.Entries.{applied, are_too_many}
 use Rattle.scenario_defs.specs.Vpn.{edge_of}
 use Rattle.scenario_defs.specs.declared.event.Event.{Event}
+use Rattle.scenario_defs.specs.declared.event.CustomerEvent.{CustomerEvent}
+use Rattle.scenario_defs.specs.declared.event.CustomerEvent.TheVariants as customers
 use Rattle.scenario_defs.specs.declared.event.Event.TheVariants as events
 use Rattle.scenario_defs.specs.declared.event.Timed.{Timed}
 use Rattle.scenario_defs.specs.declared.report.Refusal.{Refusal}
@@ -42,9 +44,10 @@ not_ours scenario (Some given) = refused_if (not (is_ours scenario given)) refus
 
 -- why an event is refused by itself
 abbrev own_refusal : Scenario → Event → Option Refusal
-own_refusal scenario (events.Join iface entry) = not_ours scenario (message_of scenario (events.Join iface entry))
-own_refusal scenario (events.Prune iface entry) = not_ours scenario (message_of scenario (events.Prune iface entry))
-own_refusal scenario (events.Pim iface bytes) = option_or (octets_refusal bytes) (not_ours scenario (message_of scenario (events.Pim iface bytes)))
+own_refusal scenario (events.Customer (customers.Join iface entry)) = not_ours scenario (message_of scenario (events.Customer (customers.Join iface entry)))
+own_refusal scenario (events.Customer (customers.Prune iface entry)) = not_ours scenario (message_of scenario (events.Customer (customers.Prune iface entry)))
+own_refusal scenario (events.Customer (customers.Pim iface bytes)) =
+    option_or (octets_refusal bytes) (not_ours scenario (message_of scenario (events.Customer (customers.Pim iface bytes))))
 own_refusal scenario (events.Packet site octets) = packet_fault octets
 own_refusal scenario other = None
 
@@ -77,16 +80,23 @@ or_nothing : (fault : Option Refusal) → option_or fault None ≡ fault
 or_nothing None = refl
 or_nothing (Some reason) = refl
 
+customer_told : (world : World) (vrf : VrfId) (event : CustomerEvent) → concerns (scenario_of world) vrf (events.Customer event) ≡ true
+    → Either (refusal world (events.Customer event)) (own_refusal (scenario_of world) (events.Customer event))
+customer_told world vrf (customers.Join iface entry) h =
+    message_told world (message_of (scenario_of world) (events.Customer (customers.Join iface entry)))
+customer_told world vrf (customers.Prune iface entry) h =
+    message_told world (message_of (scenario_of world) (events.Customer (customers.Prune iface entry)))
+customer_told world vrf (customers.Pim iface bytes) h =
+    first_told (octets_refusal bytes) (message_refusal world (message_of (scenario_of world) (events.Customer (customers.Pim iface bytes))))
+    (not_ours (scenario_of world) (message_of (scenario_of world) (events.Customer (customers.Pim iface bytes))))
+    (message_told world (message_of (scenario_of world) (events.Customer (customers.Pim iface bytes))))
+customer_told world vrf (customers.Select own pattern) h = absurd (false≢true h)
+customer_told world vrf (customers.Unselect own pattern) h = absurd (false≢true h)
+customer_told world vrf other h = none_or_full _
+
 refusal_told : (world : World) (vrf : VrfId) (event : Event) → concerns (scenario_of world) vrf event ≡ true
     → Either (refusal world event) (own_refusal (scenario_of world) event)
-refusal_told world vrf (events.Join iface entry) h = message_told world (message_of (scenario_of world) (events.Join iface entry))
-refusal_told world vrf (events.Prune iface entry) h = message_told world (message_of (scenario_of world) (events.Prune iface entry))
-refusal_told world vrf (events.Pim iface bytes) h =
-    first_told (octets_refusal bytes) (message_refusal world (message_of (scenario_of world) (events.Pim iface bytes)))
-    (not_ours (scenario_of world) (message_of (scenario_of world) (events.Pim iface bytes)))
-    (message_told world (message_of (scenario_of world) (events.Pim iface bytes)))
-refusal_told world vrf (events.Active iface source group) h = none_or_full _
-refusal_told world vrf (events.Idle iface source group) h = none_or_full (are_sessions_full world)
+refusal_told world vrf (events.Customer event) h = customer_told world vrf event h
 refusal_told world vrf (events.Send site source group payload) h = none_or_full (are_links_full world)
 refusal_told world vrf (events.Packet site octets) h =
     subst (Either (refusal world (events.Packet site octets))) (or_nothing (packet_fault octets))

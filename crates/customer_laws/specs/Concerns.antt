@@ -1,5 +1,5 @@
 -- Which events concern a VPN, and when two histories of one scenario are alike for it.
-use Rattle.std.specs.Prelude.{◌≡◌, ℕ, Bool, true, false, List, map, slice_get, None, Some}
+use Rattle.std.specs.Prelude.{◌≡◌, ℕ, Bool, true, false, List, map, slice_get, Option, None, Some}
 use Rattle.std.specs.List.{list_any, filter}
 use Rattle.mv_base.specs.declared.ids.IfaceId.{IfaceId}
 use Rattle.mv_base.specs.declared.ids.NodeId.{NodeId}
@@ -9,11 +9,16 @@ use Rattle.scenario_defs.specs.declared.event.Event.{Event}
 use Rattle.scenario_defs.specs.declared.event.Event.TheVariants as events
 use Rattle.scenario_defs.specs.declared.event.Timed.{Timed}
 use Rattle.scenario_defs.specs.declared.scenario.Scenario.{Scenario}
-use Rattle.mvpn_model.specs.Past.{Past, is_accepted, is_of_edge}
+use Rattle.mvpn_model.specs.Past.{Past, event_iface, is_accepted, is_of_edge}
 
 -- whether the interface is of the VRF's VPN
 abbrev pub is_of_vpn : Scenario → VrfId → IfaceId → Bool
 is_of_vpn scenario vrf iface = elim (slice_get scenario.ifaces iface.0) [ None ↦ false | Some own ↦ same_vpn scenario vrf own.vrf ]
+
+-- whether there is such an interface, and it is of the VRF's VPN
+abbrev pub is_at_vpn : Scenario → VrfId → Option IfaceId → Bool
+is_at_vpn scenario vrf None = false
+is_at_vpn scenario vrf (Some iface) = is_of_vpn scenario vrf iface
 
 -- whether the node is an edge of the VRF's VPN: some interface of the VPN is one of the node
 abbrev pub is_edge_of_vpn : Scenario → VrfId → NodeId → Bool
@@ -23,11 +28,7 @@ is_edge_of_vpn scenario vrf node =
 -- Whether an event concerns the VRF's VPN: it is at an interface of the VPN or at a site that is attached to it, it moves the
 -- clock, or it runs the timers of an edge of the VPN or restarts one.
 abbrev pub concerns : Scenario → VrfId → Event → Bool
-concerns scenario vrf (events.Join iface entry) = is_of_vpn scenario vrf iface
-concerns scenario vrf (events.Prune iface entry) = is_of_vpn scenario vrf iface
-concerns scenario vrf (events.Pim iface bytes) = is_of_vpn scenario vrf iface
-concerns scenario vrf (events.Active iface source group) = is_of_vpn scenario vrf iface
-concerns scenario vrf (events.Idle iface source group) = is_of_vpn scenario vrf iface
+concerns scenario vrf (events.Customer event) = is_at_vpn scenario vrf (event_iface event)
 concerns scenario vrf (events.Send site source group payload) = is_attached scenario vrf site
 concerns scenario vrf (events.Packet site bytes) = is_attached scenario vrf site
 concerns scenario vrf (events.Tick count) = true

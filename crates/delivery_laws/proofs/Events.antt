@@ -8,23 +8,22 @@ use Rattle.mv_base.specs.declared.addr.Addr.{Addr}
 use Rattle.mv_base.specs.declared.ids.NodeId.{NodeId}
 use Rattle.mv_base.specs.declared.ids.SiteId.{SiteId}
 use Rattle.mv_base.specs.declared.ids.VrfId.{VrfId}
-use Rattle.scenario_defs.specs.Vpn.{edge_of, entered}
+use Rattle.scenario_defs.specs.Vpn.{entered}
 use Rattle.scenario_defs.specs.declared.event.Event.{Event}
 use Rattle.scenario_defs.specs.declared.event.Event.TheVariants as events
 use Rattle.scenario_defs.specs.declared.event.Kind.{Kind}
 use Rattle.scenario_defs.specs.declared.report.ReportLine.{ReportLine}
-use Rattle.mvpn_model.specs.Messages.{message_of}
 use Rattle.mvpn_model.specs.Packet.{packet}
-use Rattle.mvpn_model.specs.declared.message.Given.{Given}
 use Rattle.mvpn_model.specs.Sessions.{sessions}
 use Rattle.mvpn_model.specs.declared.session.Session.{Session}
 use Rattle.network_defs.specs.declared.session_defs.direction.Direction.{Direction}
 use Rattle.edge_defs.specs.Steps as steps
+use Rattle.edge_defs.specs.Steps.{CustomerCall}
 use Rattle.network_defs.specs.Acts.{Act, Tick, Timers, Move, Lose, Notice, Restart, At, Enter, Land, Drop, Tell, Reroute, act}
 use Rattle.network_defs.specs.Counts.{directions, link_ways, all_nodes, is_joined, is_up}
-use Rattle.network_defs.specs.Events.{Done, row, each, times, raise_acts, raises, is_session_of, notices, healed, turn, landings, drain_round, sent, cost_acts, at_edge, with_message, done}
+use Rattle.network_defs.specs.Events.{Done, row, each, times, raise_acts, raises, is_session_of, notices, healed, turn, landings, drain_round, sent, cost_acts, at_edge, done, called}
 use Rattle.mvpn_model.specs.Packets.{source_in, group_in}
-use Rattle.network_defs.specs.Refusals.{edge_of_vrf}
+use Rattle.network_defs.specs.Refusals.{call_for, edge_for}
 use Rattle.network_defs.specs.World.{World, scenario_of}
 use Rattle.delivery_laws.specs.Once.{brought_by}
 use Rattle.delivery_laws.proofs.Outcomes.{IsOfLines, Leads, Gives, leads_as, then_leads, row_leads, each_leads, times_leads}
@@ -89,13 +88,13 @@ module _ (L : List ReportLine → Type 0) (l : IsOfLines L) (W V : World → Typ
   one_row : (one : Act) → IsNoEntry one → (world : World) → W world → Leads L W (row (one ∷ []) world)
   one_row one k world w = rows (one ∷ []) (k, tt) world w
 
-  at_edge_leads : (o : Option NodeId) (call : steps.Call) (world : World) → W world → Leads L W (at_edge o call world)
+  at_edge_leads : (o : Option NodeId) (call : CustomerCall) (world : World) → W world → Leads L W (at_edge o call world)
   at_edge_leads None call world w = (l.none, w)
-  at_edge_leads (Some n) call world w = one_row (At n call) tt world w
+  at_edge_leads (Some n) call world w = one_row (At n (steps.Customer call)) tt world w
 
-  message_leads : (o : Option Given) (world : World) → W world → Leads L W (with_message o world)
-  message_leads None world w = (l.none, w)
-  message_leads (Some given) world w = at_edge_leads (edge_of (scenario_of world) given.iface) (steps.Customer (steps.Pim given.iface given.message)) world w
+  customer_leads : (o : Option CustomerCall) (world : World) → W world → Leads L W (called o world)
+  customer_leads None world w = (l.none, w)
+  customer_leads (Some call) world w = at_edge_leads (edge_for (scenario_of world) call) call world w
 
   turn_leads : (over : Direction) (world : World) → W world → Leads L W (turn over world)
   turn_leads over world w = by (world.network.transit over)
@@ -141,15 +140,7 @@ module _ (L : List ReportLine → Type 0) (l : IsOfLines L) (W V : World → Typ
   event_leads world (events.Notice kind a b) w = one_row (Notice kind a b) tt world w
   event_leads world (events.Raise kind a b) w =
       rows (raises (sessions (scenario_of world)) kind a b) (raises_enter_nothing (sessions (scenario_of world)) kind a b) world w
-  event_leads world (events.Join iface entry) w = message_leads (message_of (scenario_of world) (events.Join iface entry)) world w
-  event_leads world (events.Prune iface entry) w = message_leads (message_of (scenario_of world) (events.Prune iface entry)) world w
-  event_leads world (events.Pim iface octets) w = message_leads (message_of (scenario_of world) (events.Pim iface octets)) world w
-  event_leads world (events.Active iface source group) w =
-      at_edge_leads (edge_of (scenario_of world) iface) (steps.Customer (steps.Active iface source group)) world w
-  event_leads world (events.Idle iface source group) w =
-      at_edge_leads (edge_of (scenario_of world) iface) (steps.Customer (steps.Idle iface source group)) world w
-  event_leads world (events.Select vrf pattern) w = at_edge_leads (edge_of_vrf (scenario_of world) vrf) (steps.Customer (steps.Select vrf pattern)) world w
-  event_leads world (events.Unselect vrf pattern) w = at_edge_leads (edge_of_vrf (scenario_of world) vrf) (steps.Customer (steps.Unselect vrf pattern)) world w
+  event_leads world (events.Customer event) w = customer_leads (call_for (scenario_of world) event) world w
   event_leads world (events.Hop from to place) w = one_row (Land from to place) tt world w
   event_leads world (events.DropCopy from to place) w = one_row (Drop from to place) tt world w
   event_leads world (events.Cost a b cost) w =

@@ -9,7 +9,7 @@ use Rattle.mv_base.specs.declared.core_link.Link.{Link}
 use Rattle.mv_base.specs.declared.ids.NodeId.{NodeId}
 use Rattle.mv_base.specs.declared.ids.SiteId.{SiteId}
 use Rattle.mv_base.specs.declared.ids.VrfId.{VrfId}
-use Rattle.scenario_defs.specs.Vpn.{edge_of, entered}
+use Rattle.scenario_defs.specs.Vpn.{entered}
 use Rattle.scenario_defs.specs.declared.event.Event.{Event}
 use Rattle.scenario_defs.specs.declared.event.Event.TheVariants as events
 use Rattle.scenario_defs.specs.declared.event.Kind.{Kind}
@@ -17,19 +17,18 @@ use Rattle.scenario_defs.specs.declared.event.Script.{Script}
 use Rattle.scenario_defs.specs.declared.event.Timed.{Timed}
 use Rattle.scenario_defs.specs.declared.report.ReportLine.{ReportLine}
 use Rattle.scenario_defs.specs.declared.scenario.Scenario.{Scenario}
-use Rattle.mvpn_model.specs.Messages.{message_of}
 use Rattle.mvpn_model.specs.Packet.{packet}
-use Rattle.mvpn_model.specs.declared.message.Given.{Given}
 use Rattle.mvpn_model.specs.Sessions.{sessions, edges, bgp_session, bgp_sessions, ldp_session}
 use Rattle.mvpn_model.specs.declared.session.Session.{Session}
 use Rattle.network_defs.specs.declared.session_defs.direction.Direction.{Direction}
 use Rattle.network_defs.specs.Costs.{Cores}
 use Rattle.edge_defs.specs.Steps as steps
+use Rattle.edge_defs.specs.Steps.{CustomerCall}
 use Rattle.network_defs.specs.Acts.{Act, Tick, Timers, Move, Lose, Notice, Restart, At, Enter, Land, Drop, Tell, Reroute}
 use Rattle.network_defs.specs.Counts.{directions, is_joined, is_up, link_ways, all_nodes}
-use Rattle.network_defs.specs.Events.{Done, row, each, times, raise_acts, raises, is_session_of, notices, healed, turn, landings, drain_round, sent, cost_acts, at_edge, with_message, done}
+use Rattle.network_defs.specs.Events.{Done, row, each, times, raise_acts, raises, is_session_of, notices, healed, turn, landings, drain_round, sent, cost_acts, at_edge, done, called}
 use Rattle.mvpn_model.specs.Packets.{source_in, group_in}
-use Rattle.network_defs.specs.Refusals.{edge_of_vrf}
+use Rattle.network_defs.specs.Refusals.{call_for, edge_for}
 use Rattle.network_defs.specs.Run.{Traced, Runs, Run}
 use Rattle.network_defs.specs.World.{World, Datagram, start, scenario_of}
 use Rattle.delivery_laws.specs.Flood.{SoundCopy}
@@ -120,24 +119,14 @@ module _ (scenario : Scenario) (once : LinksOnce scenario) where
   one_row : (one : Act) → IsFine scenario one → (world : World) → Linked scenario world → Leads Any (Linked scenario) (row (one ∷ []) world)
   one_row one k world l = rows (one ∷ []) (k, tt) world l
 
-  -- a call by a customer
-  abbrev IsCustomers : steps.Call → Type 0
-  IsCustomers (steps.Label from message) = ⊥
-  IsCustomers other = ⊤
-
-  call_fine : (n : NodeId) (call : steps.Call) → IsCustomers call → IsFine scenario (At n call)
-  call_fine n (steps.Label from message) c = absurd c
-  call_fine n other c = tt
-
-  at_edge_linked : (o : Option NodeId) (call : steps.Call) → IsCustomers call → (world : World) → Linked scenario world
+  at_edge_linked : (o : Option NodeId) (call : CustomerCall) (world : World) → Linked scenario world
       → Leads Any (Linked scenario) (at_edge o call world)
-  at_edge_linked None call c world l = (tt, l)
-  at_edge_linked (Some n) call c world l = one_row (At n call) (call_fine n call c) world l
+  at_edge_linked None call world l = (tt, l)
+  at_edge_linked (Some n) call world l = one_row (At n (steps.Customer call)) tt world l
 
-  message_linked : (o : Option Given) (world : World) → Linked scenario world → Leads Any (Linked scenario) (with_message o world)
-  message_linked None world l = (tt, l)
-  message_linked (Some given) world l =
-      at_edge_linked (edge_of (scenario_of world) given.iface) (steps.Customer (steps.Pim given.iface given.message)) tt world l
+  customer_linked : (o : Option CustomerCall) (world : World) → Linked scenario world → Leads Any (Linked scenario) (called o world)
+  customer_linked None world l = (tt, l)
+  customer_linked (Some call) world l = at_edge_linked (edge_for (scenario_of world) call) call world l
 
   turn_linked : (over : Direction) (world : World) → Linked scenario world → Leads Any (Linked scenario) (turn over world)
   turn_linked over world l = by (world.network.transit over)
@@ -198,16 +187,7 @@ module _ (scenario : Scenario) (once : LinksOnce scenario) where
   event_linked world (events.Notice kind a b) l = one_row (Notice kind a b) tt world l
   event_linked world (events.Raise kind a b) l =
       rows (raises (sessions (scenario_of world)) kind a b) (raises_fine (sessions (scenario_of world)) (sessions_of world l) kind a b) world l
-  event_linked world (events.Join iface entry) l = message_linked (message_of (scenario_of world) (events.Join iface entry)) world l
-  event_linked world (events.Prune iface entry) l = message_linked (message_of (scenario_of world) (events.Prune iface entry)) world l
-  event_linked world (events.Pim iface octets) l = message_linked (message_of (scenario_of world) (events.Pim iface octets)) world l
-  event_linked world (events.Active iface source group) l =
-      at_edge_linked (edge_of (scenario_of world) iface) (steps.Customer (steps.Active iface source group)) tt world l
-  event_linked world (events.Idle iface source group) l =
-      at_edge_linked (edge_of (scenario_of world) iface) (steps.Customer (steps.Idle iface source group)) tt world l
-  event_linked world (events.Select vrf pattern) l = at_edge_linked (edge_of_vrf (scenario_of world) vrf) (steps.Customer (steps.Select vrf pattern)) tt world l
-  event_linked world (events.Unselect vrf pattern) l =
-      at_edge_linked (edge_of_vrf (scenario_of world) vrf) (steps.Customer (steps.Unselect vrf pattern)) tt world l
+  event_linked world (events.Customer event) l = customer_linked (call_for (scenario_of world) event) world l
   event_linked world (events.Hop from to place) l = one_row (Land from to place) tt world l
   event_linked world (events.DropCopy from to place) l = one_row (Drop from to place) tt world l
   event_linked world (events.Cost a b cost) l =

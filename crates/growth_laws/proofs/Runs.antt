@@ -15,6 +15,7 @@ use Rattle.mv_base.specs.declared.pattern.Pattern.{Pattern}
 use Rattle.mldp.specs.declared.mldp_fec.fec.Fec.{Fec}
 use Rattle.scenario_defs.specs.Vpn.{edge_of, entered}
 use Rattle.scenario_defs.specs.declared.event.Event.{Event}
+use Rattle.scenario_defs.specs.declared.event.CustomerEvent.TheVariants as customers
 use Rattle.scenario_defs.specs.declared.event.Event.TheVariants as events
 use Rattle.scenario_defs.specs.declared.event.JoinEntry.TheVariants as entries
 use Rattle.scenario_defs.specs.declared.event.Kind.{Kind}
@@ -140,7 +141,7 @@ module _ (scenario : Scenario) (horizon now : ℕ) (trees : List Fec) where
 
   join_comes : (o : Option NodeId) → IsFoundNode scenario o → (iface : IfaceId) (neighbour source group : Addr) → horizon < 210
       → IsSoundCall (steps.Customer (steps.Pim iface (join_of neighbour (entries.Source source group))))
-      → (world : World) → Good world → Comes Good (at_edge o (steps.Customer (steps.Pim iface (join_of neighbour (entries.Source source group)))) world)
+      → (world : World) → Good world → Comes Good (at_edge o (steps.Pim iface (join_of neighbour (entries.Source source group))) world)
   join_comes None within iface neighbour source group short is world s = s
   join_comes (Some n) within iface neighbour source group short is world s =
       let call : steps.Call = steps.Customer (steps.Pim iface (join_of neighbour (entries.Source source group))) in
@@ -172,8 +173,8 @@ select_comes : (scenario : Scenario) (horizon now : ℕ) (trees : List Fec) (wor
     → IsSoundCall (steps.Customer (steps.Select vrf pattern)) → scenario_of world ≡ scenario
     → length trees + 1 < scenario.labels → is_selected world vrf pattern ≡ false → IsFoundNode scenario (edge_of_vrf (scenario_of world) vrf)
     → WorldGrown scenario horizon now trees world
-    → EventGrows scenario horizon now trees (events.Select vrf pattern)
-    (at_edge (edge_of_vrf (scenario_of world) vrf) (steps.Customer (steps.Select vrf pattern)) world)
+    → EventGrows scenario horizon now trees (events.Customer (customers.Select vrf pattern))
+    (at_edge (edge_of_vrf (scenario_of world) vrf) (steps.Select vrf pattern) world)
 select_comes scenario horizon now trees world vrf pattern narrow is same room free within s =
     by (slice_get (scenario_of world).vrfs vrf.0) refl free within
   where
@@ -184,8 +185,8 @@ select_comes scenario horizon now trees world vrf pattern narrow is same room fr
         → maps.contains_key (control_at world (elim found as (λ (o : Option Vrf). Option NodeId)
         [ None ↦ None | Some own ↦ Some own.edge ])).selections (record { vrf = vrf; pattern = pattern }) ≡ false
         → IsFoundNode scenario (elim found as (λ (o : Option Vrf). Option NodeId) [ None ↦ None | Some own ↦ Some own.edge ])
-        → EventGrows scenario horizon now trees (events.Select vrf pattern)
-        (at_edge (elim found as (λ (o : Option Vrf). Option NodeId) [ None ↦ None | Some own ↦ Some own.edge ]) (steps.Customer (steps.Select vrf pattern)) world)
+        → EventGrows scenario horizon now trees (events.Customer (customers.Select vrf pattern))
+        (at_edge (elim found as (λ (o : Option Vrf). Option NodeId) [ None ↦ None | Some own ↦ Some own.edge ]) (steps.Select vrf pattern) world)
     by None e off lt = record { later = now; soon = omega arith; more = trees; few = omega arith; comes = s }
     by (Some found) e off lt =
         let n : NodeId = found.edge in
@@ -259,29 +260,25 @@ done_comes world horizon now trees lines short s (events.Move kind from to count
 done_comes world horizon now trees lines short s (events.Lose kind a b) adds sound free le room = absurd adds
 done_comes world horizon now trees lines short s (events.Notice kind a b) adds sound free le room = absurd adds
 done_comes world horizon now trees lines short s (events.Raise kind a b) adds sound free le room = absurd adds
-done_comes world horizon now trees lines short s (events.Join iface (entries.Star group)) adds sound free le room = absurd adds
-done_comes world horizon now trees lines short s (events.Join iface (entries.Rpt source group)) adds sound free le room = absurd adds
-done_comes world horizon now trees lines short s (events.Join iface (entries.Source source group)) adds sound free le room =
-    still (scenario_of world) horizon now trees (events.Join iface (entries.Source source group)) _
+done_comes world horizon now trees lines short s (events.Customer (customers.Join iface (entries.Star group))) adds sound free le room = absurd adds
+done_comes world horizon now trees lines short s (events.Customer (customers.Join iface (entries.Rpt source group))) adds sound free le room = absurd adds
+done_comes world horizon now trees lines short s (events.Customer (customers.Join iface (entries.Source source group))) adds sound free le room =
+    still (scenario_of world) horizon now trees (events.Customer (customers.Join iface (entries.Source source group))) _
     (join_comes (scenario_of world) horizon now trees (edge_of (scenario_of world) iface) (edge_within (scenario_of world) lines iface) iface
     (own_addr (scenario_of world) iface) source group short
     (join_is_sound (scenario_of world) iface (entries.Source source group) sound.1) world s)
-done_comes world horizon now trees lines short s (events.Prune iface entry) adds sound free le room = absurd adds
-done_comes world horizon now trees lines short s (events.Pim iface octets) adds sound free le room = absurd adds
-done_comes world horizon now trees lines short s (events.Active iface source group) adds sound free le room = absurd adds
-done_comes world horizon now trees lines short s (events.Idle iface source group) adds sound free le room = absurd adds
 done_comes world horizon now trees lines short s (events.Send site source group payload) adds sound free le room =
     still (scenario_of world) horizon now trees (events.Send site source group payload) _
     (sent_comes (scenario_of world) horizon now trees site source group (packet source group payload) world s)
 done_comes world horizon now trees lines short s (events.Packet site octets) adds sound free le room =
     still (scenario_of world) horizon now trees (events.Packet site octets) _
     (sent_comes (scenario_of world) horizon now trees site (source_in octets) (group_in octets) octets world s)
-done_comes world horizon now trees lines short s (events.Select vrf pattern) adds sound free le room =
+done_comes world horizon now trees lines short s (events.Customer (customers.Select vrf pattern)) adds sound free le room =
     let x = or_not_refused (refused_if (is_selected world vrf pattern) refusals.State)
     (refused_if (are_sessions_full world || nat_le selection_limit (selections_at world vrf)) refusals.Full) free in
     select_comes (scenario_of world) horizon now trees world vrf pattern adds sound refl room
     (not_refused (is_selected world vrf pattern) refusals.State x.0) (vrf_within (scenario_of world) lines vrf) s
-done_comes world horizon now trees lines short s (events.Unselect vrf pattern) adds sound free le room = absurd adds
+done_comes world horizon now trees lines short s (events.Customer other) adds sound free le room = absurd adds
 done_comes world horizon now trees lines short s (events.Hop from to place) adds sound free le room =
     still (scenario_of world) horizon now trees (events.Hop from to place) _
     (alone_comes (WorldGrown (scenario_of world) horizon now trees) (Land from to place) world

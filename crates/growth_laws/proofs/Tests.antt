@@ -16,6 +16,7 @@ use Rattle.scenario_defs.specs.Home.{routes_of_site, routes_from, local_routes}
 use Rattle.scenario_defs.specs.Rules.{IsIface, Rules}
 use Rattle.scenario_defs.specs.Vpn.{is_of_site, is_of_vrf, is_attached_at, targets_of, same_vpn}
 use Rattle.scenario_defs.specs.declared.event.Event.{Event}
+use Rattle.scenario_defs.specs.declared.event.CustomerEvent.TheVariants as customers
 use Rattle.scenario_defs.specs.declared.event.Event.TheVariants as events
 use Rattle.scenario_defs.specs.declared.event.JoinEntry.{JoinEntry}
 use Rattle.scenario_defs.specs.declared.event.JoinEntry.TheVariants as entries
@@ -44,8 +45,8 @@ no : {P : Type 0} → false ≡ true → P
 no h = absurd cc
 
 adds : (event : Event) → only_adds event ≡ true → OnlyAdds event
-adds (events.Join iface entry) h = source_entry entry h
-adds (events.Select vrf pattern) h = eqb-true (rank pattern) 4 h
+adds (events.Customer (customers.Join iface entry)) h = source_entry entry h
+adds (events.Customer (customers.Select vrf pattern)) h = eqb-true (rank pattern) 4 h
 adds (events.Tick count) h = tt
 adds (events.Timers node) h = tt
 adds (events.Move kind from to count) h = tt
@@ -61,11 +62,7 @@ adds (events.Restart node) h = no h
 adds (events.Lose kind a b) h = no h
 adds (events.Notice kind a b) h = no h
 adds (events.Raise kind a b) h = no h
-adds (events.Prune iface entry) h = no h
-adds (events.Pim iface octets) h = no h
-adds (events.Active iface source group) h = no h
-adds (events.Idle iface source group) h = no h
-adds (events.Unselect vrf pattern) h = no h
+adds (events.Customer other) h = no h
 adds (events.Cost a b cost) h = no h
 
 all_adds : (all : List Timed) → all_add all ≡ true → AllByRecursion (λ (timed : Timed). OnlyAdds timed.event) all

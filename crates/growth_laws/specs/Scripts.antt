@@ -11,6 +11,7 @@ use Rattle.scenario_defs.specs.Home.{local_routes}
 use Rattle.scenario_defs.specs.Rules.{ScriptRules}
 use Rattle.scenario_defs.specs.Vpn.{same_vpn}
 use Rattle.scenario_defs.specs.declared.event.Event.{Event}
+use Rattle.scenario_defs.specs.declared.event.CustomerEvent.TheVariants as customers
 use Rattle.scenario_defs.specs.declared.event.Event.TheVariants as events
 use Rattle.scenario_defs.specs.declared.event.Script.{Script}
 use Rattle.scenario_defs.specs.declared.event.Timed.{Timed}
@@ -30,8 +31,8 @@ HasOneHome scenario = (a b : VrfId) (route other : Route) (source : Addr) → sa
 
 -- The event takes nothing back: no prune, no loss, no restart, no other cost. A join is of (S,G), and so is the pattern of a selection.
 abbrev pub OnlyAdds : Event → Type 0
-OnlyAdds (events.Join iface entry) = IsSourceEntry entry
-OnlyAdds (events.Select vrf pattern) = rank pattern ≡ 4
+OnlyAdds (events.Customer (customers.Join iface entry)) = IsSourceEntry entry
+OnlyAdds (events.Customer (customers.Select vrf pattern)) = rank pattern ≡ 4
 OnlyAdds (events.Tick count) = ⊤
 OnlyAdds (events.Timers node) = ⊤
 OnlyAdds (events.Move kind from to count) = ⊤
@@ -50,7 +51,7 @@ ticks_of (events.Tick count) = count
 ticks_of other = 0
 
 abbrev pub is_selection : Event → Bool
-is_selection (events.Select vrf pattern) = true
+is_selection (events.Customer (customers.Select vrf pattern)) = true
 is_selection other = false
 
 -- The script takes nothing back, and all its time is less than the holdtime of a join. A node has more labels than there are VRFs and

@@ -8,6 +8,7 @@ use Rattle.mv_base.specs.declared.prefix.Prefix.{Prefix}
 use Rattle.scenario_defs.specs.Home.{local_routes}
 use Rattle.scenario_defs.specs.Vpn.{same_vpn}
 use Rattle.scenario_defs.specs.declared.event.Event.{Event}
+use Rattle.scenario_defs.specs.declared.event.CustomerEvent.TheVariants as customers
 use Rattle.scenario_defs.specs.declared.event.Event.TheVariants as events
 use Rattle.scenario_defs.specs.declared.event.JoinEntry.{JoinEntry}
 use Rattle.scenario_defs.specs.declared.event.JoinEntry.TheVariants as entries
@@ -26,8 +27,8 @@ is_source_entry other = false
 
 -- whether the event takes nothing back
 abbrev pub only_adds : Event → Bool
-only_adds (events.Join iface entry) = is_source_entry entry
-only_adds (events.Select vrf pattern) = rank pattern == 4
+only_adds (events.Customer (customers.Join iface entry)) = is_source_entry entry
+only_adds (events.Customer (customers.Select vrf pattern)) = rank pattern == 4
 only_adds (events.Tick count) = true
 only_adds (events.Timers node) = true
 only_adds (events.Move kind from to count) = true

@@ -1,17 +1,15 @@
 -- What is kept of a trace and its network, act by act, is kept by each event, and by each run.
-use Rattle.std.specs.Prelude.{find, replicate, nat_le}
+use Rattle.std.specs.Prelude.{find, replicate}
 use Rattle.std.specs.Prelude.{Result, Ok, Err}
 use Rattle.std.proofs.Common.{◌≡◌, ◌<◌, ◌+◌, ◌||◌, not, ℕ, zero, suc, Bool, true, false, cond, map, flat_map, ◌++◌, List, [], ◌∷◌, length, Option, Some, None, refl, sym, ap, subst, ◌∙◌, arith}
 use Rattle.std.specs.List.{AllByRecursion}
-use Rattle.std.specs.FinMap as maps
-use Rattle.std.proofs.lemmas.Bool.{and_parts, or_parts, leb-false}
+use Rattle.std.proofs.lemmas.Bool.{and_parts, or_parts}
 use Rattle.std.proofs.lemmas.List.{append_assoc, append-nil, map-append}
 use Rattle.mv_base.specs.declared.addr.Addr.{Addr}
 use Rattle.mv_base.specs.declared.ids.NodeId.{NodeId}
 use Rattle.mv_base.specs.declared.ids.SiteId.{SiteId}
 use Rattle.mv_base.specs.declared.ids.VrfId.{VrfId}
-use Rattle.mv_base.specs.declared.pattern.Pattern.{Pattern}
-use Rattle.scenario_defs.specs.Vpn.{edge_of, is_attached_at, entered}
+use Rattle.scenario_defs.specs.Vpn.{is_attached_at, entered}
 use Rattle.scenario_defs.specs.declared.event.Event.{Event}
 use Rattle.scenario_defs.specs.declared.event.Event.TheVariants as events
 use Rattle.scenario_defs.specs.declared.event.Kind.{Kind}
@@ -21,9 +19,7 @@ use Rattle.scenario_defs.specs.declared.report.Refusal.{Refusal}
 use Rattle.scenario_defs.specs.declared.report.Refusal.TheVariants as refusals
 use Rattle.scenario_defs.specs.declared.report.ReportLine.TheVariants as lines
 use Rattle.scenario_defs.specs.declared.scenario.Scenario.{Scenario}
-use Rattle.mvpn_model.specs.Messages.{message_of}
 use Rattle.mvpn_model.specs.Packet.{packet}
-use Rattle.mvpn_model.specs.declared.message.Given.{Given}
 use Rattle.mvpn_model.specs.Sessions.{sessions}
 use Rattle.label_defs.specs.Between.{is_between}
 use Rattle.mvpn_model.specs.declared.session.Session.{Session}
@@ -31,12 +27,13 @@ use Rattle.scenario_defs.specs.Kinds.{same_kind}
 use Rattle.network_defs.specs.session_defs.Refined.{seen}
 use Rattle.network_defs.specs.declared.session_defs.direction.Direction.{Direction}
 use Rattle.edge_defs.specs.Steps as steps
+use Rattle.edge_defs.specs.Steps.{CustomerCall}
 use Rattle.label_laws.specs.Rule.{Kept}
 use Rattle.network_defs.specs.Acts.{Act, Tick, Timers, Move, Lose, Notice, RaiseFirst, RaiseSecond, Restart, At, Enter, Land, Drop, Tell, SetCost, Reroute, Acted, act}
 use Rattle.network_defs.specs.Counts.{direction, all_nodes, directions, link_ways, is_joined, is_up as is_end}
-use Rattle.network_defs.specs.Events.{cost_acts, Happened, Outcome, Done, Halted, and_then, one_act, row, each, times, raise_acts, is_session_of, raises, notices, turn, healed, settled, landings, drain_round, sent, at_edge, with_message, done}
+use Rattle.network_defs.specs.Events.{cost_acts, Happened, Outcome, Done, Halted, and_then, one_act, row, each, times, raise_acts, is_session_of, raises, notices, turn, healed, settled, landings, drain_round, sent, at_edge, done, called}
 use Rattle.mvpn_model.specs.Packets.{source_in, group_in}
-use Rattle.network_defs.specs.Refusals.{control_at, edge_of_vrf, refused_if, is_session_joined, is_selected, are_sessions_full, selection_limit, selections_at, refusal}
+use Rattle.network_defs.specs.Refusals.{control_at, is_session_joined, refusal, call_for, edge_for}
 use Rattle.network_defs.specs.Run.{Traced, traced, outcome, Runs}
 use Rattle.network_defs.specs.World.{World, Datagram, scenario_of}
 use Rattle.network_defs.proofs.Kept.{Gives, Comes, both_give}
@@ -44,13 +41,13 @@ use Rattle.network_laws.specs.Sound.{SoundScenario}
 use Rattle.network_laws.specs.Honest.{IsCost, IsSoundCall, IsSoundEvent}
 use Rattle.network_laws.proofs.Lists.{each_of, each_map, each_flat, each_weaker}
 use Rattle.network_laws.proofs.RunActs.{SoundAct}
-use Rattle.network_laws.proofs.RunNodes.{IsNode, IsFoundNode, nodes_within, edge_within, vrf_within}
-use Rattle.network_laws.proofs.RunMessages.{IsSoundGiven, join_is_sound, prune_is_sound, read_is_sound}
+use Rattle.network_laws.proofs.RunNodes.{IsNode, IsFoundNode, nodes_within}
+use Rattle.network_laws.proofs.RunCalls.{IsSoundFor, call_is_sound, call_is_within}
 use Rattle.network_laws.proofs.RunEvents.{two_ends}
 use Rattle.rule_laws.specs.Labels.{label_network}
-use Rattle.rule_laws.proofs.Acts.{InStep, IsFit, act_in_step}
+use Rattle.rule_laws.proofs.Acts.{InStep, IsFit, act_in_step, IsFitFor}
 use Rattle.rule_laws.proofs.Enters.{enters}
-use Rattle.rule_laws.proofs.Events.{IsWay, ways_apart, enter_datagrams, attached_from, along, kind_is, not_refused, or_not_refused, notice_fits}
+use Rattle.rule_laws.proofs.Events.{IsWay, ways_apart, enter_datagrams, attached_from, along, kind_is, not_refused, notice_fits, FitsFor, call_fits}
 use Rattle.rule_laws.proofs.Raised.{bgp_up_is, Noticed, noticed, heals, pair_raised, alike}
 use Rattle.rule_laws.proofs.Raises.{between}
 use Rattle.license_laws.proofs.Sessions.{Declared, sessions_declared}
@@ -286,11 +283,11 @@ module _ (scenario : Scenario) (K : List Traced → World → Type 0) (keeps : K
 
   -- ---- calls
 
-  edge_follows : (o : Option NodeId) (call : steps.Call) → IsFoundNode scenario o → IsSoundCall call → (before : List Traced) (world : World)
-      → ((n : NodeId) → o ≡ Some n → IsFit world (At n call)) → InStep scenario world → K before world
+  edge_follows : (o : Option NodeId) (call : CustomerCall) → IsFoundNode scenario o → IsSoundCall (steps.Customer call) → (before : List Traced)
+      (world : World) → IsFitFor (control_at world o) call → InStep scenario world → K before world
       → Follows K H number Keeping before (at_edge o call world)
   edge_follows None call within sound before world fit s k = nothing K H number leaves.whole Keeping before world s k
-  edge_follows (Some n) call within sound before world fit s k = lone_act (At n call) (within, sound) before world (fit n refl) s k
+  edge_follows (Some n) call within sound before world fit s k = lone_act (At n (steps.Customer call)) (within, sound) before world fit s k
 
   -- ---- raises
 
@@ -409,30 +406,15 @@ module _ (scenario : Scenario) (K : List Traced → World → Type 0) (keeps : K
 
 -- ---- events, in the words of the world's own scenario
 
-message_follows : (K : List Traced → World → Type 0) (H : List Traced → Type 0) (number : ℕ) (before : List Traced) (world : World)
-    → Keeps (scenario_of world) K → Leaves (scenario_of world) K H → SoundScenario (scenario_of world) → (o : Option Given) → IsSoundGiven o
-    → InStep (scenario_of world) world → K before world → Follows K H number (InStep (scenario_of world)) before (with_message o world)
-message_follows K H number before world keeps leaves sound None is s k = nothing K H number leaves.whole (InStep (scenario_of world)) before world s k
-message_follows K H number before world keeps leaves sound (Some given) is s k =
-    edge_follows (scenario_of world) K keeps H leaves number (edge_of (scenario_of world) given.iface) (steps.Customer (steps.Pim given.iface given.message))
-    (edge_within (scenario_of world) sound given.iface) is before world (λ n e. (tt, refl)) s k
-
-select_follows : (K : List Traced → World → Type 0) (H : List Traced → Type 0) (number : ℕ) (before : List Traced) (world : World)
-    → Keeps (scenario_of world) K → Leaves (scenario_of world) K H → SoundScenario (scenario_of world) → InStep (scenario_of world) world
-    → (vrf : VrfId) (pattern : Pattern) → IsSoundCall (steps.Customer (steps.Select vrf pattern))
-    → (maps.len (control_at world (edge_of_vrf (scenario_of world) vrf)).selections < 1000000) × (is_selected world vrf pattern ≡ false)
-    → K before world → Follows K H number (InStep (scenario_of world)) before
-    (at_edge (edge_of_vrf (scenario_of world) vrf) (steps.Customer (steps.Select vrf pattern)) world)
-select_follows K H number before world keeps leaves sound s vrf pattern is room k =
-    by (edge_of_vrf (scenario_of world) vrf) (vrf_within (scenario_of world) sound vrf) room
-  where
-    by : (o : Option NodeId) → IsFoundNode (scenario_of world) o
-        → (maps.len (control_at world o).selections < 1000000)
-        × (maps.contains_key (control_at world o).selections (record { vrf = vrf; pattern = pattern }) ≡ false)
-        → Follows K H number (InStep (scenario_of world)) before (at_edge o (steps.Customer (steps.Select vrf pattern)) world)
-    by None within fits = nothing K H number leaves.whole (InStep (scenario_of world)) before world s k
-    by (Some n) within fits =
-        lone_act (scenario_of world) K keeps H leaves number (At n (steps.Customer (steps.Select vrf pattern))) (within, is) before world fits s k
+customer_follows : (K : List Traced → World → Type 0) (H : List Traced → Type 0) (number : ℕ) (before : List Traced) (world : World)
+    → Keeps (scenario_of world) K → Leaves (scenario_of world) K H → SoundScenario (scenario_of world) → (o : Option CustomerCall) → IsSoundFor o
+    → FitsFor world o → InStep (scenario_of world) world → K before world
+    → Follows K H number (InStep (scenario_of world)) before (called o world)
+customer_follows K H number before world keeps leaves sound None is fits s k =
+    nothing K H number leaves.whole (InStep (scenario_of world)) before world s k
+customer_follows K H number before world keeps leaves sound (Some call) is fits s k =
+    edge_follows (scenario_of world) K keeps H leaves number (edge_for (scenario_of world) call) call
+    (call_is_within (scenario_of world) sound call) is before world fits s k
 
 done_follows : (K : List Traced → World → Type 0) (H : List Traced → Type 0) (number : ℕ) (before : List Traced) (world : World)
     → Keeps (scenario_of world) K → Leaves (scenario_of world) K H → SoundScenario (scenario_of world) → InStep (scenario_of world) world
@@ -457,36 +439,13 @@ done_follows K H number before world keeps leaves lines s (events.Raise kind a b
     (not_refused (is_end world kind a b || is_end world kind b a) refusals.State free) in
     raise_follows (scenario_of world) K keeps H leaves number kind a b (sessions (scenario_of world)) (sessions_declared (scenario_of world) lines)
     before world x.0 x.1 s k
-done_follows K H number before world keeps leaves lines s (events.Join iface entry) free sound k =
-    message_follows K H number before world keeps leaves lines (message_of (scenario_of world) (events.Join iface entry))
-    (join_is_sound (scenario_of world) iface entry sound.1) s k
-done_follows K H number before world keeps leaves lines s (events.Prune iface entry) free sound k =
-    message_follows K H number before world keeps leaves lines (message_of (scenario_of world) (events.Prune iface entry))
-    (prune_is_sound (scenario_of world) iface entry sound.1) s k
-done_follows K H number before world keeps leaves lines s (events.Pim iface octets) free sound k =
-    message_follows K H number before world keeps leaves lines (message_of (scenario_of world) (events.Pim iface octets))
-    (read_is_sound iface octets sound) s k
-done_follows K H number before world keeps leaves lines s (events.Active iface source group) free sound k =
-    edge_follows (scenario_of world) K keeps H leaves number (edge_of (scenario_of world) iface) (steps.Customer (steps.Active iface source group))
-    (edge_within (scenario_of world) lines iface) sound before world (λ n e. (tt, refl)) s k
-done_follows K H number before world keeps leaves lines s (events.Idle iface source group) free sound k =
-    edge_follows (scenario_of world) K keeps H leaves number (edge_of (scenario_of world) iface) (steps.Customer (steps.Idle iface source group))
-    (edge_within (scenario_of world) lines iface) tt before world (λ n e. (tt, refl)) s k
+done_follows K H number before world keeps leaves lines s (events.Customer event) free sound k =
+    customer_follows K H number before world keeps leaves lines (call_for (scenario_of world) event) (call_is_sound (scenario_of world) event sound)
+    (call_fits world event free) s k
 done_follows K H number before world keeps leaves lines s (events.Send site source group payload) free sound k =
     sent_follows (scenario_of world) K keeps H leaves number site source group (packet source group payload) before world s k
 done_follows K H number before world keeps leaves lines s (events.Packet site octets) free sound k =
     sent_follows (scenario_of world) K keeps H leaves number site (source_in octets) (group_in octets) octets before world s k
-done_follows K H number before world keeps leaves lines s (events.Select vrf pattern) free sound k =
-    let x = or_not_refused (refused_if (is_selected world vrf pattern) refusals.State)
-    (refused_if (are_sessions_full world || nat_le selection_limit (selections_at world vrf)) refusals.Full) free in
-    let y = or_parts (are_sessions_full world) (nat_le selection_limit (selections_at world vrf))
-    (not_refused (are_sessions_full world || nat_le selection_limit (selections_at world vrf)) refusals.Full x.1) in
-    let few = leb-false 256 (selections_at world vrf) y.1 in
-    select_follows K H number before world keeps leaves lines s vrf pattern sound
-    (omega (arith, few), not_refused (is_selected world vrf pattern) refusals.State x.0) k
-done_follows K H number before world keeps leaves lines s (events.Unselect vrf pattern) free sound k =
-    edge_follows (scenario_of world) K keeps H leaves number (edge_of_vrf (scenario_of world) vrf) (steps.Customer (steps.Unselect vrf pattern))
-    (vrf_within (scenario_of world) lines vrf) tt before world (λ n e. (tt, refl)) s k
 done_follows K H number before world keeps leaves lines s (events.Hop from to place) free sound k =
     lone_act (scenario_of world) K keeps H leaves number (Land from to place) tt before world (two_ends (scenario_of world) lines from to place sound)
     s k

@@ -4,6 +4,7 @@ use Rattle.std.specs.Prelude.{codes, decimal, Ok}
 use Rattle.std.specs.List.{slice_get}
 use Rattle.std.proofs.lemmas.Bool.{lt-leb}
 use Rattle.scenario_defs.specs.declared.event.Event.{Event}
+use Rattle.scenario_defs.specs.declared.event.CustomerEvent.TheVariants as customers
 use Rattle.scenario_defs.specs.declared.event.Event.TheVariants as events
 use Rattle.scenario_defs.specs.declared.event.JoinEntry.TheVariants.{Source}
 use Rattle.scenario_defs.specs.declared.event.Timed.{Timed}
@@ -192,14 +193,14 @@ module _ (base : Drafted) (has : HasThings base) (edge vpn : ℕ) (a : 0 < edge)
   -- ---- joins
 
   join_told : (number : ℕ) → Tells base (codes "join I" ++ made.pair vpn edge ++ codes " " ++ made.flow number vpn ++ codes "\n")
-      (events.Join (iface_id edge vpn) (Source (source number vpn) (group vpn)) ∷ [])
+      (events.Customer (customers.Join (iface_id edge vpn) (Source (source number vpn) (group vpn))) ∷ [])
   join_told number =
       as_told base _ (codes "join I" ++ made.pair vpn edge ++ codes " " ++ made.flow number vpn ++ codes "\n")
-      (events.Join (iface_id edge vpn) (Source (source number vpn) (group vpn)) ∷ [])
+      (events.Customer (customers.Join (iface_id edge vpn) (Source (source number vpn) (group vpn))) ∷ [])
       (glued_strung (codes "join I") (made.pair vpn edge ∷ codes " " ∷ made.flow number vpn ∷ codes "\n" ∷ [])
       ∙ ap (λ (l : List ℕ). codes "join I" ++ (made.pair vpn edge ++ (codes " " ++ l))) (flow_text number vpn (codes "\n")))
       (tells_row base (codes "join") (name_at (codes "I") edge vpn ∷ host (source_edge number vpn) vpn (codes "9") ∷ (codes "232.1.1." ++ decimal vpn)
-      ∷ []) (events.Join (iface_id edge vpn) (Source (source number vpn) (group vpn))) (
+      ∷ []) (events.Customer (customers.Join (iface_id edge vpn) (Source (source number vpn) (group vpn)))) (
         known_word (codes "join") (omega arith) (omega arith) refl,
         (pair_word 73 edge vpn b (omega arith) (letter_word 73 refl), (source_word number vpn (omega arith), (group_word vpn (omega arith), tt))),
       )
@@ -213,7 +214,7 @@ module _ (base : Drafted) (has : HasThings base) (edge vpn : ℕ) (a : 0 < edge)
   join_line_told number =
       tells_if base (not (edge == source_edge number vpn) && (edge + vpn + number) % 4 == 0)
       (codes "join I" ++ made.pair vpn edge ++ codes " " ++ made.flow number vpn ++ codes "\n")
-      (events.Join (iface_id edge vpn) (Source (source number vpn) (group vpn)) ∷ []) (join_told number)
+      (events.Customer (customers.Join (iface_id edge vpn) (Source (source number vpn) (group vpn))) ∷ []) (join_told number)
 
 module _ (base : Drafted) (has : HasThings base) (number vpn : ℕ) (c : 0 < vpn) (d : vpn < 9) where
   -- ---- datagrams
@@ -243,15 +244,15 @@ module _ (base : Drafted) (has : HasThings base) (number vpn : ℕ) (c : 0 < vpn
   -- ---- selections
 
   select_told : Tells base (codes "select V" ++ made.pair vpn (source_edge number vpn) ++ codes " " ++ made.flow number vpn ++ codes "\n")
-      (events.Select (vrf_id (source_edge number vpn) vpn) (record { source = Some (source number vpn); group = Some (group vpn) }) ∷ [])
+      (events.Customer (customers.Select (vrf_id (source_edge number vpn) vpn) (record { source = Some (source number vpn); group = Some (group vpn) })) ∷ [])
   select_told =
       as_told base _ (codes "select V" ++ made.pair vpn (source_edge number vpn) ++ codes " " ++ made.flow number vpn ++ codes "\n")
-      (events.Select (vrf_id (source_edge number vpn) vpn) (record { source = Some (source number vpn); group = Some (group vpn) }) ∷ [])
+      (events.Customer (customers.Select (vrf_id (source_edge number vpn) vpn) (record { source = Some (source number vpn); group = Some (group vpn) })) ∷ [])
       (glued_strung (codes "select V") (made.pair vpn (source_edge number vpn) ∷ codes " " ∷ made.flow number vpn ∷ codes "\n" ∷ [])
       ∙ ap (λ (l : List ℕ). codes "select V" ++ (made.pair vpn (source_edge number vpn) ++ (codes " " ++ l))) (flow_text number vpn (codes "\n")))
       (tells_row base (codes "select") (name_at (codes "V") (source_edge number vpn) vpn ∷ host (source_edge number vpn) vpn (codes "9")
-      ∷ (codes "232.1.1." ++ decimal vpn) ∷ []) (events.Select (vrf_id (source_edge number vpn) vpn)
-      (record { source = Some (source number vpn); group = Some (group vpn) })) (
+      ∷ (codes "232.1.1." ++ decimal vpn) ∷ []) (events.Customer (customers.Select (vrf_id (source_edge number vpn) vpn)
+      (record { source = Some (source number vpn); group = Some (group vpn) }))) (
         known_word (codes "select") (omega arith) (omega arith) refl,
         (
           pair_word 86 (source_edge number vpn) vpn (omega arith) (omega arith) (letter_word 86 refl),
@@ -267,4 +268,4 @@ module _ (base : Drafted) (has : HasThings base) (number vpn : ℕ) (c : 0 < vpn
   pub select_line_told : Tells base (made.select_line number vpn) (selection number vpn)
   select_line_told =
       tells_if base (vpn % 2 == 1) (codes "select V" ++ made.pair vpn (source_edge number vpn) ++ codes " " ++ made.flow number vpn ++ codes "\n")
-      (events.Select (vrf_id (source_edge number vpn) vpn) (record { source = Some (source number vpn); group = Some (group vpn) }) ∷ []) select_told
+      (events.Customer (customers.Select (vrf_id (source_edge number vpn) vpn) (record { source = Some (source number vpn); group = Some (group vpn) })) ∷ []) select_told

@@ -12,6 +12,7 @@ use Rattle.mv_base.specs.declared.ids.IfaceId.{IfaceId}
 use Rattle.mv_base.specs.AddrText.{addr_of}
 use Rattle.mv_base.specs.Number.{is_number}
 use Rattle.scenario_defs.specs.declared.scenario.Iface.{Iface}
+use Rattle.scenario_defs.specs.declared.event.CustomerEvent.TheVariants as customers
 use Rattle.scenario_defs.specs.declared.event.Event.TheVariants as events
 use Rattle.scenario_defs.specs.declared.event.JoinEntry.TheVariants.{Source}
 use Rattle.line_words.specs.declared.words.Row.{Row}
@@ -101,10 +102,12 @@ pub join_said : (draft : Drafted) (row : Row) (iface : IfaceId) (found : Iface) 
     → TakesEvents draft → AreOfFlow a b source group
     → ((column : ℕ) → iface_at draft row (at column name) ≡ Ok iface) → slice_get draft.scenario.ifaces iface.0 ≡ Some found
     → same_family found.addr group ≡ true
-    → words_line draft row (at c (codes "join") ∷ at d name ∷ at e a ∷ at f b ∷ []) ≡ Ok (says.Event (events.Join iface (Source source group)))
+    → words_line draft row (at c (codes "join") ∷ at d name ∷ at e a ∷ at f b ∷ []) ≡ Ok
+    (says.Event (events.Customer (customers.Join iface (Source source group))))
 unfolding event_line event_word event_words entry_line iface_entry three_words
 join_said draft row iface found source group name a b c d e f takes flow named there family =
-    in_events draft row (at c (codes "join")) (at d name ∷ at e a ∷ at f b ∷ []) (says.Event (events.Join iface (Source source group))) takes.begun
+    in_events draft row (at c (codes "join")) (at d name ∷ at e a ∷ at f b ∷ [])
+    (says.Event (events.Customer (customers.Join iface (Source source group)))) takes.begun
     (rw (takes.few, named d, entry_word row a b source group e f flow, flow.family, of_iface draft iface found group there family) refl)
 
 -- ---- datagrams
@@ -156,9 +159,9 @@ pub select_said : (draft : Drafted) (row : Row) (vrf : VrfId) (source group : Ad
     → AreOfFlow a b source group
     → ((column : ℕ) → vrf_at draft row (at column name) ≡ Ok vrf)
     → words_line draft row (at c (codes "select") ∷ at d name ∷ at e a ∷ at f b ∷ [])
-    ≡ Ok (says.Event (events.Select vrf (record { source = Some source; group = Some group })))
+    ≡ Ok (says.Event (events.Customer (customers.Select vrf (record { source = Some source; group = Some group }))))
 unfolding event_line event_word event_words select_line select_words
 select_said draft row vrf source group name a b c d e f takes flow named =
     in_events draft row (at c (codes "select")) (at d name ∷ at e a ∷ at f b ∷ [])
-    (says.Event (events.Select vrf (record { source = Some source; group = Some group }))) takes.begun
+    (says.Event (events.Customer (customers.Select vrf (record { source = Some source; group = Some group })))) takes.begun
     (rw (takes.few, named d, pattern_word row a b source group e f flow, flow.family) refl)

@@ -1,5 +1,5 @@
 -- The script of each number holds octets.
-use Rattle.std.proofs.Common.{◌≡◌, ℕ, zero, suc, ◌+◌, ◌*◌, ◌%◌, ◌<◌, ◌==◌, ◌&&◌, not, Bool, true, false, cond, List, [], ◌∷◌, ◌++◌, refl, arith}
+use Rattle.std.proofs.Common.{◌≡◌, ℕ, zero, suc, ◌+◌, ◌*◌, ◌%◌, ◌<◌, ◌==◌, ◌&&◌, not, Bool, true, false, cond, List, [], ◌∷◌, ◌++◌, arith}
 use Rattle.std.specs.Prelude.{All, Some}
 use Rattle.std.specs.List.{AllByRecursion}
 use Rattle.std.proofs.lemmas.List.Elements.{All-append, All-cons, All-nil}
@@ -8,6 +8,7 @@ use Rattle.mv_base.specs.Octets.{IsOctets}
 use Rattle.mv_base.specs.declared.prefix.Prefix.{Prefix}
 use Rattle.mv_base.specs.declared.route_targets.communities.Target.{Target}
 use Rattle.scenario_defs.specs.declared.event.Event.{Event}
+use Rattle.scenario_defs.specs.declared.event.CustomerEvent.TheVariants as customers
 use Rattle.scenario_defs.specs.declared.event.Event.TheVariants as events
 use Rattle.scenario_defs.specs.declared.event.JoinEntry.TheVariants.{Source}
 use Rattle.scenario_defs.specs.declared.scenario.Iface.{Iface}
@@ -17,7 +18,7 @@ use Rattle.scenario_defs.specs.declared.scenario.Vrf.{Vrf}
 use Rattle.growth_laws.proofs.network_laws.Lists.{each_append}
 use Rattle.growth_laws.specs.network_laws.Sound.{HasOctets}
 use Rattle.growth_laws.specs.run_laws.Octets.{EventHasOctets, ScriptHasOctets, flow_octets}
-use Rattle.made_laws.specs.MadeScript.{each, all, ipv4, edge_node, core_node, vrf_id, iface_id, vrf, site, iface, source, source_edge, group, join, send, selection, first_events, last_events, made_scenario, made_events, from_line, made_script}
+use Rattle.made_laws.specs.MadeScript.{each, all, ipv4, edge_node, core_node, vrf_id, iface_id, vrf, site, iface, source, source_edge, group, join, send, selection, first_events, last_events, made_scenario, made_events, made_script}
 use Rattle.made_laws.proofs.GrowLemmas.{lines_have}
 
 -- ---- octets
@@ -129,7 +130,7 @@ joins_have : (number : ℕ) → Have (each (λ vpn. each (join number vpn) 32) 8
 joins_have number =
     each_have (λ vpn. each (join number vpn) 32) 8
     (λ v few. each_have (join number (suc v)) 32 (λ e less. one_has (not (suc e == source_edge number (suc v)) && (suc e + suc v + number) % 4 == 0)
-    (events.Join (iface_id (suc e) (suc v)) (Source (source number (suc v)) (group (suc v)))) (flow_has number v few)))
+    (events.Customer (customers.Join (iface_id (suc e) (suc v)) (Source (source number (suc v)) (group (suc v))))) (flow_has number v few)))
 
 sends_have : (number octet : ℕ) → octet < 256 → Have (all (send number octet) 8)
 sends_have number octet fits =
@@ -140,7 +141,7 @@ selections_have : (number : ℕ) → Have (each (selection number) 8)
 selections_have number =
     each_have (selection number) 8
     (λ v few. one_has (suc v % 2 == 1)
-    (events.Select (vrf_id (source_edge number (suc v)) (suc v)) (record { source = Some (source number (suc v)); group = Some (group (suc v)) }))
+    (events.Customer (customers.Select (vrf_id (source_edge number (suc v)) (suc v)) (record { source = Some (source number (suc v)); group = Some (group (suc v)) })))
     (flow_has number v few))
 
 first_have : (number : ℕ) → Have (first_events number)

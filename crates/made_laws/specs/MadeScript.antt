@@ -17,6 +17,7 @@ use Rattle.scenario_defs.specs.declared.scenario.Site.{Site}
 use Rattle.scenario_defs.specs.declared.scenario.Iface.{Iface}
 use Rattle.scenario_defs.specs.declared.scenario.Scenario.{Scenario}
 use Rattle.scenario_defs.specs.declared.event.Event.{Event}
+use Rattle.scenario_defs.specs.declared.event.CustomerEvent.TheVariants as customers
 use Rattle.scenario_defs.specs.declared.event.Event.TheVariants as events
 use Rattle.scenario_defs.specs.declared.event.JoinEntry.TheVariants.{Source}
 use Rattle.scenario_defs.specs.declared.event.Timed.{Timed}
@@ -134,7 +135,7 @@ group vpn = ipv4 232 1 1 vpn
 abbrev pub join : ℕ → ℕ → ℕ → List Event
 join number vpn edge =
     if not (edge == source_edge number vpn) && (edge + vpn + number) % 4 == 0
-    then events.Join (iface_id edge vpn) (Source (source number vpn) (group vpn)) ∷ []
+    then events.Customer (customers.Join (iface_id edge vpn) (Source (source number vpn) (group vpn))) ∷ []
     else []
 
 -- a datagram of the VPN's flow, with one octet of payload
@@ -145,7 +146,7 @@ send number octet vpn = events.Send (site_id (source_edge number vpn) vpn) (sour
 abbrev pub selection : ℕ → ℕ → List Event
 selection number vpn =
     if vpn % 2 == 1
-    then events.Select (vrf_id (source_edge number vpn) vpn) (record { source = Some (source number vpn); group = Some (group vpn) }) ∷ []
+    then events.Customer (customers.Select (vrf_id (source_edge number vpn) vpn) (record { source = Some (source number vpn); group = Some (group vpn) })) ∷ []
     else []
 
 -- sessions come up; then the joins, and a datagram of each flow over the inclusive tunnels

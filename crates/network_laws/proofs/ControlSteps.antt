@@ -1,5 +1,5 @@
 -- What a call itself changes at an edge stays sound.
-use Rattle.std.proofs.Common.{◌≡◌, ℕ, false, map, Option, Some, None, refl, sym, ◌∙◌}
+use Rattle.std.proofs.Common.{◌≡◌, ℕ, true, false, map, Option, Some, None, refl, sym, ◌∙◌}
 use Rattle.std.specs.List.{AllByRecursion, fold, list_any}
 use Rattle.std.specs.FinMap as maps
 use Rattle.std.specs.FinMap.{FinMap}
@@ -10,51 +10,28 @@ use Rattle.bgp_messages.specs.bgp_update.Table.{changes_of}
 use Rattle.scenario_defs.specs.declared.event.Kind.TheVariants as kinds
 use Rattle.label_defs.specs.Keys.{node_cmp}
 use Rattle.label_defs.proofs.KeyLemmas.{node_cmp_total, node_cmp_exact}
-use Rattle.network_defs.specs.edge_defs.Edge.{Note, VrfPattern, pattern_cmp, Selected, Taken, Control}
+use Rattle.network_defs.specs.edge_defs.Edge.{Note, VrfPattern, note_cmp, pattern_cmp, Selected, Taken, Control}
 use Rattle.network_defs.specs.edge_defs.Keys.{key_cmp}
 use Rattle.network_defs.specs.edge_defs.Place.{EdgePlace}
 use Rattle.network_defs.specs.edge_defs.Steps as steps
 use Rattle.network_defs.specs.edge_defs.selective_defs.Selective.{free_number}
-use Rattle.network_defs.specs.edge_defs.Steps.{taken_change, with_update, is_used, with_selection, selection_run, selections_run, route_run, taken_run, peers_run, timed, effect}
+use Rattle.network_defs.specs.edge_defs.Steps.{taken_change, with_update, is_used, selection_run, selections_run, route_run, taken_run, peers_run, timed, effect}
 use Rattle.network_laws.specs.Sound.{SoundPattern, SoundTaken, SoundControl}
 use Rattle.network_laws.specs.Honest.{IsSoundCall}
 use Rattle.network_laws.proofs.Lists.{each_map, each_weaker}
 use Rattle.network_laws.proofs.Maps.{Each, all_entries, made_meets, put_meets, cut_meets, each_inserted, still}
 use Rattle.network_defs.proofs.edge_defs.KeyLemmas.{key_total, key_exact, note_total, note_exact, pattern_total, pattern_exact}
-use Rattle.network_laws.proofs.ControlEntries.{applied_sound, kept_sound}
+use Rattle.network_laws.proofs.ControlEntries.{SoundAt, applied_sound, kept_sound}
 use Rattle.network_laws.proofs.ControlFlows.{SoundPeer, SoundRoute, SoundNote}
 use Rattle.network_laws.proofs.ControlTaken.{SoundChange, all_changes_sound}
+
+abbrev EachNote : sets.FinSet note_cmp → Type 0
+EachNote notes = (note : Note) → sets.contains notes note ≡ true → SoundNote note
 
 abbrev SoundSelection : VrfPattern → Selected → Type 0
 SoundSelection key selected = SoundPattern key.pattern
 
 -- ---- records of which one part changes
-
-with_notes : (old : Control) (note : Note) → SoundControl old → SoundNote note → SoundControl (record old { notes = sets.insert old.notes note })
-with_notes old note h new =
-    record {
-      entries = h.entries;
-      notes = each_inserted note_total note_exact SoundNote old.notes note new h.notes;
-      selections = h.selections;
-      flows =
-          h.flows;
-      peers = h.peers;
-    }
-
-without_note : (old : Control) (note : Note) → SoundControl old → SoundControl (record old { notes = sets.remove old.notes note })
-without_note old note h =
-    record {
-      entries = h.entries;
-      notes = λ q e. h.notes q (still note_total old.notes note q e);
-      selections = h.selections;
-      flows = h.flows;
-      peers =
-          h.peers;
-    }
-
-with_selections : (old : Control) (selections : FinMap pattern_cmp Selected) → SoundControl old → Each SoundSelection selections
-    → SoundControl (record old { selections = selections })
-with_selections old selections h new = record { entries = h.entries; notes = h.notes; selections = new; flows = h.flows; peers = h.peers }
 
 with_peers : (old : Control) (peers : FinMap node_cmp Taken) → SoundControl old → Each SoundPeer peers → SoundControl (record old { peers = peers })
 with_peers old peers h new = record { entries = h.entries; notes = h.notes; selections = h.selections; flows = h.flows; peers = new }
@@ -110,6 +87,40 @@ timed_sound place now old h = record {
   peers = peers_run_sound place now old.peers h.peers;
 }
 
+-- ---- calls of customers
+
+entries_sound : (now : ℕ) (old : Control) (call : steps.CustomerCall) → Each SoundAt old.entries → IsSoundCall (steps.Customer call)
+    → Each SoundAt (steps.entries_after now old.entries call)
+entries_sound now old (steps.Pim iface message) h heard = applied_sound old.entries iface message now h heard
+entries_sound now old other h heard = h
+
+-- a note that a call adds is sound
+abbrev SoundNoting : steps.Noting → Type 0
+SoundNoting (steps.Noted note) = SoundNote note
+SoundNoting other = Unit {0}
+
+noting_sound : (call : steps.CustomerCall) → IsSoundCall (steps.Customer call) → SoundNoting (steps.noting call)
+noting_sound (steps.Active iface source group) heard = heard
+noting_sound other heard = tt
+
+notes_sound : (old : sets.FinSet note_cmp) (by : steps.Noting) → SoundNoting by → EachNote old → EachNote (steps.with_noting old by)
+notes_sound old (steps.Noted note) new h = each_inserted note_total note_exact SoundNote old note new h
+notes_sound old (steps.Unnoted note) new h = λ q e. h q (still note_total old note q e)
+notes_sound old steps.Untouched new h = h
+
+selections_sound : (now : ℕ) (old : Control) (call : steps.CustomerCall) → Each SoundSelection old.selections → IsSoundCall (steps.Customer call)
+    → Each SoundSelection (steps.selections_after now old.selections call)
+selections_sound now old (steps.Select vrf pattern) h heard =
+    put_meets pattern_total pattern_exact SoundSelection old.selections (record { vrf = vrf; pattern = pattern })
+    (record {
+      number = free_number (λ number. list_any (is_used vrf number) (maps.entries old.selections)) (maps.len old.selections) 1;
+      since = now;
+      run = false;
+    }) h heard
+selections_sound now old (steps.Unselect vrf pattern) h heard =
+    cut_meets pattern_total pattern_exact SoundSelection old.selections (record { vrf = vrf; pattern = pattern }) h
+selections_sound now old other h heard = h
+
 -- ---- calls
 
 -- What a call of the node itself changes is sound.
@@ -117,31 +128,13 @@ pub effect_sound : (place : EdgePlace) (now : ℕ) (old : Control) (call : steps
     → SoundControl (effect place now old call)
 effect_sound place now old (steps.Update peer message) h heard = absurd heard
 effect_sound place now old (steps.Label neighbour message) h heard = absurd heard
-effect_sound place now old (steps.Customer (steps.Pim iface message)) h heard =
-    record {
-      entries = applied_sound old.entries iface message now h.entries heard;
-      notes = h.notes;
-      selections = h.selections;
-      flows =
-          h.flows;
-      peers = h.peers;
-    }
-effect_sound place now old (steps.Customer (steps.Active iface source group)) h heard =
-    with_notes old (record { iface = iface; source = source; group = group }) h heard
-effect_sound place now old (steps.Customer (steps.Idle iface source group)) h heard =
-    without_note old (record { iface = iface; source = source; group = group }) h
-effect_sound place now old (steps.Customer (steps.Select vrf pattern)) h heard =
-    with_selections old (with_selection now vrf pattern old.selections) h
-    (put_meets pattern_total pattern_exact SoundSelection old.selections (record { vrf = vrf; pattern = pattern })
-    (record {
-      number = free_number (λ number. list_any (is_used vrf number) (maps.entries old.selections)) (maps.len old.selections) 1;
-      since =
-          now;
-      run = false;
-    }) h.selections heard)
-effect_sound place now old (steps.Customer (steps.Unselect vrf pattern)) h heard =
-    with_selections old (maps.remove old.selections (record { vrf = vrf; pattern = pattern })) h
-    (cut_meets pattern_total pattern_exact SoundSelection old.selections (record { vrf = vrf; pattern = pattern }) h.selections)
+effect_sound place now old (steps.Customer call) h heard = record {
+  entries = entries_sound now old call h.entries heard;
+  notes = notes_sound old.notes (steps.noting call) (noting_sound call heard) h.notes;
+  selections = selections_sound now old call h.selections heard;
+  flows = h.flows;
+  peers = h.peers;
+}
 effect_sound place now old (steps.Raised kinds.Bgp peer) h heard =
     with_peers old (maps.insert old.peers peer maps.empty) h
     (put_meets node_cmp_total node_cmp_exact SoundPeer old.peers peer maps.empty h.peers nothing_taken)

@@ -27,6 +27,7 @@ pub mod Nodes
 pub mod RunActs
 pub mod RunMessages
 pub mod RunNodes
+pub mod RunCalls
 pub mod RunEvents
 pub mod Costs
 pub mod SteadyEvents

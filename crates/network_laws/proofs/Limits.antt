@@ -19,6 +19,8 @@ use Rattle.network_defs.proofs.edge_defs.pim_defs.KeyLemmas.{entry_cmp_total}
 use Rattle.network_defs.specs.edge_defs.pim_defs.Expiry.{counts}
 use Rattle.scenario_defs.specs.Vpn.{edge_of}
 use Rattle.scenario_defs.specs.declared.event.Event.{Event}
+use Rattle.scenario_defs.specs.declared.event.CustomerEvent.TheVariants as customers
+use Rattle.scenario_defs.specs.declared.event.CustomerEvent.{CustomerEvent}
 use Rattle.scenario_defs.specs.declared.event.Event.TheVariants as events
 use Rattle.scenario_defs.specs.declared.event.Kind.TheVariants as kinds
 use Rattle.scenario_defs.specs.declared.event.Timed.{Timed}
@@ -38,7 +40,7 @@ use Rattle.label_defs.specs.Steps.{label_step}
 use Rattle.network_defs.specs.edge_defs.Edge as edges
 use Rattle.network_defs.specs.edge_defs.Edge.{Control, EdgeData, Note, VrfPattern, Selected, no_control, note_cmp, pattern_cmp}
 use Rattle.network_defs.specs.edge_defs.Steps as steps
-use Rattle.network_defs.specs.edge_defs.Steps.{effect, control_step, taken_change, with_update, is_used, with_selection, selections_run, selection_run}
+use Rattle.network_defs.specs.edge_defs.Steps.{effect, control_step, taken_change, with_update, is_used, selections_run, selection_run}
 use Rattle.network_defs.specs.mvpn_model.declared.message.Given.{Given}
 use Rattle.network_defs.specs.Acts.{Act, Tick, Timers, Move, Lose, Notice, RaiseFirst, RaiseSecond, Restart, At, Enter, Land, Drop, Tell, SetCost, Reroute, Acted, with_network, at_node, is_of_session, is_at, leads_to, is_from_peer, with_aged, act}
 use Rattle.network_defs.specs.Counts.{direction, all_nodes}
@@ -50,9 +52,9 @@ use Rattle.mv_base.specs.declared.ids.VrfId.{VrfId}
 use Rattle.mv_base.specs.declared.pattern.Pattern.{Pattern}
 use Rattle.network_defs.specs.mvpn_model.Messages.{message_of}
 use Rattle.network_defs.specs.Costs.{Cores}
-use Rattle.network_defs.specs.Events.{Happened, Done, one_act, row, cost_acts, at_edge, with_message, done}
+use Rattle.network_defs.specs.Events.{Happened, Done, one_act, row, cost_acts, at_edge, done, called}
 use Rattle.network_defs.specs.Run.{Traced, outcome, Runs}
-use Rattle.network_defs.specs.Refusals.{refused_if, are_sessions_full, control_of, control_at, edge_of_vrf, message_refusal, note_refusal, is_selected, selections_at, refusal, note_limit, selection_limit}
+use Rattle.network_defs.specs.Refusals.{refused_if, are_sessions_full, control_of, control_at, message_refusal, note_refusal, is_selected, selections_at, refusal, note_limit, selection_limit, message_call, call_for, edge_for}
 use Rattle.network_defs.specs.System.{NodeCall, Own, Elapse, Reset, Price, Follow, edge_stepped, core_called, node_called, nodes_called, call_of, system}
 use Rattle.network_defs.specs.World.{World, scenario_of, clock_of, start}
 use Rattle.network_defs.proofs.Kept.{Gives, Comes, then_comes, one_comes, enter_keeps, land_keeps}
@@ -172,40 +174,56 @@ updated_same now peer message old w = by (maps.get old.peers peer)
     by None = w
     by (Some taken) = record { entries = w.entries; notes = w.notes; selections = w.selections }
 
+entries_few : (now : ℕ) (old : Control) (call : steps.CustomerCall) → HasRoom now old (steps.Customer call) → maps.len old.entries ≤ entry_limit
+    → maps.len (steps.entries_after now old.entries call) ≤ entry_limit
+entries_few now old (steps.Pim iface message) room le = room
+entries_few now old other room le = le
+
+-- there is room for a note that a call adds
+abbrev NotingRoom : sets.FinSet note_cmp → steps.Noting → Type 0
+NotingRoom old (steps.Noted note) = (sets.contains old note ≡ true) ⊎ (sets.len old < note_limit)
+NotingRoom old other = ⊤
+
+noting_room : (now : ℕ) (old : Control) (call : steps.CustomerCall) → HasRoom now old (steps.Customer call)
+    → NotingRoom old.notes (steps.noting call)
+noting_room now old (steps.Active iface source group) room = room
+noting_room now old other room = tt
+
+notes_few : (old : sets.FinSet note_cmp) (by : steps.Noting) → NotingRoom old by → sets.len old ≤ note_limit
+    → sets.len (steps.with_noting old by) ≤ note_limit
+notes_few old (steps.Noted note) room few =
+    let le = noted_few (sets.contains old note) (sets.len old) few room in
+    let e = sets.len-insert note_total old note in
+    omega (arith, e, le)
+notes_few old (steps.Unnoted note) room few =
+    let le = removed_few (sets.contains old note) (sets.len old) in
+    let e = sets.len-remove note_total old note in
+    omega (arith, e, le, few)
+notes_few old steps.Untouched room few = few
+
+selections_few : (now : ℕ) (old : Control) (call : steps.CustomerCall) → HasRoom now old (steps.Customer call)
+    → maps.len old.selections ≤ selection_limit → maps.len (steps.selections_after now old.selections call) ≤ selection_limit
+selections_few now old (steps.Select vrf pattern) room few =
+    let number : ℕ = free_number (λ number. list_any (is_used vrf number) (maps.entries old.selections)) (maps.len old.selections) 1 in
+    let new : Selected = record { number = number; since = now; run = false } in
+    let e = maps.len-insert pattern_total old.selections (record { vrf = vrf; pattern = pattern }) new in
+    let le = inserted_few (maps.contains_key old.selections (record { vrf = vrf; pattern = pattern })) (maps.len old.selections) in
+    omega (arith, e, le, room)
+selections_few now old (steps.Unselect vrf pattern) room few =
+    let e = maps.len-remove pattern_total old.selections (record { vrf = vrf; pattern = pattern }) in
+    let le = removed_few (maps.contains_key old.selections (record { vrf = vrf; pattern = pattern })) (maps.len old.selections) in
+    omega (arith, e, le, few)
+selections_few now old other room few = few
+
 effect_within : (place : EdgePlace) (now : ℕ) (old : Control) (call : steps.Call) → HasRoom now old call → IsWithin old
     → IsWithin (effect place now old call)
 effect_within place now old (steps.Update peer message) room w = updated_same now peer message old w
 effect_within place now old (steps.Label neighbour message) room w = w
-effect_within place now old (steps.Customer (steps.Pim iface message)) room w = record { entries = room; notes = w.notes; selections = w.selections }
-effect_within place now old (steps.Customer (steps.Active iface source group)) room w =
-    let note : Note = record { iface = iface; source = source; group = group } in
-    let le = noted_few (sets.contains old.notes note) (sets.len old.notes) w.notes room in
-    record { entries = w.entries; notes = (let e = sets.len-insert note_total old.notes note in omega (arith, e, le)); selections = w.selections }
-effect_within place now old (steps.Customer (steps.Idle iface source group)) room w =
-    let note : Note = record { iface = iface; source = source; group = group } in
-    let few = w.notes in
-    let le = removed_few (sets.contains old.notes note) (sets.len old.notes) in
-    record {
-      entries = w.entries;
-      notes = (let e = sets.len-remove note_total old.notes note in omega (arith, e, le, few));
-      selections =
-          w.selections;
-    }
-effect_within place now old (steps.Customer (steps.Select vrf pattern)) room w =
-    record { entries = w.entries; notes = w.notes; selections = selected }
-  where
-    selected : maps.len (with_selection now vrf pattern old.selections) ≤ selection_limit
-    selected =
-        let number : ℕ = free_number (λ number. list_any (is_used vrf number) (maps.entries old.selections)) (maps.len old.selections) 1 in
-        let new : Selected = record { number = number; since = now; run = false } in
-        let e = maps.len-insert pattern_total old.selections (record { vrf = vrf; pattern = pattern }) new in
-        let le = inserted_few (maps.contains_key old.selections (record { vrf = vrf; pattern = pattern })) (maps.len old.selections) in
-        omega (arith, e, le, room)
-effect_within place now old (steps.Customer (steps.Unselect vrf pattern)) room w =
-    let few = w.selections in
-    let e = maps.len-remove pattern_total old.selections (record { vrf = vrf; pattern = pattern }) in
-    let le = removed_few (maps.contains_key old.selections (record { vrf = vrf; pattern = pattern })) (maps.len old.selections) in
-    record { entries = w.entries; notes = w.notes; selections = omega (arith, e, le, few) }
+effect_within place now old (steps.Customer call) room w = record {
+  entries = entries_few now old call room w.entries;
+  notes = notes_few old.notes (steps.noting call) (noting_room now old call room) w.notes;
+  selections = selections_few now old call room w.selections;
+}
 effect_within place now old (steps.Raised kinds.Bgp peer) room w = record { entries = w.entries; notes = w.notes; selections = w.selections }
 effect_within place now old (steps.Raised kinds.Ldp peer) room w = w
 effect_within place now old (steps.Noticed kinds.Bgp peer) room w = record { entries = w.entries; notes = w.notes; selections = w.selections }
@@ -463,47 +481,63 @@ at_comes n call world room all =
     then_comes AreWithin AreWithin (one_act world (At n call)) (row []) (one_comes AreWithin world (At n call) (at_within n call world room all))
     (λ next k. k)
 
-edge_comes : (o : Option NodeId) (call : steps.Call) (world : World) → HasRoom (clock_of world) (control_at world o) call → AreWithin world
-    → Comes AreWithin (at_edge o call world)
+edge_comes : (o : Option NodeId) (call : steps.CustomerCall) (world : World) → HasRoom (clock_of world) (control_at world o) (steps.Customer call)
+    → AreWithin world → Comes AreWithin (at_edge o call world)
 edge_comes None call world room all = all
-edge_comes (Some n) call world room all = at_comes n call world room all
+edge_comes (Some n) call world room all = at_comes n (steps.Customer call) world room all
 
-message_comes : (world : World) (o : Option Given) → message_refusal world o ≡ None → AreWithin world → Comes AreWithin (with_message o world)
-message_comes world None free all = all
-message_comes world (Some given) free all =
+-- there is room for what a customer calls for, where it does
+abbrev RoomFor : World → Option steps.CustomerCall → Type 0
+RoomFor world None = ⊤
+RoomFor world (Some call) = HasRoom (clock_of world) (control_at world (edge_for (scenario_of world) call)) (steps.Customer call)
+
+customer_comes : (world : World) (o : Option steps.CustomerCall) → RoomFor world o → AreWithin world → Comes AreWithin (called o world)
+customer_comes world None room all = all
+customer_comes world (Some call) room all = edge_comes (edge_for (scenario_of world) call) call world room all
+
+given_room : (world : World) (o : Option Given) → message_refusal world o ≡ None → RoomFor world (message_call o)
+given_room world None free = tt
+given_room world (Some given) free =
     let edge = edge_of (scenario_of world) given.iface in
     let many = are_too_many (applied (control_at world edge).entries given.iface given.message (clock_of world)) in
     let after_ours =
     passed_if (not (is_ours (scenario_of world) given)) refusals.Ours
     (if are_sessions_full world then Some refusals.Full else refused_if many refusals.Full) free in
     let few = refused_not many refusals.Full (passed_if (are_sessions_full world) refusals.Full (refused_if many refusals.Full) after_ours) in
-    edge_comes edge (steps.Customer (steps.Pim given.iface given.message)) world
-    (ltb-false entry_limit (maps.len (applied (control_at world edge).entries given.iface given.message (clock_of world))) few) all
+    ltb-false entry_limit (maps.len (applied (control_at world edge).entries given.iface given.message (clock_of world))) few
 
 noted_room : (t u : Bool) (n : ℕ) → nat_le note_limit n ≡ u → (not t && u) ≡ false → (t ≡ true) ⊎ (n < note_limit)
 noted_room true u n is e = inl refl
 noted_room false false n is e = inr (let lt = leb-false note_limit n is in omega (arith, lt))
 noted_room false true n is e = absurd cc
 
-note_comes : (world : World) (note : Note) → note_refusal world note ≡ None → AreWithin world
-    → Comes AreWithin (at_edge (edge_of (scenario_of world) note.iface) (steps.Customer (steps.Active note.iface note.source note.group)) world)
-note_comes world note free all =
+note_room : (world : World) (note : Note) → note_refusal world note ≡ None → RoomFor world (Some (steps.Active note.iface note.source note.group))
+note_room world note free =
     let edge = edge_of (scenario_of world) note.iface in
     let notes = (control_at world edge).notes in
     let full = refused_not (are_sessions_full world || (not (sets.contains notes note) && nat_le note_limit (sets.len notes))) refusals.Full free in
     let parts = or_parts (are_sessions_full world) (not (sets.contains notes note) && nat_le note_limit (sets.len notes)) full in
-    edge_comes edge (steps.Customer (steps.Active note.iface note.source note.group)) world
-    (noted_room (sets.contains notes note) (nat_le note_limit (sets.len notes)) (sets.len notes) refl parts.1) all
+    noted_room (sets.contains notes note) (nat_le note_limit (sets.len notes)) (sets.len notes) refl parts.1
 
-select_comes : (world : World) (vrf : VrfId) (pattern : Pattern) → refusal world (events.Select vrf pattern) ≡ None → AreWithin world
-    → Comes AreWithin (at_edge (edge_of_vrf (scenario_of world) vrf) (steps.Customer (steps.Select vrf pattern)) world)
-select_comes world vrf pattern free all =
+select_room : (world : World) (vrf : VrfId) (pattern : Pattern) → refusal world (events.Customer (customers.Select vrf pattern)) ≡ None
+    → RoomFor world (Some (steps.Select vrf pattern))
+select_room world vrf pattern free =
     let full = are_sessions_full world || nat_le selection_limit (selections_at world vrf) in
     let later = (first_not (refused_if (is_selected world vrf pattern) refusals.State) (refused_if full refusals.Full) free).1 in
-    let few =
     leb-false selection_limit (selections_at world vrf)
-    (or_parts (are_sessions_full world) (nat_le selection_limit (selections_at world vrf)) (refused_not full refusals.Full later)).1 in
-    edge_comes (edge_of_vrf (scenario_of world) vrf) (steps.Customer (steps.Select vrf pattern)) world few all
+    (or_parts (are_sessions_full world) (nat_le selection_limit (selections_at world vrf)) (refused_not full refusals.Full later)).1
+
+call_room : (world : World) (event : CustomerEvent) → refusal world (events.Customer event) ≡ None
+    → RoomFor world (call_for (scenario_of world) event)
+call_room world (customers.Join iface entry) free = given_room world (message_of (scenario_of world) (events.Customer (customers.Join iface entry))) free
+call_room world (customers.Prune iface entry) free =
+    given_room world (message_of (scenario_of world) (events.Customer (customers.Prune iface entry))) free
+call_room world (customers.Pim iface bytes) free =
+    given_room world (message_of (scenario_of world) (events.Customer (customers.Pim iface bytes)))
+    (first_not (octets_refusal bytes) (message_refusal world (message_of (scenario_of world) (events.Customer (customers.Pim iface bytes)))) free).1
+call_room world (customers.Active iface source group) free = note_room world (record { iface = iface; source = source; group = group }) free
+call_room world (customers.Select vrf pattern) free = select_room world vrf pattern free
+call_room world other free = tt
 
 -- ---- events
 
@@ -522,17 +556,7 @@ routine : (event : Event) → IsRoutine event → (world : World) → AreWithin 
 routine event is world all = routine_event AreWithin act_within (λ old datagrams k. k) event is world all
 
 done_within : (world : World) (event : Event) → refusal world event ≡ None → AreWithin world → Comes AreWithin (done world event)
-done_within world (events.Join iface entry) free all = message_comes world (message_of (scenario_of world) (events.Join iface entry)) free all
-done_within world (events.Prune iface entry) free all = message_comes world (message_of (scenario_of world) (events.Prune iface entry)) free all
-done_within world (events.Pim iface bytes) free all =
-    message_comes world (message_of (scenario_of world) (events.Pim iface bytes))
-    (first_not (octets_refusal bytes) (message_refusal world (message_of (scenario_of world) (events.Pim iface bytes))) free).1 all
-done_within world (events.Active iface source group) free all = note_comes world (record { iface = iface; source = source; group = group }) free all
-done_within world (events.Idle iface source group) free all =
-    edge_comes (edge_of (scenario_of world) iface) (steps.Customer (steps.Idle iface source group)) world tt all
-done_within world (events.Select vrf pattern) free all = select_comes world vrf pattern free all
-done_within world (events.Unselect vrf pattern) free all =
-    edge_comes (edge_of_vrf (scenario_of world) vrf) (steps.Customer (steps.Unselect vrf pattern)) world tt all
+done_within world (events.Customer event) free all = customer_comes world (call_for (scenario_of world) event) (call_room world event free) all
 done_within world (events.Cost a b cost) free all = cost_comes world a b cost all
 done_within world other free all = routine other tt world all
 

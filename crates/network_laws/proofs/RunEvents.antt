@@ -8,7 +8,7 @@ use Rattle.mv_base.specs.declared.ids.NodeId.{NodeId}
 use Rattle.mv_base.specs.declared.ids.SiteId.{SiteId}
 use Rattle.mv_base.specs.declared.ids.VrfId.{VrfId}
 use Rattle.mv_base.specs.core_walks.Topology.{HasEnds}
-use Rattle.scenario_defs.specs.Vpn.{edge_of, entered}
+use Rattle.scenario_defs.specs.Vpn.{entered}
 use Rattle.scenario_defs.specs.declared.event.Event.{Event}
 use Rattle.scenario_defs.specs.declared.event.Event.TheVariants as events
 use Rattle.scenario_defs.specs.declared.event.Kind.{Kind}
@@ -16,19 +16,18 @@ use Rattle.scenario_defs.specs.declared.event.Timed.{Timed}
 use Rattle.scenario_defs.specs.declared.report.Refusal.{Refusal}
 use Rattle.scenario_defs.specs.declared.report.ReportLine.TheVariants as lines
 use Rattle.scenario_defs.specs.declared.scenario.Scenario.{Scenario}
-use Rattle.network_defs.specs.mvpn_model.Messages.{message_of}
 use Rattle.network_defs.specs.mvpn_model.Packet.{packet}
-use Rattle.network_defs.specs.mvpn_model.declared.message.Given.{Given}
 use Rattle.network_defs.specs.mvpn_model.Sessions.{sessions}
 use Rattle.network_defs.specs.mvpn_model.declared.session.Session.{Session}
 use Rattle.network_defs.specs.declared.session_defs.direction.Direction.{Direction}
 use Rattle.network_defs.specs.Costs.{Cores}
 use Rattle.network_defs.specs.edge_defs.Steps as steps
+use Rattle.network_defs.specs.edge_defs.Steps.{CustomerCall}
 use Rattle.network_defs.specs.Acts.{Act, Tick, Timers, Move, Lose, Notice, Restart, At, Enter, Land, Drop, Tell, Reroute, act}
 use Rattle.network_defs.specs.Counts.{all_nodes, directions, link_ways, is_joined, is_up}
-use Rattle.network_defs.specs.Events.{cost_acts, Happened, Outcome, Done, row, each, times, raise_acts, is_session_of, raises, notices, healed, turn, settled, landings, drain_round, sent, at_edge, with_message, done}
+use Rattle.network_defs.specs.Events.{cost_acts, Happened, Outcome, Done, row, each, times, raise_acts, is_session_of, raises, notices, healed, turn, settled, landings, drain_round, sent, at_edge, done, called}
 use Rattle.network_defs.specs.mvpn_model.Packets.{source_in, group_in}
-use Rattle.network_defs.specs.Refusals.{edge_of_vrf, refusal}
+use Rattle.network_defs.specs.Refusals.{refusal, call_for, edge_for}
 use Rattle.network_defs.specs.Run.{Traced, outcome, Runs}
 use Rattle.network_defs.specs.World.{World, scenario_of, start}
 use Rattle.network_defs.proofs.Kept.{Gives, Comes, then_comes, row_keeps, each_keeps, times_keeps}
@@ -37,8 +36,8 @@ use Rattle.network_laws.specs.Honest.{IsCost, IsSoundCall, IsSoundEvent, IsLinkP
 use Rattle.network_laws.proofs.Lists.{each_append, each_of, each_map, each_flat, each_weaker}
 use Rattle.network_laws.proofs.NodeCalls.{start_sound}
 use Rattle.network_laws.proofs.RunActs.{WorldStays, SoundAct, act_stays}
-use Rattle.network_laws.proofs.RunNodes.{IsNode, HasNodes, IsFoundNode, sessions_within, nodes_within, edge_within, vrf_within}
-use Rattle.network_laws.proofs.RunMessages.{IsSoundGiven, join_is_sound, prune_is_sound, read_is_sound}
+use Rattle.network_laws.proofs.RunNodes.{IsNode, HasNodes, IsFoundNode, sessions_within, nodes_within}
+use Rattle.network_laws.proofs.RunCalls.{IsSoundFor, call_is_sound, call_is_within}
 
 -- ---- rows of acts
 
@@ -134,10 +133,11 @@ module _ (scenario : Scenario) where
 
   -- ---- calls
 
-  edge_stays : (o : Option NodeId) (call : steps.Call) → IsFoundNode scenario o → IsSoundCall call → (world : World) → WorldStays scenario world
+  edge_stays : (o : Option NodeId) (call : CustomerCall) → IsFoundNode scenario o → IsSoundCall (steps.Customer call) → (world : World) → WorldStays
+      scenario world
       → Stay (at_edge o call world)
   edge_stays None call within sound world s = s
-  edge_stays (Some n) call within sound world s = row_stays (At n call ∷ []) ((within, sound), tt) world s
+  edge_stays (Some n) call within sound world s = row_stays (At n (steps.Customer call) ∷ []) ((within, sound), tt) world s
 
 -- ---- events, in the words of the world's own scenario
 
@@ -163,12 +163,11 @@ cost_stays world a b cost is s =
           (nodes_within 0 (length scenario.nodes) (length scenario.nodes) (omega arith)),
     ) world s
 
-message_stays : (world : World) → SoundScenario (scenario_of world) → (o : Option Given) → IsSoundGiven o → WorldStays (scenario_of world) world
-    → Comes (WorldStays (scenario_of world)) (with_message o world)
-message_stays world lines None sound s = s
-message_stays world lines (Some given) sound s =
-    edge_stays (scenario_of world) (edge_of (scenario_of world) given.iface) (steps.Customer (steps.Pim given.iface given.message))
-    (edge_within (scenario_of world) lines given.iface) sound world s
+customer_stays : (world : World) → SoundScenario (scenario_of world) → (o : Option CustomerCall) → IsSoundFor o → WorldStays (scenario_of world) world
+    → Comes (WorldStays (scenario_of world)) (called o world)
+customer_stays world lines None sound s = s
+customer_stays world lines (Some call) sound s =
+    edge_stays (scenario_of world) (edge_for (scenario_of world) call) call (call_is_within (scenario_of world) lines call) sound world s
 
 -- two nodes that are linked are two
 pub two_ends : (scenario : Scenario) → SoundScenario scenario → (from to : NodeId) (place : ℕ) → IsLinkPlace scenario from to place → from ≢ to
@@ -188,31 +187,11 @@ done_stays world lines s (events.Notice kind a b) sound = row_stays (scenario_of
 done_stays world lines s (events.Raise kind a b) sound =
     row_stays (scenario_of world) (raises (sessions (scenario_of world)) kind a b)
     (raises_sound (scenario_of world) (sessions (scenario_of world)) kind a b (sessions_within (scenario_of world) lines)) world s
-done_stays world lines s (events.Join iface entry) sound =
-    message_stays world lines (message_of (scenario_of world) (events.Join iface entry)) (join_is_sound (scenario_of world) iface entry sound.1) s
-done_stays world lines s (events.Prune iface entry) sound =
-    message_stays world lines (message_of (scenario_of world) (events.Prune iface entry)) (prune_is_sound (scenario_of world) iface entry sound.1) s
-done_stays world lines s (events.Pim iface octets) sound =
-    message_stays world lines (message_of (scenario_of world) (events.Pim iface octets)) (read_is_sound iface octets sound) s
-done_stays world lines s (events.Active iface source group) sound =
-    edge_stays (scenario_of world) (edge_of (scenario_of world) iface) (steps.Customer (steps.Active iface source group))
-    (edge_within (scenario_of world) lines iface)
-    sound world s
-done_stays world lines s (events.Idle iface source group) sound =
-    edge_stays (scenario_of world) (edge_of (scenario_of world) iface) (steps.Customer (steps.Idle iface source group))
-    (edge_within (scenario_of world) lines iface)
-    tt world s
+done_stays world lines s (events.Customer event) sound =
+    customer_stays world lines (call_for (scenario_of world) event) (call_is_sound (scenario_of world) event sound) s
 done_stays world lines s (events.Send site source group payload) sound =
     sent_stays (scenario_of world) site source group (packet source group payload) world s
 done_stays world lines s (events.Packet site octets) sound = sent_stays (scenario_of world) site (source_in octets) (group_in octets) octets world s
-done_stays world lines s (events.Select vrf pattern) sound =
-    edge_stays (scenario_of world) (edge_of_vrf (scenario_of world) vrf) (steps.Customer (steps.Select vrf pattern))
-    (vrf_within (scenario_of world) lines vrf) sound
-    world s
-done_stays world lines s (events.Unselect vrf pattern) sound =
-    edge_stays (scenario_of world) (edge_of_vrf (scenario_of world) vrf) (steps.Customer (steps.Unselect vrf pattern))
-    (vrf_within (scenario_of world) lines vrf) tt
-    world s
 done_stays world lines s (events.Hop from to place) sound = row_stays (scenario_of world) (Land from to place ∷ []) (tt, tt) world s
 done_stays world lines s (events.DropCopy from to place) sound = row_stays (scenario_of world) (Drop from to place ∷ []) (tt, tt) world s
 done_stays world lines s (events.Cost a b cost) sound = cost_stays world a b cost sound s

@@ -5,22 +5,21 @@ use Rattle.std.specs.List.{AllByRecursion}
 use Rattle.mv_base.specs.declared.addr.Addr.{Addr}
 use Rattle.mv_base.specs.declared.ids.NodeId.{NodeId}
 use Rattle.mv_base.specs.declared.ids.SiteId.{SiteId}
-use Rattle.scenario_defs.specs.Vpn.{edge_of, entered}
+use Rattle.scenario_defs.specs.Vpn.{entered}
 use Rattle.scenario_defs.specs.declared.event.Event.{Event}
 use Rattle.scenario_defs.specs.declared.event.Event.TheVariants as events
 use Rattle.scenario_defs.specs.declared.event.Kind.{Kind}
-use Rattle.network_defs.specs.mvpn_model.Messages.{message_of}
 use Rattle.network_defs.specs.mvpn_model.Packet.{packet}
 use Rattle.network_defs.specs.mvpn_model.Packets.{source_in, group_in}
 use Rattle.network_defs.specs.mvpn_model.Sessions.{sessions}
-use Rattle.network_defs.specs.mvpn_model.declared.message.Given.{Given}
 use Rattle.network_defs.specs.mvpn_model.declared.session.Session.{Session}
 use Rattle.network_defs.specs.declared.session_defs.direction.Direction.{Direction}
 use Rattle.network_defs.specs.edge_defs.Steps as steps
+use Rattle.network_defs.specs.edge_defs.Steps.{CustomerCall}
 use Rattle.network_defs.specs.Acts.{Act, Tick, Timers, Move, Lose, Notice, RaiseFirst, RaiseSecond, Restart, At, Enter, Land, Drop, Tell, SetCost, Reroute, act}
 use Rattle.network_defs.specs.Counts.{directions, link_ways, all_nodes, is_joined, is_up}
-use Rattle.network_defs.specs.Events.{Done, row, each, times, raise_acts, is_session_of, raises, notices, healed, turn, settled, landings, drain_round, sent, at_edge, with_message, done}
-use Rattle.network_defs.specs.Refusals.{edge_of_vrf}
+use Rattle.network_defs.specs.Events.{Done, row, each, times, raise_acts, is_session_of, raises, notices, healed, turn, settled, landings, drain_round, sent, at_edge, done, called}
+use Rattle.network_defs.specs.Refusals.{call_for, edge_for}
 use Rattle.network_defs.specs.World.{World, Datagram, scenario_of}
 use Rattle.network_defs.proofs.Kept.{Gives, Comes, then_comes, row_keeps, each_keeps, times_keeps}
 use Rattle.network_laws.proofs.Lists.{each_append, each_map, each_of, each_weaker, each_flat}
@@ -34,13 +33,7 @@ IsNoCost other = ⊤
 -- the same, and it is none of customers
 abbrev pub IsRoutine : Event → Type 0
 IsRoutine (events.Cost a b cost) = ⊥
-IsRoutine (events.Join iface entry) = ⊥
-IsRoutine (events.Prune iface entry) = ⊥
-IsRoutine (events.Pim iface octets) = ⊥
-IsRoutine (events.Active iface source group) = ⊥
-IsRoutine (events.Idle iface source group) = ⊥
-IsRoutine (events.Select vrf pattern) = ⊥
-IsRoutine (events.Unselect vrf pattern) = ⊥
+IsRoutine (events.Customer event) = ⊥
 IsRoutine other = ⊤
 
 -- an act of such events
@@ -149,13 +142,7 @@ module _ (P : World → Type 0) (keeps : (one : Act) → IsPlain one → (world 
   routine_event events.Drain is world p = times_keeps P drain_round drain_keeps 255 world p
   routine_event events.State is world p = plain_row (Tell ∷ []) (tt, tt) world p
   routine_event (events.Cost a b cost) is world p = absurd is
-  routine_event (events.Join iface entry) is world p = absurd is
-  routine_event (events.Prune iface entry) is world p = absurd is
-  routine_event (events.Pim iface octets) is world p = absurd is
-  routine_event (events.Active iface source group) is world p = absurd is
-  routine_event (events.Idle iface source group) is world p = absurd is
-  routine_event (events.Select vrf pattern) is world p = absurd is
-  routine_event (events.Unselect vrf pattern) is world p = absurd is
+  routine_event (events.Customer event) is world p = absurd is
 
 -- a plain act changes no costs
 plain_steady : (one : Act) → IsPlain one → IsSteady one
@@ -177,26 +164,18 @@ plain_steady Tell is = tt
 
 module _ (P : World → Type 0) (keeps : (one : Act) → IsSteady one → (world : World) → P world → Gives P (act world one))
     (sends : (world : World) (datagrams : List Datagram) → P world → P (record world { datagrams = datagrams })) where
-  edge_keeps : (o : Option NodeId) (call : steps.Call) (world : World) → P world → Comes P (at_edge o call world)
+  edge_keeps : (o : Option NodeId) (call : CustomerCall) (world : World) → P world → Comes P (at_edge o call world)
   edge_keeps None call world p = p
-  edge_keeps (Some n) call world p = row_keeps P (At n call ∷ []) (keeps (At n call) tt, tt) world p
+  edge_keeps (Some n) call world p = row_keeps P (At n (steps.Customer call) ∷ []) (keeps (At n (steps.Customer call)) tt, tt) world p
 
-  message_keeps : (o : Option Given) (world : World) → P world → Comes P (with_message o world)
-  message_keeps None world p = p
-  message_keeps (Some given) world p = edge_keeps (edge_of (scenario_of world) given.iface) (steps.Customer (steps.Pim given.iface given.message)) world p
+  customer_keeps : (o : Option CustomerCall) (world : World) → P world → Comes P (called o world)
+  customer_keeps None world p = p
+  customer_keeps (Some call) world p = edge_keeps (edge_for (scenario_of world) call) call world p
 
   routine : (event : Event) → IsRoutine event → (world : World) → P world → Comes P (done world event)
   routine event is world p = routine_event P (λ one plain. keeps one (plain_steady one plain)) sends event is world p
 
   pub steady_event : (event : Event) → IsNoCost event → (world : World) → P world → Comes P (done world event)
-  steady_event (events.Join iface entry) is world p = message_keeps (message_of (scenario_of world) (events.Join iface entry)) world p
-  steady_event (events.Prune iface entry) is world p = message_keeps (message_of (scenario_of world) (events.Prune iface entry)) world p
-  steady_event (events.Pim iface octets) is world p = message_keeps (message_of (scenario_of world) (events.Pim iface octets)) world p
-  steady_event (events.Active iface source group) is world p =
-      edge_keeps (edge_of (scenario_of world) iface) (steps.Customer (steps.Active iface source group)) world p
-  steady_event (events.Idle iface source group) is world p =
-      edge_keeps (edge_of (scenario_of world) iface) (steps.Customer (steps.Idle iface source group)) world p
-  steady_event (events.Select vrf pattern) is world p = edge_keeps (edge_of_vrf (scenario_of world) vrf) (steps.Customer (steps.Select vrf pattern)) world p
-  steady_event (events.Unselect vrf pattern) is world p = edge_keeps (edge_of_vrf (scenario_of world) vrf) (steps.Customer (steps.Unselect vrf pattern)) world p
+  steady_event (events.Customer event) is world p = customer_keeps (call_for (scenario_of world) event) world p
   steady_event (events.Cost a b cost) is world p = absurd is
   steady_event other is world p = routine other tt world p

@@ -9,6 +9,7 @@ use Rattle.pim_joinprune.specs.declared.message.JoinPrune.{JoinPrune}
 use Rattle.pim_joinprune.specs.declared.source.JpSource.{JpSource}
 use Rattle.network_defs.specs.edge_defs.pim_defs.Mention.{entry_of}
 use Rattle.scenario_defs.specs.declared.event.Event.{Event}
+use Rattle.scenario_defs.specs.declared.event.CustomerEvent.TheVariants as customers
 use Rattle.scenario_defs.specs.declared.event.Event.TheVariants as events
 use Rattle.scenario_defs.specs.declared.scenario.Scenario.{Scenario}
 use Rattle.network_defs.specs.session_defs.System.{System}
@@ -29,15 +30,11 @@ SoundMessage message = AllByRecursion SoundGroup message.groups
 abbrev pub IsSoundCall : steps.Call → Type 0
 IsSoundCall (steps.Update peer message) = ⊥
 IsSoundCall (steps.Label neighbour message) = ⊥
+IsSoundCall steps.Rerouted = ⊥
 IsSoundCall (steps.Customer (steps.Pim iface message)) = SoundMessage message
 IsSoundCall (steps.Customer (steps.Active iface source group)) = IsFlow source group
-IsSoundCall (steps.Customer (steps.Idle iface source group)) = Unit {0}
 IsSoundCall (steps.Customer (steps.Select vrf pattern)) = SoundPattern pattern
-IsSoundCall (steps.Customer (steps.Unselect vrf pattern)) = Unit {0}
-IsSoundCall (steps.Raised kind peer) = Unit {0}
-IsSoundCall (steps.Noticed kind peer) = Unit {0}
-IsSoundCall steps.Timers = Unit {0}
-IsSoundCall steps.Rerouted = ⊥
+IsSoundCall other = Unit {0}
 
 -- the cost of a link
 abbrev pub IsCost : ℕ → Type 0
@@ -72,11 +69,11 @@ pub record IsLinkPlace (scenario : Scenario) (from to : NodeId) (place : ℕ) : 
 abbrev pub IsSoundEvent : Scenario → Event → Type 0
 IsSoundEvent scenario (events.Timers node) = node.0 < length scenario.nodes
 IsSoundEvent scenario (events.Notice kind a b) = a.0 < length scenario.nodes
-IsSoundEvent scenario (events.Join iface entry) = (iface.0 < length scenario.ifaces) × SoundEntry entry
-IsSoundEvent scenario (events.Prune iface entry) = (iface.0 < length scenario.ifaces) × SoundEntry entry
-IsSoundEvent scenario (events.Pim iface bytes) = IsOctets bytes
-IsSoundEvent scenario (events.Active iface source group) = IsFlow source group
-IsSoundEvent scenario (events.Select vrf pattern) = SoundPattern pattern
+IsSoundEvent scenario (events.Customer (customers.Join iface entry)) = (iface.0 < length scenario.ifaces) × SoundEntry entry
+IsSoundEvent scenario (events.Customer (customers.Prune iface entry)) = (iface.0 < length scenario.ifaces) × SoundEntry entry
+IsSoundEvent scenario (events.Customer (customers.Pim iface bytes)) = IsOctets bytes
+IsSoundEvent scenario (events.Customer (customers.Active iface source group)) = IsFlow source group
+IsSoundEvent scenario (events.Customer (customers.Select vrf pattern)) = SoundPattern pattern
 IsSoundEvent scenario (events.Hop from to place) = IsLinkPlace scenario from to place
 IsSoundEvent scenario (events.DropCopy from to place) = IsLinkPlace scenario from to place
 IsSoundEvent scenario (events.Cost a b cost) = IsCost cost

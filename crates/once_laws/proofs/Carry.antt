@@ -7,21 +7,18 @@ use Rattle.mv_base.specs.declared.addr.Addr.{Addr}
 use Rattle.mv_base.specs.declared.ids.NodeId.{NodeId}
 use Rattle.mv_base.specs.declared.ids.SiteId.{SiteId}
 use Rattle.mv_base.specs.declared.ids.VrfId.{VrfId}
-use Rattle.mv_base.specs.declared.ids.IfaceId.{IfaceId}
 use Rattle.mv_base.specs.Number.{◌>>?◌}
 use Rattle.mv_base.specs.framing.Feed.{fed, unfed}
-use Rattle.pim_joinprune.specs.declared.message.JoinPrune.{JoinPrune}
-use Rattle.scenario_defs.specs.Vpn.{edge_of, entered}
+use Rattle.scenario_defs.specs.Vpn.{entered}
 use Rattle.scenario_defs.specs.declared.event.Event.{Event}
 use Rattle.scenario_defs.specs.declared.event.Event.TheVariants as events
+use Rattle.scenario_defs.specs.declared.scenario.Scenario.{Scenario}
 use Rattle.scenario_defs.specs.declared.event.Kind.{Kind}
 use Rattle.scenario_defs.specs.declared.event.Timed.{Timed}
 use Rattle.scenario_defs.specs.declared.report.ReportLine.{ReportLine}
 use Rattle.scenario_defs.specs.declared.report.ReportLine.TheVariants as lines
 use Rattle.scenario_defs.specs.declared.scenario.Vrf.{Vrf}
-use Rattle.mvpn_model.specs.Messages.{message_of}
 use Rattle.mvpn_model.specs.Packet.{packet}
-use Rattle.mvpn_model.specs.declared.message.Given.{Given}
 use Rattle.mvpn_model.specs.Sessions.{sessions}
 use Rattle.mvpn_model.specs.declared.session.Session.{Session}
 use Rattle.label_defs.specs.declared.branch.Branch.{Branch}
@@ -33,12 +30,13 @@ use Rattle.network_defs.specs.session_defs.System.{Put, Stepped, Behind, with_ea
 use Rattle.network_defs.specs.declared.session_defs.direction.Direction.{Direction}
 use Rattle.edge_defs.specs.Datagrams.{entering_fate}
 use Rattle.edge_defs.specs.Steps as steps
+use Rattle.edge_defs.specs.Steps.{CustomerCall}
 use Rattle.network_defs.specs.Acts.{Act, Tick, Timers, Move, Lose, Notice, RaiseFirst, RaiseSecond, Restart, At, Enter, Land, Drop, Tell, SetCost, Reroute, Acted, act, with_network, at_node, is_of_session, is_at, leads_to, is_from_peer, with_aged, with_branches, copy_on, fate_at, with_ttl, landed, landing, without_copy, enters_at, entering, datagram_at}
 use Rattle.network_defs.specs.Counts.{direction, directions, is_joined, is_up, link_ways, all_nodes}
-use Rattle.network_defs.specs.Events.{Done, row, each, times, raise_acts, raises, is_session_of, notices, healed, turn, landings, drain_round, sent, at_edge, with_message, done}
+use Rattle.network_defs.specs.Events.{Done, row, each, times, raise_acts, raises, is_session_of, notices, healed, turn, landings, drain_round, sent, at_edge, done, called}
 use Rattle.network_defs.specs.Nodes.{Nodes, NodeState, Edge, CoreNode, place_of}
 use Rattle.mvpn_model.specs.Packets.{source_in, group_in}
-use Rattle.network_defs.specs.Refusals.{edge_of_vrf}
+use Rattle.network_defs.specs.Refusals.{call_for, edge_for}
 use Rattle.network_defs.specs.Run.{Traced, Runs}
 use Rattle.network_defs.specs.System.{NodeCall, Own, Elapse, Reset, Price, Follow, system, call_of, nodes_called}
 use Rattle.network_defs.specs.World.{World, Datagram, LinkCopy, scenario_of, clock_of, with_copies}
@@ -82,6 +80,11 @@ leads_then P Q (Some new) next p h = leads_earlier Q new.puts (next new.network)
 
 abbrev Any : List ReportLine → Type 0
 Any all = ⊤
+
+-- what holds of the call of a customer at the node, where there is one
+abbrev pub MayFor : (NodeCall → Type 0) → NodeId → Option CustomerCall → Type 0
+MayFor May n None = ⊤
+MayFor May n (Some call) = May (Own n (steps.Customer call))
 
 module _ (F : Nodes → Type 0) (Fits : Kind → NodeId → NodeId → Type 0)
     (fit : (nodes : Nodes) → F nodes → AllByRecursion (AreFit Fits) (sessions nodes.scenario)) (May : NodeCall → Type 0)
@@ -266,13 +269,7 @@ module _ (F : Nodes → Type 0) (Fits : Kind → NodeId → NodeId → Type 0)
   EventMay (events.Timers node) = May (Own node steps.Timers)
   EventMay events.Settle = (n : NodeId) → May (Own n steps.Timers)
   EventMay (events.Restart node) = May (Reset node)
-  EventMay (events.Join iface entry) = (n : NodeId) (at : IfaceId) (message : JoinPrune) → May (Own n (steps.Customer (steps.Pim at message)))
-  EventMay (events.Prune iface entry) = (n : NodeId) (at : IfaceId) (message : JoinPrune) → May (Own n (steps.Customer (steps.Pim at message)))
-  EventMay (events.Pim iface bytes) = (n : NodeId) (at : IfaceId) (message : JoinPrune) → May (Own n (steps.Customer (steps.Pim at message)))
-  EventMay (events.Active iface source group) = (n : NodeId) → May (Own n (steps.Customer (steps.Active iface source group)))
-  EventMay (events.Idle iface source group) = (n : NodeId) → May (Own n (steps.Customer (steps.Idle iface source group)))
-  EventMay (events.Select vrf pattern) = (n : NodeId) → May (Own n (steps.Customer (steps.Select vrf pattern)))
-  EventMay (events.Unselect vrf pattern) = (n : NodeId) → May (Own n (steps.Customer (steps.Unselect vrf pattern)))
+  EventMay (events.Customer event) = (n : NodeId) (scenario : Scenario) → MayFor May n (call_for scenario event)
   EventMay (events.Cost a b cost) = May (Price a b cost) × ((n : NodeId) → May (Follow n))
   EventMay other = ⊤
 
@@ -309,17 +306,15 @@ module _ (F : Nodes → Type 0) (Fits : Kind → NodeId → NodeId → Type 0)
   entries_fine [] = tt
   entries_fine (vrf ∷ more) = (tt, entries_fine more)
 
-  at_edge_holds : (o : Option NodeId) (call : steps.Call) → ((n : NodeId) → May (Own n call)) → (world : World) → Holding world
+  at_edge_holds : (o : Option NodeId) (call : CustomerCall) → ((n : NodeId) → May (Own n (steps.Customer call))) → (world : World) → Holding world
       → Leads Any Holding (at_edge o call world)
   at_edge_holds None call w world c = (tt, c)
-  at_edge_holds (Some n) call w world c = rows (At n call ∷ []) (w n, tt) world c
+  at_edge_holds (Some n) call w world c = rows (At n (steps.Customer call) ∷ []) (w n, tt) world c
 
-  message_holds : ((n : NodeId) (at : IfaceId) (message : JoinPrune) → May (Own n (steps.Customer (steps.Pim at message)))) → (o : Option Given) (world : World)
-      → Holding world → Leads Any Holding (with_message o world)
-  message_holds w None world c = (tt, c)
-  message_holds w (Some given) world c =
-      at_edge_holds (edge_of (scenario_of world) given.iface) (steps.Customer (steps.Pim given.iface given.message)) (λ n. w n given.iface given.message)
-      world c
+  customer_holds : (o : Option CustomerCall) → ((n : NodeId) → MayFor May n o) → (world : World) → Holding world
+      → Leads Any Holding (called o world)
+  customer_holds None w world c = (tt, c)
+  customer_holds (Some call) w world c = at_edge_holds (edge_for (scenario_of world) call) call w world c
 
   turn_holds : (over : Direction) (world : World) → Holding world → Leads Any Holding (turn over world)
   turn_holds over world c = by (world.network.transit over)
@@ -374,16 +369,7 @@ module _ (F : Nodes → Type 0) (Fits : Kind → NodeId → NodeId → Type 0)
   event_holds world (events.Raise kind a b) w c =
       rows (raises (sessions (scenario_of world)) kind a b) (raises_fine (sessions (scenario_of world)) (fit world.network.state c.nodes) kind a b)
       world c
-  event_holds world (events.Join iface entry) w c = message_holds w (message_of (scenario_of world) (events.Join iface entry)) world c
-  event_holds world (events.Prune iface entry) w c = message_holds w (message_of (scenario_of world) (events.Prune iface entry)) world c
-  event_holds world (events.Pim iface bytes) w c = message_holds w (message_of (scenario_of world) (events.Pim iface bytes)) world c
-  event_holds world (events.Active iface source group) w c =
-      at_edge_holds (edge_of (scenario_of world) iface) (steps.Customer (steps.Active iface source group)) w world c
-  event_holds world (events.Idle iface source group) w c =
-      at_edge_holds (edge_of (scenario_of world) iface) (steps.Customer (steps.Idle iface source group)) w world c
-  event_holds world (events.Select vrf pattern) w c = at_edge_holds (edge_of_vrf (scenario_of world) vrf) (steps.Customer (steps.Select vrf pattern)) w world c
-  event_holds world (events.Unselect vrf pattern) w c =
-      at_edge_holds (edge_of_vrf (scenario_of world) vrf) (steps.Customer (steps.Unselect vrf pattern)) w world c
+  event_holds world (events.Customer event) w c = customer_holds (call_for (scenario_of world) event) (λ n. w n (scenario_of world)) world c
   event_holds world (events.Cost a b cost) w c =
       rows (SetCost a b cost ∷ map (λ n. Reroute n) (all_nodes (scenario_of world))) (w.0, reroutes_fine w.1 (all_nodes (scenario_of world))) world c
   event_holds world (events.Hop from to place) w c = rows (Land from to place ∷ []) (tt, tt) world c

@@ -36,12 +36,14 @@ use Rattle.edge_defs.specs.Flows.{flows_at}
 use Rattle.edge_defs.specs.Place.{EdgePlace}
 use Rattle.network_defs.specs.Costs.{Cores}
 use Rattle.edge_defs.specs.Steps as steps
+use Rattle.edge_defs.specs.Steps.{CustomerCall}
 use Rattle.edge_defs.specs.Steps.{EdgeStepped, LabelStep, edge_step, own_label_call, changed_leaves, one_call, control_step, label_row, part_after, raised_after}
 use Rattle.bgp_messages.specs.bgp_update.Table.{changes_of}
 use Rattle.edge_defs.specs.Tunnels.{leaves}
 use Rattle.edge_defs.proofs.LeafSteps.{fresh_leaves, leaves_follow}
 use Rattle.edge_words.proofs.calm_laws.Flows.{Stands, fresh_stands, later_stands, step_stands}
 use Rattle.network_defs.specs.Nodes.{NodeState, Edge, CoreNode, Nodes, is_edge, start_nodes, fresh_node, with_node, following, label_place_of, place_of}
+use Rattle.network_defs.specs.Refusals.{call_for}
 use Rattle.network_defs.specs.Run.{Traced, Runs}
 use Rattle.network_defs.specs.System.{NodeCall, Own, Elapse, Reset, Price, Follow, node_called, core_called, nodes_called}
 use Rattle.network_defs.specs.World.{World, start}
@@ -53,7 +55,7 @@ use Rattle.label_defs.proofs.KeyLemmas.{node_cmp_total, node_cmp_exact, node_equ
 use Rattle.network_laws.proofs.ready_laws.Ends.{Holds}
 use Rattle.once_laws.specs.Facts.{EdgeFact, NodeFact, NodesFact, FitEnd}
 use Rattle.network_laws.proofs.Lists.{each_map, each_weaker, each_append}
-use Rattle.once_laws.proofs.Carry.{IsOfSession, AreFit, EventMay, runs_hold}
+use Rattle.once_laws.proofs.Carry.{IsOfSession, AreFit, EventMay, runs_hold, MayFor}
 use Rattle.once_laws.proofs.Rests.{Rests, unfed_rests}
 use Rattle.network_laws.proofs.ready_laws.Ends.{holds_from, holds_then}
 
@@ -392,19 +394,17 @@ fit scenario nodes f = subst (λ (s : Scenario). AllByRecursion (AreFit (FitEnd 
 abbrev Facts : Scenario → Nodes → Type 0
 Facts scenario = NodesFact scenario
 
+customer_may : (scenario : Scenario) (n : NodeId) (o : Option CustomerCall) → MayFor (MayBe scenario) n o
+customer_may scenario n None = tt
+customer_may scenario n (Some call) = tt
+
 event_may : (scenario : Scenario) (event : Event)
     → EventMay (Facts scenario) (FitEnd scenario) (fit scenario) (MayBe scenario) (free scenario) (step scenario) event
 event_may scenario (events.Tick count) = tt
 event_may scenario (events.Timers node) = tt
 event_may scenario events.Settle = λ n. tt
 event_may scenario (events.Restart node) = tt
-event_may scenario (events.Join iface entry) = λ n at message. tt
-event_may scenario (events.Prune iface entry) = λ n at message. tt
-event_may scenario (events.Pim iface bytes) = λ n at message. tt
-event_may scenario (events.Active iface source group) = λ n. tt
-event_may scenario (events.Idle iface source group) = λ n. tt
-event_may scenario (events.Select vrf pattern) = λ n. tt
-event_may scenario (events.Unselect vrf pattern) = λ n. tt
+event_may scenario (events.Customer event) = λ n own. customer_may scenario n (call_for own event)
 event_may scenario (events.Cost a b cost) = (tt, λ n. tt)
 event_may scenario other = tt
 

@@ -20,7 +20,10 @@ use Rattle.mvpn_model.specs.Sessions.{sessions}
 use Rattle.scenario_defs.specs.Rules.{Rules, Rises}
 use Rattle.scenario_defs.specs.Vpn.{edge_of}
 use Rattle.scenario_defs.specs.declared.event.Event.{Event}
+use Rattle.scenario_defs.specs.declared.event.CustomerEvent.TheVariants as customers
 use Rattle.scenario_defs.specs.declared.event.Event.TheVariants as events
+use Rattle.mvpn_model.specs.Messages.{read_at}
+use Rattle.mvpn_model.specs.declared.message.Given.{Given}
 use Rattle.scenario_defs.specs.declared.event.Kind.TheVariants as kinds
 use Rattle.scenario_defs.specs.declared.event.Timed.{Timed}
 use Rattle.scenario_defs.specs.declared.report.Refusal.{Refusal}
@@ -43,7 +46,7 @@ use Rattle.edge_defs.proofs.KeyLemmas.{note_total, note_exact}
 use Rattle.network_defs.specs.Acts.{At}
 use Rattle.network_defs.specs.Events.{Happened, Done, row, one_act, at_edge, done}
 use Rattle.network_defs.specs.Nodes.{NodeState, Edge, CoreNode, Nodes, is_edge, fresh_node, with_node, place_of, label_place_of, following}
-use Rattle.network_defs.specs.Refusals.{control_of, refusal}
+use Rattle.network_defs.specs.Refusals.{control_of, refusal, message_call}
 use Rattle.network_defs.specs.Run.{Traced, Runs, outcome, report_of}
 use Rattle.network_defs.specs.System.{NodeCall, Own, Elapse, Reset, Price, Follow, node_called, core_called, nodes_called}
 use Rattle.network_defs.specs.World.{World, start, scenario_of}
@@ -53,7 +56,7 @@ use Rattle.delivery_laws.proofs.Silent.{any_lines}
 use Rattle.network_laws.proofs.ready_laws.Ends.{Holds, holds_from, holds_then}
 use Rattle.rule_laws.proofs.Rows.{IsEdgeNode}
 use Rattle.once_laws.specs.Told.{NotesAreTold}
-use Rattle.once_laws.proofs.Carry.{IsOfSession, EventMay, event_holds}
+use Rattle.once_laws.proofs.Carry.{IsOfSession, EventMay, event_holds, MayFor}
 use Rattle.once_laws.proofs.Rests.{unfed_rests}
 use Rattle.once_laws.proofs.Stands.{edge_control}
 use Rattle.once_laws.proofs.StandRuns.{Any, AllRest, Free, all_fit, rests_hold, iface_edge, call_gives}
@@ -183,6 +186,10 @@ other_event scenario noted world event w s r =
     (event_holds (NotesStand scenario noted) Free (λ nodes f. all_fit (sessions nodes.scenario)) MayStand may_free (step scenario noted) world event w
     (record { nodes = s; rests = r }))
 
+message_leaves : (n : NodeId) (o : Option Given) → MayFor MayStand n (message_call o)
+message_leaves n None = tt
+message_leaves n (Some given) = λ old. refl
+
 -- ---- events that change notes
 
 -- what the events tell behind one more
@@ -222,25 +229,25 @@ apart scenario note n m iface found at f one =
     true≢false (sym (eq-eqb n.0 m.0 (ap (λ (x : NodeId). x.0) same)) ∙ f)
 
 -- A call at an edge that tells of one flow at one of its interfaces: what is told changes there alone, as the notes of the edge do.
-module _ (scenario : Scenario) (rules : Rules scenario) (noted : Noted) (iface : IfaceId) (source group : Addr) (call : steps.Call)
+module _ (scenario : Scenario) (rules : Rules scenario) (noted : Noted) (iface : IfaceId) (source group : Addr) (call : steps.CustomerCall)
     (change : Bool → Bool → Bool) (still : (b : Bool) → change b false ≡ b)
     (changes : (place : EdgePlace) (now : ℕ) (old : Control) (note : Note)
     → change (sets.contains old.notes note) (eq_by_cmp note_cmp note (record { iface = iface; source = source; group = group }))
-    ≡ sets.contains (control_step place now old call).notes note) where
+    ≡ sets.contains (control_step place now old (steps.Customer call)).notes note) where
   abbrev new_noted : Noted
   new_noted note = change (noted note) (is_flow_at note.iface note.source note.group iface source group)
 
   node_stands : (nodes : Nodes) (m : NodeId) → edge_of scenario iface ≡ Some m → NotesStand scenario noted nodes
-      → Holds (λ (new : Stepped Nodes). NotesStand scenario new_noted new.state) (node_called nodes m (nodes.node m) call)
+      → Holds (λ (new : Stepped Nodes). NotesStand scenario new_noted new.state) (node_called nodes m (nodes.node m) (steps.Customer call))
   node_stands nodes m at s = by (nodes.node m) refl (s.kinds m (iface_edge scenario rules iface m at))
     where
       by : (state : NodeState) → nodes.node m ≡ state → IsEdgeNode state
-          → Holds (λ (new : Stepped Nodes). NotesStand scenario new_noted new.state) (node_called nodes m state call)
+          → Holds (λ (new : Stepped Nodes). NotesStand scenario new_noted new.state) (node_called nodes m state (steps.Customer call))
       by (CoreNode part) e kind = absurd kind
       by (Edge edge) e kind =
-          holds_then (λ (new : EdgeStepped). new.edge.control ≡ control_step (place_of nodes m) nodes.clock edge.control call)
-          (λ (new : Stepped Nodes). NotesStand scenario new_noted new.state) (edge_step (place_of nodes m) nodes.clock edge call) _
-          (edge_control (place_of nodes m) nodes.clock edge call)
+          holds_then (λ (new : EdgeStepped). new.edge.control ≡ control_step (place_of nodes m) nodes.clock edge.control (steps.Customer call))
+          (λ (new : Stepped Nodes). NotesStand scenario new_noted new.state) (edge_step (place_of nodes m) nodes.clock edge (steps.Customer call)) _
+          (edge_control (place_of nodes m) nodes.clock edge (steps.Customer call))
           (λ new is. one_stands scenario noted new_noted nodes m (Edge new.edge) s (λ k. tt)
           (λ note n found t.
           (λ i. change ((s.notes note n found ∙ ap (λ (x : NodeId). has (nodes.node x) note) (node_equal n m t)
@@ -266,9 +273,9 @@ module _ (scenario : Scenario) (rules : Rules scenario) (noted : Noted) (iface :
         },
       )
       by (Some m) e =
-          then_leads Any any_lines (Kept scenario new_noted) (Kept scenario new_noted) (one_act world (At m call)) (row [])
-          (one_leads Any any_lines (Kept scenario new_noted) world (At m call)
-          (call_gives (NotesStand scenario new_noted) world m (node_called world.network.state m (world.network.state.node m) call)
+          then_leads Any any_lines (Kept scenario new_noted) (Kept scenario new_noted) (one_act world (At m (steps.Customer call))) (row [])
+          (one_leads Any any_lines (Kept scenario new_noted) world (At m (steps.Customer call))
+          (call_gives (NotesStand scenario new_noted) world m (node_called world.network.state m (world.network.state.node m) (steps.Customer call))
           (node_stands world.network.state m e s)))
           (λ next v. (tt, v))
 
@@ -294,20 +301,20 @@ and_turned false true = refl
 and_turned false false = refl
 
 active_stands : (scenario : Scenario) → Rules scenario → (noted : Noted) (world : World) (iface : IfaceId) (source group : Addr)
-    → Kept scenario noted world → Leads Any (Kept scenario (noted_then scenario (events.Active iface source group) noted))
-    (done world (events.Active iface source group))
+    → Kept scenario noted world → Leads Any (Kept scenario (noted_then scenario (events.Customer (customers.Active iface source group)) noted))
+    (done world (events.Customer (customers.Active iface source group)))
 active_stands scenario rules noted world iface source group s =
     let note : Note = record { iface = iface; source = source; group = group } in
-    flow_stands scenario rules noted iface source group (steps.Customer (steps.Active iface source group)) (λ a b. a || b) or_off
+    flow_stands scenario rules noted iface source group (steps.Active iface source group) (λ a b. a || b) or_off
     (λ place now old x. or_turned (sets.contains old.notes x) (eq_by_cmp note_cmp x note) ∙ sym (sets.contains-insert note_total old.notes note x))
     world s
 
 idle_stands : (scenario : Scenario) → Rules scenario → (noted : Noted) (world : World) (iface : IfaceId) (source group : Addr)
-    → Kept scenario noted world → Leads Any (Kept scenario (noted_then scenario (events.Idle iface source group) noted))
-    (done world (events.Idle iface source group))
+    → Kept scenario noted world → Leads Any (Kept scenario (noted_then scenario (events.Customer (customers.Idle iface source group)) noted))
+    (done world (events.Customer (customers.Idle iface source group)))
 idle_stands scenario rules noted world iface source group s =
     let note : Note = record { iface = iface; source = source; group = group } in
-    flow_stands scenario rules noted iface source group (steps.Customer (steps.Idle iface source group)) (λ a b. a && not b) and_on
+    flow_stands scenario rules noted iface source group (steps.Idle iface source group) (λ a b. a && not b) and_on
     (λ place now old x. and_turned (sets.contains old.notes x) (eq_by_cmp note_cmp x note) ∙ sym (sets.contains-remove note_total old.notes note x))
     world s
 
@@ -344,20 +351,22 @@ restart_stands scenario noted nodes at s = record {
 
 event_stands : (scenario : Scenario) → Rules scenario → (noted : Noted) (world : World) → Kept scenario noted world → AllRest world.network
     → (event : Event) → Leads Any (Kept scenario (noted_then scenario event noted)) (done world event)
-event_stands scenario rules noted world s r (events.Active iface source group) = active_stands scenario rules noted world iface source group s
-event_stands scenario rules noted world s r (events.Idle iface source group) = idle_stands scenario rules noted world iface source group s
+event_stands scenario rules noted world s r (events.Customer (customers.Active iface source group)) =
+    active_stands scenario rules noted world iface source group s
+event_stands scenario rules noted world s r (events.Customer (customers.Idle iface source group)) = idle_stands scenario rules noted world iface source group s
 event_stands scenario rules noted world s r (events.Restart node) = (tt, restart_stands scenario noted world.network.state node s)
 event_stands scenario rules noted world s r events.Settle = other_event scenario noted world events.Settle (λ n. tt) s r
-event_stands scenario rules noted world s r (events.Join iface entry) =
-    other_event scenario noted world (events.Join iface entry) (λ n at message old. refl) s r
-event_stands scenario rules noted world s r (events.Prune iface entry) =
-    other_event scenario noted world (events.Prune iface entry) (λ n at message old. refl) s r
-event_stands scenario rules noted world s r (events.Pim iface bytes) =
-    other_event scenario noted world (events.Pim iface bytes) (λ n at message old. refl) s r
-event_stands scenario rules noted world s r (events.Select vrf pattern) = other_event scenario noted world (events.Select vrf pattern) (λ n old. refl) s r
+event_stands scenario rules noted world s r (events.Customer (customers.Join iface entry)) =
+    other_event scenario noted world (events.Customer (customers.Join iface entry)) (λ n own old. refl) s r
+event_stands scenario rules noted world s r (events.Customer (customers.Prune iface entry)) =
+    other_event scenario noted world (events.Customer (customers.Prune iface entry)) (λ n own old. refl) s r
+event_stands scenario rules noted world s r (events.Customer (customers.Pim iface bytes)) =
+    other_event scenario noted world (events.Customer (customers.Pim iface bytes)) (λ n own. message_leaves n (read_at iface bytes)) s r
+event_stands scenario rules noted world s r (events.Customer (customers.Select vrf pattern)) =
+    other_event scenario noted world (events.Customer (customers.Select vrf pattern)) (λ n own old. refl) s r
 event_stands scenario rules noted world s r (events.Cost a b cost) = other_event scenario noted world (events.Cost a b cost) (tt, λ n. tt) s r
-event_stands scenario rules noted world s r (events.Unselect vrf pattern) =
-    other_event scenario noted world (events.Unselect vrf pattern) (λ n old. refl) s r
+event_stands scenario rules noted world s r (events.Customer (customers.Unselect vrf pattern)) =
+    other_event scenario noted world (events.Customer (customers.Unselect vrf pattern)) (λ n own old. refl) s r
 event_stands scenario rules noted world s r other = other_event scenario noted world other tt s r
 
 -- ---- runs

@@ -24,6 +24,7 @@ use Rattle.mvpn_model.specs.declared.session.Session.{Session}
 use Rattle.scenario_defs.specs.Rules.{Rules, Rises}
 use Rattle.scenario_defs.specs.Vpn.{edge_of}
 use Rattle.scenario_defs.specs.declared.event.Event.{Event}
+use Rattle.scenario_defs.specs.declared.event.CustomerEvent.TheVariants as customers
 use Rattle.scenario_defs.specs.declared.event.Event.TheVariants as events
 use Rattle.scenario_defs.specs.declared.event.JoinEntry.{JoinEntry}
 use Rattle.scenario_defs.specs.declared.event.JoinEntry.TheVariants as join_entries
@@ -45,11 +46,12 @@ use Rattle.edge_defs.specs.Edge as edges
 use Rattle.edge_defs.specs.Edge.{Control}
 use Rattle.network_defs.specs.Costs.{Cores}
 use Rattle.edge_defs.specs.Steps as steps
+use Rattle.edge_defs.specs.Steps.{CustomerCall}
 use Rattle.edge_defs.specs.Steps.{EdgeStepped, edge_step, control_step}
 use Rattle.network_defs.specs.Acts.{At, with_network}
-use Rattle.network_defs.specs.Events.{Happened, Done, row, one_act, at_edge, with_message, done}
+use Rattle.network_defs.specs.Events.{Happened, Done, row, one_act, at_edge, done, called}
 use Rattle.network_defs.specs.Nodes.{NodeState, Edge, CoreNode, Nodes, is_edge, fresh_node, with_node, place_of}
-use Rattle.network_defs.specs.Refusals.{control_of, refusal}
+use Rattle.network_defs.specs.Refusals.{control_of, refusal, call_for, message_call}
 use Rattle.network_defs.specs.Run.{Traced, Runs, outcome, report_of}
 use Rattle.network_defs.specs.System.{NodeCall, Own, node_called, nodes_called}
 use Rattle.network_defs.specs.World.{World, start, scenario_of, clock_of}
@@ -59,7 +61,7 @@ use Rattle.delivery_laws.proofs.Outcomes.{Leads, Gives, then_leads, one_leads, l
 use Rattle.delivery_laws.proofs.Silent.{any_lines}
 use Rattle.rule_laws.proofs.Rows.{IsEdgeNode}
 use Rattle.once_laws.specs.Told.{kept_at_edge, AsksAreTold, EntriesAreTold}
-use Rattle.once_laws.proofs.Carry.{IsOfSession, AreFit, EventMay, event_holds}
+use Rattle.once_laws.proofs.Carry.{IsOfSession, AreFit, EventMay, event_holds, MayFor}
 use Rattle.once_laws.proofs.Rests.{Rests, unfed_rests}
 use Rattle.once_laws.proofs.Stands.{Alike, Told, kept_of, Stands, MayStand, remaining_twice, counts_by, alike_later, alike_after, edge_control, one_stands, step}
 use Rattle.network_laws.proofs.ready_laws.Ends.{holds_then}
@@ -95,19 +97,17 @@ any_holds : (o : Option (Stepped Nodes)) → Holds (λ (new : Stepped Nodes). An
 any_holds None = tt
 any_holds (Some new) = tt
 
+any_for : (n : NodeId) (o : Option CustomerCall) → MayFor AnyCall n o
+any_for n None = tt
+any_for n (Some call) = tt
+
 any_may : (event : Event) → EventMay AnyNodes Free (λ nodes f. all_fit (sessions nodes.scenario)) AnyCall (λ n call h. tt)
     (λ nodes call w f. any_holds (nodes_called call nodes)) event
 any_may (events.Tick count) = tt
 any_may (events.Timers node) = tt
 any_may events.Settle = λ n. tt
 any_may (events.Restart node) = tt
-any_may (events.Join iface entry) = λ n at message. tt
-any_may (events.Prune iface entry) = λ n at message. tt
-any_may (events.Pim iface bytes) = λ n at message. tt
-any_may (events.Active iface source group) = λ n. tt
-any_may (events.Idle iface source group) = λ n. tt
-any_may (events.Select vrf pattern) = λ n. tt
-any_may (events.Unselect vrf pattern) = λ n. tt
+any_may (events.Customer event) = λ n scenario. any_for n (call_for scenario event)
 any_may (events.Cost a b cost) = (tt, λ n. tt)
 any_may other = tt
 
@@ -238,13 +238,13 @@ pim_stands scenario rules c told nodes m given at s = by (nodes.node m) refl (s.
                 absurd (true≢false (sym (eq-eqb n.0 m.0 (ap (λ (x : NodeId). x.0) same)) ∙ f))
 
 given_stands : (scenario : Scenario) → Rules scenario → (c : ℕ) (told : Told) (world : World) → Kept scenario c told world → (o : Option Given)
-    → Leads Any (Kept scenario c (λ iface entry. expiry_given iface entry c (told iface entry) o)) (with_message o world)
+    → Leads Any (Kept scenario c (λ iface entry. expiry_given iface entry c (told iface entry) o)) (called (message_call o) world)
 given_stands scenario rules c told world s None = (tt, s)
 given_stands scenario rules c told world s (Some given) =
     by (edge_of (scenario_of world) given.iface) (ap (λ (x : Scenario). edge_of x given.iface) (sym s.same))
   where
     by : (o : Option NodeId) → edge_of scenario given.iface ≡ o
-        → Leads Any (Kept scenario c (told_given c given told)) (at_edge o (steps.Customer (steps.Pim given.iface given.message)) world)
+        → Leads Any (Kept scenario c (told_given c given told)) (at_edge o (steps.Pim given.iface given.message) world)
     by None e = (
       tt,
       record {
@@ -274,13 +274,13 @@ given_stands scenario rules c told world s (Some given) =
 
 message_event : (scenario : Scenario) → Rules scenario → (c : ℕ) (told : Told) (world : World) (event : Event) → Kept scenario c told world
     → Leads Any (Kept scenario (c + 0) (λ iface entry. expiry_given iface entry c (told iface entry) (message_of scenario event)))
-    (with_message (message_of (scenario_of world) event) world)
+    (called (message_call (message_of (scenario_of world) event)) world)
 message_event scenario rules c told world event s =
     leads_as Any (Kept scenario c (λ iface entry. expiry_given iface entry c (told iface entry) (message_of (scenario_of world) event))) _
     (λ new k. stands_as scenario c (c + 0) _ (λ iface entry. expiry_given iface entry c (told iface entry) (message_of scenario event))
     new.network.state (omega arith)
     (λ iface entry. ap (λ (x : Scenario). remaining c (expiry_given iface entry c (told iface entry) (message_of x event))) (sym s.same)) k)
-    (with_message (message_of (scenario_of world) event) world) (given_stands scenario rules c told world s (message_of (scenario_of world) event))
+    (called (message_call (message_of (scenario_of world) event)) world) (given_stands scenario rules c told world s (message_of (scenario_of world) event))
 
 -- ---- a restart
 
@@ -346,30 +346,24 @@ event_stands scenario rules c told world s r (events.Tick count) = (
   },
 )
 event_stands scenario rules c told world s r (events.Restart node) = (tt, restart_stands scenario c told world.network.state node s)
-event_stands scenario rules c told world s r (events.Join iface entry) = message_event scenario rules c told world (events.Join iface entry) s
-event_stands scenario rules c told world s r (events.Prune iface entry) = message_event scenario rules c told world (events.Prune iface entry) s
-event_stands scenario rules c told world s r (events.Pim iface bytes) = message_event scenario rules c told world (events.Pim iface bytes) s
+event_stands scenario rules c told world s r (events.Customer (customers.Join iface entry)) =
+    message_event scenario rules c told world (events.Customer (customers.Join iface entry)) s
+event_stands scenario rules c told world s r (events.Customer (customers.Prune iface entry)) =
+    message_event scenario rules c told world (events.Customer (customers.Prune iface entry)) s
+event_stands scenario rules c told world s r (events.Customer (customers.Pim iface bytes)) =
+    message_event scenario rules c told world (events.Customer (customers.Pim iface bytes)) s
 event_stands scenario rules c told world s r (events.Timers node) =
     no_ticks scenario c told (told_after scenario c (events.Timers node) told) world (events.Timers node) (timers_told scenario c told node)
     (quiet_event scenario c told world (events.Timers node) tt s r)
 event_stands scenario rules c told world s r events.Settle =
     no_ticks scenario c told (told_after scenario c events.Settle told) world events.Settle (λ i a. remaining_twice c (told i a))
     (quiet_event scenario c told world events.Settle (λ n. tt) s r)
-event_stands scenario rules c told world s r (events.Active iface source group) =
-    no_ticks scenario c told told world (events.Active iface source group) (λ i a. refl)
-    (quiet_event scenario c told world (events.Active iface source group) (λ n now old. refl) s r)
-event_stands scenario rules c told world s r (events.Idle iface source group) =
-    no_ticks scenario c told told world (events.Idle iface source group) (λ i a. refl)
-    (quiet_event scenario c told world (events.Idle iface source group) (λ n now old. refl) s r)
-event_stands scenario rules c told world s r (events.Select vrf pattern) =
-    no_ticks scenario c told told world (events.Select vrf pattern) (λ i a. refl)
-    (quiet_event scenario c told world (events.Select vrf pattern) (λ n now old. refl) s r)
 event_stands scenario rules c told world s r (events.Cost a b cost) =
     no_ticks scenario c told told world (events.Cost a b cost) (λ i a. refl)
     (quiet_event scenario c told world (events.Cost a b cost) (tt, λ n. tt) s r)
-event_stands scenario rules c told world s r (events.Unselect vrf pattern) =
-    no_ticks scenario c told told world (events.Unselect vrf pattern) (λ i a. refl)
-    (quiet_event scenario c told world (events.Unselect vrf pattern) (λ n now old. refl) s r)
+event_stands scenario rules c told world s r (events.Customer other) =
+    no_ticks scenario c told told world (events.Customer other) (λ i a. refl)
+    (quiet_event scenario c told world (events.Customer other) (λ n own now old. refl) s r)
 event_stands scenario rules c told world s r (events.Move kind from to count) =
     no_ticks scenario c told told world (events.Move kind from to count) (λ i a. refl)
     (quiet_event scenario c told world (events.Move kind from to count) tt s r)

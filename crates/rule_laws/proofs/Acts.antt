@@ -24,7 +24,7 @@ use Rattle.network_defs.proofs.session_defs.Lines.{line_lost, line_forgotten}
 use Rattle.mldp.specs.declared.mldp_fec.fec.Fec.{Fec}
 use Rattle.edge_defs.specs.Datagrams.{Fate, is_from_site, is_outside}
 use Rattle.edge_defs.specs.Flows.{asking_ifaces}
-use Rattle.edge_defs.specs.Edge.{EdgeData}
+use Rattle.edge_defs.specs.Edge.{Control, EdgeData}
 use Rattle.edge_defs.specs.Place.{OwnVrf, EdgePlace}
 use Rattle.edge_defs.specs.Steps as steps
 use Rattle.edge_defs.specs.Tunnels.{transmit_tunnel, is_joined_in}
@@ -271,6 +271,10 @@ land_in_step scenario world a b place ne (pending, are, good) = by (slice_get (w
 
 -- ---- all of them
 
+-- a call of a customer fits an edge that keeps this: there is room for one more selection, and a pattern is not selected twice
+abbrev pub IsFitFor : Control → steps.CustomerCall → Type 0
+IsFitFor control call = HasRoom control (steps.Customer call) × (edge_acts.selects_again control call ≡ false)
+
 -- What is asked of an act besides that it is sound. The ends of a session come up together alone.
 abbrev pub IsFit : World → Act → Type 0
 IsFit world (Notice kind a b) = IsFitNotice world kind a b
@@ -278,9 +282,7 @@ IsFit world (RaiseFirst kind a b) = ⊥
 IsFit world (RaiseSecond kind a b) = ⊥
 IsFit world (Enter vrf) = IsFitEnter world vrf
 IsFit world (Land from to place) = from ≢ to
-IsFit world (At n (steps.Customer call)) =
-    HasRoom (control_of (world.network.state.node n)) (steps.Customer call)
-    × (edge_acts.selects_again (control_of (world.network.state.node n)) call ≡ false)
+IsFit world (At n (steps.Customer call)) = IsFitFor (control_of (world.network.state.node n)) call
 IsFit world (At n (steps.Raised kind peer)) = ⊥
 IsFit world (At n (steps.Noticed kind peer)) = ⊥
 IsFit world other = Unit {0}

@@ -3,7 +3,6 @@ use Rattle.std.specs.Prelude.{find, replicate, nat_le}
 use Rattle.std.specs.Prelude.{Result, Ok, Err}
 use Rattle.std.proofs.Common.{◌≡◌, ◌≢◌, ◌<◌, ◌≤◌, ◌+◌, ◌||◌, not, ℕ, zero, suc, Bool, true, false, cond, map, flat_map, slice_get, ◌++◌, List, [], ◌∷◌, length, Option, Some, None, refl, sym, ap, subst, ◌∙◌, arith}
 use Rattle.std.specs.List.{AllByRecursion}
-use Rattle.std.specs.FinMap as maps
 use Rattle.std.specs.Option.{option_or}
 use Rattle.std.proofs.lemmas.Bool.{and_parts, or_parts, leb-false, not-false}
 use Rattle.std.proofs.lemmas.List.{append_assoc}
@@ -14,10 +13,11 @@ use Rattle.mv_base.specs.declared.ids.NodeId.{NodeId}
 use Rattle.mv_base.specs.declared.ids.SiteId.{SiteId}
 use Rattle.mv_base.specs.declared.ids.VrfId.{VrfId}
 use Rattle.mv_base.specs.declared.core_link.Link.{Link}
-use Rattle.mv_base.specs.declared.pattern.Pattern.{Pattern}
 use Rattle.mv_base.specs.core_walks.Topology.{HasEnds}
-use Rattle.scenario_defs.specs.Vpn.{edge_of, is_attached_at, entered, entered_from}
+use Rattle.scenario_defs.specs.Vpn.{is_attached_at, entered, entered_from}
 use Rattle.scenario_defs.specs.declared.event.Event.{Event}
+use Rattle.scenario_defs.specs.declared.event.CustomerEvent.TheVariants as customers
+use Rattle.scenario_defs.specs.declared.event.CustomerEvent.{CustomerEvent}
 use Rattle.scenario_defs.specs.declared.event.Event.TheVariants as events
 use Rattle.scenario_defs.specs.declared.event.Kind.{Kind}
 use Rattle.scenario_defs.specs.declared.event.Kind.TheVariants as kinds
@@ -27,7 +27,7 @@ use Rattle.scenario_defs.specs.declared.report.Refusal.TheVariants as refusals
 use Rattle.scenario_defs.specs.declared.report.ReportLine.TheVariants as lines
 use Rattle.scenario_defs.specs.declared.scenario.Scenario.{Scenario}
 use Rattle.scenario_defs.specs.declared.scenario.Vrf.{Vrf}
-use Rattle.mvpn_model.specs.Messages.{message_of}
+use Rattle.mvpn_model.specs.Messages.{read_at}
 use Rattle.mvpn_model.specs.Packet.{packet}
 use Rattle.mvpn_model.specs.declared.message.Given.{Given}
 use Rattle.mvpn_model.specs.Sessions.{sessions, edges, bgp_session, bgp_sessions, ldp_session}
@@ -37,12 +37,13 @@ use Rattle.scenario_defs.specs.Kinds.{same_kind}
 use Rattle.network_defs.specs.declared.session_defs.direction.Direction.{Direction}
 use Rattle.edge_defs.specs.Datagrams.{entering_fate}
 use Rattle.edge_defs.specs.Steps as steps
+use Rattle.edge_defs.specs.Steps.{CustomerCall}
 use Rattle.network_defs.specs.Acts.{Act, Tick, Timers, Move, Lose, Notice, Restart, At, Enter, Land, Drop, Tell, SetCost, Reroute, Acted, datagram_at, enters_at, entering, act}
 use Rattle.network_defs.specs.Counts.{all_nodes, directions, link_ways, is_up as is_end}
-use Rattle.network_defs.specs.Events.{Happened, Done, row, each, times, raise_acts, is_session_of, raises, turn, healed, settled, landings, drain_round, sent, at_edge, with_message, done, cost_acts}
+use Rattle.network_defs.specs.Events.{Happened, Done, row, each, times, raise_acts, is_session_of, raises, turn, healed, settled, landings, drain_round, sent, at_edge, done, cost_acts, called}
 use Rattle.network_defs.specs.Nodes.{NodeState, Edge, CoreNode, place_of}
 use Rattle.mvpn_model.specs.Packets.{source_in, group_in}
-use Rattle.network_defs.specs.Refusals.{control_at, edge_of_vrf, refused_if, is_session_joined, is_selected, are_sessions_full, selection_limit, selections_at, refusal}
+use Rattle.network_defs.specs.Refusals.{control_at, refused_if, is_session_joined, is_selected, are_sessions_full, selection_limit, selections_at, refusal, call_for, edge_for, message_call}
 use Rattle.network_defs.specs.Run.{Traced, outcome, Runs}
 use Rattle.network_defs.specs.World.{World, Datagram, scenario_of, clock_of}
 use Rattle.network_defs.proofs.Kept.{Gives, Comes, both_give, branches_datagrams}
@@ -50,13 +51,13 @@ use Rattle.network_laws.specs.Sound.{SoundScenario}
 use Rattle.network_laws.specs.Honest.{IsSoundCall, IsSoundEvent, IsCost}
 use Rattle.network_laws.proofs.Lists.{each_append, each_of, each_map, each_flat, each_weaker}
 use Rattle.network_laws.proofs.RunActs.{SoundAct}
-use Rattle.network_laws.proofs.RunNodes.{IsNode, IsFoundNode, nodes_within, edge_within, vrf_within}
-use Rattle.network_laws.proofs.RunMessages.{IsSoundGiven, join_is_sound, prune_is_sound, read_is_sound}
+use Rattle.network_laws.proofs.RunNodes.{IsNode, IsFoundNode, nodes_within}
+use Rattle.network_laws.proofs.RunCalls.{IsSoundFor, call_is_sound, call_is_within}
 use Rattle.network_laws.proofs.RunEvents.{two_ends}
 use Rattle.label_laws.specs.Rule.{Kept}
 use Rattle.network_defs.specs.session_defs.Refined.{seen}
 use Rattle.rule_laws.specs.Labels.{label_network}
-use Rattle.rule_laws.proofs.Acts.{InStep, IsFit, IsFitEnter, act_in_step}
+use Rattle.rule_laws.proofs.Acts.{InStep, IsFit, IsFitEnter, act_in_step, IsFitFor}
 use Rattle.std.proofs.lemmas.Option.{slice_get_within}
 use Rattle.scenario_defs.specs.declared.scenario.Node.{Node}
 use Rattle.network_defs.specs.Nodes.{is_edge}
@@ -301,11 +302,10 @@ module _ (scenario : Scenario) where
 
   -- ---- calls
 
-  edge_in_step : (o : Option NodeId) (call : steps.Call) → IsFoundNode scenario o → IsSoundCall call
-      → ((n : NodeId) → o ≡ Some n → (world : World) → IsFit world (At n call)) → (world : World) → InStep scenario world
-      → Goes LabelRule Keeping world (at_edge o call world)
-  edge_in_step None call within sound fit world s = nothing_goes LabelRule Keeping world (world_rule scenario world s) s
-  edge_in_step (Some n) call within sound fit world s = alone (At n call) (within, sound) world (fit n refl world) s
+  edge_in_step : (o : Option NodeId) (call : CustomerCall) → IsFoundNode scenario o → IsSoundCall (steps.Customer call) → (world : World)
+      → IsFitFor (control_at world o) call → InStep scenario world → Goes LabelRule Keeping world (at_edge o call world)
+  edge_in_step None call within sound world fit s = nothing_goes LabelRule Keeping world (world_rule scenario world s) s
+  edge_in_step (Some n) call within sound world fit s = alone (At n (steps.Customer call)) (within, sound) world fit s
 
   -- ---- raises
 
@@ -345,6 +345,26 @@ pub or_not_refused : (first then_refused : Option Refusal) → option_or first t
 or_not_refused None other e = (refl, e)
 or_not_refused (Some reason) other e = let x : None ≡ Some reason = sym e in absurd (none-some reason x)
 
+-- what a customer calls for, where it does, fits the edge: there is room for one more selection, and a pattern is not selected twice
+abbrev pub FitsFor : World → Option CustomerCall → Type 0
+FitsFor world None = Unit {0}
+FitsFor world (Some call) = IsFitFor (control_at world (edge_for (scenario_of world) call)) call
+
+message_fits : (world : World) (o : Option Given) → FitsFor world (message_call o)
+message_fits world None = tt
+message_fits world (Some given) = (tt, refl)
+
+pub call_fits : (world : World) (event : CustomerEvent) → refusal world (events.Customer event) ≡ None
+    → FitsFor world (call_for (scenario_of world) event)
+call_fits world (customers.Pim iface octets) free = message_fits world (read_at iface octets)
+call_fits world (customers.Select vrf pattern) free =
+    let x = or_not_refused (refused_if (is_selected world vrf pattern) refusals.State)
+    (refused_if (are_sessions_full world || nat_le selection_limit (selections_at world vrf)) refusals.Full) free in
+    let y = or_parts (are_sessions_full world) (nat_le selection_limit (selections_at world vrf))
+    (not_refused (are_sessions_full world || nat_le selection_limit (selections_at world vrf)) refusals.Full x.1) in
+    let few = leb-false 256 (selections_at world vrf) y.1 in (omega (arith, few), not_refused (is_selected world vrf pattern) refusals.State x.0)
+call_fits world other free = (tt, refl)
+
 settle_in_step : (world : World) → InStep (scenario_of world) world → Goes LabelRule (InStep (scenario_of world)) world (settled world)
 settle_in_step world s =
     let scenario = scenario_of world in
@@ -368,12 +388,11 @@ cost_in_step world a b cost is s =
           (all_nodes scenario) (nodes_within 0 (length scenario.nodes) (length scenario.nodes) (omega arith))),
     ) world s
 
-message_in_step : (world : World) → SoundScenario (scenario_of world) → (o : Option Given) → IsSoundGiven o → InStep (scenario_of world) world
-    → Goes LabelRule (InStep (scenario_of world)) world (with_message o world)
-message_in_step world sound None is s = nothing_goes LabelRule (InStep (scenario_of world)) world (world_rule (scenario_of world) world s) s
-message_in_step world sound (Some given) is s =
-    edge_in_step (scenario_of world) (edge_of (scenario_of world) given.iface) (steps.Customer (steps.Pim given.iface given.message))
-    (edge_within (scenario_of world) sound given.iface) is (λ n e old. (tt, refl)) world s
+customer_in_step : (world : World) → SoundScenario (scenario_of world) → (o : Option CustomerCall) → IsSoundFor o → FitsFor world o
+    → InStep (scenario_of world) world → Goes LabelRule (InStep (scenario_of world)) world (called o world)
+customer_in_step world sound None is fits s = nothing_goes LabelRule (InStep (scenario_of world)) world (world_rule (scenario_of world) world s) s
+customer_in_step world sound (Some call) is fits s =
+    edge_in_step (scenario_of world) (edge_for (scenario_of world) call) call (call_is_within (scenario_of world) sound call) is world fits s
 
 pub notice_fits : (scenario : Scenario) (world : World) (kind : Kind) (a b : NodeId) → InStep scenario world
     → (is_session_joined world kind a b || not (is_end world kind a b)) ≡ false → IsFit world (Notice kind a b)
@@ -382,19 +401,6 @@ notice_fits scenario world kinds.Bgp a b s e =
     (x.0, sym (s.2.edges.2.rule.alike a b) ∙ x.0, bgp_up_is (world.network.state.node a) b ∙ not-false (is_end world kinds.Bgp a b) x.1)
 notice_fits scenario world kinds.Ldp a b s e = let x = or_parts (is_session_joined world kinds.Ldp a b) (not (is_end world kinds.Ldp a b)) e in
     (x.0, not-false (is_end world kinds.Ldp a b) x.1)
-
-select_in_step : (world : World) → SoundScenario (scenario_of world) → InStep (scenario_of world) world → (vrf : VrfId) (pattern : Pattern)
-    → IsSoundCall (steps.Customer (steps.Select vrf pattern)) → (maps.len (control_at world (edge_of_vrf (scenario_of world) vrf)).selections < 1000000)
-    × (is_selected world vrf pattern ≡ false)
-    → Goes LabelRule (InStep (scenario_of world)) world (at_edge (edge_of_vrf (scenario_of world) vrf) (steps.Customer (steps.Select vrf pattern)) world)
-select_in_step world sound s vrf pattern is room = by (edge_of_vrf (scenario_of world) vrf) (vrf_within (scenario_of world) sound vrf) room
-  where
-    by : (o : Option NodeId) → IsFoundNode (scenario_of world) o
-        → (maps.len (control_at world o).selections < 1000000)
-        × (maps.contains_key (control_at world o).selections (record { vrf = vrf; pattern = pattern }) ≡ false)
-        → Goes LabelRule (InStep (scenario_of world)) world (at_edge o (steps.Customer (steps.Select vrf pattern)) world)
-    by None within fits = nothing_goes LabelRule (InStep (scenario_of world)) world (world_rule (scenario_of world) world s) s
-    by (Some n) within fits = alone (scenario_of world) (At n (steps.Customer (steps.Select vrf pattern))) (within, is) world fits s
 
 done_in_step : Enters → (world : World) → SoundScenario (scenario_of world) → InStep (scenario_of world) world → (event : Event)
     → refusal world event ≡ None → IsSoundEvent (scenario_of world) event → GoesWith LabelRule (InStep (scenario_of world)) world (done world event)
@@ -417,47 +423,14 @@ done_in_step enters world lines s (events.Raise kind a b) free sound =
       raise_in_step (scenario_of world) kind a b (sessions (scenario_of world)) (sessions_fit (scenario_of world) lines) world x.0 x.1
           s,
     )
-done_in_step enters world lines s (events.Join iface entry) free sound = (
+done_in_step enters world lines s (events.Customer event) free sound = (
   world.datagrams,
-  message_in_step world lines (message_of (scenario_of world) (events.Join iface entry))
-      (join_is_sound (scenario_of world) iface entry sound.1) s,
-)
-done_in_step enters world lines s (events.Prune iface entry) free sound = (
-  world.datagrams,
-  message_in_step world lines (message_of (scenario_of world) (events.Prune iface entry))
-      (prune_is_sound (scenario_of world) iface entry sound.1) s,
-)
-done_in_step enters world lines s (events.Pim iface octets) free sound =
-    (world.datagrams, message_in_step world lines (message_of (scenario_of world) (events.Pim iface octets)) (read_is_sound iface octets sound) s)
-done_in_step enters world lines s (events.Active iface source group) free sound = (
-  world.datagrams,
-  edge_in_step (scenario_of world) (edge_of (scenario_of world) iface) (steps.Customer (steps.Active iface source group))
-      (edge_within (scenario_of world) lines iface) sound (λ n e old. (tt, refl)) world s,
-)
-done_in_step enters world lines s (events.Idle iface source group) free sound = (
-  world.datagrams,
-  edge_in_step (scenario_of world) (edge_of (scenario_of world) iface) (steps.Customer (steps.Idle iface source group))
-      (edge_within (scenario_of world) lines iface) tt (λ n e old. (tt, refl)) world s,
+  customer_in_step world lines (call_for (scenario_of world) event) (call_is_sound (scenario_of world) event sound) (call_fits world event free) s,
 )
 done_in_step enters world lines s (events.Send site source group payload) free sound =
     sent_in_step (scenario_of world) enters site source group (packet source group payload) world s
 done_in_step enters world lines s (events.Packet site octets) free sound =
     sent_in_step (scenario_of world) enters site (source_in octets) (group_in octets) octets world s
-done_in_step enters world lines s (events.Select vrf pattern) free sound =
-    let x = or_not_refused (refused_if (is_selected world vrf pattern) refusals.State)
-    (refused_if (are_sessions_full world || nat_le selection_limit (selections_at world vrf)) refusals.Full) free in
-    let y = or_parts (are_sessions_full world) (nat_le selection_limit (selections_at world vrf))
-    (not_refused (are_sessions_full world || nat_le selection_limit (selections_at world vrf)) refusals.Full x.1) in
-    let few = leb-false 256 (selections_at world vrf) y.1 in (
-      world.datagrams,
-      select_in_step world lines s vrf pattern sound
-          (omega (arith, few), not_refused (is_selected world vrf pattern) refusals.State x.0),
-    )
-done_in_step enters world lines s (events.Unselect vrf pattern) free sound = (
-  world.datagrams,
-  edge_in_step (scenario_of world) (edge_of_vrf (scenario_of world) vrf) (steps.Customer (steps.Unselect vrf pattern))
-      (vrf_within (scenario_of world) lines vrf) tt (λ n e old. (tt, refl)) world s,
-)
 done_in_step enters world lines s (events.Hop from to place) free sound =
     (world.datagrams, alone (scenario_of world) (Land from to place) tt world (two_ends (scenario_of world) lines from to place sound) s)
 done_in_step enters world lines s (events.DropCopy from to place) free sound =

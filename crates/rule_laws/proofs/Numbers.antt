@@ -55,9 +55,6 @@ effect_numbers : (place : EdgePlace) (now : ℕ) (old : Control) (call : steps.C
     → NumbersOk (effect place now old call)
 effect_numbers place now old (steps.Update peer message) room h = updated_numbers now peer message old (maps.get old.peers peer) h
 effect_numbers place now old (steps.Label neighbour message) room h = h
-effect_numbers place now old (steps.Customer (steps.Pim iface message)) room h = h
-effect_numbers place now old (steps.Customer (steps.Active iface source group)) room h = h
-effect_numbers place now old (steps.Customer (steps.Idle iface source group)) room h = h
 effect_numbers place now old (steps.Customer (steps.Select vrf pattern)) room h =
     let used = λ (number : ℕ). list_any (is_used vrf number) (maps.entries old.selections) in
     let within = number_within used (maps.len old.selections) 1 in
@@ -65,6 +62,7 @@ effect_numbers place now old (steps.Customer (steps.Select vrf pattern)) room h 
     (record { number = free_number used (maps.len old.selections) 1; since = now; run = false }) h (omega (arith, within, room))
 effect_numbers place now old (steps.Customer (steps.Unselect vrf pattern)) room h =
     cut_meets pattern_total pattern_exact IsSmall old.selections (record { vrf = vrf; pattern = pattern }) h
+effect_numbers place now old (steps.Customer other) room h = h
 effect_numbers place now old (steps.Raised kinds.Bgp peer) room h = h
 effect_numbers place now old (steps.Raised kinds.Ldp peer) room h = h
 effect_numbers place now old (steps.Noticed kinds.Bgp peer) room h = h

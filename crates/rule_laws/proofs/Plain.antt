@@ -9,7 +9,7 @@ use Rattle.mv_base.specs.declared.ids.NodeId.{NodeId}
 use Rattle.mv_base.specs.declared.ids.SiteId.{SiteId}
 use Rattle.mv_base.specs.declared.ids.VrfId.{VrfId}
 use Rattle.scenario_defs.specs.declared.scenario.Scenario.{Scenario}
-use Rattle.scenario_defs.specs.Vpn.{edge_of, entered}
+use Rattle.scenario_defs.specs.Vpn.{entered}
 use Rattle.scenario_defs.specs.declared.event.Event.{Event}
 use Rattle.scenario_defs.specs.declared.event.Event.TheVariants as events
 use Rattle.scenario_defs.specs.declared.event.Kind.{Kind}
@@ -17,22 +17,21 @@ use Rattle.scenario_defs.specs.declared.event.Timed.{Timed}
 use Rattle.scenario_defs.specs.declared.report.Refusal.{Refusal}
 use Rattle.scenario_defs.specs.declared.report.ReportLine.{ReportLine}
 use Rattle.scenario_defs.specs.declared.report.ReportLine.TheVariants as lines
-use Rattle.mvpn_model.specs.Messages.{message_of}
 use Rattle.mvpn_model.specs.Packet.{packet}
 use Rattle.mvpn_model.specs.Packets.{source_in, group_in}
 use Rattle.mvpn_model.specs.Sessions.{sessions}
-use Rattle.mvpn_model.specs.declared.message.Given.{Given}
 use Rattle.mvpn_model.specs.declared.session.Session.{Session}
 use Rattle.network_defs.specs.session_defs.Octets as octets
 use Rattle.network_defs.specs.session_defs.Octets.{OctetNetwork, octet_run}
 use Rattle.network_defs.specs.session_defs.System.{Behind, Put, octets_over}
 use Rattle.network_defs.specs.declared.session_defs.direction.Direction.{Direction}
 use Rattle.edge_defs.specs.Steps as steps
+use Rattle.edge_defs.specs.Steps.{CustomerCall}
 use Rattle.network_defs.specs.Acts.{Act, Tick, Timers, Move, Lose, Notice, RaiseFirst, RaiseSecond, Restart, At, Enter, Land, Drop, Tell, Acted, with_network, at_node, put_line, put_lines, with_aged, is_of_session, is_from_peer, is_at, leads_to, act, SetCost, Reroute}
 use Rattle.network_defs.specs.Counts.{direction, directions, all_nodes, link_ways, is_joined, is_up as is_end}
-use Rattle.network_defs.specs.Events.{Happened, Outcome, Done, Halted, and_then, one_act, row, each, times, raise_acts, is_session_of, raises, notices, healed, turn, settled, landings, drain_round, sent, at_edge, with_message, done, cost_acts}
+use Rattle.network_defs.specs.Events.{Happened, Outcome, Done, Halted, and_then, one_act, row, each, times, raise_acts, is_session_of, raises, notices, healed, turn, settled, landings, drain_round, sent, at_edge, done, cost_acts, called}
 use Rattle.network_defs.specs.Nodes.{Nodes}
-use Rattle.network_defs.specs.Refusals.{edge_of_vrf, refusal}
+use Rattle.network_defs.specs.Refusals.{refusal, call_for, edge_for}
 use Rattle.network_defs.specs.Run.{outcome}
 use Rattle.network_defs.specs.System.{Own, Elapse, Reset, system, Price, Follow}
 use Rattle.network_defs.specs.World.{World, scenario_of}
@@ -142,13 +141,13 @@ module _ (Q : Happened → Type 0) (plain : (one : Act) → IsPlain one → (wor
       (λ next. times_do Q (each turn (directions (scenario_of world))) (λ one. each_does Q turn turn_does (directions (scenario_of world)) one)
       (length (scenario_of world).nodes + 3) next)
 
-  pub edge_does : (o : Option NodeId) (call : steps.Call) (world : World) → AllDo Q (at_edge o call world)
+  edge_does : (o : Option NodeId) (call : CustomerCall) (world : World) → AllDo Q (at_edge o call world)
   edge_does None call world = tt
-  edge_does (Some n) call world = plain_row (At n call ∷ []) (tt, tt) world
+  edge_does (Some n) call world = plain_row (At n (steps.Customer call) ∷ []) (tt, tt) world
 
-  pub message_does : (o : Option Given) (world : World) → AllDo Q (with_message o world)
-  message_does None world = tt
-  message_does (Some given) world = edge_does (edge_of (scenario_of world) given.iface) (steps.Customer (steps.Pim given.iface given.message)) world
+  pub customer_does : (o : Option CustomerCall) (world : World) → AllDo Q (called o world)
+  customer_does None world = tt
+  customer_does (Some call) world = edge_does (edge_for (scenario_of world) call) call world
 
 -- ---- acts without a label
 
@@ -299,11 +298,8 @@ as_ends (Halted acts node) h = absurd h
 plain_halts : (world : World) (acts : List Act) → AllByRecursion IsPlain acts → HaltsQuiet (row acts world)
 plain_halts world acts all = as_all (row acts world) (plain_row IsQuiet plain_quiet acts all world)
 
-edge_halts : (world : World) (o : Option NodeId) (call : steps.Call) → HaltsQuiet (at_edge o call world)
-edge_halts world o call = as_all (at_edge o call world) (edge_does IsQuiet plain_quiet o call world)
-
-message_halts : (world : World) (o : Option Given) → HaltsQuiet (with_message o world)
-message_halts world o = as_all (with_message o world) (message_does IsQuiet plain_quiet o world)
+customer_halts : (world : World) (o : Option CustomerCall) → HaltsQuiet (called o world)
+customer_halts world o = as_all (called o world) (customer_does IsQuiet plain_quiet o world)
 
 sent_halts : (world : World) (site : SiteId) (source group : Addr) (bytes : List ℕ) → HaltsQuiet (sent site source group bytes world)
 sent_halts world site source group bytes =
@@ -320,15 +316,9 @@ done_halts world (events.Lose kind a b) = plain_halts world (Lose kind a b ∷ [
 done_halts world (events.Notice kind a b) = plain_halts world (Notice kind a b ∷ []) (tt, tt)
 done_halts world (events.Raise kind a b) =
     plain_halts world (raises (sessions (scenario_of world)) kind a b) (raises_plain (sessions (scenario_of world)) kind a b)
-done_halts world (events.Join iface entry) = message_halts world (message_of (scenario_of world) (events.Join iface entry))
-done_halts world (events.Prune iface entry) = message_halts world (message_of (scenario_of world) (events.Prune iface entry))
-done_halts world (events.Pim iface bytes) = message_halts world (message_of (scenario_of world) (events.Pim iface bytes))
-done_halts world (events.Active iface source group) = edge_halts world (edge_of (scenario_of world) iface) (steps.Customer (steps.Active iface source group))
-done_halts world (events.Idle iface source group) = edge_halts world (edge_of (scenario_of world) iface) (steps.Customer (steps.Idle iface source group))
+done_halts world (events.Customer event) = customer_halts world (call_for (scenario_of world) event)
 done_halts world (events.Send site source group payload) = sent_halts world site source group (packet source group payload)
 done_halts world (events.Packet site bytes) = sent_halts world site (source_in bytes) (group_in bytes) bytes
-done_halts world (events.Select vrf pattern) = edge_halts world (edge_of_vrf (scenario_of world) vrf) (steps.Customer (steps.Select vrf pattern))
-done_halts world (events.Unselect vrf pattern) = edge_halts world (edge_of_vrf (scenario_of world) vrf) (steps.Customer (steps.Unselect vrf pattern))
 done_halts world (events.Hop from to place) =
     as_ends (done world (events.Hop from to place)) (row_ends (Land from to place ∷ []) (λ old. tt, tt) world)
 done_halts world (events.DropCopy from to place) = plain_halts world (Drop from to place ∷ []) (tt, tt)

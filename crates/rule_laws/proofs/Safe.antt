@@ -9,7 +9,7 @@ use Rattle.mv_base.specs.declared.addr.Addr.{Addr}
 use Rattle.mv_base.specs.declared.ids.NodeId.{NodeId}
 use Rattle.mv_base.specs.declared.ids.SiteId.{SiteId}
 use Rattle.mv_base.specs.declared.ids.VrfId.{VrfId}
-use Rattle.scenario_defs.specs.Vpn.{edge_of, is_attached_at, entered}
+use Rattle.scenario_defs.specs.Vpn.{is_attached_at, entered}
 use Rattle.scenario_defs.specs.declared.event.Event.{Event}
 use Rattle.scenario_defs.specs.declared.event.Event.TheVariants as events
 use Rattle.scenario_defs.specs.declared.event.Timed.{Timed}
@@ -17,9 +17,7 @@ use Rattle.scenario_defs.specs.declared.report.Refusal.{Refusal}
 use Rattle.scenario_defs.specs.declared.report.ReportLine.{ReportLine}
 use Rattle.scenario_defs.specs.declared.report.ReportLine.TheVariants as lines
 use Rattle.scenario_defs.specs.declared.scenario.Scenario.{Scenario}
-use Rattle.mvpn_model.specs.Messages.{message_of}
 use Rattle.mvpn_model.specs.Packet.{packet}
-use Rattle.mvpn_model.specs.declared.message.Given.{Given}
 use Rattle.mvpn_model.specs.Sessions.{sessions}
 use Rattle.mvpn_model.specs.declared.session.Session.{Session}
 use Rattle.network_defs.specs.session_defs.Octets as octets
@@ -27,12 +25,13 @@ use Rattle.network_defs.specs.session_defs.Octets.{OctetNetwork, octet_run}
 use Rattle.network_defs.specs.session_defs.System.{Behind}
 use Rattle.network_defs.specs.declared.session_defs.direction.Direction.{Direction}
 use Rattle.edge_defs.specs.Steps as steps
+use Rattle.edge_defs.specs.Steps.{CustomerCall}
 use Rattle.network_defs.specs.Acts.{Act, Tick, Timers, Move, Lose, Notice, RaiseFirst, RaiseSecond, Restart, At, Enter, Land, Drop, Tell, Acted, with_network, at_node, with_aged, is_of_session, is_from_peer, is_at, leads_to, act, datagram_at, landed, landing, without_copy, fate_at, with_ttl, SetCost, Reroute}
 use Rattle.network_defs.specs.Counts.{direction, directions, all_nodes, link_ways, is_joined}
-use Rattle.network_defs.specs.Events.{Happened, Outcome, Done, Halted, and_then, one_act, row, each, times, raise_acts, raises, notices, healed, turn, settled, landings, drain_round, sent, at_edge, with_message, done, cost_acts}
+use Rattle.network_defs.specs.Events.{Happened, Outcome, Done, Halted, and_then, one_act, row, each, times, raise_acts, raises, notices, healed, turn, settled, landings, drain_round, sent, at_edge, done, cost_acts, called}
 use Rattle.network_defs.specs.Nodes.{Nodes}
 use Rattle.mvpn_model.specs.Packets.{source_in, group_in}
-use Rattle.network_defs.specs.Refusals.{edge_of_vrf, refusal}
+use Rattle.network_defs.specs.Refusals.{refusal, call_for, edge_for}
 use Rattle.network_defs.specs.Run.{Traced, traced, outcome, Runs}
 use Rattle.network_defs.specs.System.{Own, Elapse, Reset, system, Price, Follow}
 use Rattle.network_defs.specs.World.{World, Datagram, LinkCopy, scenario_of, numbered}
@@ -50,7 +49,7 @@ use Rattle.network_laws.specs.Honest.{IsSoundEvent}
 use Rattle.rule_laws.specs.Outs.{IsAdmittedLine}
 use Rattle.rule_laws.proofs.Acts.{InStep}
 use Rattle.rule_laws.proofs.Outs.{Says, land_says, enter_says}
-use Rattle.rule_laws.proofs.Plain.{IsPlain, IsPlainLine, IsQuiet, AllDo, Does, of_plain, plain_quiet, plain_row, raises_plain, heal_does, settle_does, edge_does, message_does, costs_plain}
+use Rattle.rule_laws.proofs.Plain.{IsPlain, IsPlainLine, IsQuiet, AllDo, Does, of_plain, plain_quiet, plain_row, raises_plain, heal_does, settle_does, costs_plain, customer_does}
 
 -- ---- what is said of the acts of an outcome
 
@@ -211,13 +210,13 @@ module _ (all : List Datagram) where
       (each_of (λ over. (old : World) → HasThose all old → Comes (HasThose all) (turn over old)) turn_those (directions (scenario_of world))) one
       k) (length (scenario_of world).nodes + 3) next h)
 
-  edge_those : (o : Option NodeId) (call : steps.Call) (world : World) → HasThose all world → Comes (HasThose all) (at_edge o call world)
+  edge_those : (o : Option NodeId) (call : CustomerCall) (world : World) → HasThose all world → Comes (HasThose all) (at_edge o call world)
   edge_those None call world e = e
-  edge_those (Some n) call world e = row_those (At n call ∷ []) world e
+  edge_those (Some n) call world e = row_those (At n (steps.Customer call) ∷ []) world e
 
-  message_those : (o : Option Given) (world : World) → HasThose all world → Comes (HasThose all) (with_message o world)
-  message_those None world e = e
-  message_those (Some given) world e = edge_those (edge_of (scenario_of world) given.iface) (steps.Customer (steps.Pim given.iface given.message)) world e
+  customer_those : (o : Option CustomerCall) (world : World) → HasThose all world → Comes (HasThose all) (called o world)
+  customer_those None world e = e
+  customer_those (Some call) world e = edge_those (edge_for (scenario_of world) call) call world e
 
 -- ---- events
 
@@ -338,15 +337,10 @@ module _ (scenario : Scenario) where
       quiet world (row acts world) (row_those world.datagrams acts world)
       (plain_row (Saying scenario world.datagrams) (saying scenario world.datagrams) acts all world)
 
-  edge_event : (world : World) (o : Option NodeId) (call : steps.Call) → EventSays scenario world.datagrams (at_edge o call world)
-  edge_event world o call =
-      quiet world (at_edge o call world) (edge_those world.datagrams o call world)
-      (edge_does (Saying scenario world.datagrams) (saying scenario world.datagrams) o call world)
-
-  message_event : (world : World) (o : Option Given) → EventSays scenario world.datagrams (with_message o world)
-  message_event world o =
-      quiet world (with_message o world) (message_those world.datagrams o world)
-      (message_does (Saying scenario world.datagrams) (saying scenario world.datagrams) o world)
+  customer_event : (world : World) (o : Option CustomerCall) → EventSays scenario world.datagrams (called o world)
+  customer_event world o =
+      quiet world (called o world) (customer_those world.datagrams o world)
+      (customer_does (Saying scenario world.datagrams) (saying scenario world.datagrams) o world)
 
   done_says : (world : World) → InStep scenario world → (event : Event) → IsSoundEvent scenario event
       → EventSays scenario world.datagrams (done world event)
@@ -358,17 +352,9 @@ module _ (scenario : Scenario) where
   done_says world s (events.Notice kind a b) sound = plain_event world (Notice kind a b ∷ []) (tt, tt)
   done_says world s (events.Raise kind a b) sound =
       plain_event world (raises (sessions (scenario_of world)) kind a b) (raises_plain (sessions (scenario_of world)) kind a b)
-  done_says world s (events.Join iface entry) sound = message_event world (message_of (scenario_of world) (events.Join iface entry))
-  done_says world s (events.Prune iface entry) sound = message_event world (message_of (scenario_of world) (events.Prune iface entry))
-  done_says world s (events.Pim iface bytes) sound = message_event world (message_of (scenario_of world) (events.Pim iface bytes))
-  done_says world s (events.Active iface source group) sound =
-      edge_event world (edge_of (scenario_of world) iface) (steps.Customer (steps.Active iface source group))
-  done_says world s (events.Idle iface source group) sound =
-      edge_event world (edge_of (scenario_of world) iface) (steps.Customer (steps.Idle iface source group))
+  done_says world s (events.Customer event) sound = customer_event world (call_for (scenario_of world) event)
   done_says world s (events.Send site source group payload) sound = sent_event site source group (packet source group payload) world s
   done_says world s (events.Packet site bytes) sound = sent_event site (source_in bytes) (group_in bytes) bytes world s
-  done_says world s (events.Select vrf pattern) sound = edge_event world (edge_of_vrf (scenario_of world) vrf) (steps.Customer (steps.Select vrf pattern))
-  done_says world s (events.Unselect vrf pattern) sound = edge_event world (edge_of_vrf (scenario_of world) vrf) (steps.Customer (steps.Unselect vrf pattern))
   done_says world s (events.Hop from to place) sound = hop_event world from to place (two_ends scenario s.2.base.sound.lines from to place sound) s
   done_says world s (events.DropCopy from to place) sound = plain_event world (Drop from to place ∷ []) (tt, tt)
   done_says world s events.Heal sound =

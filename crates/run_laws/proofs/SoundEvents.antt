@@ -14,6 +14,7 @@ use Rattle.mv_base.proofs.core_walks.WalkLemmas.{good}
 use Rattle.rule_laws.specs.bgp_values.mvpn_nlri.Spelling.{IsAnyOr}
 use Rattle.scenario_defs.specs.Rules.{Rules, ScriptRules, IsUnicast, IsGroup, AreOfOneFamily, NamesFlow, IsEntry, IsPattern, HaveSession, IsEventOf}
 use Rattle.scenario_defs.specs.declared.event.Event.{Event}
+use Rattle.scenario_defs.specs.declared.event.CustomerEvent.TheVariants as customers
 use Rattle.scenario_defs.specs.declared.event.Event.TheVariants as events
 use Rattle.scenario_defs.specs.declared.event.JoinEntry.{JoinEntry}
 use Rattle.scenario_defs.specs.declared.event.JoinEntry.TheVariants as entries
@@ -97,15 +98,14 @@ sound_by scenario topology (events.Move kind from to count) is octets = tt
 sound_by scenario topology (events.Lose kind a b) is octets = tt
 sound_by scenario topology (events.Notice kind a b) is octets = within_by scenario topology kind a b is
 sound_by scenario topology (events.Raise kind a b) is octets = tt
-sound_by scenario topology (events.Join iface entry) is octets = (is.0, entry_sound entry is.1 octets)
-sound_by scenario topology (events.Prune iface entry) is octets = (is.0, entry_sound entry is.1 octets)
-sound_by scenario topology (events.Pim iface bytes) is octets = octets.0
-sound_by scenario topology (events.Active iface source group) is octets = flow_sound source group is.1 octets.0 octets.1.0
-sound_by scenario topology (events.Idle iface source group) is octets = tt
+sound_by scenario topology (events.Customer (customers.Join iface entry)) is octets = (is.0, entry_sound entry is.1 octets)
+sound_by scenario topology (events.Customer (customers.Prune iface entry)) is octets = (is.0, entry_sound entry is.1 octets)
+sound_by scenario topology (events.Customer (customers.Pim iface bytes)) is octets = octets.0
+sound_by scenario topology (events.Customer (customers.Active iface source group)) is octets = flow_sound source group is.1 octets.0 octets.1.0
 sound_by scenario topology (events.Send site source group payload) is octets = tt
 sound_by scenario topology (events.Packet site bytes) is octets = tt
-sound_by scenario topology (events.Select vrf pattern) is octets = words_sound pattern is.1 octets
-sound_by scenario topology (events.Unselect vrf pattern) is octets = tt
+sound_by scenario topology (events.Customer (customers.Select vrf pattern)) is octets = words_sound pattern is.1 octets
+sound_by scenario topology (events.Customer other) is octets = tt
 sound_by scenario topology (events.Hop from to place) ((cost, linked), counted, few) octets =
     record { cost = cost; linked = linked; counted = counted }
 sound_by scenario topology (events.DropCopy from to place) ((cost, linked), counted, few) octets =

@@ -6,6 +6,7 @@ use Rattle.mv_base.specs.Octets.{IsOctets}
 use Rattle.mv_base.specs.declared.addr.Addr.{Addr}
 use Rattle.mv_base.specs.declared.pattern.Pattern.{Pattern}
 use Rattle.scenario_defs.specs.declared.event.Event.{Event}
+use Rattle.scenario_defs.specs.declared.event.CustomerEvent.TheVariants as customers
 use Rattle.scenario_defs.specs.declared.event.Event.TheVariants as events
 use Rattle.scenario_defs.specs.declared.event.JoinEntry.{JoinEntry}
 use Rattle.scenario_defs.specs.declared.event.JoinEntry.TheVariants as entries
@@ -29,15 +30,15 @@ pattern_octets pattern = word_octets pattern.source ++ word_octets pattern.group
 
 -- the addresses, messages, payloads and packets that an event holds, in octets
 abbrev pub octets_in : Event → List (List ℕ)
-octets_in (events.Join iface entry) = entry_octets entry
-octets_in (events.Prune iface entry) = entry_octets entry
-octets_in (events.Pim iface bytes) = bytes ∷ []
-octets_in (events.Active iface source group) = flow_octets source group
-octets_in (events.Idle iface source group) = flow_octets source group
+octets_in (events.Customer (customers.Join iface entry)) = entry_octets entry
+octets_in (events.Customer (customers.Prune iface entry)) = entry_octets entry
+octets_in (events.Customer (customers.Pim iface bytes)) = bytes ∷ []
+octets_in (events.Customer (customers.Active iface source group)) = flow_octets source group
+octets_in (events.Customer (customers.Idle iface source group)) = flow_octets source group
 octets_in (events.Send site source group payload) = flow_octets source group ++ payload ∷ []
 octets_in (events.Packet site bytes) = bytes ∷ []
-octets_in (events.Select vrf pattern) = pattern_octets pattern
-octets_in (events.Unselect vrf pattern) = pattern_octets pattern
+octets_in (events.Customer (customers.Select vrf pattern)) = pattern_octets pattern
+octets_in (events.Customer (customers.Unselect vrf pattern)) = pattern_octets pattern
 octets_in other = []
 
 -- What an event holds is octets, as it is in any program.

@@ -1,6 +1,6 @@
 -- What a call itself changes leaves groups of the family of their source.
 use Rattle.std.proofs.Common.{◌≡◌, ◌⊎◌, ℕ, ◌==◌, Bool, true, false, cond, not, inl, inr, Option, None, Some, refl, sym, ap, subst, ◌∙◌}
-use Rattle.std.specs.Prelude.{is_some, fold}
+use Rattle.std.specs.Prelude.{⊤, is_some, fold}
 use Rattle.std.specs.Cmp.{Equal-is}
 use Rattle.std.specs.FinMap as maps
 use Rattle.std.specs.FinMap.{FinMap}
@@ -23,9 +23,10 @@ use Rattle.pim_defs.specs.declared.expiry.Expiry.{Expiry}
 use Rattle.pim_defs.proofs.EntriesLemmas.{get-applied, get-kept}
 use Rattle.edge_defs.specs.Edge.{Note, note_cmp, pattern_cmp, flow_cmp, Selected, Taken, Control, no_control}
 use Rattle.edge_defs.specs.Place.{EdgePlace}
-use Rattle.edge_defs.specs.Steps.{Call, Customer, Update, Label, Pim, Active, Idle, Select, Unselect, Raised, Noticed, Timers, Rerouted, effect, with_selection, selections_run, peers_run, taken_change}
+use Rattle.edge_defs.specs.Steps.{Call, Customer, CustomerCall, Update, Label, Pim, Active, Raised, Noticed, Timers, Rerouted, effect, selections_run, peers_run, taken_change}
+use Rattle.edge_defs.specs.Steps.{Noting, Noted, Unnoted, Untouched, noting, with_noting, entries_after, after_customer}
 use Rattle.edge_defs.proofs.KeyLemmas.{note_total, note_exact}
-use Rattle.control_laws.specs.group_laws.Groups.{IsFlow, HaveGroups, HasGroups, IsAllowed}
+use Rattle.control_laws.specs.group_laws.Groups.{IsFlow, HaveGroups, IsAllowed}
 
 -- ---- at first
 
@@ -74,6 +75,15 @@ module _ (entries : Entries) where
 
 -- ---- what a call itself changes
 
+-- a note that a call adds has its source's family
+abbrev IsAllowedNote : Noting → Type 0
+IsAllowedNote (Noted note) = IsFlow note.source note.group
+IsAllowedNote other = ⊤
+
+noting_allowed : (call : CustomerCall) → IsAllowed (Customer call) → IsAllowedNote (noting call)
+noting_allowed (Active iface source group) allowed = allowed
+noting_allowed other allowed = tt
+
 module _ (control : Control) (have : HaveGroups control) where
   -- Selections and peers have no part in it.
   others : (selections : FinMap pattern_cmp Selected) (peers : FinMap node_cmp Taken)
@@ -85,40 +95,37 @@ module _ (control : Control) (have : HaveGroups control) where
   updated None peers = have
   updated (Some taken) peers = others control.selections (peers taken)
 
-  joined : (iface : IfaceId) (message : JoinPrune) (now : ℕ) → HasGroups message
-      → HaveGroups (record control { entries = applied control.entries iface message now })
-  joined iface message now has = record {
-    entries = λ at source group h e.
-        let there =
-        subst (λ (x : JoinEntry). is_some (maps.get (applied control.entries iface message now) (record { iface = at.iface; entry = x })) ≡ true)
-        e h in
-        elim (applied_there control.entries iface at.iface message now source group there) [
-          | inl old ↦ have.entries (record { iface = at.iface; entry = Source source group }) source group old refl
-          | inr new ↦ has source group new
-        ];
-    notes = have.notes;
-    flows = have.flows;
-  }
+  -- what a message joins has its source's family
+  entries_left : (now : ℕ) (call : CustomerCall) → IsAllowed (Customer call) → (at : IfaceEntry) (source group : Addr)
+      → is_some (maps.get (entries_after now control.entries call) at) ≡ true → at.entry ≡ Source source group → IsFlow source group
+  entries_left now (Pim iface message) has at source group h e =
+      let there =
+      subst (λ (x : JoinEntry). is_some (maps.get (applied control.entries iface message now) (record { iface = at.iface; entry = x })) ≡ true)
+      e h in
+      elim (applied_there control.entries iface at.iface message now source group there) [
+        | inl old ↦ have.entries (record { iface = at.iface; entry = Source source group }) source group old refl
+        | inr new ↦ has source group new
+      ]
+  entries_left now other has at source group h e = have.entries at source group h e
 
-  noted : (note : Note) → IsFlow note.source note.group → HaveGroups (record control { notes = sets.insert control.notes note })
-  noted note is = record {
-    entries = have.entries;
-    notes = λ other h.
-        elim (or_cases (eq_by_cmp note_cmp other note) (sets.contains control.notes other)
-        (sym (sets.contains-insert note_total control.notes note other) ∙ h)) [
-          | inl e ↦ subst (λ (n : Note). IsFlow n.source n.group) (sym (note_exact other note ((Equal-is (note_cmp other note)).0 e))) is
-          | inr e ↦ have.notes other e
-        ];
-    flows = have.flows;
-  }
+  notes_left : (by : Noting) → IsAllowedNote by → (note : Note) → sets.contains (with_noting control.notes by) note ≡ true
+      → IsFlow note.source note.group
+  notes_left (Noted note) is other h =
+      elim (or_cases (eq_by_cmp note_cmp other note) (sets.contains control.notes other)
+      (sym (sets.contains-insert note_total control.notes note other) ∙ h)) [
+        | inl e ↦ subst (λ (n : Note). IsFlow n.source n.group) (sym (note_exact other note ((Equal-is (note_cmp other note)).0 e))) is
+        | inr e ↦ have.notes other e
+      ]
+  notes_left (Unnoted note) is other h =
+      have.notes other
+      (and_parts (not (eq_by_cmp note_cmp other note)) (sets.contains control.notes other)
+      (sym (sets.contains-remove note_total control.notes note other) ∙ h)).1
+  notes_left Untouched is other h = have.notes other h
 
-  ended : (note : Note) → HaveGroups (record control { notes = sets.remove control.notes note })
-  ended note = record {
-    entries = have.entries;
-    notes = λ other h.
-        have.notes other
-        (and_parts (not (eq_by_cmp note_cmp other note)) (sets.contains control.notes other)
-        (sym (sets.contains-remove note_total control.notes note other) ∙ h)).1;
+  called : (now : ℕ) (call : CustomerCall) → IsAllowed (Customer call) → HaveGroups (after_customer now control call)
+  called now call allowed = record {
+    entries = entries_left now call allowed;
+    notes = notes_left (noting call) (noting_allowed call allowed);
     flows = have.flows;
   }
 
@@ -135,15 +142,7 @@ pub effect_groups : (place : EdgePlace) (now : ℕ) (control : Control) (call : 
 effect_groups place now control (Update peer message) have allowed =
     updated control have (maps.get control.peers peer) (λ taken. maps.insert control.peers peer (fold (taken_change now) taken (changes_of message)))
 effect_groups place now control (Label neighbour message) have allowed = have
-effect_groups place now control (Customer (Pim iface message)) have allowed = joined control have iface message now allowed
-effect_groups place now control (Customer (Active iface source group)) have allowed =
-    noted control have (record { iface = iface; source = source; group = group }) allowed
-effect_groups place now control (Customer (Idle iface source group)) have allowed =
-    ended control have (record { iface = iface; source = source; group = group })
-effect_groups place now control (Customer (Select vrf pattern)) have allowed =
-    others control have (with_selection now vrf pattern control.selections) control.peers
-effect_groups place now control (Customer (Unselect vrf pattern)) have allowed =
-    others control have (maps.remove control.selections (record { vrf = vrf; pattern = pattern })) control.peers
+effect_groups place now control (Customer call) have allowed = called control have now call allowed
 effect_groups place now control (Raised kinds.Bgp peer) have allowed =
     others control have control.selections (maps.insert control.peers peer maps.empty)
 effect_groups place now control (Raised kinds.Ldp peer) have allowed = have

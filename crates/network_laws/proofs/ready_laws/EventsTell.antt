@@ -4,26 +4,25 @@ use Rattle.std.proofs.Common.{◌≡◌, ℕ, ◌+◌, ◌==◌, Bool, true, fal
 use Rattle.mv_base.specs.declared.ids.NodeId.{NodeId}
 use Rattle.mv_base.specs.declared.ids.SiteId.{SiteId}
 use Rattle.mv_base.specs.declared.addr.Addr.{Addr}
-use Rattle.scenario_defs.specs.Vpn.{edge_of, entered}
+use Rattle.scenario_defs.specs.Vpn.{entered}
 use Rattle.scenario_defs.specs.declared.event.Event.{Event}
 use Rattle.scenario_defs.specs.declared.event.Event.TheVariants as events
 use Rattle.scenario_defs.specs.declared.event.Kind.{Kind}
 use Rattle.scenario_defs.specs.declared.event.Kind.TheVariants as kinds
 use Rattle.scenario_defs.specs.declared.scenario.Scenario.{Scenario}
 use Rattle.network_defs.specs.mvpn_model.declared.readiness.UpEnd.{UpEnd}
-use Rattle.network_defs.specs.mvpn_model.Messages.{message_of}
 use Rattle.network_defs.specs.mvpn_model.Packet.{packet}
-use Rattle.network_defs.specs.mvpn_model.declared.message.Given.{Given}
 use Rattle.network_defs.specs.mvpn_model.Sessions.{sessions}
 use Rattle.scenario_defs.specs.Kinds.{same_kind}
 use Rattle.network_defs.specs.declared.session_defs.direction.Direction.{Direction}
 use Rattle.network_defs.specs.edge_defs.Steps as steps
+use Rattle.network_defs.specs.edge_defs.Steps.{CustomerCall}
 use Rattle.network_defs.specs.edge_defs.Steps.{own_label_call}
 use Rattle.network_defs.specs.Acts.{Act, Tick, Timers, Move, Lose, Notice, Restart, At, Enter, Land, Drop, Tell, Reroute}
 use Rattle.network_defs.specs.Counts.{directions, link_ways, all_nodes}
-use Rattle.network_defs.specs.Events.{Done, row, each, times, turn, settled, landings, drain_round, drained, sent, cost_acts, at_edge, with_message, done}
+use Rattle.network_defs.specs.Events.{Done, row, each, times, turn, settled, landings, drain_round, drained, sent, cost_acts, at_edge, done, called}
 use Rattle.network_defs.specs.mvpn_model.Packets.{source_in, group_in}
-use Rattle.network_defs.specs.Refusals.{edge_of_vrf}
+use Rattle.network_defs.specs.Refusals.{call_for, edge_for}
 use Rattle.network_defs.specs.mvpn_model.Unready.{SessionsStand, is_that, timed, behind}
 use Rattle.network_defs.specs.World.{World, scenario_of}
 use Rattle.network_laws.proofs.ready_laws.Nodes.{KeepsEnds}
@@ -107,18 +106,17 @@ quiet_alike scenario told standing n call quiet h =
           record { joined = x.joined; near = λ k. x.near k ∙ sym (stays session.a session.b); far = λ k. x.far k ∙ sym (stays session.b session.a) };
     }
 
-edge_tells : (scenario : Scenario) (told : SessionsStand) (world : World) (o : Option NodeId) (call : steps.Call) → KeepsEnds (own_label_call call)
-    → Tells scenario told world → Comes (Tells scenario told) (at_edge o call world)
-edge_tells scenario told world None call quiet t = (refl, t)
-edge_tells scenario told world (Some n) call quiet t =
-    row_tells scenario told t.standing (At n call ∷ []) world t.stands (quiet_alike scenario told t.standing n call quiet t.alike)
+edge_tells : (scenario : Scenario) (told : SessionsStand) (world : World) (o : Option NodeId) (call : CustomerCall) → Tells scenario told world
+    → Comes (Tells scenario told) (at_edge o call world)
+edge_tells scenario told world None call t = (refl, t)
+edge_tells scenario told world (Some n) call t =
+    row_tells scenario told t.standing (At n (steps.Customer call) ∷ []) world t.stands
+    (quiet_alike scenario told t.standing n (steps.Customer call) (λ life now peer old. refl) t.alike)
 
-message_tells : (told : SessionsStand) (world : World) (o : Option Given) → Tells (scenario_of world) told world
-    → Comes (Tells (scenario_of world) told) (with_message o world)
-message_tells told world None t = (refl, t)
-message_tells told world (Some given) t =
-    edge_tells (scenario_of world) told world (edge_of (scenario_of world) given.iface) (steps.Customer (steps.Pim given.iface given.message))
-    (λ life now peer old. refl) t
+customer_tells : (told : SessionsStand) (world : World) (o : Option CustomerCall) → Tells (scenario_of world) told world
+    → Comes (Tells (scenario_of world) told) (called o world)
+customer_tells told world None t = (refl, t)
+customer_tells told world (Some call) t = edge_tells (scenario_of world) told world (edge_for (scenario_of world) call) call t
 
 -- ---- moves and copies
 
@@ -194,20 +192,9 @@ event_tells told world has t (events.Notice kind a b) =
     row_tells (scenario_of world) _ t.standing (Notice kind a b ∷ []) world t.stands
     (notice_alike (scenario_of world) told t.standing kind a b t.alike)
 event_tells told world has t (events.Raise kind a b) = raise_tells (scenario_of world) told world kind a b t
-event_tells told world has t (events.Join iface entry) = message_tells told world (message_of (scenario_of world) (events.Join iface entry)) t
-event_tells told world has t (events.Prune iface entry) = message_tells told world (message_of (scenario_of world) (events.Prune iface entry)) t
-event_tells told world has t (events.Pim iface octets) = message_tells told world (message_of (scenario_of world) (events.Pim iface octets)) t
-event_tells told world has t (events.Active iface source group) =
-    edge_tells (scenario_of world) told world (edge_of (scenario_of world) iface) (steps.Customer (steps.Active iface source group))
-    (λ life now peer old. refl) t
-event_tells told world has t (events.Idle iface source group) =
-    edge_tells (scenario_of world) told world (edge_of (scenario_of world) iface) (steps.Customer (steps.Idle iface source group)) (λ life now peer old. refl) t
+event_tells told world has t (events.Customer event) = customer_tells told world (call_for (scenario_of world) event) t
 event_tells told world has t (events.Send site source group payload) = sent_tells told world site source group (packet source group payload) t
 event_tells told world has t (events.Packet site octets) = sent_tells told world site (source_in octets) (group_in octets) octets t
-event_tells told world has t (events.Select vrf pattern) =
-    edge_tells (scenario_of world) told world (edge_of_vrf (scenario_of world) vrf) (steps.Customer (steps.Select vrf pattern)) (λ life now peer old. refl) t
-event_tells told world has t (events.Unselect vrf pattern) =
-    edge_tells (scenario_of world) told world (edge_of_vrf (scenario_of world) vrf) (steps.Customer (steps.Unselect vrf pattern)) (λ life now peer old. refl) t
 event_tells told world has t (events.Hop from to place) = one_tells (scenario_of world) told world (Land from to place) (λ standing. refl) t
 event_tells told world has t (events.DropCopy from to place) = one_tells (scenario_of world) told world (Drop from to place) (λ standing. refl) t
 event_tells told world has t (events.Cost a b cost) = cost_tells told world a b cost t

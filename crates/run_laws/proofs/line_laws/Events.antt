@@ -10,7 +10,7 @@ use Rattle.mv_base.specs.declared.ids.SiteId.{SiteId}
 use Rattle.mv_base.specs.declared.ids.VrfId.{VrfId}
 use Rattle.mv_base.proofs.core_walks.WalkLemmas.{good}
 use Rattle.scenario_defs.specs.Text.{IsLineOf}
-use Rattle.scenario_defs.specs.Vpn.{edge_of, entered}
+use Rattle.scenario_defs.specs.Vpn.{entered}
 use Rattle.scenario_defs.specs.declared.event.Event.{Event}
 use Rattle.scenario_defs.specs.declared.event.Event.TheVariants as events
 use Rattle.scenario_defs.specs.declared.event.Kind.{Kind}
@@ -20,19 +20,18 @@ use Rattle.scenario_defs.specs.declared.report.Refusal.{Refusal}
 use Rattle.scenario_defs.specs.declared.report.Refusal.TheVariants as refusals
 use Rattle.scenario_defs.specs.declared.report.ReportLine.TheVariants as lines
 use Rattle.scenario_defs.specs.declared.scenario.Scenario.{Scenario}
-use Rattle.mvpn_model.specs.Messages.{message_of}
 use Rattle.mvpn_model.specs.Packet.{packet}
 use Rattle.mvpn_model.specs.Packets.{source_in, group_in}
 use Rattle.mvpn_model.specs.Sessions.{sessions}
-use Rattle.mvpn_model.specs.declared.message.Given.{Given}
 use Rattle.mvpn_model.specs.declared.session.Session.{Session}
 use Rattle.network_defs.specs.declared.session_defs.direction.Direction.{Direction}
 use Rattle.network_defs.specs.edge_defs.Steps as steps
+use Rattle.network_defs.specs.edge_defs.Steps.{CustomerCall}
 use Rattle.network_defs.specs.Acts.{Act, Tick, Timers, Move, Lose, Notice, Restart, At, Enter, Land, Drop, Tell, Reroute}
 use Rattle.network_defs.specs.Costs.{Cores}
 use Rattle.network_defs.specs.Counts.{all_nodes, directions, link_ways, is_joined, is_up}
-use Rattle.network_defs.specs.Events.{Happened, Outcome, Done, Halted, row, each, times, raise_acts, is_session_of, raises, notices, healed, turn, settled, landings, drain_round, sent, cost_acts, at_edge, with_message, done}
-use Rattle.network_defs.specs.Refusals.{edge_of_vrf, no_octets, is_session_joined, refusal}
+use Rattle.network_defs.specs.Events.{Happened, Outcome, Done, Halted, row, each, times, raise_acts, is_session_of, raises, notices, healed, turn, settled, landings, drain_round, sent, cost_acts, at_edge, done, called}
+use Rattle.network_defs.specs.Refusals.{no_octets, is_session_joined, refusal, call_for, edge_for}
 use Rattle.network_defs.specs.Run.{Traced, outcome}
 use Rattle.network_defs.specs.World.{World, scenario_of}
 use Rattle.network_defs.proofs.Kept.{enter_keeps, land_keeps}
@@ -42,8 +41,8 @@ use Rattle.delivery_laws.specs.network_laws.SoundRun.{SoundRun}
 use Rattle.delivery_laws.proofs.network_laws.Lists.{each_append, each_of, each_map, each_flat, each_weaker}
 use Rattle.delivery_laws.proofs.network_laws.RunActs.{WorldStays}
 use Rattle.delivery_laws.proofs.network_laws.RunEvents.{run_stays}
-use Rattle.delivery_laws.proofs.network_laws.RunMessages.{IsSoundGiven, join_is_sound, prune_is_sound, read_is_sound}
-use Rattle.delivery_laws.proofs.network_laws.RunNodes.{IsNode, HasNodes, IsFoundNode, sessions_within, nodes_within, edge_within, vrf_within}
+use Rattle.delivery_laws.proofs.network_laws.RunCalls.{IsSoundFor, call_is_sound, call_is_within}
+use Rattle.delivery_laws.proofs.network_laws.RunNodes.{IsNode, HasNodes, IsFoundNode, sessions_within, nodes_within}
 use Rattle.rule_laws.proofs.Events.{not_refused}
 use Rattle.rule_laws.proofs.Start.{run_in_step}
 use Rattle.delivery_laws.specs.Linked.{NodesLinked}
@@ -108,10 +107,10 @@ module _ (scenario : Scenario) (sound : SoundScenario scenario) where
 
   -- ---- calls
 
-  edge_tells : (o : Option NodeId) (call : steps.Call) → IsFoundNode scenario o → IsSoundCall call → (world : World) → Stays world
+  edge_tells : (o : Option NodeId) (call : CustomerCall) → IsFoundNode scenario o → IsSoundCall (steps.Customer call) → (world : World) → Stays world
       → Tells scenario Stays (at_edge o call world)
   edge_tells None call within is world s = (tt, s)
-  edge_tells (Some n) call within is world s = rows (At n call ∷ []) ((within, is), tt) world s
+  edge_tells (Some n) call within is world s = rows (At n (steps.Customer call) ∷ []) ((within, is), tt) world s
 
   -- ---- copies: they change no node
 
@@ -176,13 +175,11 @@ module _ (world : World) (b : Before (scenario_of world) world) where
   acts : (all : List Act) → AllByRecursion (IsControl own) all → Told (row all world)
   acts all fit = stayed (row all world) (rows own b.sound all fit world b.stays)
 
-  call_told : (o : Option NodeId) (call : steps.Call) → IsFoundNode own o → IsSoundCall call → Told (at_edge o call world)
-  call_told o call within is = stayed (at_edge o call world) (edge_tells own b.sound o call within is world b.stays)
-
-  message_told : (o : Option Given) → IsSoundGiven o → Told (with_message o world)
-  message_told None is = (tt, tt)
-  message_told (Some given) is =
-      call_told (edge_of own given.iface) (steps.Customer (steps.Pim given.iface given.message)) (edge_within own b.sound given.iface) is
+  customer_told : (o : Option CustomerCall) → IsSoundFor o → Told (called o world)
+  customer_told None is = (tt, tt)
+  customer_told (Some call) is =
+      let o = edge_for own call in
+      stayed (at_edge o call world) (edge_tells own b.sound o call (call_is_within own b.sound call) is world b.stays)
 
   move_told : (kind : Kind) (from to : NodeId) (count : ℕ) → refusal world (events.Move kind from to count) ≡ None
       → Told (row (Move kind from to count ∷ []) world)
@@ -234,18 +231,9 @@ module _ (world : World) (b : Before (scenario_of world) world) where
   done_told (events.Notice kind a c) free is = acts (Notice kind a c ∷ []) (is, tt)
   done_told (events.Raise kind a c) free is =
       acts (raises (sessions own) kind a c) (raises_fit own b.sound (sessions own) (sessions_within own b.sound) kind a c)
-  done_told (events.Join iface entry) free is = message_told (message_of own (events.Join iface entry)) (join_is_sound own iface entry is.1)
-  done_told (events.Prune iface entry) free is = message_told (message_of own (events.Prune iface entry)) (prune_is_sound own iface entry is.1)
-  done_told (events.Pim iface octets) free is = message_told (message_of own (events.Pim iface octets)) (read_is_sound iface octets is)
-  done_told (events.Active iface source group) free is =
-      call_told (edge_of own iface) (steps.Customer (steps.Active iface source group)) (edge_within own b.sound iface) is
-  done_told (events.Idle iface source group) free is =
-      call_told (edge_of own iface) (steps.Customer (steps.Idle iface source group)) (edge_within own b.sound iface) tt
+  done_told (events.Customer event) free is = customer_told (call_for own event) (call_is_sound own event is)
   done_told (events.Send site source group payload) free is = sent_told site source group (packet source group payload)
   done_told (events.Packet site octets) free is = sent_told site (source_in octets) (group_in octets) octets
-  done_told (events.Select vrf pattern) free is = call_told (edge_of_vrf own vrf) (steps.Customer (steps.Select vrf pattern)) (vrf_within own b.sound vrf) is
-  done_told (events.Unselect vrf pattern) free is =
-      call_told (edge_of_vrf own vrf) (steps.Customer (steps.Unselect vrf pattern)) (vrf_within own b.sound vrf) tt
   done_told (events.Hop from to place) free is = hop_told from to place is
   done_told (events.DropCopy from to place) free is = acts (Drop from to place ∷ []) (tt, tt)
   done_told (events.Cost a c cost) free is = cost_told a c cost is

@@ -1,12 +1,13 @@
 //! The values of an event.
 ghost use Rattle.mv_base.specs.Octets.{IsOctets};
 ghost use Rattle.std.specs.List.{All, AllByRecursion};
+ghost use Rattle.scenario_defs.specs.declared.event.Event.TheVariants as events;
 ghost use Rattle.run_laws.specs.Octets.{EventHasOctets, entry_octets, flow_octets, pattern_octets, word_octets};
 
 use crate::script_values::scenarios::addr_has_octets;
 use edge_routes::route_order::are_octets;
 use mv_base::{Addr, Pattern};
-use scenario_defs::{Event, JoinEntry, Timed};
+use scenario_defs::{CustomerEvent, Event, JoinEntry, Timed};
 
 /// Shows that source and group are of octets.
 fn flow_has_octets(source: &Addr, group: &Addr)
@@ -53,25 +54,37 @@ fn sent_has_octets(source: &Addr, group: &Addr, payload: &[u8])
     are_octets(payload);
 }
 
+/// Shows that the addresses and messages of an event of a customer are of octets.
+fn customer_has_octets(event: &CustomerEvent)
+    ensures { EventHasOctets (events.Customer event.now) }
+{
+    match event {
+        CustomerEvent::Join { entry, .. } | CustomerEvent::Prune { entry, .. } => {
+            entry_has_octets(entry)
+        }
+        CustomerEvent::Pim { bytes, .. } => are_octets(bytes.as_slice()),
+        CustomerEvent::Active { source, group, .. } | CustomerEvent::Idle { source, group, .. } => {
+            flow_has_octets(source, group)
+        }
+        CustomerEvent::Select { pattern, .. } | CustomerEvent::Unselect { pattern, .. } => {
+            pattern_has_octets(pattern)
+        }
+    }
+}
+
 /// Shows that the addresses, messages, payloads and packets of an event are of octets.
 pub fn event_has_octets(event: &Event)
     ensures { EventHasOctets event.now }
 {
     match event {
-        Event::Join { entry, .. } | Event::Prune { entry, .. } => entry_has_octets(entry),
-        Event::Pim { bytes, .. } | Event::Packet { bytes, .. } => are_octets(bytes.as_slice()),
-        Event::Active { source, group, .. } | Event::Idle { source, group, .. } => {
-            flow_has_octets(source, group)
-        }
+        Event::Customer(event) => customer_has_octets(event),
+        Event::Packet { bytes, .. } => are_octets(bytes.as_slice()),
         Event::Send {
             source,
             group,
             payload,
             ..
         } => sent_has_octets(source, group, payload.as_slice()),
-        Event::Select { pattern, .. } | Event::Unselect { pattern, .. } => {
-            pattern_has_octets(pattern)
-        }
         _ => (),
     }
 }

@@ -13,6 +13,7 @@ use Rattle.audit_defs.specs.mv_base.declared.addr.Addr.{Addr}
 use Rattle.audit_defs.specs.mv_base.Address.{same_addr}
 use Rattle.audit_defs.specs.scenario_defs.declared.scenario.Scenario.{Scenario}
 use Rattle.audit_defs.specs.scenario_defs.declared.event.Event.{Event}
+use Rattle.audit_defs.specs.scenario_defs.declared.event.CustomerEvent.TheVariants as customers
 use Rattle.audit_defs.specs.scenario_defs.declared.event.Event.TheVariants as events
 use Rattle.audit_defs.specs.scenario_defs.declared.event.Timed.{Timed}
 use Rattle.audit_defs.specs.scenario_defs.declared.event.JoinEntry.{JoinEntry}
@@ -763,8 +764,8 @@ steps_follow past timed old new known is follows steps = moved_follows past time
     by (events.Tick count) known steps =
         quiet_moves past (events.Tick count) old new follows steps (λ iface entry o. refl) (λ iface source group b. refl)
     by (events.Restart node) known steps = restart_moves past node old new known follows steps
-    by (events.Active iface source group) known steps =
-        note_moves past iface source group (Some Never) (events.Active iface source group) old new follows steps refl (λ own entry o. refl)
+    by (events.Customer (customers.Active iface source group)) known steps =
+        note_moves past iface source group (Some Never) (events.Customer (customers.Active iface source group)) old new follows steps refl (λ own entry o. refl)
         (λ own s g b. active b (is_flow_at own s g iface source group) ∙ ap (λ f. cond f true b) (flow_at own iface s g source group))
       where
         active : (b is : Bool) → (b || is) ≡ cond is true b
@@ -772,8 +773,8 @@ steps_follow past timed old new known is follows steps = moved_follows past time
         active true false = refl
         active false true = refl
         active false false = refl
-    by (events.Idle iface source group) known steps =
-        note_moves past iface source group None (events.Idle iface source group) old new follows steps refl (λ own entry o. refl)
+    by (events.Customer (customers.Idle iface source group)) known steps =
+        note_moves past iface source group None (events.Customer (customers.Idle iface source group)) old new follows steps refl (λ own entry o. refl)
         (λ own s g b. idle b (is_flow_at own s g iface source group) ∙ ap (λ f. cond f false b) (flow_at own iface s g source group))
       where
         idle : (b is : Bool) → (b && not is) ≡ cond is false b
@@ -792,14 +793,17 @@ steps_follow past timed old new known is follows steps = moved_follows past time
             either false = refl
     by events.Settle known steps =
         quiet_moves past events.Settle old new follows steps (λ iface entry o. timers_alike old.clock o o refl) (λ iface source group b. refl)
-    by (events.Join iface entry) known steps =
-        given_moves past (events.Join iface entry) (message_of past.scenario (events.Join iface entry)) old new follows steps refl (λ own e o. refl)
+    by (events.Customer (customers.Join iface entry)) known steps =
+        given_moves past (events.Customer (customers.Join iface entry)) (message_of past.scenario (events.Customer (customers.Join iface entry))) old new
+        follows steps refl (λ own e o. refl)
         (λ own source group b. refl)
-    by (events.Prune iface entry) known steps =
-        given_moves past (events.Prune iface entry) (message_of past.scenario (events.Prune iface entry)) old new follows steps refl (λ own e o. refl)
+    by (events.Customer (customers.Prune iface entry)) known steps =
+        given_moves past (events.Customer (customers.Prune iface entry)) (message_of past.scenario (events.Customer (customers.Prune iface entry))) old
+        new follows steps refl (λ own e o. refl)
         (λ own source group b. refl)
-    by (events.Pim iface bytes) known steps =
-        given_moves past (events.Pim iface bytes) (message_of past.scenario (events.Pim iface bytes)) old new follows steps refl (λ own e o. refl)
+    by (events.Customer (customers.Pim iface bytes)) known steps =
+        given_moves past (events.Customer (customers.Pim iface bytes)) (message_of past.scenario (events.Customer (customers.Pim iface bytes))) old new
+        follows steps refl (λ own e o. refl)
         (λ own source group b. refl)
     by (events.Move kind from to count) known steps =
         quiet_moves past (events.Move kind from to count) old new follows steps (λ iface entry o. refl) (λ iface source group b. refl)
@@ -813,10 +817,10 @@ steps_follow past timed old new known is follows steps = moved_follows past time
         quiet_moves past (events.Send site source group payload) old new follows steps (λ iface entry o. refl) (λ iface s g x. refl)
     by (events.Packet site bytes) known steps =
         quiet_moves past (events.Packet site bytes) old new follows steps (λ iface entry o. refl) (λ iface s g x. refl)
-    by (events.Select vrf pattern) known steps =
-        quiet_moves past (events.Select vrf pattern) old new follows steps (λ iface entry o. refl) (λ iface s g x. refl)
-    by (events.Unselect vrf pattern) known steps =
-        quiet_moves past (events.Unselect vrf pattern) old new follows steps (λ iface entry o. refl) (λ iface s g x. refl)
+    by (events.Customer (customers.Select vrf pattern)) known steps =
+        quiet_moves past (events.Customer (customers.Select vrf pattern)) old new follows steps (λ iface entry o. refl) (λ iface s g x. refl)
+    by (events.Customer (customers.Unselect vrf pattern)) known steps =
+        quiet_moves past (events.Customer (customers.Unselect vrf pattern)) old new follows steps (λ iface entry o. refl) (λ iface s g x. refl)
     by (events.Hop from to place) known steps =
         quiet_moves past (events.Hop from to place) old new follows steps (λ iface entry o. refl) (λ iface s g x. refl)
     by (events.DropCopy from to place) known steps =

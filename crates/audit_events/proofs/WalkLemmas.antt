@@ -5,6 +5,7 @@ use Rattle.std.proofs.lemmas.Bool.{true≢false}
 use Rattle.std.proofs.lemmas.Option.{none-some, slice_get_within}
 use Rattle.audit_defs.specs.scenario_defs.Rules.{IsEventOf}
 use Rattle.audit_defs.specs.scenario_defs.declared.event.Event.{Event}
+use Rattle.audit_defs.specs.scenario_defs.declared.event.CustomerEvent.TheVariants as customers
 use Rattle.audit_defs.specs.scenario_defs.declared.event.Event.TheVariants as events
 use Rattle.audit_defs.specs.scenario_defs.declared.event.Timed.{Timed}
 use Rattle.audit_defs.specs.scenario_defs.declared.scenario.Scenario.{Scenario}
@@ -88,14 +89,13 @@ given_on scenario (Some given) old new takes = ((let e = takes.clock in omega (a
 steps_on : (scenario : Scenario) (event : Event) (old new : Kept) → Steps scenario event old new → Moved event old new
 steps_on scenario (events.Tick count) old new steps = record { clock = steps.clock; now = steps.now }
 steps_on scenario (events.Restart node) old new steps = record { clock = steps.clock; now = steps.now }
-steps_on scenario (events.Active iface source group) old new steps = record { clock = (let e = steps.clock in omega (arith, e)); now = steps.now }
-steps_on scenario (events.Idle iface source group) old new steps = record { clock = (let e = steps.clock in omega (arith, e)); now = steps.now }
-steps_on scenario (events.Join iface entry) old new steps =
-    (let r = given_on scenario (message_of scenario (events.Join iface entry)) old new steps in record { clock = r.0; now = r.1 })
-steps_on scenario (events.Prune iface entry) old new steps =
-    (let r = given_on scenario (message_of scenario (events.Prune iface entry)) old new steps in record { clock = r.0; now = r.1 })
-steps_on scenario (events.Pim iface bytes) old new steps =
-    (let r = given_on scenario (message_of scenario (events.Pim iface bytes)) old new steps in record { clock = r.0; now = r.1 })
+steps_on scenario (events.Customer (customers.Join iface entry)) old new steps =
+    (let r = given_on scenario (message_of scenario (events.Customer (customers.Join iface entry))) old new steps in record { clock = r.0; now = r.1 })
+steps_on scenario (events.Customer (customers.Prune iface entry)) old new steps =
+    (let r = given_on scenario (message_of scenario (events.Customer (customers.Prune iface entry))) old new steps in record { clock = r.0; now = r.1 })
+steps_on scenario (events.Customer (customers.Pim iface bytes)) old new steps =
+    (let r = given_on scenario (message_of scenario (events.Customer (customers.Pim iface bytes))) old new steps in record { clock = r.0; now = r.1 })
+steps_on scenario (events.Customer other) old new steps = record { clock = (let e = steps.clock in omega (arith, e)); now = steps.now }
 steps_on scenario other old new steps = record { clock = steps.clock; now = steps.now }
 
 -- ---- one event

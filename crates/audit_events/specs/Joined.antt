@@ -20,6 +20,7 @@ use Rattle.pim_defs.specs.Mention.{entry_of, joins, mention_of, expiry_after}
 use Rattle.pim_defs.specs.declared.expiry.Expiry.TheVariants.{Never}
 use Rattle.pim_defs.specs.Expiry.{remaining}
 use Rattle.audit_defs.specs.scenario_defs.declared.event.Event.{Event}
+use Rattle.audit_defs.specs.scenario_defs.declared.event.CustomerEvent.TheVariants as customers
 use Rattle.audit_defs.specs.scenario_defs.declared.event.Event.TheVariants as events
 use Rattle.audit_defs.specs.mvpn_model.declared.message.Given.{Given}
 use Rattle.audit_defs.specs.mvpn_model.Messages.{message_of}
@@ -184,8 +185,8 @@ TakesGiven scenario (Some given) old new = TakesMessage scenario given.iface giv
 abbrev pub Steps : Scenario → Event → Kept → Kept → Type 0
 Steps scenario (events.Tick count) old new = GoesOn count old.restarts old new
 Steps scenario (events.Restart node) old new = GoesOn 0 (slice_set old.restarts node.0 (old.now + 1)) old new
-Steps scenario (events.Active iface source group) old new = SetsNote (at_iface iface (entries.Source source group)) (Some Never) old new
-Steps scenario (events.Idle iface source group) old new = SetsNote (at_iface iface (entries.Source source group)) None old new
+Steps scenario (events.Customer (customers.Active iface source group)) old new = SetsNote (at_iface iface (entries.Source source group)) (Some Never) old new
+Steps scenario (events.Customer (customers.Idle iface source group)) old new = SetsNote (at_iface iface (entries.Source source group)) None old new
 Steps scenario other old new = TakesGiven scenario (message_of scenario other) old new
 
 -- what is kept in joined state

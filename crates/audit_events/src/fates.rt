@@ -2,13 +2,14 @@
 ghost use Rattle.std.specs.Prelude.{◌≡◌, ◌||◌, ◌&&◌, is_some, length, IfOk};
 ghost use Rattle.audit_defs.specs.mvpn_model.Packets.{packet_fault};
 ghost use Rattle.audit_defs.specs.mvpn_model.Refused.{octets_refusal};
+ghost use Rattle.audit_defs.specs.scenario_defs.declared.event.Event.TheVariants as events;
 ghost use Rattle.audit_defs.specs.Cut.{is_malformed};
 ghost use Rattle.audit_events.specs.Fates.{unmarked, fate_at, left_after, fates_from, is_refused, is_clear, is_calm};
 ghost use Rattle.audit_events.specs.Fates.{is_of_window, is_drain, may_end, goes_on, closings, opens_after};
 
 use crate::fate::{Fate, Marked};
 use audit_defs::of_mv_base::{NoMemory, Seq};
-use audit_defs::of_scenario_defs::{Event, Timed};
+use audit_defs::of_scenario_defs::{CustomerEvent, Event, Timed};
 use label_forwarding::read_packet;
 use pim_defs::of_pim_joinprune::{DecodeFault, decode};
 use std::alloc::Global;
@@ -36,12 +37,22 @@ fn is_no_packet(bytes: &[u8]) -> bool
     }
 }
 
+/// Whether the event of a customer gives octets that are not in their grammar.
+fn is_customer_malformed(alloc: Global, event: &CustomerEvent) -> Result<bool, NoMemory>
+    ensures { IfOk result (λ answer. answer ≡ is_malformed (events.Customer event.now)) }
+{
+    match event {
+        CustomerEvent::Pim { iface: _, bytes } => is_no_message(alloc, bytes.as_slice()),
+        _ => Ok(false),
+    }
+}
+
 /// Whether the event gives octets that are not in their grammar.
 fn is_malformed(alloc: Global, event: &Event) -> Result<bool, NoMemory>
     ensures { IfOk result (λ answer. answer ≡ is_malformed event.now) }
 {
     match event {
-        Event::Pim { iface: _, bytes } => is_no_message(alloc, bytes.as_slice()),
+        Event::Customer(event) => is_customer_malformed(alloc, event),
         Event::Packet { site: _, bytes } => Ok(is_no_packet(bytes.as_slice())),
         _ => Ok(false),
     }

@@ -4,6 +4,7 @@ ghost use Rattle.std.specs.Prelude.{◌≡◌, ◌<◌, ◌+◌, ◌++◌, ◌^�
 ghost use Rattle.std.specs.List.{list_any};
 ghost use Rattle.indexmap.specs.IndexMap.{get};
 ghost use Rattle.audit_defs.specs.scenario_defs.declared.event.IfaceEntry.{IfaceEntry};
+ghost use Rattle.audit_defs.specs.scenario_defs.declared.event.Event.TheVariants as events;
 ghost use Rattle.audit_defs.specs.scenario_defs.declared.event.JoinEntry.TheVariants as entries;
 ghost use Rattle.pim_defs.specs.Entries.{named_in};
 ghost use Rattle.pim_defs.specs.Asking.{asks_by};
@@ -14,8 +15,10 @@ ghost use Rattle.audit_events.specs.Joined.{is_set_at, set_by, set_once, IsFresh
 ghost use Rattle.audit_events.specs.Joined.{at_iface, entry_now, note_now, kept_of, IsEmpty, TakesMessage, SetsNote, GoesOn, TakesGiven, Steps};
 
 use audit_defs::of_mv_base::{Addr, IfaceId, NoMemory, Seq};
-use audit_defs::of_mvpn_model::{Given, message_of};
-use audit_defs::of_scenario_defs::{Event, IfaceEntry, JoinEntry, Scenario, edge_of};
+use audit_defs::of_mvpn_model::{Given, customer_message};
+use audit_defs::of_scenario_defs::{
+    CustomerEvent, Event, IfaceEntry, JoinEntry, Scenario, edge_of,
+};
 use indexmap::IndexMap;
 use pim_defs::of_pim_joinprune::{JoinPrune, JpSource};
 use pim_defs::{Expiry, asks_by, entry_of, expiry_after, mention_of};
@@ -326,6 +329,31 @@ impl Joined {
         }
     }
 
+    /// What an accepted event of a customer makes of it.
+    fn customer(&mut self, scenario: &Scenario, event: &CustomerEvent) -> Result<(), NoMemory>
+        requires clock { self.old.clock < 2 ^ 63 }
+        requires room { self.old.count < 2 ^ 63 }
+        requires fresh { IsFresh self.old.count self.old.entries }
+        ensures { OnOk result (Steps scenario.now (events.Customer event.now) (kept_of self.old) (kept_of self.new)) }
+    {
+        match event {
+            CustomerEvent::Active {
+                iface,
+                source,
+                group,
+            } => self.note(*iface, flow(*source, *group), Some(Expiry::Never)),
+            CustomerEvent::Idle {
+                iface,
+                source,
+                group,
+            } => self.note(*iface, flow(*source, *group), None),
+            _ => {
+                let given = customer_message(self.alloc, scenario, event)?;
+                self.take_given(scenario, &given)
+            }
+        }
+    }
+
     /// What an accepted event makes of it.
     pub(crate) fn step(&mut self, scenario: &Scenario, event: &Event) -> Result<(), NoMemory>
         requires clock { self.old.clock + ticks_of event.now < 2 ^ 63 }
@@ -342,19 +370,10 @@ impl Joined {
                 self.restart(usize::from(node.0));
                 Ok(())
             }
-            Event::Active {
-                iface,
-                source,
-                group,
-            } => self.note(*iface, flow(*source, *group), Some(Expiry::Never)),
-            Event::Idle {
-                iface,
-                source,
-                group,
-            } => self.note(*iface, flow(*source, *group), None),
+            Event::Customer(event) => self.customer(scenario, event),
             _ => {
-                let given = message_of(self.alloc, scenario, event)?;
-                self.take_given(scenario, &given)
+                self.go_on(0);
+                Ok(())
             }
         }
     }

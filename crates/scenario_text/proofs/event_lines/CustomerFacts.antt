@@ -124,7 +124,7 @@ flow_event_is : (scenario : Scenario) (word : FlowWord) (iface : IfaceId) (sourc
     → (iface.0 < length scenario.ifaces) × NamesFlow source group × IsOfIface scenario iface group
     → IsEventOf scenario (flow_event word iface source group)
 flow_event_is scenario flow_kinds.Active iface source group h = h
-flow_event_is scenario flow_kinds.Idle iface source group h = h
+flow_event_is scenario other iface source group h = h
 
 flow_words_meets : (draft : Drafted) (row : Row) (word : FlowWord) (a b c : Placed) → Meets (IsTold draft) (flow_words draft row word a b c)
 unfolding flow_words

@@ -4,6 +4,7 @@ use Rattle.std.specs.Cmp.Lexicographic.{pointwise}
 use Rattle.mv_base.specs.declared.addr.Addr.{Addr}
 use Rattle.mv_base.specs.declared.ids.IfaceId.{IfaceId}
 use Rattle.scenario_defs.specs.declared.event.Event.{Event}
+use Rattle.scenario_defs.specs.declared.event.CustomerEvent.TheVariants as customers
 use Rattle.scenario_defs.specs.declared.event.Event.TheVariants as events
 use Rattle.line_words.specs.declared.fault.Reason.TheVariants as reasons
 use Rattle.line_words.specs.declared.fault.TextFault.{TextFault}
@@ -26,8 +27,8 @@ flow_word text =
     None
 
 abbrev pub flow_event : FlowWord → IfaceId → Addr → Addr → Event
-flow_event flow_kinds.Active iface source group = events.Active iface source group
-flow_event flow_kinds.Idle iface source group = events.Idle iface source group
+flow_event flow_kinds.Active iface source group = events.Customer (customers.Active iface source group)
+flow_event flow_kinds.Idle iface source group = events.Customer (customers.Idle iface source group)
 
 -- `IFACE S G`
 unfoldable pub flow_words : Drafted → Row → FlowWord → Placed → Placed → Placed → Result Line TextFault

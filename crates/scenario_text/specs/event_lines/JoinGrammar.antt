@@ -3,6 +3,7 @@ use Rattle.std.specs.Prelude.{nat_eq, List, ℕ, [], ◌∷◌, Option, None, So
 use Rattle.std.specs.Cmp.Lexicographic.{pointwise}
 use Rattle.mv_base.specs.declared.ids.IfaceId.{IfaceId}
 use Rattle.scenario_defs.specs.declared.event.Event.{Event}
+use Rattle.scenario_defs.specs.declared.event.CustomerEvent.TheVariants as customers
 use Rattle.scenario_defs.specs.declared.event.Event.TheVariants as events
 use Rattle.scenario_defs.specs.declared.event.IfaceEntry.{IfaceEntry}
 use Rattle.scenario_defs.specs.declared.event.JoinEntry.{JoinEntry}
@@ -28,8 +29,8 @@ entry_word text =
     None
 
 abbrev pub entry_event : EntryWord → IfaceEntry → Event
-entry_event entry_kinds.Join named = events.Join named.iface named.entry
-entry_event entry_kinds.Prune named = events.Prune named.iface named.entry
+entry_event entry_kinds.Join named = events.Customer (customers.Join named.iface named.entry)
+entry_event entry_kinds.Prune named = events.Customer (customers.Prune named.iface named.entry)
 
 -- `* G`
 unfoldable pub star_entry : Row → Placed → Result JoinEntry TextFault

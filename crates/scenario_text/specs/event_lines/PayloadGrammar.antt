@@ -1,5 +1,6 @@
 -- The lines that end in octets: what each says, or its first fault.
 use Rattle.std.specs.Prelude.{List, [], ◌∷◌, Result, Ok}
+use Rattle.scenario_defs.specs.declared.event.CustomerEvent.TheVariants as customers
 use Rattle.scenario_defs.specs.declared.event.Event.TheVariants as events
 use Rattle.line_words.specs.declared.fault.Reason.TheVariants as reasons
 use Rattle.line_words.specs.declared.fault.TextFault.{TextFault}
@@ -15,7 +16,7 @@ use Rattle.scenario_text.specs.event_lines.Rules.{unless_broken, family_fault}
 
 -- `pim IFACE HEX`
 unfoldable pub pim_words : Drafted → Row → Placed → Placed → Result Line TextFault
-pim_words draft row a b = iface_at draft row a >>= λ iface. payload_at row b >>= λ bytes. Ok (says.Event (events.Pim iface bytes))
+pim_words draft row a b = iface_at draft row a >>= λ iface. payload_at row b >>= λ bytes. Ok (says.Event (events.Customer (customers.Pim iface bytes)))
 
 -- the words behind `pim`
 unfoldable pub pim_line : Drafted → Row → List Placed → Result Line TextFault

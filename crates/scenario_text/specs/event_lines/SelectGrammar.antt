@@ -5,6 +5,7 @@ use Rattle.mv_base.specs.declared.addr.Addr.{Addr}
 use Rattle.mv_base.specs.declared.ids.VrfId.{VrfId}
 use Rattle.mv_base.specs.declared.pattern.Pattern.{Pattern}
 use Rattle.scenario_defs.specs.declared.event.Event.{Event}
+use Rattle.scenario_defs.specs.declared.event.CustomerEvent.TheVariants as customers
 use Rattle.scenario_defs.specs.declared.event.Event.TheVariants as events
 use Rattle.line_words.specs.declared.fault.Reason.TheVariants as reasons
 use Rattle.line_words.specs.declared.fault.TextFault.{TextFault}
@@ -27,8 +28,8 @@ select_word text =
     None
 
 abbrev pub select_event : SelectWord → VrfId → Pattern → Event
-select_event select_kinds.Select vrf pattern = events.Select vrf pattern
-select_event select_kinds.Unselect vrf pattern = events.Unselect vrf pattern
+select_event select_kinds.Select vrf pattern = events.Customer (customers.Select vrf pattern)
+select_event select_kinds.Unselect vrf pattern = events.Customer (customers.Unselect vrf pattern)
 
 -- a word that writes the address of a source, or `*` for any (RFC 6625 section 2)
 unfoldable pub any_source_at : Row → Placed → Result (Option Addr) TextFault

@@ -6,7 +6,7 @@ ghost use Rattle.scenario_text.specs.event_lines.FlowGrammar.{flow_word, flow_ev
 use crate::event_lines::rules::{family_fault, is_flow_of, unless_broken};
 use line_words::{Reason, Row, TextFault, Word, fault_at, group_at, source_at};
 use mv_base::{Addr, IfaceId};
-use scenario_defs::Event;
+use scenario_defs::{CustomerEvent, Event};
 use scenario_lines::scenario_draft::{Draft, Line, iface_at};
 
 /// The events of a source.
@@ -33,16 +33,16 @@ fn flow_event(word: FlowWord, iface: IfaceId, source: Addr, group: Addr) -> Even
     ensures { result ≡ flow_event word iface source group }
 {
     match word {
-        FlowWord::Active => Event::Active {
+        FlowWord::Active => Event::Customer(CustomerEvent::Active {
             iface,
             source,
             group,
-        },
-        FlowWord::Idle => Event::Idle {
+        }),
+        FlowWord::Idle => Event::Customer(CustomerEvent::Idle {
             iface,
             source,
             group,
-        },
+        }),
     }
 }
 

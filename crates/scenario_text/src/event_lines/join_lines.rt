@@ -7,7 +7,7 @@ ghost use Rattle.scenario_text.specs.event_lines.JoinGrammar.{at_iface, three_wo
 use crate::event_lines::rules::{family_fault, is_entry_of, unless_broken};
 use line_words::{Reason, Row, TextFault, Word, fault_at, group_at, source_at};
 use mv_base::IfaceId;
-use scenario_defs::{Event, IfaceEntry, JoinEntry};
+use scenario_defs::{CustomerEvent, Event, IfaceEntry, JoinEntry};
 use scenario_lines::scenario_draft::{Draft, Line, iface_at};
 
 /// The events of an entry.
@@ -35,8 +35,8 @@ fn entry_event(word: EntryWord, named: IfaceEntry) -> Event
 {
     let IfaceEntry { iface, entry } = named;
     match word {
-        EntryWord::Join => Event::Join { iface, entry },
-        EntryWord::Prune => Event::Prune { iface, entry },
+        EntryWord::Join => Event::Customer(CustomerEvent::Join { iface, entry }),
+        EntryWord::Prune => Event::Customer(CustomerEvent::Prune { iface, entry }),
     }
 }
 

@@ -9,7 +9,7 @@ use line_words::{
     ReadFault, Reason, Row, TextFault, Word, fault_at, group_at, payload_at, same_family, source_at,
 };
 use mv_base::{Addr, SiteId};
-use scenario_defs::Event;
+use scenario_defs::{CustomerEvent, Event};
 use scenario_lines::scenario_draft::{Draft, Line, iface_at, site_at};
 use std::alloc::Global;
 
@@ -34,7 +34,7 @@ fn pim_words(
     let iface = iface_at(draft, row, iface)?;
     let bytes = payload_at(alloc, row, octets)?;
     Ok(Line::Event {
-        event: Event::Pim { iface, bytes },
+        event: Event::Customer(CustomerEvent::Pim { iface, bytes }),
     })
 }
 

@@ -7,7 +7,7 @@ ghost use Rattle.scenario_text.specs.event_lines.SelectGrammar.{select_words, se
 use crate::event_lines::rules::{family_fault, is_of_family, unless_broken};
 use line_words::{Reason, Row, TextFault, Word, fault_at, group_at, source_at};
 use mv_base::{Addr, Pattern, VrfId};
-use scenario_defs::Event;
+use scenario_defs::{CustomerEvent, Event};
 use scenario_lines::scenario_draft::{Draft, Line, vrf_at};
 
 /// The events of a selection.
@@ -34,8 +34,8 @@ fn select_event(word: SelectWord, vrf: VrfId, pattern: Pattern) -> Event
     ensures { result ≡ select_event word vrf pattern }
 {
     match word {
-        SelectWord::Select => Event::Select { vrf, pattern },
-        SelectWord::Unselect => Event::Unselect { vrf, pattern },
+        SelectWord::Select => Event::Customer(CustomerEvent::Select { vrf, pattern }),
+        SelectWord::Unselect => Event::Customer(CustomerEvent::Unselect { vrf, pattern }),
     }
 }
 

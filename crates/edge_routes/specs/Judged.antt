@@ -1,5 +1,11 @@
 -- What is read of routes that were taken, in the words of an edge.
+use Rattle.std.specs.Prelude.{Option}
+use Rattle.mv_base.specs.Number.{◌>>?◌}
+use Rattle.mv_base.specs.declared.addr.Addr.{Addr}
+use Rattle.bgp_values.specs.mldp.declared.mldp_fec.fec.Fec.{Fec}
+use Rattle.edge_defs.specs.bgp_messages.declared.bgp_attributes.key.Key.{Key}
 use Rattle.edge_defs.specs.Imported as edges
+use Rattle.edge_defs.specs.Imported.{inclusive_of, tunnel_by}
 use Rattle.edge_defs.specs.Keys.{Value}
 use Rattle.edge_routes.specs.declared.imported.FlowRoute.{FlowRoute}
 use Rattle.edge_routes.specs.declared.imported.ImportedSelective.{ImportedSelective}
@@ -24,3 +30,7 @@ as_selective imported = record { route = as_route imported.route; fec = imported
 
 abbrev pub as_flow : FlowRoute → edges.FlowRoute
 as_flow flow = record { source = flow.source; group = flow.group }
+
+-- the tunnel of an inclusive route from the peer, for each VRF that imports it
+abbrev pub inclusive_tunnel : Addr → Key → Value → Option Fec
+inclusive_tunnel peer key value = inclusive_of key >>? λ originator. tunnel_by peer originator value

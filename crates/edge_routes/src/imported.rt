@@ -23,7 +23,7 @@ ghost use Rattle.edge_defs.specs.Imported.{
 };
 ghost use Rattle.edge_defs.specs.Originated.{import_target, own_import};
 ghost use Rattle.edge_defs.specs.Place.{EdgePlace};
-ghost use Rattle.edge_routes.specs.Judged.{as_flow, as_join, as_route, as_selective, value_of};
+ghost use Rattle.edge_routes.specs.Judged.{inclusive_tunnel, as_flow, as_join, as_route, as_selective, value_of};
 ghost use Rattle.edge_routes.specs.Local.{IsAt, as_import};
 
 use crate::{Import, LocalVrf, import_target, own_import, tunnel_by};
@@ -79,17 +79,11 @@ pub fn is_admitted(vrf: &Vrf, comms: &[ExtComm]) -> bool
     comms.iter().any(|comm| vrf.targets.has(Target(*comm)))
 }
 
-fn same_comm(own: &ExtComm, other: &ExtComm) -> bool
-    ensures { result ≡ pointwise nat_eq own.now.0 other.now.0 }
-{
-    own.0 == other.0
-}
-
 /// Whether one of the communities is this one.
 fn has_comm(wanted: &ExtComm, comms: &[ExtComm]) -> bool
     ensures { result ≡ has_comm wanted.now comms.now }
 {
-    comms.iter().any(|comm| same_comm(wanted, comm))
+    comms.iter().any(|comm| wanted.same(*comm))
 }
 
 /// The VRF of that number at the edge of that address.
@@ -175,6 +169,14 @@ fn inclusive_of(key: &Key) -> Option<Addr>
         Key::Mcast(Afi::Ipv4, Route::Intra { rd: _, originator }) => Some(*originator),
         _ => None,
     }
+}
+
+/// The tunnel of an Intra-AS I-PMSI A-D route of that key and value from the peer of that address, for each VRF that imports it.
+pub fn inclusive_tunnel(peer: Addr, key: &Key, value: &TakenValue) -> Option<Fec>
+    ensures { result ≡ inclusive_tunnel peer key.now (value_of value.now) }
+{
+    let originator = inclusive_of(key)?;
+    tunnel_by(peer, originator, value)
 }
 
 /// The tunnel of an Intra-AS I-PMSI A-D route of that key and value, where the VRF imports it from the peer of that address.

@@ -1,12 +1,15 @@
-//! Keys and values of routes as a table keeps them: in the order in which a peer is told, with no memory of their own.
+//! Keys and values of routes as a table keeps them: in the order in which a peer is sent them. Those of routes that an edge originates
+//! have no memory of their own; the key of a route that was taken is in memory once for all that have it.
 
 mod front;
 mod key;
 mod octets;
 mod routes;
+mod taken_key;
 mod text;
 mod value;
 
 pub use key::TableKey;
 pub use octets::are_octets;
+pub use taken_key::TakenKey;
 pub use value::{COMM_LIMIT, TableValue, same_attribute, same_comms, same_hop};

@@ -1,5 +1,7 @@
 //! The lines of a probe, and its report.
-use bgp_messages::bgp_attributes::{Key, StreamFault};
+use bgp_messages::bgp_attributes::StreamFault;
+use edge_routes::Shared;
+use edge_routes::route_order::TableKey;
 use mldp::mldp_fec::Fec;
 use mv_base::{Addr, Bytes, IfaceId, Seq, VrfId};
 
@@ -18,11 +20,11 @@ pub enum ProbeLine {
 
 pub type ProbeLines = Seq<ProbeLine>;
 
-/// A route that a VRF takes, by its key.
-#[derive(Clone, Copy)]
+/// A route that a VRF takes, by its key, which the table that has the route may have too.
+#[derive(Drop)]
 pub struct Import {
     pub vrf: VrfId,
-    pub key: Key,
+    pub key: Shared<TableKey>,
 }
 
 pub type Imports = Seq<Import>;

@@ -4,7 +4,7 @@ ghost use Rattle.bgp_messages.specs.bgp_update.Written.{IsWritableKey};
 
 use bgp_messages::bgp_attributes::Key;
 use bgp_values::mvpn_nlri::{Afi, Route};
-use edge_routes::route_order::TableKey;
+use edge_routes::route_order::TakenKey;
 use edge_tables::taken_tables::{RouteValue, TakenTables};
 use mv_base::route_targets::ExtComm;
 use mv_base::{Addr, NoMemory, NodeId, Rd, Seq};
@@ -23,8 +23,8 @@ fn active() -> Key
     Key::Mcast(Afi::Ipv4, ACTIVE)
 }
 
-fn key() -> TableKey {
-    TableKey::of(active())
+fn key(alloc: Global) -> Result<TakenKey, NoMemory> {
+    TakenKey::of(alloc, active())
 }
 
 /// A value with one community.
@@ -39,8 +39,8 @@ fn value(alloc: Global, hop: u8) -> Result<RouteValue, NoMemory> {
 }
 
 /// The clock at which the route was learned.
-fn since(tables: &TakenTables) -> Option<u64> {
-    match tables.get(NodeId(1), &key()) {
+fn since(tables: &TakenTables, key: &TakenKey) -> Option<u64> {
+    match tables.get(NodeId(1), key) {
         None => None,
         Some(entry) => Some(entry.since()),
     }
@@ -51,17 +51,18 @@ fn since(tables: &TakenTables) -> Option<u64> {
 fn takes(rt: HostRuntime) -> Result<(), Fail> {
     let mut tables = TakenTables::of(rt.alloc());
     let peer = NodeId(1);
-    assert!(rt; !tables.learn(peer, key(), value(rt.alloc(), 2)?, 4)?);
+    let key = key(rt.alloc())?;
+    assert!(rt; !tables.learn(peer, &key, value(rt.alloc(), 2)?, 4)?);
     tables.raise(peer)?;
-    assert!(rt; tables.learn(peer, key(), value(rt.alloc(), 2)?, 5)?);
-    assert!(rt; !tables.learn(peer, key(), value(rt.alloc(), 2)?, 6)?);
-    assert_eq!(rt; since(&tables), Some(5));
-    assert!(rt; tables.learn(peer, key(), value(rt.alloc(), 3)?, 7)?);
-    assert_eq!(rt; since(&tables), Some(7));
+    assert!(rt; tables.learn(peer, &key, value(rt.alloc(), 2)?, 5)?);
+    assert!(rt; !tables.learn(peer, &key, value(rt.alloc(), 2)?, 6)?);
+    assert_eq!(rt; since(&tables, &key), Some(5));
+    assert!(rt; tables.learn(peer, &key, value(rt.alloc(), 3)?, 7)?);
+    assert_eq!(rt; since(&tables, &key), Some(7));
     assert!(rt; tables.entries(peer).is_some());
     tables.run_delays(&[], &[], 1000, 2000);
-    tables.forget(peer, &key());
-    assert_eq!(rt; since(&tables), None);
+    tables.forget(peer, &key);
+    assert_eq!(rt; since(&tables, &key), None);
     tables.lose(peer);
     assert!(rt; !tables.is_up(peer));
     Ok(())

@@ -8,6 +8,10 @@ use Rattle.std.specs.Cmp.{nat_cmp_is, nat_cmp_total, ranks}
 use Rattle.std.specs.Cmp.Lexicographic.{slice_cmp}
 use Rattle.std.proofs.lemmas.Cmp.{lists_total}
 use Rattle.mv_base.specs.Octets.{IsOctets}
+use Rattle.mv_base.specs.declared.addr.Addr.{Addr}
+use Rattle.mv_base.specs.declared.addr.Addr.TheVariants.{V4, V6}
+use Rattle.mv_base.specs.declared.prefix.Prefix.{Prefix}
+use Rattle.mv_base.specs.declared.rd.Rd.{Rd}
 use Rattle.bgp_values.specs.declared.mvpn_nlri.route.Afi.{Afi}
 use Rattle.bgp_values.specs.declared.mvpn_nlri.route.Afi.TheVariants.{Ipv4, Ipv6}
 use Rattle.bgp_values.specs.declared.mvpn_nlri.route.Route.{Route}
@@ -15,8 +19,11 @@ use Rattle.bgp_values.specs.mvpn_nlri.Spelling.{written}
 use Rattle.edge_defs.proofs.KeyLemmas.{key_total, unicast_first}
 use Rattle.edge_defs.specs.bgp_messages.declared.bgp_attributes.key.Key.{Key}
 use Rattle.edge_defs.specs.bgp_messages.declared.bgp_attributes.key.Key.TheVariants.{Mcast, Unicast}
-use Rattle.edge_defs.specs.Keys.{key_cmp, parts_cmp, route_parts}
-use Rattle.edge_routes.specs.route_order.Front.{filled, spelled_after, number_of, numbers, text_of, front_of, IsFronted}
+use Rattle.edge_defs.specs.bgp_messages.bgp_update.Written.{IsVpn, IsWritableKey, afi_of}
+use Rattle.edge_defs.specs.selective_defs.Parts.{addr_key}
+use Rattle.edge_defs.specs.Keys.{afi_number, key_cmp, parts_cmp, route_parts}
+use Rattle.edge_routes.specs.route_order.Front.{filled, spelled_after, number_of, numbers, prefix_text, front_of, AreOctets, IsFronted}
+use Rattle.edge_routes.proofs.route_order.OrderLemmas.{unicast_cmp, vpn_cmp}
 
 -- ---- orderings
 
@@ -142,16 +149,56 @@ mcast_less : (afi : Afi) (own other : Route) → slice_cmp nat_cmp (written own)
 mcast_less Ipv4 own other h = ap (λ (o : Ordering). ordering_then o (parts_cmp (route_parts own) (route_parts other))) h
 mcast_less Ipv6 own other h = ap (λ (o : Ordering). ordering_then o (parts_cmp (route_parts own) (route_parts other))) h
 
-pub front_less : (own other : Key) → IsOctets (text_of own) → IsOctets (text_of other)
+-- The length of a prefix, a Route Distinguisher and the first octets of the prefix are compared before the rest.
+parts_less : (family bits rd first rest addr : Ordering)
+    → ordering_then family (ordering_then bits (ordering_then rd (ordering_then first Equal))) ≡ Less → (first ≡ Less → rest ≡ Less)
+    → ordering_then (ordering_then family (ordering_then (ordering_then bits rd) rest)) addr ≡ Less
+parts_less Less bits rd first rest addr h g = refl
+parts_less Equal Less rd first rest addr h g = refl
+parts_less Equal Equal Less first rest addr h g = refl
+parts_less Equal Equal Equal Less rest addr h g = ap (λ (o : Ordering). ordering_then o addr) (g refl)
+parts_less Equal Equal Equal Equal rest addr h g = absurd cc
+parts_less Equal Equal Equal Greater rest addr h g = absurd cc
+parts_less Equal Equal Greater first rest addr h g = absurd cc
+parts_less Equal Greater rd first rest addr h g = absurd cc
+parts_less Greater bits rd first rest addr h g = absurd cc
+
+unicast_less : (rd other_rd : Rd) (prefix next : Prefix) → IsVpn rd prefix → IsVpn other_rd next
+    → AreOctets (Unicast rd prefix) → AreOctets (Unicast other_rd next)
+    → slice_cmp nat_cmp (front_of (Unicast rd prefix)) (front_of (Unicast other_rd next)) ≡ Less
+    → key_cmp (Unicast rd prefix) (Unicast other_rd next) ≡ Less
+unicast_less rd other_rd prefix next u v g h less =
+    let family : Ordering = nat_cmp (afi_number (afi_of prefix.addr)) (afi_number (afi_of next.addr)) in
+    let bits : Ordering = nat_cmp prefix.bits next.bits in
+    let rds : Ordering = slice_cmp nat_cmp rd.0 other_rd.0 in
+    let first : Ordering = nat_cmp (number_of (prefix_text prefix)) (number_of (prefix_text next)) in
+    let rest : Ordering = slice_cmp nat_cmp (prefix_text prefix) (prefix_text next) in
+    let addr : Ordering = slice_cmp nat_cmp (addr_key prefix.addr) (addr_key next.addr) in
+    let same = spelled_cmp 0 rd.0 other_rd.0 (u.rd_len ∙ sym v.rd_len) g.0 h.0 in
+    sym (unicast_cmp rd other_rd prefix next u v)
+    ∙ ap (λ (text : Ordering). ordering_then (ordering_then family text) addr) (sym (vpn_cmp rd other_rd prefix next u v))
+    ∙ parts_less family bits rds first rest addr
+    (ap (λ (o : Ordering). ordering_then family (ordering_then bits (ordering_then o (ordering_then first Equal)))) same ∙ less)
+    (λ e. filled_less 8 (prefix_text prefix) (prefix_text next) (number_cmp (prefix_text prefix) (prefix_text next) g.1 h.1 ∙ e))
+
+-- A multicast key is none that comes first of a unicast one.
+mcast_later : (afi : Afi) (addr : Addr) (rest : Ordering) → ordering_then (nat_cmp (2 + afi_number afi) (afi_number (afi_of addr))) rest ≡ Less → ⊥
+mcast_later Ipv4 (V4 octets) rest h = absurd cc
+mcast_later Ipv4 (V6 octets) rest h = absurd cc
+mcast_later Ipv6 (V4 octets) rest h = absurd cc
+mcast_later Ipv6 (V6 octets) rest h = absurd cc
+
+pub front_less : (own other : Key) → IsWritableKey own → IsWritableKey other → AreOctets own → AreOctets other
     → slice_cmp nat_cmp (front_of own) (front_of other) ≡ Less → key_cmp own other ≡ Less
-front_less (Unicast rd prefix) (Unicast other_rd next) g h less = absurd cc
-front_less (Unicast rd prefix) (Mcast afi route) g h less = unicast_first rd prefix afi route
-front_less (Mcast Ipv4 route) (Unicast rd prefix) g h less = absurd cc
-front_less (Mcast Ipv6 route) (Unicast rd prefix) g h less = absurd cc
-front_less (Mcast Ipv4 own) (Mcast Ipv4 other) g h less = mcast_less Ipv4 own other (numbers_less 3 (written own) (written other) g h less)
-front_less (Mcast Ipv6 own) (Mcast Ipv6 other) g h less = mcast_less Ipv6 own other (numbers_less 3 (written own) (written other) g h less)
-front_less (Mcast Ipv4 own) (Mcast Ipv6 other) g h less = refl
-front_less (Mcast Ipv6 own) (Mcast Ipv4 other) g h less = absurd cc
+front_less (Unicast rd prefix) (Unicast other_rd next) u v g h less = unicast_less rd other_rd prefix next u v g h less
+front_less (Unicast rd prefix) (Mcast afi route) u v g h less = unicast_first rd prefix afi route
+front_less (Mcast afi route) (Unicast rd prefix) u v g h less =
+    absurd (mcast_later afi prefix.addr (slice_cmp nat_cmp (numbers 3 (written route))
+    (prefix.bits ∷ spelled_after 0 rd.0 ∷ number_of (prefix_text prefix) ∷ [])) less)
+front_less (Mcast Ipv4 own) (Mcast Ipv4 other) u v g h less = mcast_less Ipv4 own other (numbers_less 3 (written own) (written other) g h less)
+front_less (Mcast Ipv6 own) (Mcast Ipv6 other) u v g h less = mcast_less Ipv6 own other (numbers_less 3 (written own) (written other) g h less)
+front_less (Mcast Ipv4 own) (Mcast Ipv6 other) u v g h less = refl
+front_less (Mcast Ipv6 own) (Mcast Ipv4 other) u v g h less = absurd cc
 
 -- Where the fronts do not tie, their order is that of the keys.
 pub front_decides : (own other : Key) (front next : List ℕ) (order : Ordering) → IsFronted own front → IsFronted other next
@@ -162,9 +209,9 @@ front_decides own other front next order g h told apart = by order refl apart
     fronts = told ∙ (λ i. slice_cmp nat_cmp (g.front i) (h.front i))
 
     by : (o : Ordering) → order ≡ o → is_eq o ≡ false → o ≡ key_cmp own other
-    by Less e k = sym (front_less own other g.octets h.octets (sym fronts ∙ e))
+    by Less e k = sym (front_less own other g.writable h.writable g.octets h.octets (sym fronts ∙ e))
     by Equal e k = absurd cc
     by Greater e k =
         let turned = (lists_total nat_cmp_total).antisymm (front_of other) (front_of own) in
-        let back = front_less other own h.octets g.octets (turned ∙ ap ordering_reverse (sym fronts ∙ e)) in
+        let back = front_less other own h.writable g.writable h.octets g.octets (turned ∙ ap ordering_reverse (sym fronts ∙ e)) in
         sym (key_total.antisymm own other ∙ ap ordering_reverse back)

@@ -4,14 +4,16 @@ ghost use Rattle.std.specs.Ordering.{nat_cmp};
 ghost use Rattle.std.specs.Cmp.Lexicographic.{slice_cmp};
 ghost use Rattle.mv_base.specs.Octets.{IsOctets};
 ghost use Rattle.bgp_values.specs.mvpn_nlri.Spelling as routes;
-ghost use Rattle.edge_defs.specs.bgp_messages.bgp_update.Written.{IsWritableKey};
+ghost use Rattle.edge_defs.specs.bgp_messages.declared.bgp_attributes.key.Key.TheVariants.{Mcast, Unicast};
+ghost use Rattle.edge_defs.specs.bgp_messages.bgp_update.Written.{IsVpn, IsVpnPrefix, IsWritableKey, afi_of};
 ghost use Rattle.edge_defs.specs.Keys.{afi_number};
-ghost use Rattle.edge_routes.specs.route_order.Front.{filled, front_of, number_of, numbers, spelled_after, text_of};
+ghost use Rattle.edge_routes.specs.route_order.Front.{AreOctets, filled, front_of, number_of, numbers, prefix_text, spelled_after};
 
 use crate::route_order::octets::are_octets;
 use crate::route_order::text::spelled;
 use bgp_values::mvpn_nlri::{Afi, Route};
 use edge_defs::of_bgp_messages::bgp_attributes::Key;
+use mv_base::{Addr, Prefix, Rd};
 use std::cmp::Ordering;
 
 /// The AFI as a number.
@@ -61,27 +63,62 @@ fn numbers_of(octets: &[u8]) -> (u64, u64, u64)
     (first, second, third)
 }
 
+/// The AFI of the addresses that a prefix is of, as a number.
+pub(crate) fn prefix_number(prefix: &Prefix) -> u8
+    ensures { result ≡ afi_number (afi_of prefix.now.addr) }
+{
+    match prefix.addr {
+        Addr::V4(_) => 1,
+        Addr::V6(_) => 2,
+    }
+}
+
+/// The octets of the prefix that are spelled.
+pub(crate) fn prefix_octets(prefix: &Prefix) -> &[u8]
+    requires { IsVpnPrefix prefix.now.addr prefix.now.bits }
+    ensures { result.now ≡ prefix_text prefix.now }
+{
+    let count = (prefix.bits as usize + 7) / 8;
+    let octets = prefix.addr.octets();
+    &octets[..count]
+}
+
+/// The numbers of a unicast key.
+fn front_of_prefix(rd: &Rd, prefix: &Prefix) -> [u64; 4]
+    requires { IsVpn rd.now prefix.now }
+    ensures front { result ≡ front_of (Unicast rd.now prefix.now) }
+    ensures octets { IsOctets rd.now.0 × IsOctets (prefix_text prefix.now) }
+{
+    let octets = prefix_octets(prefix);
+    are_octets(&rd.0);
+    are_octets(octets);
+    let family = u64::from(prefix_number(prefix));
+    let (first, _rest) = next_number(octets);
+    let distinguisher = spelled_number(rd.0);
+    [family, u64::from(prefix.bits), distinguisher, first]
+}
+
 /// The numbers of a multicast key.
 fn front_of_route(afi: Afi, route: &Route) -> [u64; 4]
     requires { (own : Afi) × routes.Spells own route.now (routes.written route.now) }
-    ensures front { result ≡ (afi_number afi ∷ numbers 3 (routes.written route.now)) }
+    ensures front { result ≡ front_of (Mcast afi route.now) }
     ensures octets { IsOctets (routes.written route.now) }
 {
     let (octets, len) = spelled(route);
     let text = &octets[..len];
     are_octets(text);
     let (first, second, third) = numbers_of(text);
-    [u64::from(number(afi)), first, second, third]
+    [2 + u64::from(number(afi)), first, second, third]
 }
 
 /// What the key is compared by first.
 pub(crate) fn front_of(key: &Key) -> [u64; 4]
     requires { IsWritableKey key.now }
     ensures front { result ≡ front_of key.now }
-    ensures octets { IsOctets (text_of key.now) }
+    ensures octets { AreOctets key.now }
 {
     match key {
-        Key::Unicast { rd: _, prefix: _ } => [0; 4],
+        Key::Unicast { rd, prefix } => front_of_prefix(rd, prefix),
         Key::Mcast(afi, route) => front_of_route(*afi, route),
     }
 }

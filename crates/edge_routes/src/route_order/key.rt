@@ -12,9 +12,10 @@ ghost use Rattle.edge_defs.specs.bgp_messages.bgp_update.Written.{IsVpn, IsVpnPr
 ghost use Rattle.edge_defs.specs.bgp_messages.bgp_update.Written.{afi_of};
 ghost use Rattle.edge_defs.specs.Keys.{afi_number, key_cmp};
 ghost use Rattle.edge_defs.proofs.KeyLemmas.{key_total};
+ghost use Rattle.edge_routes.specs.route_order.Front.{IsFronted};
 ghost use Rattle.bgp_values.specs.declared.mvpn_nlri.route.Afi.{Afi};
 
-use crate::route_order::front::{compare_fronts, front_of, number};
+use crate::route_order::front::{compare_fronts, front_of, number, prefix_number, prefix_octets};
 use crate::route_order::routes::compare_alike;
 use crate::route_order::text::spelled;
 use bgp_values::mvpn_nlri::{Afi, Route};
@@ -63,15 +64,12 @@ impl TableKey {
     {
         &self.key
     }
-}
 
-/// The AFI of the addresses that a prefix is of, as a number.
-fn prefix_number(prefix: &Prefix) -> u8
-    ensures { result ≡ afi_number (afi_of prefix.now.addr) }
-{
-    match prefix.addr {
-        Addr::V4(_) => 1,
-        Addr::V6(_) => 2,
+    /// The numbers by which the key is compared first.
+    pub(crate) fn front(&self) -> [u64; 4]
+        ensures { IsFronted self.now result }
+    {
+        self.front
     }
 }
 
@@ -92,16 +90,6 @@ fn compare_distinguishers(own: &Rd, other: &Rd) -> Ordering
     ensures { result ≡ slice_cmp nat_cmp own.now.0 other.now.0 }
 {
     own.0.as_slice().cmp(other.0.as_slice())
-}
-
-/// The octets of the prefix that are spelled.
-fn prefix_octets(prefix: &Prefix) -> &[u8]
-    requires { IsVpnPrefix prefix.now.addr prefix.now.bits }
-    ensures { result.now ≡ take (octets_for prefix.now.bits) (addr_octets prefix.now.addr) }
-{
-    let count = (prefix.bits as usize + 7) / 8;
-    let octets = prefix.addr.octets();
-    &octets[..count]
 }
 
 /// The order of the octets that spell unicast routes, the label aside.
@@ -187,6 +175,25 @@ fn compare_keys(own: &Key, other: &Key) -> Ordering
     }
 }
 
+/// The order of keys, by the numbers by which they are compared first, and then by the keys.
+pub(crate) fn compare_fronted(
+    own: &Key,
+    front: &[u64; 4],
+    other: &Key,
+    other_front: &[u64; 4],
+) -> Ordering
+    requires own { IsFronted own.now front.now }
+    requires other { IsFronted other.now other_front.now }
+    ensures { result ≡ key_cmp own.now other.now }
+{
+    let order = compare_fronts(front, other_front);
+    if order.is_eq() {
+        compare_keys(own, other)
+    } else {
+        order
+    }
+}
+
 impl PartialEq for TableKey {
     ghost eq = { eq_by_cmp key_cmp };
 
@@ -221,11 +228,6 @@ impl Ord for TableKey {
     ghost matches_eq = { λ x y. refl };
 
     fn cmp(&self, other: &TableKey) -> Ordering {
-        let order = compare_fronts(&self.front, &other.front);
-        if order.is_eq() {
-            compare_keys(&self.key, &other.key)
-        } else {
-            order
-        }
+        compare_fronted(&self.key, &self.front, &other.key, &other.front)
     }
 }

@@ -10,11 +10,11 @@ ghost use Rattle.edge_tables.specs.taken_tables.Tables.{IsSpelledKey, is_news, r
 use crate::taken_tables::entry::{RouteValue, TakenEntry, same_value};
 use crate::taken_tables::table::TakenTable;
 use bgp_messages::bgp_attributes::Key;
-use edge_routes::route_order::{TableKey, are_octets};
+use edge_routes::route_order::{TakenKey, are_octets};
 use mv_base::NoMemory;
 
 /// Whether the route is another one than that of the table.
-fn is_news(table: &TakenTable, key: &TableKey, value: &RouteValue) -> bool
+fn is_news(table: &TakenTable, key: &TakenKey, value: &RouteValue) -> bool
     ensures { result ≡ is_news (handed value.now) (maps.get (taken_in table.now) key.now) }
 {
     match table.get(key) {
@@ -34,7 +34,7 @@ fn has_octets(key: &Key)
 }
 
 /// Shows that the key has a spelling, and is of octets.
-fn spelled(key: &TableKey)
+fn spelled(key: &TakenKey)
     ensures { IsSpelledKey key.now }
 {
     has_octets(key.key());
@@ -43,17 +43,17 @@ fn spelled(key: &TableKey)
 /// Takes the route at the clock, and tells whether it is another one than before. An equal one keeps its time.
 pub(crate) fn learn(
     table: &mut TakenTable,
-    key: TableKey,
+    key: &TakenKey,
     value: RouteValue,
     now: u64,
 ) -> Result<bool, NoMemory>
-    ensures learned { OnOk result (taken_in table.new ≡ taken_change now (taken_in table.old) (reach key (handed value))) }
-    ensures news { IfOk result (λ news. news ≡ is_news (handed value) (maps.get (taken_in table.old) key)) }
-    ensures spelled { IsSpelledKey key }
+    ensures learned { OnOk result (taken_in table.new ≡ taken_change now (taken_in table.old) (reach key.now (handed value))) }
+    ensures news { IfOk result (λ news. news ≡ is_news (handed value) (maps.get (taken_in table.old) key.now)) }
+    ensures spelled { IsSpelledKey key.now }
     ensures unchanged { OnErr result (table.new ≡ table.old) }
 {
-    spelled(&key);
-    if !is_news(table, &key, &value) {
+    spelled(key);
+    if !is_news(table, key, &value) {
         return Ok(false);
     }
     table.put(key, TakenEntry::of(value, now))?;
@@ -63,15 +63,15 @@ pub(crate) fn learn(
 /// Takes the route at the clock, where the table has none of its key.
 pub(crate) fn learn_new(
     table: &mut TakenTable,
-    key: TableKey,
+    key: &TakenKey,
     value: RouteValue,
     now: u64,
 ) -> Result<(), NoMemory>
-    requires new { maps.get (taken_in table.old) key ≡ None }
-    ensures learned { OnOk result (taken_in table.new ≡ taken_change now (taken_in table.old) (reach key (handed value))) }
-    ensures spelled { IsSpelledKey key }
+    requires new { maps.get (taken_in table.old) key.now ≡ None }
+    ensures learned { OnOk result (taken_in table.new ≡ taken_change now (taken_in table.old) (reach key.now (handed value))) }
+    ensures spelled { IsSpelledKey key.now }
     ensures unchanged { OnErr result (table.new ≡ table.old) }
 {
-    spelled(&key);
+    spelled(key);
     table.put(key, TakenEntry::of(value, now))
 }

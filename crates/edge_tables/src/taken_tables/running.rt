@@ -10,22 +10,22 @@ use crate::rib_sync::Inbox;
 use crate::taken_tables::entry::TakenEntry;
 use bgp_messages::bgp_attributes::Key;
 use bgp_values::mvpn_nlri::Route;
-use edge_routes::route_order::TableKey;
+use edge_routes::route_order::TakenKey;
 use edge_routes::{LocalVrf, imported_selective};
 use mv_base::Addr;
 
 /// The routes that were taken from a peer.
-pub(crate) type TakenRoutes = Inbox<TableKey, TakenEntry>;
+pub(crate) type TakenRoutes = Inbox<TakenKey, TakenEntry>;
 
 /// Whether the VRF imports the selective route from the peer of that address.
-fn is_importer(own: &LocalVrf, peer: Addr, key: &TableKey, entry: &TakenEntry) -> bool
+fn is_importer(own: &LocalVrf, peer: Addr, key: &TakenKey, entry: &TakenEntry) -> bool
     ensures { result ≡ is_some (imported_selective own.now.vrf peer (key.now, entry.now)) }
 {
     imported_selective(own.vrf(), peer, key.key(), &entry.value()).is_some()
 }
 
 /// Whether one of the VRFs does.
-fn imports(vrfs: &[LocalVrf], peer: Addr, key: &TableKey, entry: &TakenEntry) -> bool
+fn imports(vrfs: &[LocalVrf], peer: Addr, key: &TakenKey, entry: &TakenEntry) -> bool
     ensures { result ≡ imports vrfs.now peer (key.now, entry.now) }
 {
     vrfs.iter().any(|own| is_importer(own, peer, key, entry))
@@ -46,14 +46,14 @@ fn is_delayed(key: &Key) -> bool
 }
 
 /// Whether the delay of the route may still be run.
-fn awaits(key: &TableKey, entry: &TakenEntry) -> bool
+fn awaits(key: &TakenKey, entry: &TakenEntry) -> bool
     ensures { result ≡ awaits key.now entry.now }
 {
     is_delayed(key.key()) && !entry.was_run()
 }
 
 /// Whether the delay of a route of a table may still be run, once this one is put there.
-pub(crate) fn awaits_with(waits: bool, key: &TableKey, entry: &TakenEntry) -> bool
+pub(crate) fn awaits_with(waits: bool, key: &TakenKey, entry: &TakenEntry) -> bool
     ensures { result ≡ (waits || awaits key.now entry.now) }
 {
     waits || awaits(key, entry)
@@ -70,7 +70,7 @@ pub(crate) fn any_awaits(routes: &TakenRoutes) -> bool
 /// first.
 fn is_due(
     entry: &TakenEntry,
-    key: &TableKey,
+    key: &TakenKey,
     vrfs: &[LocalVrf],
     peer: Addr,
     delay: u64,
@@ -85,7 +85,7 @@ fn is_due(
 /// Runs the delay of a route that one of the VRFs imports, where it is due.
 fn run_entry(
     entry: &mut TakenEntry,
-    key: &TableKey,
+    key: &TakenKey,
     vrfs: &[LocalVrf],
     peer: Addr,
     delay: u64,
@@ -108,7 +108,7 @@ pub(crate) fn run_routes(
     ensures { taken_in routes.new ≡ table_run vrfs.now delay now peer (taken_in routes.old) }
 {
     routes.retain(
-        |key: &TableKey, entry: &mut TakenEntry| -> bool
+        |key: &TakenKey, entry: &mut TakenEntry| -> bool
             ensures { (result ≡ true) × (entry.new ≡ run_at vrfs.entry.now delay now peer key.now entry.old) }
         {
             run_entry(entry, key, vrfs, peer, delay, now);

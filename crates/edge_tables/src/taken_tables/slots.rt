@@ -9,7 +9,7 @@ ghost use Rattle.edge_tables.specs.taken_tables.Tables.{AreSpelled, changed_at, 
 use crate::taken_tables::entry::RouteValue;
 use crate::taken_tables::learning::{learn, learn_new};
 use crate::taken_tables::table::TakenTable;
-use edge_routes::route_order::TableKey;
+use edge_routes::route_order::TakenKey;
 use mv_base::{NoMemory, NodeId};
 use std::collections::BTreeMap;
 
@@ -20,13 +20,13 @@ pub(crate) type Slots = BTreeMap<u16, TakenTable>;
 pub(crate) fn learn_from(
     slots: &mut Slots,
     peer: NodeId,
-    key: TableKey,
+    key: &TakenKey,
     value: RouteValue,
     now: u64,
 ) -> Result<bool, NoMemory>
     ensures learned { OnOk result (tables_of slots.new.entries
-        ≡ changed_at peer (λ taken. taken_change now taken (reach key (handed value))) (tables_of slots.old.entries)) }
-    ensures news { IfOk result (λ news. news ≡ is_news_at (tables_of slots.old.entries) peer key (handed value)) }
+        ≡ changed_at peer (λ taken. taken_change now taken (reach key.now (handed value))) (tables_of slots.old.entries)) }
+    ensures news { IfOk result (λ news. news ≡ is_news_at (tables_of slots.old.entries) peer key.now (handed value)) }
     ensures unchanged { OnErr result (tables_of slots.new.entries ≡ tables_of slots.old.entries) }
     ensures spelled { AreSpelled (tables_of slots.old.entries) → AreSpelled (tables_of slots.new.entries) }
 {
@@ -40,13 +40,13 @@ pub(crate) fn learn_from(
 pub(crate) fn learn_new_from(
     slots: &mut Slots,
     peer: NodeId,
-    key: TableKey,
+    key: &TakenKey,
     value: RouteValue,
     now: u64,
 ) -> Result<(), NoMemory>
-    requires new { route_at (tables_of slots.old.entries) peer key ≡ None }
+    requires new { route_at (tables_of slots.old.entries) peer key.now ≡ None }
     ensures learned { OnOk result (tables_of slots.new.entries
-        ≡ changed_at peer (λ taken. taken_change now taken (reach key (handed value))) (tables_of slots.old.entries)) }
+        ≡ changed_at peer (λ taken. taken_change now taken (reach key.now (handed value))) (tables_of slots.old.entries)) }
     ensures unchanged { OnErr result (tables_of slots.new.entries ≡ tables_of slots.old.entries) }
     ensures spelled { AreSpelled (tables_of slots.old.entries) → AreSpelled (tables_of slots.new.entries) }
 {
@@ -57,7 +57,7 @@ pub(crate) fn learn_new_from(
 }
 
 /// Forgets the route of the key that was taken from the peer.
-pub(crate) fn forget_from(slots: &mut Slots, peer: NodeId, key: &TableKey)
+pub(crate) fn forget_from(slots: &mut Slots, peer: NodeId, key: &TakenKey)
     ensures forgot { (now : ℕ) → tables_of slots.new.entries
         ≡ changed_at peer (λ taken. taken_change now taken (Unreach key.now)) (tables_of slots.old.entries) }
     ensures spelled { AreSpelled (tables_of slots.old.entries) → AreSpelled (tables_of slots.new.entries) }

@@ -9,7 +9,7 @@ use crate::rib_sync::{Entries, Inbox};
 use crate::taken_tables::entry::TakenEntry;
 use crate::taken_tables::running::{TakenRoutes, any_awaits, awaits_with, run_routes};
 use edge_routes::LocalVrf;
-use edge_routes::route_order::TableKey;
+use edge_routes::route_order::TakenKey;
 use mv_base::table_defs::Change;
 use mv_base::{Addr, NoMemory, NodeId};
 use scenario_defs::Node;
@@ -47,22 +47,22 @@ impl TakenTable {
     }
 
     /// The route of the key.
-    pub(crate) fn get(&self, key: &TableKey) -> Option<&TakenEntry>
+    pub(crate) fn get(&self, key: &TakenKey) -> Option<&TakenEntry>
         ensures { option_copied result ≡ maps.get (taken_in self.now) key.now }
     {
         self.routes.get(key)
     }
 
     /// The routes, in the order of their keys.
-    pub(crate) fn iter(&self) -> Entries<'_, TableKey, TakenEntry>
+    pub(crate) fn iter(&self) -> Entries<'_, TakenKey, TakenEntry>
         ensures { result ≡ maps.entries (taken_in self.now) }
     {
         self.routes.iter()
     }
 
-    /// Puts the route of the key.
+    /// Puts the route of the key, which is the table's own.
     #[tactic(auto, using(edge_defs::proofs::KeyLemmas::key_exact))]
-    pub(crate) fn put(&mut self, key: TableKey, entry: TakenEntry) -> Result<(), NoMemory>
+    fn put_own(&mut self, key: TakenKey, entry: TakenEntry) -> Result<(), NoMemory>
         ensures put { OnOk result (taken_in self.new ≡ maps.insert (taken_in self.old) key entry) }
         ensures unchanged { OnErr result (self.new ≡ self.old) }
     {
@@ -72,9 +72,18 @@ impl TakenTable {
         Ok(())
     }
 
+    /// Puts the route of the key.
+    pub(crate) fn put(&mut self, key: &TakenKey, entry: TakenEntry) -> Result<(), NoMemory>
+        ensures put { OnOk result (taken_in self.new ≡ maps.insert (taken_in self.old) key.now entry) }
+        ensures unchanged { OnErr result (self.new ≡ self.old) }
+    {
+        let own = key.share()?;
+        self.put_own(own, entry)
+    }
+
     /// Takes out the route of the key. It takes no memory.
     #[tactic(auto, using(edge_defs::proofs::KeyLemmas::key_exact))]
-    pub(crate) fn remove(&mut self, key: &TableKey)
+    pub(crate) fn remove(&mut self, key: &TakenKey)
         ensures { taken_in self.new ≡ maps.remove (taken_in self.old) key.now }
     {
         self.routes.remove(key);

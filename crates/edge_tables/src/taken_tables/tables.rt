@@ -16,7 +16,7 @@ use crate::taken_tables::entry::{RouteValue, TakenEntry};
 use crate::taken_tables::slots::{Slots, forget_from, learn_from, learn_new_from};
 use crate::taken_tables::table::{TakenTable, run_node};
 use edge_routes::LocalVrf;
-use edge_routes::route_order::TableKey;
+use edge_routes::route_order::TakenKey;
 use mv_base::{NoMemory, NodeId};
 use scenario_defs::Node;
 use std::alloc::Global;
@@ -24,7 +24,7 @@ use std::collections::BTreeMap;
 use std::marker::Model;
 
 /// The routes of one peer, in the order of their keys.
-pub type TableEntries<'a> = Entries<'a, TableKey, TakenEntry>;
+pub type TableEntries<'a> = Entries<'a, TakenKey, TakenEntry>;
 
 /// The peers whose session is up here, each with the routes that were taken from it. Each key has a spelling. Nothing is taken
 /// from another peer.
@@ -86,13 +86,13 @@ impl TakenTables {
     pub fn learn(
         &mut self,
         peer: NodeId,
-        key: TableKey,
+        key: &TakenKey,
         value: RouteValue,
         now: u64,
     ) -> Result<bool, NoMemory>
         ensures learned { OnOk result (
-            self.new ≡ changed_at peer (λ taken. taken_change now taken (reach key (handed value))) self.old) }
-        ensures news { IfOk result (λ news. news ≡ is_news_at self.old peer key (handed value)) }
+            self.new ≡ changed_at peer (λ taken. taken_change now taken (reach key.now (handed value))) self.old) }
+        ensures news { IfOk result (λ news. news ≡ is_news_at self.old peer key.now (handed value)) }
         ensures unchanged { OnErr result (self.new ≡ self.old) }
     {
         learn_from(&mut self.slots, peer, key, value, now)
@@ -102,27 +102,27 @@ impl TakenTables {
     pub fn learn_new(
         &mut self,
         peer: NodeId,
-        key: TableKey,
+        key: &TakenKey,
         value: RouteValue,
         now: u64,
     ) -> Result<(), NoMemory>
-        requires new { route_at self.old peer key ≡ None }
+        requires new { route_at self.old peer key.now ≡ None }
         ensures learned { OnOk result (
-            self.new ≡ changed_at peer (λ taken. taken_change now taken (reach key (handed value))) self.old) }
+            self.new ≡ changed_at peer (λ taken. taken_change now taken (reach key.now (handed value))) self.old) }
         ensures unchanged { OnErr result (self.new ≡ self.old) }
     {
         learn_new_from(&mut self.slots, peer, key, value, now)
     }
 
     /// Forgets the route of the key that was taken from the peer. It takes no memory.
-    pub fn forget(&mut self, peer: NodeId, key: &TableKey)
+    pub fn forget(&mut self, peer: NodeId, key: &TakenKey)
         ensures { (now : ℕ) → self.new ≡ changed_at peer (λ taken. taken_change now taken (Unreach key.now)) self.old }
     {
         forget_from(&mut self.slots, peer, key);
     }
 
     /// The route of the key that was taken from the peer.
-    pub fn get(&self, peer: NodeId, key: &TableKey) -> Option<&TakenEntry>
+    pub fn get(&self, peer: NodeId, key: &TakenKey) -> Option<&TakenEntry>
         ensures route { option_copied result ≡ route_at self.now peer key.now }
         ensures spelled { AreSpelled self.now }
     {

@@ -12,13 +12,13 @@ pub returns-in-None-clause-learned : goal.returns-in-None-clause-learned
 returns-in-None-clause-learned c =
     let old = c.args.slots.now.entries in
     (λ i. tables_of (c.get_mut.follows.holds-at-none i).entries)
-    ∙ unchanged_at (tables_of old) c.args.peer (λ taken. taken_change c.args.now taken (reach c.args.key (handed c.args.value)))
+    ∙ unchanged_at (tables_of old) c.args.peer (λ taken. taken_change c.args.now taken (reach c.args.key.now (handed c.args.value)))
     (none_there old (tables_of old) c.args.peer refl c.in-None.ensures.value)
 
 pub returns-in-None-clause-news : goal.returns-in-None-clause-news
 returns-in-None-clause-news c =
     let old = c.args.slots.now.entries in
-    no_news (tables_of old) c.args.peer c.args.key (handed c.args.value) (none_there old (tables_of old) c.args.peer refl c.in-None.ensures.value)
+    no_news (tables_of old) c.args.peer c.args.key.now (handed c.args.value) (none_there old (tables_of old) c.args.peer refl c.in-None.ensures.value)
 
 pub returns-in-Some-clause-learned : goal.returns-in-Some-clause-learned
 returns-in-Some-clause-learned c =
@@ -27,17 +27,17 @@ returns-in-Some-clause-learned c =
     let written = (c.get_mut.follows.holds c.learn.new.table).3 (search rules) in
     on_ok_weaker c.learn.result
     (changed_by old new (tables_of old) c.args.peer c.in-Some.table.now c.learn.new.table refl c.in-Some.ensures.value written.0
-    (λ taken. taken_change c.args.now taken (reach c.args.key (handed c.args.value))))
+    (λ taken. taken_change c.args.now taken (reach c.args.key.now (handed c.args.value))))
     c.learn.ensures.learned
 
 pub returns-in-Some-clause-news : goal.returns-in-Some-clause-news
 returns-in-Some-clause-news c =
     let old = c.args.slots.now.entries in
     let there = some_there old (tables_of old) c.args.peer refl c.in-Some.table.now c.in-Some.ensures.value in
-    let same = news_there (tables_of old) c.args.peer c.args.key (handed c.args.value) (taken_in c.in-Some.table.now) there in
+    let same = news_there (tables_of old) c.args.peer c.args.key.now (handed c.args.value) (taken_in c.in-Some.table.now) there in
     IfOk-weaker c.learn.result
-    (λ (news : Bool). news ≡ is_news (handed c.args.value) (get (taken_in c.in-Some.table.now) c.args.key))
-    (λ (news : Bool). news ≡ is_news_at (tables_of old) c.args.peer c.args.key (handed c.args.value))
+    (λ (news : Bool). news ≡ is_news (handed c.args.value) (get (taken_in c.in-Some.table.now) c.args.key.now))
+    (λ (news : Bool). news ≡ is_news_at (tables_of old) c.args.peer c.args.key.now (handed c.args.value))
     (λ news is. is ∙ same) c.learn.ensures.news
 
 pub returns-in-Some-clause-unchanged : goal.returns-in-Some-clause-unchanged
@@ -56,5 +56,5 @@ returns-in-Some-clause-spelled c = λ spelled.
     let written = (c.get_mut.follows.holds c.learn.new.table).3 (search rules) in
     let there = c.in-Some.table.now in
     slot_spelled old new c.args.peer there c.learn.new.table c.in-Some.ensures.value written.0 spelled
-    (learned_spelled c.learn.result there c.learn.new.table c.args.key (learned c.args.now (handed c.args.value) (get (taken_in there) c.args.key))
+    (learned_spelled c.learn.result there c.learn.new.table c.args.key.now (learned c.args.now (handed c.args.value) (get (taken_in there) c.args.key.now))
     c.learn.ensures.learned c.learn.ensures.unchanged c.learn.ensures.spelled)

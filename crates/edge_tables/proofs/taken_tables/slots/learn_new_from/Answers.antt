@@ -14,13 +14,13 @@ pub learn_new-requires : goal.learn_new-requires
 learn_new-requires c =
     let old = c.args.slots.now.entries in
     let there = some_there old (tables_of old) c.args.peer refl c.in-Some.table.now c.in-Some.ensures.value in
-    record { new = ap (λ (table : Option Taken). table >>? λ (taken : Taken). get taken c.args.key) (sym there) ∙ c.requires.new }
+    record { new = ap (λ (table : Option Taken). table >>? λ (taken : Taken). get taken c.args.key.now) (sym there) ∙ c.requires.new }
 
 pub returns-in-None-clause-learned : goal.returns-in-None-clause-learned
 returns-in-None-clause-learned c =
     let old = c.args.slots.now.entries in
     (λ i. tables_of (c.get_mut.follows.holds-at-none i).entries)
-    ∙ unchanged_at (tables_of old) c.args.peer (λ taken. taken_change c.args.now taken (reach c.args.key (handed c.args.value)))
+    ∙ unchanged_at (tables_of old) c.args.peer (λ taken. taken_change c.args.now taken (reach c.args.key.now (handed c.args.value)))
     (none_there old (tables_of old) c.args.peer refl c.in-None.ensures.value)
 
 pub returns-in-Some-clause-learned : goal.returns-in-Some-clause-learned
@@ -30,7 +30,7 @@ returns-in-Some-clause-learned c =
     let written = (c.get_mut.follows.holds c.learn_new.new.table).3 (search rules) in
     on_ok_weaker c.learn_new.result
     (changed_by old new (tables_of old) c.args.peer c.in-Some.table.now c.learn_new.new.table refl c.in-Some.ensures.value written.0
-    (λ taken. taken_change c.args.now taken (reach c.args.key (handed c.args.value))))
+    (λ taken. taken_change c.args.now taken (reach c.args.key.now (handed c.args.value))))
     c.learn_new.ensures.learned
 
 pub returns-in-Some-clause-unchanged : goal.returns-in-Some-clause-unchanged
@@ -49,5 +49,5 @@ returns-in-Some-clause-spelled c = λ spelled.
     let written = (c.get_mut.follows.holds c.learn_new.new.table).3 (search rules) in
     let there = c.in-Some.table.now in
     slot_spelled old new c.args.peer there c.learn_new.new.table c.in-Some.ensures.value written.0 spelled
-    (learned_spelled c.learn_new.result there c.learn_new.new.table c.args.key (learned c.args.now (handed c.args.value) (get (taken_in there) c.args.key))
+    (learned_spelled c.learn_new.result there c.learn_new.new.table c.args.key.now (learned c.args.now (handed c.args.value) (get (taken_in there) c.args.key.now))
     c.learn_new.ensures.learned c.learn_new.ensures.unchanged c.learn_new.ensures.spelled)

@@ -1,6 +1,6 @@
 use Rattle.edge_tables.specs.taken_tables.Slots.{taken_in}
 use Rattle.edge_tables.proofs.taken_tables.WaitLemmas.{put_noted}
-use Rattle.edge_tables.proofs.taken_tables.table.TakenTable.put.Goals as goal
+use Rattle.edge_tables.proofs.taken_tables.table.TakenTable.put_own.Goals as goal
 
 pub invariant_of-self-2 : goal.invariant_of-self-2
 invariant_of-self-2 c =

@@ -115,15 +115,15 @@ fn compare_behind(fronts: Ordering, one: &RouteKey, other: &RouteKey) -> Orderin
 fn compare_families(one: &RouteKey, other: &RouteKey) -> Ordering
     ensures { result ≡ family_cmp one.now other.now }
 {
-    match (one.prefix.addr, other.prefix.addr) {
+    match (&one.prefix.addr, &other.prefix.addr) {
         (Addr::V4(own), Addr::V4(others)) => {
-            let own = front_v4(own, one.prefix.bits);
-            let others = front_v4(others, other.prefix.bits);
+            let own = front_v4(*own, one.prefix.bits);
+            let others = front_v4(*others, other.prefix.bits);
             compare_behind(own.cmp(&others), one, other)
         }
         (Addr::V6(own), Addr::V6(others)) => {
-            let own = front_v6(own, one.prefix.bits);
-            let others = front_v6(others, other.prefix.bits);
+            let own = front_v6(*own, one.prefix.bits);
+            let others = front_v6(*others, other.prefix.bits);
             compare_behind(own.cmp(&others), one, other)
         }
         (Addr::V4(_), Addr::V6(_)) => Ordering::Less,

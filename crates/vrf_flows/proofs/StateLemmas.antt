@@ -1,5 +1,5 @@
 -- The state as plain data.
-use Rattle.std.proofs.Common.{◌≡◌, ℕ, is_some, Result, Ok, Err, OnErr, Bool, true, false, cond, ◌||◌, List, [], ◌∷◌, filter, Option, None, Some, refl, sym, ap, subst, ◌∙◌}
+use Rattle.std.proofs.Common.{◌≡◌, ℕ, is_some, Result, Ok, Err, OnErr, Bool, true, false, cond, ◌||◌, List, [], ◌∷◌, filter, Option, None, Some, refl, sym, ap, subst, ◌∙◌, true≢false}
 use Rattle.std.specs.List.{list_any, AllByRecursion, IsDistinct}
 use Rattle.std.specs.Map.{lookup, keys_of}
 use Rattle.std.specs.FinMap as maps
@@ -163,6 +163,19 @@ fresh-flows old now sound clock costless fresh cost q =
     ∙ (λ i. flow_by (asking_of old.ifaces old.entries (is_sent old.sent.keys q) old.clock q)
     (steady old.routes sound.cost cost q (sym (ap compares_costs sound.rule) ∙ costless) i)))
     ∙ (given-flow old cost old.clock q sound.sent ∙ ap (λ (at : ℕ). flow_of (vrf_of old) cost at q) (sym clock)))
+
+-- Where no flow is held, none is needed, and so there is none at any clock.
+pub none-held : (old : State) (now : ℕ) → IsSound old → ((q : Flow) → get same_flow old.flows q ≡ None) → (cost : NodeId → ℕ) (q : Flow)
+    → maps.get (vrf_of old).flows q ≡ flow_of (vrf_of old) cost now q
+none-held old now sound none cost q =
+    flows-got old.flows q sound.unique
+    ∙ (ap (λ held. choice_in (kept_of held)) (none q)
+    ∙ (ap choice_in (sym (absent-none old.ifaces old.entries old.sent.keys (chosen_for old.routes cost) now q (by (needed_in old q) refl)))
+    ∙ given-flow old cost now q sound.sent))
+  where
+    by : (b : Bool) → needed_in old q ≡ b → needed_in old q ≡ false
+    by false e = e
+    by true e = absurd (true≢false (sym (sound.keeps.needed q e) ∙ ap is_some (none q)))
 
 -- What is kept of a flow then is what was.
 pub mid-kept : (old : State) (held : Flow → Option Held) (es : List (IfaceEntry × Expiry)) (now : ℕ) →

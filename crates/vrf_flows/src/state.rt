@@ -332,13 +332,16 @@ impl State {
         Ok(())
     }
 
-    /// Whether it is known, without a look at the flows, that each is what it is at the clock: no time passed since the last refresh,
-    /// no flow is stale, and costs count for none.
+    /// Whether it is known, without a look at the flows, that each is what it is at the clock: none is held; or no time passed since the
+    /// last refresh, no flow is stale, and costs count for none.
     pub(crate) fn is_fresh(&self, now: u64) -> bool
         requires sound { IsSound self.now }
         ensures { result ≡ true → (cost : NodeId → ℕ) (q : Flow) →
             maps.get (vrf_of self.now).flows q ≡ flow_of (vrf_of self.now) cost now q }
     {
+        if self.flows.is_empty() {
+            return true;
+        }
         if now != self.clock {
             return false;
         }

@@ -77,6 +77,13 @@ impl FlowTable {
         self.held.contains_key(flow)
     }
 
+    /// Whether no flow is held.
+    pub fn is_empty(&self) -> bool
+        ensures { result ≡ true → (q : Flow) → get same_flow self.now q ≡ None }
+    {
+        self.held.is_empty()
+    }
+
     /// Flows among which are those that are stale; `None` where any flow may be.
     pub fn stale(&self) -> Option<&[Flow]>
         ensures { IfSome result (λ flows. AreAmong (is_stale_in self.now) flows.now) }

@@ -18,7 +18,7 @@ ghost use Rattle.vrf_words.specs.tree_defs.Trees.{wanted_by};
 ghost use Rattle.vrf_flows.specs.State.{active_by, flow_by_addrs, note_at};
 ghost use Rattle.vrf_trees.specs.Changes.{AreJoins, AreNew};
 ghost use Rattle.vrf_trees.specs.Joined.{is_joined, join_by};
-ghost use Rattle.vrf_trees.specs.Trees.{no_tree};
+ghost use Rattle.vrf_trees.specs.Trees.{IsFresh, no_tree};
 
 use crate::changes::TreeChanges;
 use crate::joins::TakenJoins;
@@ -422,6 +422,13 @@ impl VrfTree {
     }
 
     // ---- flows
+
+    /// Whether it is known, without a look at the flows, that a refresh at the clock changes nothing. It takes no memory.
+    pub fn is_fresh(&self, now: u64) -> bool
+        ensures { result ≡ true → IsFresh now self.now }
+    {
+        self.flows.is_fresh(now) && self.wants.all_fresh()
+    }
 
     /// Brings the flows and the tunnels that they want up to date at the clock, in the core as the edge `me` knows it, and
     /// answers what changed since the last refresh. Between two refreshes a flow and what it wants stay as they are. After want

@@ -1,7 +1,11 @@
 use Rattle.std.proofs.Common.{rules, ◌≡◌, false}
 use Rattle.vrf_flows.specs.State.{compares_costs}
-use Rattle.vrf_flows.proofs.StateLemmas.{fresh-flows}
+use Rattle.vrf_flows.proofs.StateLemmas.{fresh-flows, none-held}
 use Rattle.vrf_flows.proofs.state.State.is_fresh.Goals as goal
+
+pub returns-then-is_empty : goal.returns-then-is_empty
+returns-then-is_empty c = λ known.
+    none-held c.args.self.now c.args.now c.requires.sound (c.is_empty.ensures c.if-is_empty.true)
 
 pub returns : goal.returns
 returns c = λ known.

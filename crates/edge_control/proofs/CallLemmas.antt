@@ -1,10 +1,11 @@
 -- What a call of a customer makes of the tree of its VRF is what it makes of all that is kept.
 use Rattle.std.specs.Prelude.{sum_by}
-use Rattle.std.proofs.Common.{◌≡◌, ℕ, ◌+◌, ◌<◌, ◌≤◌, ◌&&◌, not, min, nat_lt, nat_le, Bool, true, false, List, map, length, get_or, Some, option_map, Result, Ok, Err, OnOk, OnErr, slice_get, slice_set, refl, sym, ap, subst, ◌∙◌, arith}
+use Rattle.std.proofs.Common.{◌≡◌, ℕ, ◌+◌, ◌<◌, ◌≤◌, ◌&&◌, not, min, nat_lt, nat_le, Bool, true, false, List, map, length, get_or, Option, Some, None, option_map, Result, Ok, Err, OnOk, OnErr, slice_get, slice_set, refl, sym, ap, subst, ◌∙◌, arith}
 use Rattle.std.specs.FinMap as maps
 use Rattle.std.specs.FinSet as sets
 use Rattle.std.proofs.lemmas.Bool.{ltb-false, le-ltb}
-use Rattle.std.proofs.lemmas.Option.{slice_get-map}
+use Rattle.std.proofs.lemmas.Option.{get_or_from_slice_get, slice_get-map}
+use Rattle.std.proofs.lemmas.List.{set-get_or}
 use Rattle.std.proofs.lemmas.List.Sums.{get_or-le-sum_by}
 use Rattle.mv_base.specs.Lists.{Among}
 use Rattle.mv_base.specs.declared.addr.Addr.{Addr}
@@ -12,6 +13,7 @@ use Rattle.mv_base.specs.declared.ids.IfaceId.{IfaceId}
 use Rattle.mv_base.specs.core_walks.Core.{Core}
 use Rattle.pim_joinprune.specs.declared.message.JoinPrune.{JoinPrune}
 use Rattle.pim_defs.specs.Entries.{applied, are_too_many}
+use Rattle.vrf_words.specs.tree_defs.Flows.{VrfData}
 use Rattle.vrf_words.specs.tree_defs.Trees.{TreeData}
 use Rattle.edge_defs.specs.Edge.{Control}
 use Rattle.edge_defs.specs.Originated.{is_iface_of}
@@ -222,3 +224,25 @@ pub sound_either : {X E : Type 0} (result : Result X E) (kept : Kept) (trees nex
     → OnOk result (trees ≡ next) → OnErr result (trees ≡ kept.trees) → IsSound (record kept { trees = trees })
 sound_either (Ok x) kept trees next old then_sound ok err = subst (λ (ts : List TreeData). IsSound (record kept { trees = ts })) (sym ok) then_sound
 sound_either (Err e) kept trees next old then_sound ok err = subst (λ (ts : List TreeData). IsSound (record kept { trees = ts })) (sym err) old
+
+-- ---- a message that a tree takes
+
+module _ (items : List TreeData) (place : ℕ) (old : TreeData) (at : slice_get items place ≡ Some old) (flows : VrfData) where
+  -- the tree at that place has these flows
+  abbrev pub with_flows : List TreeData
+  with_flows = slice_set items place (record old { vrf = flows })
+
+  pub flows_taken : (iface : IfaceId) (message : JoinPrune) (now : ℕ)
+      → flows ≡ record old.vrf { entries = applied old.vrf.entries iface message now }
+      → with_flows ≡ changed_at place (pim_taken iface message now) items
+  flows_taken iface message now e =
+      ap (λ (v : VrfData). slice_set items place (record old { vrf = v })) e
+      ∙ sym (ap (λ (o : Option TreeData). elim o [
+        | None ↦ items
+        | Some tree ↦ slice_set items place (pim_taken iface message now tree)
+      ]) at)
+
+  pub flows_stay : flows ≡ old.vrf → with_flows ≡ items
+  flows_stay e =
+      ap (λ (v : VrfData). slice_set items place (record old { vrf = v })) e
+      ∙ ap (slice_set items place) (sym (get_or_from_slice_get items place old old at)) ∙ set-get_or items place old

@@ -14,6 +14,7 @@ use Rattle.vrf_words.specs.tree_defs.Flows.{flow_of}
 use Rattle.vrf_words.specs.tree_defs.Trees.{TreeData, wanted_by}
 use Rattle.vrf_trees.specs.declared.changes.TreeJoin.{TreeJoin}
 use Rattle.vrf_trees.specs.Changes.{AreNew}
+use Rattle.vrf_trees.specs.Trees.{IsFresh}
 use Rattle.control_laws.proofs.edge_words.calm_laws.Lists.{among_either}
 use Rattle.control_laws.specs.Between.{IsRefreshed}
 use Rattle.edge_control.specs.Refreshing.{AreAllMoved, AreMoved, AreTold, HasJoin, IsRestOf}
@@ -209,3 +210,10 @@ turned_by core me now old new flows wants rest = record {
   };
   rest = rest;
 }
+
+-- Trees that are fresh are refreshed as they are.
+pub zip_fresh : (core : Topology) (me : NodeId) (now : ℕ) (trees : List TreeData) → AllByRecursion (IsFresh now) trees
+    → AllZip (IsTurned core me now) trees trees
+zip_fresh core me now [] h = tt
+zip_fresh core me now (tree ∷ trees) h =
+    (turned_by core me now tree tree (λ cost costs. h.0.flows cost) h.0.wants refl, zip_fresh core me now trees h.1)

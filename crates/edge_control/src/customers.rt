@@ -14,9 +14,10 @@ use crate::control::EdgeControl;
 use crate::counts::{entries_in, is_over, notes_in};
 use crate::fault::ControlFault;
 use crate::places::place_of_iface;
-use crate::trees::{note_at, take_at, unnote_at};
+use crate::trees::{note_at, unnote_at};
 use mv_base::{Addr, IfaceId, NoMemory};
 use pim_joinprune::JoinPrune;
+use vrf_trees::of_pim_state::TakeFault;
 
 /// The most notes of an edge.
 const NOTE_LIMIT: u32 = 256;
@@ -68,7 +69,14 @@ impl EdgeControl {
         match self.is_over_behind(place, iface, message, now) {
             Err(NoMemory) => Err(ControlFault::NoMemory),
             Ok(true) => Err(ControlFault::Full),
-            Ok(false) => take_at(&mut self.trees, place, iface, message, now),
+            Ok(false) => {
+                let tree = &mut self.trees[place];
+                match tree.flows.pim_take(iface, message, now) {
+                    Ok(()) => Ok(()),
+                    Err(TakeFault::NoMemory) => Err(ControlFault::NoMemory),
+                    Err(TakeFault::Full) => unreachable!(),
+                }
+            }
         }
     }
 

@@ -1,10 +1,11 @@
 //! A refresh of all flows of an edge (RFC 7761 section 4.1.6; RFC 6513 section 5.1).
-ghost use Rattle.std.specs.Prelude.{◌≡◌, ◌<◌, ◌++◌, ℕ, length, IfOk, OnOk};
+ghost use Rattle.std.specs.Prelude.{◌≡◌, ◌<◌, ◌++◌, ℕ, true, length, IfOk, OnOk};
 ghost use Rattle.std.specs.List.{AllByRecursion, AllZip};
 ghost use Rattle.mv_base.specs.declared.ids.NodeId.{NodeId};
 ghost use Rattle.mv_base.specs.core_walks.Core.{Core as Walks, IsCoreOf};
 ghost use Rattle.umh_select.specs.Routes.{AreCosts, AreOfCore};
 ghost use Rattle.vrf_words.specs.tree_defs.Trees.{TreeData};
+ghost use Rattle.vrf_trees.specs.Trees.{IsFresh};
 ghost use Rattle.edge_defs.specs.Place.{HasPrefixes};
 ghost use Rattle.edge_defs.specs.Steps.{refreshed};
 ghost use Rattle.edge_routes.specs.edge_home.Home.{place_of};
@@ -52,6 +53,18 @@ fn add(all: &mut ControlChanges, changes: &TreeChanges) -> Result<(), NoMemory>
     append(&mut all.tunnels, &changes.unwants)
 }
 
+/// Whether it is known of each of the trees that a refresh at the clock changes nothing.
+fn all_fresh(trees: &[VrfTree], now: u64) -> bool
+    ensures { result ≡ true → AllByRecursion (IsFresh now) trees.now }
+{
+    for tree in trees {
+        if !tree.is_fresh(now) {
+            return false;
+        }
+    }
+    true
+}
+
 /// Refreshes each of the trees. Where memory runs out, each is as before, but for its flows and what they want.
 fn refresh_trees(
     trees: &mut Vec<VrfTree>,
@@ -73,6 +86,9 @@ fn refresh_trees(
         joins: Vec::new(alloc),
         tunnels: Vec::new(alloc),
     };
+    if all_fresh(trees, now) {
+        return Ok(all);
+    }
     for place in 0..trees.len() {
         let changes = trees[place].refresh(now, me, core)?;
         add(&mut all, &changes)?;

@@ -15,13 +15,13 @@ ghost use Rattle.edge_control.specs.Taking.{coming, dropping, turned_all};
 use crate::control::EdgeControl;
 use crate::each::{forget_in, learn_or_forget};
 use edge_routes::edge_home::EdgeHome;
-use edge_routes::route_order::TableKey;
+use edge_routes::route_order::TakenKey;
 use edge_tables::taken_tables::{RouteValue, TakenTables, same_value};
 use mv_base::{NoMemory, NodeId};
 use vrf_trees::VrfTree;
 
 /// Whether the value is another one than that of the route of the key that was taken from the peer.
-fn is_news(taken: &TakenTables, peer: NodeId, key: &TableKey, value: &RouteValue) -> bool
+fn is_news(taken: &TakenTables, peer: NodeId, key: &TakenKey, value: &RouteValue) -> bool
     ensures { result ≡ is_news (handed value.now) (route_at taken.now peer key.now) }
 {
     match taken.get(peer, key) {
@@ -36,7 +36,7 @@ fn drop_in(
     trees: &mut Vec<VrfTree>,
     taken: &TakenTables,
     peer: NodeId,
-    key: &TableKey,
+    key: &TakenKey,
 )
     requires each { length trees.old.items ≡ length (vrfs_from home.now.me 0 home.now.scenario.vrfs) }
     requires known { is_some (maps.get taken.now peer) ≡ true → peer.0 < length home.now.scenario.nodes }
@@ -54,7 +54,7 @@ fn drop_in(
 }
 
 /// Shows that the key has a spelling.
-fn spelled(key: &TableKey)
+fn spelled(key: &TakenKey)
     ensures { IsWritableKey key.now }
 {
     let _key = key.key();
@@ -67,7 +67,7 @@ fn learn_said(
     trees: &mut Vec<VrfTree>,
     taken: &TakenTables,
     peer: NodeId,
-    key: &TableKey,
+    key: &TakenKey,
     now: u64,
 ) -> Result<(), NoMemory>
     requires each { length trees.old.items ≡ length (vrfs_from home.now.me 0 home.now.scenario.vrfs) }
@@ -90,7 +90,7 @@ fn learn_said(
 
 impl EdgeControl {
     /// The peer withdraws the route of the key: it is forgotten. It takes no memory.
-    pub fn withdraw(&mut self, peer: NodeId, key: &TableKey)
+    pub fn withdraw(&mut self, peer: NodeId, key: &TakenKey)
         ensures withdrawn { (now : ℕ) → control_of self.new ≡ record (control_of self.old) {
           peers = changed_at peer (λ taken. taken_change now taken (Unreach key.now)) self.old.peers;
         } }
@@ -106,7 +106,7 @@ impl EdgeControl {
     pub fn announce_fresh(
         &mut self,
         peer: NodeId,
-        key: &TableKey,
+        key: &TakenKey,
         value: RouteValue,
         now: u64,
     ) -> Result<(), NoMemory>
@@ -119,7 +119,7 @@ impl EdgeControl {
         ensures wants { wants_of self.new.trees ≡ wants_of self.old.trees }
     {
         spelled(key);
-        match self.taken.learn_new(peer, *key, value, now) {
+        match self.taken.learn_new(peer, key, value, now) {
             Err(fault) => Err(fault),
             Ok(()) => match learn_said(&self.home, &mut self.trees, &self.taken, peer, key, now) {
                 Ok(()) => Ok(()),
@@ -136,7 +136,7 @@ impl EdgeControl {
     pub fn announce(
         &mut self,
         peer: NodeId,
-        key: &TableKey,
+        key: &TakenKey,
         value: RouteValue,
         now: u64,
     ) -> Result<(), NoMemory>

@@ -1,42 +1,15 @@
 //! Changes of one of the trees.
-ghost use Rattle.std.specs.Prelude.{◌≡◌, ◌<◌, ◌^◌, false, Some, Err, length, slice_get, IfOk, OnOk, OnErr};
-ghost use Rattle.pim_defs.specs.Entries.{applied, are_too_many};
+ghost use Rattle.std.specs.Prelude.{◌≡◌, ◌<◌, ◌^◌, Some, Err, length, slice_get, IfOk, OnOk, OnErr};
 ghost use Rattle.selective_defs.specs.Selective.{next_number};
 ghost use Rattle.selective.specs.Roots.{IsSelected, lsp_number};
 ghost use Rattle.vrf_words.specs.tree_defs.Trees.{TreeData};
-ghost use Rattle.control_laws.specs.Customers.{noted, pim_taken, selected, unnoted, unselected};
+ghost use Rattle.control_laws.specs.Customers.{noted, selected, unnoted, unselected};
 ghost use Rattle.edge_control.specs.Places.{changed_at};
 ghost use Rattle.edge_control.specs.declared.fault.ControlFault.TheVariants as faults;
 
 use crate::fault::ControlFault;
 use mv_base::{Addr, IfaceId, Pattern};
-use pim_joinprune::JoinPrune;
 use vrf_trees::VrfTree;
-use vrf_trees::of_pim_state::TakeFault;
-
-/// The tree takes the message.
-pub(crate) fn take_at(
-    trees: &mut Vec<VrfTree>,
-    place: usize,
-    iface: IfaceId,
-    message: &JoinPrune,
-    now: u64,
-) -> Result<(), ControlFault>
-    requires there { place < length trees.old.items }
-    requires now { now < 2 ^ 63 }
-    requires fits { (tree : TreeData) → slice_get trees.old.items place ≡ Some tree →
-        are_too_many (applied tree.vrf.entries iface message.now now) ≡ false }
-    ensures taken { OnOk result (trees.new.items ≡ changed_at place (pim_taken iface message.now now) trees.old.items) }
-    ensures memory { OnErr result (result ≡ Err faults.NoMemory) }
-    ensures unchanged { OnErr result (trees.new.items ≡ trees.old.items) }
-{
-    let tree = &mut trees[place];
-    match tree.flows.pim_take(iface, message, now) {
-        Ok(()) => Ok(()),
-        Err(TakeFault::NoMemory) => Err(ControlFault::NoMemory),
-        Err(TakeFault::Full) => unreachable!(),
-    }
-}
 
 /// The tree notes the source.
 pub(crate) fn note_at(

@@ -38,4 +38,4 @@ pub use edge_routing::of_edge_streams as of_edge_streams;
 pub use edge_routing::of_edge_streams::SessionReason;
 pub use fate::{Branches, Fate};
 pub use fault::EdgeFault;
-pub use lists::Fecs;
+pub use lists::{Fecs, RouteKeys};

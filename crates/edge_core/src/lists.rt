@@ -16,8 +16,8 @@ ghost use Rattle.edge_core.specs.Listed.{admitted_from, admitted_keys};
 ghost use Rattle.edge_core.specs.State.{data_of, home_of};
 
 use crate::edge::Edge;
-use bgp_messages::bgp_attributes::Keys;
-use edge_routes::is_admitted;
+use edge_routes::route_order::TableKey;
+use edge_routes::{Shared, is_admitted};
 use edge_routing::of_edge_control::of_edge_tables::taken_tables::TableEntries;
 use edge_routing::of_edge_control::{EdgeControl, own_of_vrf};
 use label_forwarding::Fib;
@@ -30,13 +30,16 @@ use std::alloc::Global;
 /// Trees, in their order.
 pub type Fecs = Seq<Fec>;
 
+/// Keys of routes, each in memory once, with the table that has the route.
+pub type RouteKeys = Seq<Shared<TableKey>>;
+
 /// Adds the keys of those of the routes that have a Route Target of the VRF.
-fn add_admitted(keys: &mut Keys, vrf: &Vrf, routes: TableEntries<'_>) -> Result<(), NoMemory>
+fn add_admitted(keys: &mut RouteKeys, vrf: &Vrf, routes: TableEntries<'_>) -> Result<(), NoMemory>
     ensures { OnOk result (keys.new ≡ keys.old ++ admitted_keys vrf.now routes.entry) }
 {
     for (key, entry) in routes {
         if is_admitted(vrf, entry.value().comms) {
-            keys.push(*key.key())?;
+            keys.push(key.shared()?)?;
         }
     }
     Ok(())
@@ -44,7 +47,7 @@ fn add_admitted(keys: &mut Keys, vrf: &Vrf, routes: TableEntries<'_>) -> Result<
 
 /// Adds those of the routes that were taken from the peer.
 fn add_taken(
-    keys: &mut Keys,
+    keys: &mut RouteKeys,
     control: &EdgeControl,
     vrf: &Vrf,
     peer: NodeId,
@@ -58,10 +61,10 @@ fn add_taken(
 }
 
 /// The keys of the routes that were taken from peers and have a Route Target of the VRF, peer after peer, in the order of keys.
-fn keys_from(control: &EdgeControl, alloc: Global, vrf: &Vrf) -> Result<Keys, NoMemory>
+fn keys_from(control: &EdgeControl, alloc: Global, vrf: &Vrf) -> Result<RouteKeys, NoMemory>
     ensures { IfOk result (λ keys. keys ≡ admitted_from control.now.home (control_of control.now) vrf.now) }
 {
-    let mut keys = Keys::new(alloc);
+    let mut keys = RouteKeys::new(alloc);
     let peers = control.home().peers(alloc)?;
     for peer in peers.as_slice() {
         add_taken(&mut keys, control, vrf, *peer)?;
@@ -88,7 +91,7 @@ fn leaf_trees(fib: &Fib, alloc: Global) -> Result<Vec<Fec>, NoMemory>
 impl Edge {
     /// The routes that were taken from peers and have a Route Target of the VRF (RFC 4364 section 4.3.1), by their keys: peer after peer, in
     /// the order of keys. Whether the VRF uses a route is not asked.
-    pub fn imports(&self, alloc: Global, vrf: VrfId) -> Result<Keys, NoMemory>
+    pub fn imports(&self, alloc: Global, vrf: VrfId) -> Result<RouteKeys, NoMemory>
         requires own { is_own_vrf (home_of self.now) vrf ≡ true }
         ensures { (walks : Walks) (own : places.OwnVrf) → Among own (vrfs_of (home_of self.now)) → own.id ≡ vrf →
             IfOk result (λ keys. keys ≡ admitted_from (home_of self.now) (data_of self.now).control own.vrf) }

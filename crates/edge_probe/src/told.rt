@@ -10,20 +10,20 @@ ghost use Rattle.probe_defs.specs.Probed.{imports_of, table_of};
 ghost use Rattle.probe_defs.specs.declared.probe.ProbeLine.{ProbeLine as Line};
 ghost use Rattle.edge_probe.specs.Behind.{IsGiven, taken_by};
 
-use bgp_messages::bgp_attributes::Keys;
-use edge_core::Edge;
+use edge_core::{Edge, RouteKeys};
 use mv_base::{NoMemory, NodeId, VrfId};
 use probe_defs::{Import, Imports};
 use scenario_defs::{Scenario, Vrf};
 use std::alloc::Global;
 
 /// Adds the routes of these keys, which the VRF takes.
-fn add_keys(imports: &mut Imports, vrf: VrfId, keys: &Keys) -> Result<(), NoMemory>
+fn add_keys(imports: &mut Imports, vrf: VrfId, keys: &RouteKeys) -> Result<(), NoMemory>
     ensures { OnOk result (imports.new ≡ imports.old ++ map (λ key. record { vrf = vrf; key = key }) keys.now) }
 {
     let all = keys.as_slice();
     for key in all {
-        imports.push(Import { vrf, key: *key })?;
+        let shared = key.share()?;
+        imports.push(Import { vrf, key: shared })?;
     }
     Ok(())
 }

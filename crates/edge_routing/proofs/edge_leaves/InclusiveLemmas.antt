@@ -1,29 +1,31 @@
 -- Looking through the table of a tunnel's root says whether a VRF imports an inclusive route of the tunnel.
-use Rattle.std.proofs.Common.{◌≡◌, ◌↔◌, ℕ, ◌+◌, ◌<◌, ◌||◌, Bool, true, false, List, [], ◌∷◌, map, take, get_or, length, Option, Some, None, refl, sym, ap, subst, ◌∙◌}
+use Rattle.std.proofs.Common.{◌≡◌, ◌↔◌, ◌<◌, ◌&&◌, ◌||◌, Bool, true, false, List, [], ◌∷◌, map, length, Option, Some, None, refl, sym, ap, subst, ◌∙◌}
 use Rattle.std.specs.List.{list_any}
 use Rattle.std.specs.FinMap as maps
-use Rattle.std.proofs.lemmas.List.Folds.{list_any_at, list_any_more}
 use Rattle.mv_base.specs.Number.{◌>>?◌, only_if}
 use Rattle.mv_base.specs.declared.addr.Addr.{Addr}
 use Rattle.mv_base.specs.declared.ids.NodeId.{NodeId}
 use Rattle.mldp.specs.declared.mldp_fec.fec.Fec.{Fec}
 use Rattle.mv_base.specs.core_walks.Core.{Core}
 use Rattle.bgp_messages.specs.declared.bgp_attributes.key.Key.{Key}
+use Rattle.scenario_defs.specs.declared.scenario.Vrf.{Vrf}
 use Rattle.label_defs.proofs.KeyLemmas.{same_fec_equal, same_fec_from}
 use Rattle.edge_defs.specs.Datagrams.{is_tunnel}
 use Rattle.edge_defs.specs.Edge.{Control, TakenRoute}
 use Rattle.edge_defs.specs.Imported.{imported_inclusive, inclusive_of, is_admitted, taken_from, tunnel_by}
+use Rattle.edge_defs.specs.Keys.{Value}
 use Rattle.edge_defs.specs.Place.{EdgePlace, OwnVrf, addr_of, node_with, own_vrfs}
 use Rattle.edge_defs.proofs.KeyLemmas.{key_exact, key_total}
 use Rattle.edge_routes.specs.edge_home.Home.{AreOwn, as_own, place_of}
 use Rattle.edge_routes.specs.declared.edge_home.own_vrf.OwnVrf as home_vrfs
+use Rattle.edge_routes.specs.Judged.{inclusive_tunnel}
 use Rattle.edge_words.proofs.calm_laws.Lists.{any_among, any_from}
 use Rattle.edge_words.proofs.calm_laws.Maps.{entry_get, get_entry}
 use Rattle.edge_words.proofs.calm_laws.Upstreams.{chained}
 use Rattle.edge_words.specs.Leaf.{IsInclusive}
 use Rattle.edge_words.proofs.Known.{one_node}
 use Rattle.vrf_words.specs.tree_laws.Imports.{imports_inclusive}
-use Rattle.vrf_words.proofs.tree_laws.Leaving.{root_by}
+use Rattle.vrf_words.proofs.tree_laws.Leaving.{any_or, root_by}
 use Rattle.control_laws.specs.Control.{Kept, control_of}
 use Rattle.edge_control.specs.Sound.{IsSound}
 use Rattle.edge_routing.proofs.edge_datagrams.CoreLemmas.{taken_node}
@@ -48,16 +50,65 @@ inclusive_root own addr key route fec h =
     let second = chained (only_if (is_admitted own.vrf route.value.comms) route.value) (λ value. tunnel_by addr first.0 value) fec first.2 in
     root_by addr first.0 second.0 fec second.2
 
--- ---- one VRF after another
+-- ---- one route, for each VRF that admits it
 
-pub any_at : {X : Type 0} (p : X → Bool) (xs : List X) (n : ℕ) (x : X) (result : Bool) → n < length xs → x ≡ get_or xs n x → result ≡ p x
-    → result ≡ true → true ≡ list_any p xs
-any_at p xs n x result within is e h = sym (list_any_at p xs n x within (ap p (sym is) ∙ sym e ∙ h))
+and_true : (t : Bool) → t ≡ (t && true)
+and_true true = refl
+and_true false = refl
 
-pub none_more : {X : Type 0} (p : X → Bool) (xs : List X) (n : ℕ) (x : X) (result : Bool) → n < length xs → x ≡ get_or xs n x
-    → list_any p (take n xs) ≡ false → result ≡ p x → result ≡ false
-    → list_any p (take (n + 1) xs) ≡ false
-none_more p xs n x result within is before e h = list_any_more p xs n x within ∙ (λ i. before i || (ap p (sym is) ∙ sym e ∙ h) i)
+and_false : (t : Bool) → false ≡ (t && false)
+and_false true = refl
+and_false false = refl
+
+admitted_only : (fec : Fec) (o : Option Addr) (b : Bool) (value : Value) (tunnel : Addr → Value → Option Fec)
+    → is_tunnel fec (o >>? λ originator. only_if b value >>? λ v. tunnel originator v) ≡ (is_tunnel fec (o >>? λ originator. tunnel originator value) && b)
+admitted_only fec None b value tunnel = refl
+admitted_only fec (Some originator) true value tunnel = and_true (is_tunnel fec (tunnel originator value))
+admitted_only fec (Some originator) false value tunnel = and_false (is_tunnel fec (tunnel originator value))
+
+pub tunnel_admitted : (fec : Fec) (addr : Addr) (key : Key) (route : TakenRoute) (vrf : Vrf)
+    → is_tunnel fec (imported_inclusive vrf addr (key, route)) ≡ (is_tunnel fec (inclusive_tunnel addr key route.value) && is_admitted vrf route.value.comms)
+tunnel_admitted fec addr key route vrf =
+    admitted_only fec (inclusive_of key) (is_admitted vrf route.value.comms) route.value (λ originator value. tunnel_by addr originator value)
+
+-- a condition that is the same for all
+pub any_where : {X : Type 0} (p q : X → Bool) (b : Bool) (xs : List X) → ((x : X) → p x ≡ (b && q x)) → list_any p xs ≡ (b && list_any q xs)
+any_where p q true [] same = refl
+any_where p q false [] same = refl
+any_where p q true (x ∷ xs) same = (λ i. same x i || any_where p q true xs same i)
+any_where p q false (x ∷ xs) same = (λ i. same x i || any_where p q false xs same i)
+
+-- a route, by whether it is one of the tunnel for each VRF that admits it
+module _ (fec : Fec) (addr : Addr) (key : Key) (route : TakenRoute) (vrfs : List home_vrfs.OwnVrf) (b : Bool) where
+  abbrev passes : home_vrfs.OwnVrf → Bool
+  passes own = is_tunnel fec (imported_inclusive (as_own own).vrf addr (key, route))
+
+  abbrev admits : home_vrfs.OwnVrf → Bool
+  admits own = is_admitted (as_own own).vrf route.value.comms
+
+  all_of : ((vrf : Vrf) → is_tunnel fec (imported_inclusive vrf addr (key, route)) ≡ (b && is_admitted vrf route.value.comms))
+      → list_any passes vrfs ≡ (b && list_any admits vrfs)
+  all_of same = any_where passes admits b vrfs (λ own. same (as_own own).vrf)
+
+  pub none_of : ((vrf : Vrf) → is_tunnel fec (imported_inclusive vrf addr (key, route)) ≡ (b && is_admitted vrf route.value.comms))
+      → b ≡ false → false ≡ list_any passes vrfs
+  none_of same is = sym (all_of same ∙ ap (λ (own : Bool). own && list_any admits vrfs) is)
+
+  pub some_of : ((vrf : Vrf) → is_tunnel fec (imported_inclusive vrf addr (key, route)) ≡ (b && is_admitted vrf route.value.comms))
+      → b ≡ true → list_any admits vrfs ≡ list_any passes vrfs
+  some_of same is = sym (all_of same ∙ ap (λ (own : Bool). own && list_any admits vrfs) is)
+
+-- ---- routes and VRFs, in either order
+
+no_any : {X : Type 0} (xs : List X) → false ≡ list_any (λ _. false) xs
+no_any [] = refl
+no_any (x ∷ xs) = no_any xs
+
+pub any_swap : {X Y : Type 0} (p : X → Y → Bool) (xs : List X) (ys : List Y)
+    → list_any (λ x. list_any (p x) ys) xs ≡ list_any (λ y. list_any (λ x. p x y) xs) ys
+any_swap p [] ys = no_any ys
+any_swap p (x ∷ xs) ys =
+    ap (λ (b : Bool). list_any (p x) ys || b) (any_swap p xs ys) ∙ sym (any_or (p x) (λ y. list_any (λ x. p x y) xs) ys)
 
 -- ---- all VRFs
 

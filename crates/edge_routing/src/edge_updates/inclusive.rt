@@ -17,7 +17,7 @@ use bgp_messages::bgp_attributes::Key;
 use edge_control::EdgeControl;
 use edge_control::of_edge_tables::taken_tables::TableEntries;
 use edge_routes::edge_home::{EdgeHome, OwnVrf};
-use edge_routes::route_order::TableKey;
+use edge_routes::route_order::TakenKey;
 use edge_routes::{TakenValue, imported_inclusive};
 use mldp::mldp_fec::Fec;
 use mv_base::{Addr, NoMemory, NodeId};
@@ -72,7 +72,7 @@ pub(crate) fn append_at(
     fecs: &mut Vec<Fec>,
     control: &EdgeControl,
     peer: NodeId,
-    key: &TableKey,
+    key: &TakenKey,
 ) -> Result<(), NoMemory>
     ensures { OnOk result (fecs.new.items
         ≡ fecs.old.items ++ told_at control.now.home peer key.now (route_at control.now.peers peer key.now)) }

@@ -19,7 +19,7 @@ use crate::edge_updates::inclusive::append_at;
 use bgp_messages::bgp_attributes::{Advert, Key, Message, Update};
 use edge_control::EdgeControl;
 use edge_control::of_edge_tables::taken_tables::RouteValue;
-use edge_routes::route_order::TableKey;
+use edge_routes::route_order::TakenKey;
 use mldp::mldp_fec::Fec;
 use mv_base::{NoMemory, NodeId};
 use std::alloc::Global;
@@ -37,9 +37,9 @@ fn withdraw(
     ensures home { control.new.home ≡ control.old.home }
     ensures wants { wants_of control.new.trees ≡ wants_of control.old.trees }
 {
-    let key = TableKey::of(*key);
-    append_at(fecs, control, peer, &key)?;
-    control.withdraw(peer, &key);
+    let own = TakenKey::of(*fecs.allocator(), *key)?;
+    append_at(fecs, control, peer, &own)?;
+    control.withdraw(peer, &own);
     Ok(())
 }
 
@@ -48,7 +48,7 @@ fn announce_fresh(
     control: &mut EdgeControl,
     fecs: &mut Vec<Fec>,
     peer: NodeId,
-    key: &TableKey,
+    key: &TakenKey,
     value: RouteValue,
     now: u64,
 ) -> Result<(), NoMemory>
@@ -67,7 +67,7 @@ fn announce_again(
     control: &mut EdgeControl,
     fecs: &mut Vec<Fec>,
     peer: NodeId,
-    key: &TableKey,
+    key: &TakenKey,
     value: RouteValue,
     now: u64,
 ) -> Result<(), NoMemory>
@@ -100,15 +100,15 @@ fn announce(
         comms,
         pmsi,
     } = advert;
-    let key = TableKey::of(key);
+    let own = TakenKey::of(*fecs.allocator(), key)?;
     let value = RouteValue {
         next_hop,
         comms,
         pmsi,
     };
-    match control.taken().get(peer, &key) {
-        None => announce_fresh(control, fecs, peer, &key, value, now),
-        Some(_) => announce_again(control, fecs, peer, &key, value, now),
+    match control.taken().get(peer, &own) {
+        None => announce_fresh(control, fecs, peer, &own, value, now),
+        Some(_) => announce_again(control, fecs, peer, &own, value, now),
     }
 }
 

@@ -1,15 +1,16 @@
 use Rattle.std.proofs.Common.{◌≡◌, ◌<◌, List, length, get_or, inl, refl, set, sym, subst, ◌∙◌, arith}
 use Rattle.std.proofs.lemmas.List.{length-set}
-use Rattle.std.specs.List.{AllZip}
+use Rattle.std.specs.List.{AllByRecursion, AllZip}
 use Rattle.mldp.specs.declared.mldp_fec.fec.Fec.{Fec}
 use Rattle.umh_select.specs.Routes.{AreOfCore}
 use Rattle.vrf_words.specs.tree_defs.Flows.{flow_of}
 use Rattle.vrf_words.specs.tree_defs.Trees.{TreeData}
 use Rattle.vrf_trees.specs.Changes.{flow_in}
+use Rattle.vrf_trees.specs.Trees.{IsFresh}
 use Rattle.control_laws.specs.Between.{IsRefreshed}
 use Rattle.edge_control.specs.Refreshing.{AreAllMoved, IsRestOf}
 use Rattle.edge_control.proofs.RefreshJoins.{Tells, left_here, made_here, moved_here}
-use Rattle.edge_control.proofs.RefreshTrees.{IsTurned, all_told, each_at, moved_on, none_moved, told_on, turned_by, way_cut, way_end, way_more, way_next, zip_itself, zip_weaker}
+use Rattle.edge_control.proofs.RefreshTrees.{IsTurned, all_told, each_at, moved_on, none_moved, told_on, turned_by, way_cut, way_end, way_more, way_next, zip_fresh, zip_itself, zip_weaker}
 use Rattle.edge_control.proofs.refreshing.refresh_trees.Goals as goal
 
 pub loop-place-init : goal.loop-place-init
@@ -20,6 +21,23 @@ loop-place-init c = record {
       (none_moved c.args.trees.now.items);
   tunnels = zip_itself (Tells c.new-2.result.items) (λ tree fec none. refl) c.args.trees.now.items;
 }
+
+pub returns-then-all_fresh-clause-refreshed : goal.returns-then-all_fresh-clause-refreshed
+returns-then-all_fresh-clause-refreshed c = λ cost costs.
+    zip_weaker (IsTurned c.args.core.now c.args.me c.args.now) (IsRefreshed cost c.args.now) (λ old new is. is.refreshed cost costs)
+    c.args.trees.now.items c.args.trees.now.items
+    (zip_fresh c.args.core.now c.args.me c.args.now c.args.trees.now.items
+    (subst (λ (trees : List TreeData). AllByRecursion (IsFresh c.args.now) trees) c.deref.ensures.value (c.all_fresh.ensures c.if-all_fresh.true)))
+
+pub returns-then-all_fresh-clause-rest : goal.returns-then-all_fresh-clause-rest
+returns-then-all_fresh-clause-rest c = zip_itself IsRestOf (λ tree. refl) c.args.trees.now.items
+
+pub returns-then-all_fresh-clause-joins : goal.returns-then-all_fresh-clause-joins
+returns-then-all_fresh-clause-joins c = λ cost costs.
+    subst (AreAllMoved c.args.trees.now.items c.args.trees.now.items) (sym c.new.ensures.items) (none_moved c.args.trees.now.items)
+
+pub returns-then-all_fresh-clause-tunnels : goal.returns-then-all_fresh-clause-tunnels
+returns-then-all_fresh-clause-tunnels c = λ fec none. refl
 
 pub refresh-requires-clause-peers : goal.refresh-requires-clause-peers
 refresh-requires-clause-peers c =

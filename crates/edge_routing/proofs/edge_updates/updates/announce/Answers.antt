@@ -12,11 +12,11 @@ returns-in-None-clause-taken c =
     let value : Value = as_value c.args.advert.next_hop c.args.advert.comms c.args.advert.pmsi in
     on_ok_weaker c.announce_fresh.result (λ taken.
     subst (λ (key : Key). AreTaken c.args.now c.args.peer (reach key value ∷ []) c.args.control.now c.announce_fresh.new.control
-    c.args.fecs.now.items c.announce_fresh.new.fecs.items) c.of-key.ensures taken) c.announce_fresh.ensures.taken
+    c.args.fecs.now.items c.announce_fresh.new.fecs.items) c.in_ok-own.ensures taken) c.announce_fresh.ensures.taken
 
-pub returns-in-Some-clause-taken : goal.returns-in-Some-clause-taken
-returns-in-Some-clause-taken c =
+pub returns-clause-taken : goal.returns-clause-taken
+returns-clause-taken c =
     let value : Value = as_value c.args.advert.next_hop c.args.advert.comms c.args.advert.pmsi in
     on_ok_weaker c.announce_again.result (λ taken.
     subst (λ (key : Key). AreTaken c.args.now c.args.peer (reach key value ∷ []) c.args.control.now c.announce_again.new.control
-    c.args.fecs.now.items c.announce_again.new.fecs.items) c.of-key.ensures taken) c.announce_again.ensures.taken
+    c.args.fecs.now.items c.announce_again.new.fecs.items) c.in_ok-own.ensures taken) c.announce_again.ensures.taken

@@ -8,7 +8,7 @@ use Rattle.edge_routing.proofs.edge_updates.updates.withdraw.Goals as goal
 pub returns-clause-taken : goal.returns-clause-taken
 returns-clause-taken c = λ now.
     subst (λ (key : Key). AreTaken now c.args.peer (Unreach key ∷ []) c.args.control.now c.withdraw.new.self c.args.fecs.now.items
-    c.append_at.new.fecs.items) c.of-key.ensures
-    (withdrawal_taken now c.args.peer c.of-key.result c.args.control.now c.withdraw.new.self c.args.fecs.now.items c.append_at.new.fecs.items
+    c.append_at.new.fecs.items) c.in_ok-own.ensures
+    (withdrawal_taken now c.args.peer c.in_ok-own.own c.args.control.now c.withdraw.new.self c.args.fecs.now.items c.append_at.new.fecs.items
     c.withdraw.ensures.home c.withdraw.ensures.wants
     (c.withdraw.ensures.withdrawn now) c.in_ok-append_at.ensures)

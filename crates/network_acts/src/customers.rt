@@ -8,6 +8,7 @@ use crate::control_plane::{CustomerCall, Verdict};
 use crate::network::Network;
 use mldp_node::NodeFault;
 use mv_base::NodeId;
+use network_nodes::{EdgeCall, NetworkNode};
 use scenario_defs::Lines;
 
 impl Network {
@@ -22,7 +23,12 @@ impl Network {
         ensures { CustomerActsAs n (customer_call call.entry) self.old self.new lines.old lines.new result }
     {
         let plane = &mut self.plane;
-        let answer = plane.nodes[usize::from(n.0)].call(call, plane.clock, &plane.core);
-        plane.settle_customer(n, answer, lines)
+        match &mut plane.nodes[usize::from(n.0)] {
+            NetworkNode::Edge(edge) => {
+                let answer = edge.call(EdgeCall::Customer(call), plane.clock, &plane.core);
+                plane.settle_customer(n, answer, lines)
+            }
+            NetworkNode::CoreNode(_) => unreachable!(),
+        }
     }
 }

@@ -44,7 +44,7 @@ impl Network {
     }
 
     /// The datagram that was accepted last, and is being sent, enters at the VRF, whose edge is node n. Its copies are on links from
-    /// `finish` on, when the branches at all VRFs are known.
+    /// `Datagrams::send` on, when the branches at all VRFs are known.
     pub fn enter(
         &mut self,
         n: NodeId,
@@ -66,16 +66,6 @@ impl Network {
             fate.branches.as_slice(),
             lines,
         )
-    }
-
-    /// The datagram that was being sent, of these octets, goes on all its branches: its octets are put into one buffer, which counts its
-    /// copies, and where it has no branch there is no buffer.
-    pub fn finish(&mut self, octets: &[u8]) -> Result<(), NoMemory>
-        requires network { IsSomeHandling Any self.old }
-        ensures { OnOk result ((at : Instant) (number : ℕ) (datagram : worlds.Datagram) → IsHandling at number datagram self.old →
-            octets.now ≡ datagram.octets → IsWorld at self.new) }
-    {
-        self.datagrams.send(self.plane.clock(), octets)
     }
 
     /// Where the copy goes that landed.

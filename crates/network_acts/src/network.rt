@@ -18,7 +18,8 @@ use std::marker::Model;
 pub struct Network {
     pub(crate) scenario: SharedScenario,
     pub(crate) plane: ControlPlane,
-    pub(crate) datagrams: Datagrams,
+    /// What changes copies and datagrams alone may be called here.
+    pub datagrams: Datagrams,
 }
 
 impl Model for Network {

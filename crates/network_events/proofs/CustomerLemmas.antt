@@ -25,6 +25,7 @@ use Rattle.scenario_defs.proofs.RuleLemmas.{iface_rules_at}
 use Rattle.scenario_defs.specs.Rules.{AreOfOneFamily, IsOfIface, Rules, group_of}
 use Rattle.scenario_defs.specs.Vpn.{edge_of}
 use Rattle.scenario_defs.specs.declared.event.Event.{Event}
+use Rattle.scenario_defs.specs.declared.event.CustomerEvent.TheVariants as customers
 use Rattle.scenario_defs.specs.declared.event.Event.TheVariants as events
 use Rattle.scenario_defs.specs.declared.event.JoinEntry.{JoinEntry}
 use Rattle.scenario_defs.specs.declared.report.Refusal.{Refusal}
@@ -38,9 +39,9 @@ use Rattle.mldp_node.specs.declared.fault.NodeFault.{NodeFault}
 use Rattle.mvpn_model.proofs.VpnLemmas.{element_at}
 use Rattle.mvpn_model.specs.Messages.{handed, message_of, own_addr}
 use Rattle.mvpn_model.specs.Refused.{fault_word, is_ours}
-use Rattle.network_defs.specs.Events.{at_edge, done, with_message}
+use Rattle.network_defs.specs.Events.{at_edge, done, called}
 use Rattle.network_defs.specs.Nodes.{CoreNode, Edge, NodeState}
-use Rattle.network_defs.specs.Refusals.{are_sessions_full, control_at, control_of, edge_of_vrf, is_selected, message_refusal, note_limit, refusal, refused_if, selection_limit, selections_at}
+use Rattle.network_defs.specs.Refusals.{are_sessions_full, control_at, control_of, edge_of_vrf, is_selected, message_refusal, note_limit, refusal, refused_if, selection_limit, selections_at, message_call}
 use Rattle.network_defs.specs.World.{World, clock_of, scenario_of}
 use Rattle.network_acts.proofs.network_laws.RunMessages.{IsSoundGiven, join_is_sound, prune_is_sound, read_is_sound}
 use Rattle.network_acts.specs.network_laws.Sound.{IsFlow, SoundNode, SoundPattern}
@@ -96,23 +97,25 @@ not_ours ours rest e = rw e refl
 -- What an event that hands a message is refused for, and does.
 record OfMessage (iface : IfaceId) (message : JoinPrune) (world : World) (event : Event) : Type 0 where
   why : refusal world event ≡ message_refusal world (handed iface message)
-  does : done world event ≡ with_message (handed iface message) world
+  does : done world event ≡ called (message_call (handed iface message)) world
 
 of_message : (iface : IfaceId) (message : JoinPrune) (world : World) (event : Event) → HandsMessage (scenario_of world) iface message event
     → OfMessage iface message world event
-of_message iface message world (events.Join i entry) e = record { why = ap (message_refusal world) e; does = ap (λ o. with_message o world) e }
-of_message iface message world (events.Prune i entry) e = record { why = ap (message_refusal world) e; does = ap (λ o. with_message o world) e }
-of_message iface message world (events.Pim i octets) e = by (decoded octets) refl e
+of_message iface message world (events.Customer (customers.Join i entry)) e =
+    record { why = ap (message_refusal world) e; does = ap (λ o. called (message_call o) world) e }
+of_message iface message world (events.Customer (customers.Prune i entry)) e =
+    record { why = ap (message_refusal world) e; does = ap (λ o. called (message_call o) world) e }
+of_message iface message world (events.Customer (customers.Pim i octets)) e = by (decoded octets) refl e
   where
     by : (read : Result JoinPrune (ℕ × PimFault)) → decoded octets ≡ read → elim read [ Ok m ↦ handed i m | Err fault ↦ None ] ≡ handed iface message
-        → OfMessage iface message world (events.Pim i octets)
+        → OfMessage iface message world (events.Customer (customers.Pim i octets))
     by (Ok m) is h = record {
       why =
           ap (λ (r : Result JoinPrune (ℕ × PimFault)). option_or
           (elim r [ Ok own ↦ None | Err fault ↦ Some (refusals.Bytes fault.0 (fault_word fault.1)) ])
-          (message_refusal world (message_of (scenario_of world) (events.Pim i octets)))) is
+          (message_refusal world (message_of (scenario_of world) (events.Customer (customers.Pim i octets))))) is
           ∙ ap (message_refusal world) e;
-      does = ap (λ o. with_message o world) e;
+      does = ap (λ o. called (message_call o) world) e;
     }
     by (Err fault) is h = absurd (none-some (record { iface = iface; message = message }) h)
 of_message iface message world other e = absurd (none-some (record { iface = iface; message = message }) e)
@@ -152,7 +155,7 @@ module _ (old : NetworkView) (iface : IfaceId) (message : JoinPrune) (own : IsFo
         let fits = message_fits n e at ready is in
         record {
           fits = fits;
-          does = (is_of at is).does ∙ ap (λ (o : Option NodeId). at_edge o (steps.Customer (steps.Pim iface message)) at.world) fits.0.edge;
+          does = (is_of at is).does ∙ ap (λ (o : Option NodeId). at_edge o (steps.Pim iface message) at.world) fits.0.edge;
           why =
               (is_of at is).why
               ∙ (ours_free (is_ours (scenario_of at.world) (record { iface = iface; message = message })) (are_sessions_full at.world)
@@ -187,7 +190,7 @@ own_addr_is scenario rules iface group within one =
 
 module _ (old : NetworkView) (iface : IfaceId) (entry : JoinEntry) (message : JoinPrune) (addr : Addr) (own : addr ≡ own_addr old.scenario iface)
   where
-    pub join_for : IsSome IsReady old → IsGiven old.scenario (events.Join iface entry) → message ≡ join_of addr entry
+    pub join_for : IsSome IsReady old → IsGiven old.scenario (events.Customer (customers.Join iface entry)) → message ≡ join_of addr entry
         → IsForIface old.scenario iface message
     join_for (at, ready, is) given e =
         let addr_is = own_addr_is old.scenario (own_rules at old is.scenario is.plane) iface (group_of entry) given.of_it.0 given.of_it.2 in
@@ -200,10 +203,10 @@ module _ (old : NetworkView) (iface : IfaceId) (entry : JoinEntry) (message : Jo
           ours = same_addr_equiv.refl (own_addr old.scenario iface);
         })
 
-    pub join_hands : message ≡ join_of addr entry → HandsMessage old.scenario iface message (events.Join iface entry)
+    pub join_hands : message ≡ join_of addr entry → HandsMessage old.scenario iface message (events.Customer (customers.Join iface entry))
     join_hands e = ap (handed iface) (sym (e ∙ ap (λ (a : Addr). join_of a entry) own))
 
-    pub prune_for : IsSome IsReady old → IsGiven old.scenario (events.Prune iface entry) → message ≡ prune_of addr entry
+    pub prune_for : IsSome IsReady old → IsGiven old.scenario (events.Customer (customers.Prune iface entry)) → message ≡ prune_of addr entry
         → IsForIface old.scenario iface message
     prune_for (at, ready, is) given e =
         let addr_is = own_addr_is old.scenario (own_rules at old is.scenario is.plane) iface (group_of entry) given.of_it.0 given.of_it.2 in
@@ -216,7 +219,7 @@ module _ (old : NetworkView) (iface : IfaceId) (entry : JoinEntry) (message : Jo
           ours = same_addr_equiv.refl (own_addr old.scenario iface);
         })
 
-    pub prune_hands : message ≡ prune_of addr entry → HandsMessage old.scenario iface message (events.Prune iface entry)
+    pub prune_hands : message ≡ prune_of addr entry → HandsMessage old.scenario iface message (events.Customer (customers.Prune iface entry))
     prune_hands e = ap (handed iface) (sym (e ∙ ap (λ (a : Addr). prune_of a entry) own))
 
 -- ---- messages that are read
@@ -235,10 +238,11 @@ module _ (old : NetworkView) (iface : IfaceId) (message : JoinPrune) (own : IsAt
       (subst (λ (s : Scenario). same_addr message.neighbour (own_addr s iface) ≡ false) is.scenario other))
 
 module _ (old : NetworkView) (iface : IfaceId) (octets : List ℕ) (lines : List ReportLine) where
-  pub read_given : (message : JoinPrune) → decoded octets ≡ Ok message → HandsMessage old.scenario iface message (events.Pim iface octets)
+  pub read_given : (message : JoinPrune) → decoded octets ≡ Ok message → HandsMessage old.scenario iface message (events.Customer (customers.Pim iface octets))
   read_given m e = ap (λ (r : Result JoinPrune (ℕ × PimFault)). elim r [ Ok m ↦ handed iface m | Err fault ↦ None ]) e
 
-  pub read_at : (message : JoinPrune) → decoded octets ≡ Ok message → Spells message octets → IsGiven old.scenario (events.Pim iface octets)
+  pub read_at : (message : JoinPrune) → decoded octets ≡ Ok message → Spells message octets → IsGiven old.scenario
+      (events.Customer (customers.Pim iface octets))
       → IsAtIface old.scenario iface message
   read_at message e spelled given = record {
     within = given.of_it.0;
@@ -247,11 +251,11 @@ module _ (old : NetworkView) (iface : IfaceId) (octets : List ℕ) (lines : List
   }
 
   pub read_fault : (place : ℕ) (fault : PimFault) → decoded octets ≡ Err (place, fault)
-      → Meets (events.Pim iface octets) old old lines lines (Ok (Some (refusals.Bytes place (fault_word fault))))
+      → Meets (events.Customer (customers.Pim iface octets)) old old lines lines (Ok (Some (refusals.Bytes place (fault_word fault))))
   read_fault place fault e =
-      meets_refused (events.Pim iface octets) old lines (refusals.Bytes place (fault_word fault)) (λ at ready is.
+      meets_refused (events.Customer (customers.Pim iface octets)) old lines (refusals.Bytes place (fault_word fault)) (λ at ready is.
       ap (λ (r : Result JoinPrune (ℕ × PimFault)). option_or (elim r [ Ok own ↦ None | Err f ↦ Some (refusals.Bytes f.0 (fault_word f.1)) ])
-      (message_refusal at.world (message_of (scenario_of at.world) (events.Pim iface octets)))) e)
+      (message_refusal at.world (message_of (scenario_of at.world) (events.Customer (customers.Pim iface octets))))) e)
 
 -- ---- notes
 
@@ -272,9 +276,9 @@ module _ (old : NetworkView) (iface : IfaceId) (source group : Addr) (lines : Li
   abbrev lacks_room : Control → Bool
   lacks_room control = not (sets.contains control.notes (note_of iface source group)) && nat_le note_limit (sets.len control.notes)
 
-  pub note_full : AreFull old true → Meets (events.Active iface source group) old old lines lines (Ok (Some refusals.Full))
+  pub note_full : AreFull old true → Meets (events.Customer (customers.Active iface source group)) old old lines lines (Ok (Some refusals.Full))
   note_full full =
-      meets_refused (events.Active iface source group) old lines refusals.Full
+      meets_refused (events.Customer (customers.Active iface source group)) old lines refusals.Full
       (λ at ready is. full_first (are_sessions_full at.world) (lacks_room (control_at at.world (edge_of (scenario_of at.world) iface))) (full at is))
 
   pub some_note : (n : NodeId) → edge_of old.scenario iface ≡ Some n → IsFlow source group → IsSome IsReady old
@@ -284,23 +288,23 @@ module _ (old : NetworkView) (iface : IfaceId) (source group : Addr) (lines : Li
   pub note_taken : (n : NodeId) → edge_of old.scenario iface ≡ Some n → IsFlow source group → AreFull old false
       → (new : NetworkView) (new_lines : List ReportLine) (answer : Result Verdict NodeFault)
       → CustomerActsAs n (steps.Customer (steps.Active iface source group)) old new lines new_lines answer
-      → Meets (events.Active iface source group) old new lines new_lines (verdict_at n answer)
+      → Meets (events.Customer (customers.Active iface source group)) old new lines new_lines (verdict_at n answer)
   note_taken n e flow free new new_lines answer acts =
-      call_meets (events.Active iface source group) old lines n (steps.Customer (steps.Active iface source group)) new new_lines answer
+      call_meets (events.Customer (customers.Active iface source group)) old lines n (steps.Customer (steps.Active iface source group)) new new_lines answer
       (λ at ready is.
       let edge = iface_fits old iface n e at ready is in
       record {
         fits = (edge, flow);
-        does = ap (λ (o : Option NodeId). at_edge o (steps.Customer (steps.Active iface source group)) at.world) edge.edge;
+        does = ap (λ (o : Option NodeId). at_edge o (steps.Active iface source group) at.world) edge.edge;
         why =
             free_first (are_sessions_full at.world) (lacks_room (control_at at.world (edge_of (scenario_of at.world) iface))) (free at is)
             ∙ ap (λ (o : Option NodeId). refused_if (lacks_room (control_at at.world o)) refusals.Full) edge.edge;
       })
       acts
 
-  pub idle_full : AreFull old true → Meets (events.Idle iface source group) old old lines lines (Ok (Some refusals.Full))
+  pub idle_full : AreFull old true → Meets (events.Customer (customers.Idle iface source group)) old old lines lines (Ok (Some refusals.Full))
   idle_full full =
-      meets_refused (events.Idle iface source group) old lines refusals.Full
+      meets_refused (events.Customer (customers.Idle iface source group)) old lines refusals.Full
       (λ at ready is. ap (λ (b : Bool). refused_if b refusals.Full) (full at is))
 
   pub some_idle : (n : NodeId) → edge_of old.scenario iface ≡ Some n → IsFlow source group → IsSome IsReady old
@@ -310,23 +314,23 @@ module _ (old : NetworkView) (iface : IfaceId) (source group : Addr) (lines : Li
   pub idle_taken : (n : NodeId) → edge_of old.scenario iface ≡ Some n → IsFlow source group → AreFull old false
       → (new : NetworkView) (new_lines : List ReportLine) (answer : Result Verdict NodeFault)
       → CustomerActsAs n (steps.Customer (steps.Idle iface source group)) old new lines new_lines answer
-      → Meets (events.Idle iface source group) old new lines new_lines (verdict_at n answer)
+      → Meets (events.Customer (customers.Idle iface source group)) old new lines new_lines (verdict_at n answer)
   idle_taken n e flow free new new_lines answer acts =
-      call_meets (events.Idle iface source group) old lines n (steps.Customer (steps.Idle iface source group)) new new_lines answer
+      call_meets (events.Customer (customers.Idle iface source group)) old lines n (steps.Customer (steps.Idle iface source group)) new new_lines answer
       (λ at ready is.
       let edge = iface_fits old iface n e at ready is in
       record {
         fits = (edge, flow);
-        does = ap (λ (o : Option NodeId). at_edge o (steps.Customer (steps.Idle iface source group)) at.world) edge.edge;
+        does = ap (λ (o : Option NodeId). at_edge o (steps.Idle iface source group) at.world) edge.edge;
         why = ap (λ (b : Bool). refused_if b refusals.Full) (free at is);
       })
       acts
 
   -- an event that names a flow is one of a sound flow
-  pub idle_flow : IsSome IsReady old → IsGiven old.scenario (events.Idle iface source group) → IsOctets (addr_octets source)
+  pub idle_flow : IsSome IsReady old → IsGiven old.scenario (events.Customer (customers.Idle iface source group)) → IsOctets (addr_octets source)
       → IsOctets (addr_octets group) → IsFlow source group
   idle_flow (at, ready, is) given s g =
-      sound_event old.scenario (events.Active iface source group) (own_rules at old is.scenario is.plane) given.of_it (s, (g, tt))
+      sound_event old.scenario (events.Customer (customers.Active iface source group)) (own_rules at old is.scenario is.plane) given.of_it (s, (g, tt))
 
 -- ---- selections
 
@@ -383,37 +387,37 @@ module _ (old : NetworkView) (vrf : VrfId) (pattern : Pattern) (n : NodeId) (e :
         let some = some_there (maps.get (control_of node).selections key) (h at (vrf_fits at ready is) is) in
         kept_pattern node (is.plane.around.steady.sound.node n) some.0 some.1
 
-    pub select_again : IsSelected true → Meets (events.Select vrf pattern) old old lines lines (Ok (Some refusals.State))
+    pub select_again : IsSelected true → Meets (events.Customer (customers.Select vrf pattern)) old old lines lines (Ok (Some refusals.State))
     select_again h =
-        meets_refused (events.Select vrf pattern) old lines refusals.State (λ at ready is.
+        meets_refused (events.Customer (customers.Select vrf pattern)) old lines refusals.State (λ at ready is.
         ap (λ (b : Bool). option_or (refused_if b refusals.State)
         (refused_if (are_sessions_full at.world || nat_le selection_limit (selections_at at.world vrf)) refusals.Full))
         (selected_there true h at ready is))
 
     select_why : IsSelected false → (at : Instant) → IsReady at → IsWorld at old
-        → refusal at.world (events.Select vrf pattern)
+        → refusal at.world (events.Customer (customers.Select vrf pattern))
         ≡ refused_if (are_sessions_full at.world || nat_le selection_limit (selections_at at.world vrf)) refusals.Full
     select_why h at ready is =
         ap (λ (b : Bool). option_or (refused_if b refusals.State)
         (refused_if (are_sessions_full at.world || nat_le selection_limit (selections_at at.world vrf)) refusals.Full))
         (selected_there false h at ready is)
 
-    pub select_full : IsSelected false → AreFull old true → Meets (events.Select vrf pattern) old old lines lines (Ok (Some refusals.Full))
+    pub select_full : IsSelected false → AreFull old true → Meets (events.Customer (customers.Select vrf pattern)) old old lines lines (Ok (Some refusals.Full))
     select_full h full =
-        meets_refused (events.Select vrf pattern) old lines refusals.Full (λ at ready is.
+        meets_refused (events.Customer (customers.Select vrf pattern)) old lines refusals.Full (λ at ready is.
         select_why h at ready is ∙ full_first (are_sessions_full at.world) (nat_le selection_limit (selections_at at.world vrf)) (full at is))
 
     pub select_taken : IsSelected false → SoundPattern pattern → AreFull old false
         → (new : NetworkView) (new_lines : List ReportLine) (answer : Result Verdict NodeFault)
         → CustomerActsAs n (steps.Customer (steps.Select vrf pattern)) old new lines new_lines answer
-        → Meets (events.Select vrf pattern) old new lines new_lines (verdict_at n answer)
+        → Meets (events.Customer (customers.Select vrf pattern)) old new lines new_lines (verdict_at n answer)
     select_taken h sound free new new_lines answer acts =
-        call_meets (events.Select vrf pattern) old lines n (steps.Customer (steps.Select vrf pattern)) new new_lines answer
+        call_meets (events.Customer (customers.Select vrf pattern)) old lines n (steps.Customer (steps.Select vrf pattern)) new new_lines answer
         (λ at ready is.
         let fits = unselected_fits h sound at ready is in
         record {
           fits = fits;
-          does = ap (λ (o : Option NodeId). at_edge o (steps.Customer (steps.Select vrf pattern)) at.world) fits.0.edge;
+          does = ap (λ (o : Option NodeId). at_edge o (steps.Select vrf pattern) at.world) fits.0.edge;
           why =
               select_why h at ready is
               ∙ (free_first (are_sessions_full at.world) (nat_le selection_limit (selections_at at.world vrf)) (free at is)
@@ -425,14 +429,15 @@ module _ (old : NetworkView) (vrf : VrfId) (pattern : Pattern) (n : NodeId) (e :
     abbrev unselected_why : (at : Instant) → Bool → Option Refusal
     unselected_why at b = option_or (refused_if (not b) refusals.State) (refused_if (are_sessions_full at.world) refusals.Full)
 
-    pub unselect_none : IsSelected false → Meets (events.Unselect vrf pattern) old old lines lines (Ok (Some refusals.State))
+    pub unselect_none : IsSelected false → Meets (events.Customer (customers.Unselect vrf pattern)) old old lines lines (Ok (Some refusals.State))
     unselect_none h =
-        meets_refused (events.Unselect vrf pattern) old lines refusals.State
+        meets_refused (events.Customer (customers.Unselect vrf pattern)) old lines refusals.State
         (λ at ready is. ap (unselected_why at) (selected_there false h at ready is))
 
-    pub unselect_full : IsSelected true → AreFull old true → Meets (events.Unselect vrf pattern) old old lines lines (Ok (Some refusals.Full))
+    pub unselect_full : IsSelected true → AreFull old true → Meets (events.Customer (customers.Unselect vrf pattern)) old old lines lines
+        (Ok (Some refusals.Full))
     unselect_full h full =
-        meets_refused (events.Unselect vrf pattern) old lines refusals.Full
+        meets_refused (events.Customer (customers.Unselect vrf pattern)) old lines refusals.Full
         (λ at ready is. ap (unselected_why at) (selected_there true h at ready is) ∙ ap (λ (b : Bool). refused_if b refusals.Full) (full at is))
 
     pub some_selected : IsSelected true → IsSome IsReady old → IsSome (OfPlane (FitsAt n (steps.Customer (steps.Unselect vrf pattern)))) old
@@ -440,12 +445,12 @@ module _ (old : NetworkView) (vrf : VrfId) (pattern : Pattern) (n : NodeId) (e :
 
     pub unselect_taken : IsSelected true → AreFull old false → (new : NetworkView) (new_lines : List ReportLine) (answer : Result Verdict NodeFault)
         → CustomerActsAs n (steps.Customer (steps.Unselect vrf pattern)) old new lines new_lines answer
-        → Meets (events.Unselect vrf pattern) old new lines new_lines (verdict_at n answer)
+        → Meets (events.Customer (customers.Unselect vrf pattern)) old new lines new_lines (verdict_at n answer)
     unselect_taken h free new new_lines answer acts =
-        call_meets (events.Unselect vrf pattern) old lines n (steps.Customer (steps.Unselect vrf pattern)) new new_lines answer
+        call_meets (events.Customer (customers.Unselect vrf pattern)) old lines n (steps.Customer (steps.Unselect vrf pattern)) new new_lines answer
         (λ at ready is. record {
           fits = (vrf_fits at ready is, selected_pattern h (at, ready, is));
-          does = ap (λ (o : Option NodeId). at_edge o (steps.Customer (steps.Unselect vrf pattern)) at.world) (vrf_fits at ready is).edge;
+          does = ap (λ (o : Option NodeId). at_edge o (steps.Unselect vrf pattern) at.world) (vrf_fits at ready is).edge;
           why =
               ap (unselected_why at) (selected_there true h at ready is) ∙ ap (λ (b : Bool). refused_if b refusals.Full) (free at is);
         })

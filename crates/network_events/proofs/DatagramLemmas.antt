@@ -32,7 +32,7 @@ use Rattle.network_acts.specs.Handling.{Enters, IsHandling, IsSentBy, IsSomeHand
 use Rattle.network_acts.specs.Instant.{Any, Instant, IsSome, IsWorld, OfPlane, standing_of}
 use Rattle.network_acts.specs.NetworkView.{NetworkView}
 use Rattle.network_acts.specs.Words.{IsEdgeOf, with_datagram}
-use Rattle.network_events.specs.Datagrams.{EntersAt, HasEntered, IsSent, IsSomeSent, Makes, Sends, of_memory}
+use Rattle.network_events.specs.Datagrams.{EntersAt, Fits, HasEntered, IsRefusedFor, IsSent, IsSomeSent, Makes, Sends, of_memory}
 use Rattle.network_events.specs.Doing.{Did}
 use Rattle.network_events.specs.Meeting.{IsReady, Meets, met}
 use Rattle.network_events.proofs.DoLemmas.{made_did, one_done, then_done, two_told}
@@ -237,6 +237,17 @@ module _ (site : SiteId) (packet : Packet) (old mid : NetworkView) where
 abbrev refused_by : Option Refusal → Result Packet (ℕ × PacketFault) → Option Refusal
 refused_by rest read = option_or (elim read [ Ok packet ↦ None | Err found ↦ Some (refusals.Bytes found.0 (packet_word found.1)) ]) rest
 
+-- octets that are no packet are refused for their first fault, and others where there is no room
+module _ (network : NetworkView) (octets : List ℕ) where
+  pub refused_fault : (found : ℕ × PacketFault) → packet_of octets ≡ Err found
+      → IsRefusedFor network octets (refusals.Bytes found.0 (packet_word found.1))
+  refused_fault found read = λ at ready is. ap (refused_by (refused_if (are_links_full at.world) refusals.Full)) read
+
+  pub refused_full : (own : Packet) → packet_of octets ≡ Ok own
+      → ((at : Instant) → IsReady at → IsWorld at network → are_links_full at.world ≡ true) → IsRefusedFor network octets refusals.Full
+  refused_full own read full = λ at ready is.
+      ap (refused_by (refused_if (are_links_full at.world) refusals.Full)) read ∙ ap (λ (b : Bool). refused_if b refusals.Full) (full at ready is)
+
 module _ (site : SiteId) (octets : List ℕ) where
   pub sends_octets : Sends site octets (events.Packet site octets)
   sends_octets = record { refuses = λ world. refl; does = λ world. refl }
@@ -262,33 +273,24 @@ module _ (site : SiteId) (octets : List ℕ) where
       (written_flow source group payload names few))
 
   module _ (event : Event) (sends : Sends site octets event) (old : NetworkView) (lines : List ReportLine) where
-    abbrev pub AreFull : Bool → Type 0
-    AreFull full = (at : Instant) → IsReady at → IsWorld at old → are_links_full at.world ≡ full
+    -- why the octets are refused is why the event is
+    pub octets_refused : (reason : Refusal) → IsRefusedFor old octets reason → Meets event old old lines lines (Ok (Some reason))
+    octets_refused reason refused = meets_refused event old lines reason (λ at ready is. sends.refuses at.world ∙ refused at ready is)
 
-    pub octets_fault : (found : ℕ × PacketFault) → packet_of octets ≡ Err found
-        → Meets event old old lines lines (Ok (Some (refusals.Bytes found.0 (packet_word found.1))))
-    octets_fault found read =
-        meets_refused event old lines (refusals.Bytes found.0 (packet_word found.1))
-        (λ at ready is. sends.refuses at.world ∙ ap (refused_by (refused_if (are_links_full at.world) refusals.Full)) read)
+    why : (own : Packet) → Fits old octets own → (at : Instant) → IsReady at → IsWorld at old → refusal at.world event ≡ None
+    why own fits at ready is =
+        sends.refuses at.world ∙ (ap (refused_by (refused_if (are_links_full at.world) refusals.Full)) fits.is
+        ∙ ap (λ (b : Bool). refused_if b refusals.Full) (fits.room at ready is))
 
-    why : (own : Packet) → packet_of octets ≡ Ok own → (full : Bool) → (at : Instant) → are_links_full at.world ≡ full
-        → refusal at.world event ≡ refused_if full refusals.Full
-    why own read full at is =
-        sends.refuses at.world ∙ (ap (refused_by (refused_if (are_links_full at.world) refusals.Full)) read
-        ∙ ap (λ (b : Bool). refused_if b refusals.Full) is)
-
-    pub octets_full : (own : Packet) → packet_of octets ≡ Ok own → AreFull true → Meets event old old lines lines (Ok (Some refusals.Full))
-    octets_full own read full = meets_refused event old lines refusals.Full (λ at ready is. why own read true at (full at ready is))
-
-    pub octets_sent : (own : Packet) → packet_of octets ≡ Ok own → AreFull false
+    pub octets_sent : (own : Packet) → Fits old octets own
         → (new : NetworkView) (new_lines : List ReportLine) (answer : Result (Unit {0}) NoMemory)
         → Makes IsReady (sent site own.source own.group own.octets) old new lines new_lines answer
         → Meets event old new lines new_lines (met (of_memory answer))
-    octets_sent own read free new new_lines answer makes =
+    octets_sent own fits new new_lines answer makes =
         makes_meet IsReady (sent site own.source own.group own.octets) event old new lines new_lines answer
         (λ at ready is. (
-          why own read false at (free at ready is),
+          why own fits at ready is,
           ready,
-          sends.does at.world ∙ (λ i. sent site (ap source_or read i) (ap group_or read i) (sym (whole octets own read) i) at.world),
+          sends.does at.world ∙ (λ i. sent site (ap source_or fits.is i) (ap group_or fits.is i) (sym (whole octets own fits.is) i) at.world),
         ))
         makes

@@ -1,5 +1,5 @@
 -- What is done to a network by acts that lack no label, and datagrams that enter at VRFs.
-use Rattle.std.specs.Prelude.{◌≡◌, ◌++◌, ℕ, Bool, false, List, [], ◌∷◌, length, map, replicate, OnOk, Result, Ok, Err}
+use Rattle.std.specs.Prelude.{◌≡◌, ◌++◌, ℕ, Bool, false, List, [], ◌∷◌, length, map, replicate, OnOk, Some, Result, Ok, Err}
 use Rattle.std.specs.List.{flat_map}
 use Rattle.std.specs.Option.{option_or}
 use Rattle.mv_base.specs.declared.core_link.Link.{Link}
@@ -7,9 +7,11 @@ use Rattle.mv_base.specs.declared.ids.NodeId.{NodeId}
 use Rattle.mv_base.specs.declared.ids.SiteId.{SiteId}
 use Rattle.mv_base.specs.declared.ids.VrfId.{VrfId}
 use Rattle.mv_base.specs.declared.memory.NoMemory.{NoMemory}
+use Rattle.label_forwarding.specs.Reading.{packet_of}
 use Rattle.label_forwarding.specs.Spelling.{Packet}
 use Rattle.mvpn_model.specs.Packets.{group_in, packet_fault, source_in}
 use Rattle.scenario_defs.specs.declared.event.Event.{Event}
+use Rattle.scenario_defs.specs.declared.report.Refusal.{Refusal}
 use Rattle.scenario_defs.specs.declared.report.Refusal.TheVariants as refusals
 use Rattle.scenario_defs.specs.declared.report.ReportLine.{ReportLine}
 use Rattle.network_defs.specs.Acts.{Enter, Land}
@@ -21,6 +23,7 @@ use Rattle.network_acts.specs.Instant.{Instant, IsWorld}
 use Rattle.network_acts.specs.NetworkView.{NetworkView}
 use Rattle.network_acts.specs.Words.{at_rest}
 use Rattle.network_events.specs.Doing.{Did, lines_in}
+use Rattle.network_events.specs.Meeting.{IsReady}
 use Rattle.network_events.specs.declared.halt.Halt.{Halt}
 use Rattle.network_events.specs.declared.halt.Halt.TheVariants as halts
 
@@ -66,6 +69,17 @@ EntersAt site packet vrfs old new lines new_lines =
 pub record Sends (site : SiteId) (octets : List ℕ) (event : Event) : Type 0 where
   pub refuses : (world : World) → refusal world event ≡ option_or (packet_fault octets) (refused_if (are_links_full world) refusals.Full)
   pub does : (world : World) → done world event ≡ sent site (source_in octets) (group_in octets) octets world
+
+-- The octets are that packet, and there is room for it on the links of every world that the network is.
+pub record Fits (network : NetworkView) (octets : List ℕ) (packet : Packet) : Type 0 where
+  pub is : packet_of octets ≡ Ok packet
+  pub room : (at : Instant) → IsReady at → IsWorld at network → are_links_full at.world ≡ false
+
+-- why the octets are refused in every world that the network is
+abbrev pub IsRefusedFor : NetworkView → List ℕ → Refusal → Type 0
+IsRefusedFor network octets reason =
+    (at : Instant) → IsReady at → IsWorld at network →
+    option_or (packet_fault octets) (refused_if (are_links_full at.world) refusals.Full) ≡ Some reason
 
 -- ---- copies that land
 

@@ -5,6 +5,7 @@ ghost use Rattle.mv_base.specs.Octets.{IsOctets};
 ghost use Rattle.pim_joinprune.specs.Spelling.{IsJoinPrune};
 ghost use Rattle.pim_defs.specs.Single as single;
 ghost use Rattle.scenario_defs.specs.declared.event.Event.{Event};
+ghost use Rattle.scenario_defs.specs.declared.event.CustomerEvent.TheVariants as customers;
 ghost use Rattle.scenario_defs.specs.declared.event.Event.TheVariants as events;
 ghost use Rattle.network_defs.specs.Refusals.{are_sessions_full};
 ghost use Rattle.network_acts.specs.Instant.{Instant, IsSome, IsWorld};
@@ -110,8 +111,8 @@ pub(crate) fn join(
     lines: &mut Lines,
 ) -> Result<Option<Refusal>, Halt>
     requires network { IsSome IsReady network.old }
-    requires event { IsGiven network.old.scenario (events.Join iface entry.now) }
-    ensures { Meets (events.Join iface entry.now) network.old network.new lines.old lines.new result }
+    requires event { IsGiven network.old.scenario (events.Customer (customers.Join iface entry.now)) }
+    ensures { Meets (events.Customer (customers.Join iface entry.now)) network.old network.new lines.old lines.new result }
 {
     match joining(lines.alloc(), own_addr(network.scenario(), iface), entry) {
         Ok(message) => take(network, iface, &message, lines),
@@ -127,8 +128,8 @@ pub(crate) fn prune(
     lines: &mut Lines,
 ) -> Result<Option<Refusal>, Halt>
     requires network { IsSome IsReady network.old }
-    requires event { IsGiven network.old.scenario (events.Prune iface entry.now) }
-    ensures { Meets (events.Prune iface entry.now) network.old network.new lines.old lines.new result }
+    requires event { IsGiven network.old.scenario (events.Customer (customers.Prune iface entry.now)) }
+    ensures { Meets (events.Customer (customers.Prune iface entry.now)) network.old network.new lines.old lines.new result }
 {
     match pruning(lines.alloc(), own_addr(network.scenario(), iface), entry) {
         Ok(message) => take(network, iface, &message, lines),
@@ -162,8 +163,8 @@ pub(crate) fn pim(
     lines: &mut Lines,
 ) -> Result<Option<Refusal>, Halt>
     requires network { IsSome IsReady network.old }
-    requires event { IsGiven network.old.scenario (events.Pim iface octets.now) }
-    ensures { Meets (events.Pim iface octets.now) network.old network.new lines.old lines.new result }
+    requires event { IsGiven network.old.scenario (events.Customer (customers.Pim iface octets.now)) }
+    ensures { Meets (events.Customer (customers.Pim iface octets.now)) network.old network.new lines.old lines.new result }
 {
     match decode(lines.alloc(), octets) {
         Ok(message) => take_read(network, iface, &message, lines),
@@ -184,8 +185,8 @@ pub(crate) fn active(
     lines: &mut Lines,
 ) -> Result<Option<Refusal>, Halt>
     requires network { IsSome IsReady network.old }
-    requires event { IsGiven network.old.scenario (events.Active iface source group) }
-    ensures { Meets (events.Active iface source group) network.old network.new lines.old lines.new result }
+    requires event { IsGiven network.old.scenario (events.Customer (customers.Active iface source group)) }
+    ensures { Meets (events.Customer (customers.Active iface source group)) network.old network.new lines.old lines.new result }
 {
     if are_sessions_full(network) {
         return Ok(Some(Refusal::Full));
@@ -217,8 +218,8 @@ pub(crate) fn idle(
     lines: &mut Lines,
 ) -> Result<Option<Refusal>, Halt>
     requires network { IsSome IsReady network.old }
-    requires event { IsGiven network.old.scenario (events.Idle iface source group) }
-    ensures { Meets (events.Idle iface source group) network.old network.new lines.old lines.new result }
+    requires event { IsGiven network.old.scenario (events.Customer (customers.Idle iface source group)) }
+    ensures { Meets (events.Customer (customers.Idle iface source group)) network.old network.new lines.old lines.new result }
 {
     if are_sessions_full(network) {
         return Ok(Some(Refusal::Full));

@@ -1,21 +1,20 @@
 //! Events of datagrams: sites send them, their copies hop over links or are dropped, and the state is told (RFC 6513 sections 9.1.1 and 12,
 //! RFC 3032).
-ghost use Rattle.std.specs.Prelude.{◌≡◌, [], ◌∷◌, OnOk};
+ghost use Rattle.std.specs.Prelude.{◌≡◌, IfErr, IfOk};
 ghost use Rattle.mvpn_model.specs.Packets.{packet_word};
-ghost use Rattle.scenario_defs.specs.declared.event.Event.{Event};
 ghost use Rattle.scenario_defs.specs.declared.event.Event.TheVariants as events;
 ghost use Rattle.network_defs.specs.Events as definitions;
 ghost use Rattle.network_defs.specs.Refusals.{are_links_full};
 ghost use Rattle.network_acts.specs.Instant.{Instant, IsSome, IsWorld};
 ghost use Rattle.network_acts.specs.Words.{AreLinked};
-ghost use Rattle.network_events.specs.Datagrams.{EntersAt, IsSomeSent, Makes, Sends, of_memory};
+ghost use Rattle.network_events.specs.Datagrams.{Fits, IsRefusedFor, Makes, of_memory};
 ghost use Rattle.network_events.specs.Meeting.{IsGiven, IsReady, Meets};
 
 use crate::halt::{Halt, met};
 use crate::packets::packet;
 use crate::places::{edge_of_vrf, entered};
 use label_forwarding::{Datagram, PacketFault, read_packet};
-use mv_base::{Addr, NoMemory, NodeId, SiteId, VrfId};
+use mv_base::{Addr, NoMemory, NodeId, SiteId};
 use network_acts::{Network, sessions_of};
 use scenario_defs::{FaultWord, Lines, Refusal};
 
@@ -53,42 +52,8 @@ fn packet_word(fault: PacketFault) -> FaultWord
     }
 }
 
-/// The datagram that was accepted last enters at the VRF, where the scenario has it.
-fn enter(
-    network: &mut Network,
-    vrf: VrfId,
-    site: SiteId,
-    datagram: &Datagram<'_>,
-    lines: &mut Lines,
-) -> Result<(), NoMemory>
-    requires network { IsSomeSent site datagram.now network.old }
-    ensures { OnOk result (EntersAt site datagram.now (vrf ∷ []) network.old network.new lines.old lines.new) }
-{
-    match edge_of_vrf(network.scenario(), vrf) {
-        Some(n) => network.enter(n, vrf, site, datagram, lines),
-        None => Ok(()),
-    }
-}
-
-/// It enters at each of the VRFs, in order.
-fn enter_each(
-    network: &mut Network,
-    vrfs: &[VrfId],
-    site: SiteId,
-    datagram: &Datagram<'_>,
-    lines: &mut Lines,
-) -> Result<(), NoMemory>
-    requires network { IsSomeSent site datagram.now network.old }
-    ensures { OnOk result (EntersAt site datagram.now vrfs.now network.old network.new lines.old lines.new) }
-{
-    for vrf in vrfs {
-        enter(network, *vrf, site, datagram, lines)?;
-    }
-    Ok(())
-}
-
-/// The site's datagram is accepted, and enters at each VRF at which the site is attached. Where 64 bits hold no number for it, memory is
-/// wanting.
+/// The site's datagram is accepted, and enters at each VRF at which the site is attached, in order. Where 64 bits hold no number for it,
+/// memory is wanting.
 fn sent(
     network: &mut Network,
     site: SiteId,
@@ -104,31 +69,33 @@ fn sent(
         return Err(NoMemory);
     }
     network.accept();
-    enter_each(network, vrfs.as_slice(), site, datagram, lines)?;
-    network.finish(datagram.bytes())
+    let own = vrfs.as_slice();
+    for vrf in own {
+        let Some(n) = edge_of_vrf(network.scenario(), *vrf) else {
+            continue;
+        };
+        network.enter(n, *vrf, site, datagram, lines)?;
+    }
+    let now = network.clock();
+    network.datagrams.send(now, datagram.bytes())
 }
 
-/// The site sends octets, which are a packet of that flow, where there is room on the links.
-fn send_octets(
-    network: &mut Network,
-    site: SiteId,
-    octets: &[u8],
-    lines: &mut Lines,
-) -> Result<Option<Refusal>, Halt>
-    requires network { IsSome IsReady network.old }
-    ensures { (event : Event) → Sends site octets.now event → Meets event network.old network.new lines.old lines.new result }
+/// The packet that the octets are, where there is room for it on the links; or why they are refused.
+fn fitting<'a>(network: &Network, octets: &'a [u8]) -> Result<Datagram<'a>, Refusal>
+    ensures fits { IfOk result (Fits network.now octets.now) }
+    ensures refused { IfErr result (IsRefusedFor network.now octets.now) }
 {
     match read_packet(octets) {
         Ok(datagram) => {
             if are_links_full(network) {
-                return Ok(Some(Refusal::Full));
+                return Err(Refusal::Full);
             }
-            met(of_memory(sent(network, site, &datagram, lines)))
+            Ok(datagram)
         }
-        Err((place, fault)) => Ok(Some(Refusal::Bytes {
+        Err((place, fault)) => Err(Refusal::Bytes {
             place,
             word: packet_word(fault),
-        })),
+        }),
     }
 }
 
@@ -145,9 +112,12 @@ pub(crate) fn send(
     requires event { IsGiven network.old.scenario (events.Send site source group payload.now) }
     ensures { Meets (events.Send site source group payload.now) network.old network.new lines.old lines.new result }
 {
-    match packet(lines.alloc(), source, group, payload) {
-        Ok(octets) => send_octets(network, site, octets.as_slice(), lines),
-        Err(NoMemory) => Err(Halt::NoMemory),
+    let Ok(octets) = packet(lines.alloc(), source, group, payload) else {
+        return Err(Halt::NoMemory);
+    };
+    match fitting(network, octets.as_slice()) {
+        Ok(datagram) => met(of_memory(sent(network, site, &datagram, lines))),
+        Err(reason) => Ok(Some(reason)),
     }
 }
 
@@ -162,7 +132,10 @@ pub(crate) fn send_packet(
     requires event { IsGiven network.old.scenario (events.Packet site octets.now) }
     ensures { Meets (events.Packet site octets.now) network.old network.new lines.old lines.new result }
 {
-    send_octets(network, site, octets, lines)
+    match fitting(network, octets) {
+        Ok(datagram) => met(of_memory(sent(network, site, &datagram, lines))),
+        Err(reason) => Ok(Some(reason)),
+    }
 }
 
 /// The copy at that place of the way lands.

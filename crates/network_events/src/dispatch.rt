@@ -2,6 +2,7 @@
 ghost use Rattle.std.specs.Prelude.{◌+◌, ◌<◌, ◌^◌};
 ghost use Rattle.mvpn_model.specs.Past.{ticks_of};
 ghost use Rattle.network_acts.specs.Instant.{IsSome};
+ghost use Rattle.scenario_defs.specs.declared.event.Event.TheVariants as events;
 ghost use Rattle.network_events.specs.Meeting.{IsGiven, IsReady, Meets};
 
 use crate::costs::cost;
@@ -15,7 +16,36 @@ use crate::sessions::{heal, lose, move_octets, notice, raise};
 use crate::settling::settle;
 use network_acts::Network;
 use network_defs::session_defs::Direction;
-use scenario_defs::{Event, Lines, Refusal};
+use scenario_defs::{CustomerEvent, Event, Lines, Refusal};
+
+/// The network meets an event of a customer, where none is under way.
+fn meet_customer(
+    network: &mut Network,
+    event: &CustomerEvent,
+    lines: &mut Lines,
+) -> Result<Option<Refusal>, Halt>
+    requires network { IsSome IsReady network.old }
+    requires event { IsGiven network.old.scenario (events.Customer event.now) }
+    ensures { Meets (events.Customer event.now) network.old network.new lines.old lines.new result }
+{
+    match event {
+        CustomerEvent::Join { iface, entry } => join(network, *iface, entry, lines),
+        CustomerEvent::Prune { iface, entry } => prune(network, *iface, entry, lines),
+        CustomerEvent::Pim { iface, bytes } => pim(network, *iface, bytes.as_slice(), lines),
+        CustomerEvent::Active {
+            iface,
+            source,
+            group,
+        } => active(network, *iface, *source, *group, lines),
+        CustomerEvent::Idle {
+            iface,
+            source,
+            group,
+        } => idle(network, *iface, *source, *group, lines),
+        CustomerEvent::Select { vrf, pattern } => select(network, *vrf, *pattern, lines),
+        CustomerEvent::Unselect { vrf, pattern } => unselect(network, *vrf, *pattern, lines),
+    }
+}
 
 /// The network meets an event, where none is under way.
 pub(crate) fn meet(
@@ -48,19 +78,7 @@ pub(crate) fn meet(
         Event::Lose { kind, a, b } => lose(network, *kind, *a, *b, lines),
         Event::Notice { kind, a, b } => notice(network, *kind, *a, *b, lines),
         Event::Raise { kind, a, b } => raise(network, *kind, *a, *b, lines),
-        Event::Join { iface, entry } => join(network, *iface, entry, lines),
-        Event::Prune { iface, entry } => prune(network, *iface, entry, lines),
-        Event::Pim { iface, bytes } => pim(network, *iface, bytes.as_slice(), lines),
-        Event::Active {
-            iface,
-            source,
-            group,
-        } => active(network, *iface, *source, *group, lines),
-        Event::Idle {
-            iface,
-            source,
-            group,
-        } => idle(network, *iface, *source, *group, lines),
+        Event::Customer(event) => meet_customer(network, event, lines),
         Event::Send {
             site,
             source,
@@ -68,8 +86,6 @@ pub(crate) fn meet(
             payload,
         } => send(network, *site, *source, *group, payload.as_slice(), lines),
         Event::Packet { site, bytes } => send_packet(network, *site, bytes.as_slice(), lines),
-        Event::Select { vrf, pattern } => select(network, *vrf, *pattern, lines),
-        Event::Unselect { vrf, pattern } => unselect(network, *vrf, *pattern, lines),
         Event::Hop { from, to, place } => hop(network, *from, *to, *place, lines),
         Event::DropCopy { from, to, place } => drop_copy(network, *from, *to, *place, lines),
         Event::Cost { a, b, cost: new } => cost(network, *a, *b, *new, lines),

@@ -1,5 +1,6 @@
 //! Events of the operator at a VRF: a pattern is selected there for selective tunnels, or no longer (RFC 6514 section 12.1, RFC 6625).
 ghost use Rattle.std.specs.Prelude.{◌≡◌, Some};
+ghost use Rattle.scenario_defs.specs.declared.event.CustomerEvent.TheVariants as customers;
 ghost use Rattle.scenario_defs.specs.declared.event.Event.TheVariants as events;
 ghost use Rattle.network_defs.specs.Refusals.{edge_of_vrf};
 ghost use Rattle.network_acts.specs.Instant.{IsSome};
@@ -21,9 +22,9 @@ fn select_at(
     lines: &mut Lines,
 ) -> Result<Option<Refusal>, Halt>
     requires network { IsSome IsReady network.old }
-    requires event { IsGiven network.old.scenario (events.Select vrf pattern) }
+    requires event { IsGiven network.old.scenario (events.Customer (customers.Select vrf pattern)) }
     requires edge { edge_of_vrf network.old.scenario vrf ≡ Some n }
-    ensures { Meets (events.Select vrf pattern) network.old network.new lines.old lines.new result }
+    ensures { Meets (events.Customer (customers.Select vrf pattern)) network.old network.new lines.old lines.new result }
 {
     if network.is_selected(n, vrf, pattern) {
         return Ok(Some(Refusal::State));
@@ -45,8 +46,8 @@ pub(crate) fn select(
     lines: &mut Lines,
 ) -> Result<Option<Refusal>, Halt>
     requires network { IsSome IsReady network.old }
-    requires event { IsGiven network.old.scenario (events.Select vrf pattern) }
-    ensures { Meets (events.Select vrf pattern) network.old network.new lines.old lines.new result }
+    requires event { IsGiven network.old.scenario (events.Customer (customers.Select vrf pattern)) }
+    ensures { Meets (events.Customer (customers.Select vrf pattern)) network.old network.new lines.old lines.new result }
 {
     match edge_of_vrf(network.scenario(), vrf) {
         Some(n) => select_at(network, n, vrf, pattern, lines),
@@ -63,9 +64,9 @@ fn unselect_at(
     lines: &mut Lines,
 ) -> Result<Option<Refusal>, Halt>
     requires network { IsSome IsReady network.old }
-    requires event { IsGiven network.old.scenario (events.Unselect vrf pattern) }
+    requires event { IsGiven network.old.scenario (events.Customer (customers.Unselect vrf pattern)) }
     requires edge { edge_of_vrf network.old.scenario vrf ≡ Some n }
-    ensures { Meets (events.Unselect vrf pattern) network.old network.new lines.old lines.new result }
+    ensures { Meets (events.Customer (customers.Unselect vrf pattern)) network.old network.new lines.old lines.new result }
 {
     if !network.is_selected(n, vrf, pattern) {
         return Ok(Some(Refusal::State));
@@ -87,8 +88,8 @@ pub(crate) fn unselect(
     lines: &mut Lines,
 ) -> Result<Option<Refusal>, Halt>
     requires network { IsSome IsReady network.old }
-    requires event { IsGiven network.old.scenario (events.Unselect vrf pattern) }
-    ensures { Meets (events.Unselect vrf pattern) network.old network.new lines.old lines.new result }
+    requires event { IsGiven network.old.scenario (events.Customer (customers.Unselect vrf pattern)) }
+    ensures { Meets (events.Customer (customers.Unselect vrf pattern)) network.old network.new lines.old lines.new result }
 {
     match edge_of_vrf(network.scenario(), vrf) {
         Some(n) => unselect_at(network, n, vrf, pattern, lines),

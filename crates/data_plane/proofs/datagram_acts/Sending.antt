@@ -117,7 +117,7 @@ entered_sending world copies count number hops new_hops datagram node branches a
 
 module _ (world : World) (old new : CopiesData) (count number : ℕ) (hops : List Hop) (datagram : Datagram)
     (own : IsSending world number datagram (seen old count hops)) (none : new.current ≡ None) where
-  nowhere : length hops ≡ 0 → new ≡ old → IsIdle world (seen new count hops)
+  pub nowhere : length hops ≡ 0 → new ≡ old → IsIdle world (seen new count hops)
   nowhere empty same = subst (λ (d : CopiesData). IsIdle world (seen d count hops)) (sym same) (record {
     stores = record {
       copies =
@@ -133,7 +133,7 @@ module _ (world : World) (old new : CopiesData) (count number : ℕ) (hops : Lis
       nothing [] e u n = refl
       nothing (hop ∷ more) e u n = absurd (omega (arith, e))
 
-  somewhere : (octets : List ℕ) → octets ≡ datagram.octets → IsSent number octets 255 (clock_of world) hops old new
+  pub somewhere : (octets : List ℕ) → octets ≡ datagram.octets → IsSent number octets 255 (clock_of world) hops old new
       → IsIdle world (seen new count hops)
   somewhere octets text is = record {
     stores = record {
@@ -167,12 +167,3 @@ module _ (world : World) (old new : CopiesData) (count number : ℕ) (hops : Lis
         octets = ap (λ (b : Buffers). octets_in b is.buffer) is.buffers ∙ put_has old.buffers is.buffer octets (length hops) is.fresh
             ∙ ap (λ x. Some x) text;
       }
-
-  pub sent_idle : (octets : List ℕ) → octets ≡ datagram.octets → (0 < length hops → IsSent number octets 255 (clock_of world) hops old new)
-      → (length hops ≡ 0 → new ≡ old)
-      → IsIdle world (seen new count hops)
-  sent_idle octets text goes stays = by (length hops) refl
-    where
-      by : (n : ℕ) → length hops ≡ n → IsIdle world (seen new count hops)
-      by zero e = nowhere e (stays e)
-      by (suc n) e = somewhere octets text (goes (omega (arith, e)))

@@ -118,6 +118,9 @@ impl Datagrams {
             clock_of world ≡ now → octets.now ≡ datagram.octets → IsIdle world self.new) }
         ensures none { length self.old.hops ≡ 0 → self.new.copies ≡ self.old.copies }
     {
+        if self.hops.is_empty() {
+            return Ok(());
+        }
         self.copies
             .send(self.count, octets, FIRST_TTL, now, self.hops.as_slice())
     }

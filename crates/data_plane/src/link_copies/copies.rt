@@ -67,8 +67,8 @@ impl LinkCopies {
         }
     }
 
-    /// A new datagram goes out: its octets are put into one buffer, which counts its copies, and a copy goes on each hop, in order. Without
-    /// a hop there is no buffer. Where memory ends, the first copies may have been put, and their buffer counts these.
+    /// A new datagram goes out: its octets are put into one buffer, which counts its copies, and a copy goes on each hop, in order. There
+    /// is a hop. Where memory ends, the first copies may have been put, and their buffer counts these.
     pub fn send(
         &mut self,
         number: u64,
@@ -79,13 +79,10 @@ impl LinkCopies {
     ) -> Result<(), NoMemory>
         requires current { self.old.current ≡ None }
         requires fresh { LacksNumber self.old number }
-        ensures sent { OnOk result (0 < length hops.now → IsSent number octets.now ttl now hops.now self.old self.new) }
-        ensures none { length hops.now ≡ 0 → self.new ≡ self.old }
+        requires some { 0 < length hops.now }
+        ensures sent { OnOk result (IsSent number octets.now ttl now hops.now self.old self.new) }
         ensures current { self.new.current ≡ None }
     {
-        if hops.is_empty() {
-            return Ok(());
-        }
         if self.count >= COPY_LIMIT {
             return Err(NoMemory);
         }

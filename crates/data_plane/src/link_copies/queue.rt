@@ -1,10 +1,9 @@
 //! The copies on one way of a link, in their order.
-ghost use Rattle.std.specs.Prelude.{◌≡◌, [], ◌∷◌, ◌++◌, length, slice_get, OnOk, OnErr};
+ghost use Rattle.std.specs.Prelude.{◌≡◌, [], length, slice_get};
 ghost use Rattle.std.specs.List.{remove};
 ghost use Rattle.data_plane.specs.link_copies.Kept.{recent};
 
 use crate::link_copies::kept::Kept;
-use mv_base::NoMemory;
 use std::alloc::Global;
 use std::collections::VecDeque;
 use std::marker::Model;
@@ -12,7 +11,7 @@ use std::marker::Model;
 /// Copies, the first to land in front. To take one out moves those of its shorter side.
 #[derive(Drop)]
 pub(crate) struct Queue {
-    copies: VecDeque<Kept>,
+    pub(crate) copies: VecDeque<Kept>,
 }
 
 impl Model for Queue {
@@ -54,15 +53,6 @@ impl Queue {
             None => None,
             Some(kept) => Some(*kept),
         }
-    }
-
-    /// Puts a copy behind the others.
-    pub(crate) fn put(&mut self, kept: Kept) -> Result<(), NoMemory>
-        ensures put { OnOk result (self.new ≡ self.old ++ kept ∷ []) }
-        ensures same { OnErr result (self.new ≡ self.old) }
-    {
-        self.copies.push_back(kept)?;
-        Ok(())
     }
 
     /// Takes the copy at that place out, where there is one.

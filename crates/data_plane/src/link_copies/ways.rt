@@ -63,12 +63,15 @@ pub(crate) fn put(
 {
     if !ways.contains_key(&way) {
         let mut queue = Queue::new(alloc);
-        queue.put(kept)?;
+        queue.copies.push_back(kept)?;
         ways.insert(way, queue)?;
         return Ok(());
     }
     match ways.get_mut(&way) {
         None => unreachable!(),
-        Some(queue) => queue.put(kept),
+        Some(queue) => match queue.copies.push_back(kept) {
+            Ok(()) => Ok(()),
+            Err(_) => Err(NoMemory),
+        },
     }
 }

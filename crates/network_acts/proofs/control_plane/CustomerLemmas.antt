@@ -27,7 +27,7 @@ use Rattle.network_defs.specs.session_defs.Octets.{OctetAct, OctetNetwork}
 use Rattle.edge_defs.specs.Place.{OwnVrf, vrfs_from}
 use Rattle.edge_defs.specs.Edge.{Control}
 use Rattle.edge_defs.specs.Originated.{afi_by, is_iface_of}
-use Rattle.edge_defs.specs.Steps.{Call, Customer, Active, Idle, Pim, Select, Unselect}
+use Rattle.edge_defs.specs.Steps.{Call, Customer, Active, Pim, Select, Unselect}
 use Rattle.network_nodes.specs.wire_laws.edge_routes.edge_home.Home.{Home}
 use Rattle.control_laws.proofs.Parts.{no_core}
 use Rattle.control_laws.proofs.group_laws.Messages.{has_groups}
@@ -225,10 +225,7 @@ set_own (y ∷ xs) (suc place) x at = ap (λ l. y ∷ l) (set_own xs place x at)
 -- the node has acted on the present costs
 fits_current : (n : NodeId) (call : Call) (at : Standing) → FitsAt n call at → IsCurrent n at
 fits_current n (Customer (Pim iface message)) at fits = fits.0.node
-fits_current n (Customer (Active iface source group)) at fits = fits.0.node
-fits_current n (Customer (Idle iface source group)) at fits = fits.0.node
-fits_current n (Customer (Select vrf pattern)) at fits = fits.0.node
-fits_current n (Customer (Unselect vrf pattern)) at fits = fits.0.node
+fits_current n (Customer other) at fits = fits.0.node
 fits_current n other at fits = absurd fits
 
 pub fits_within : (n : NodeId) (call : Call) (at : Standing) → FitsAt n call at → IsWithin n at
@@ -238,9 +235,9 @@ fits_within n call at fits = (fits_current n call at fits).within
 fits_sound : (n : NodeId) (call : Call) (at : Standing) → FitsAt n call at → IsSoundCall call
 fits_sound n (Customer (Pim iface message)) at fits = fits.2
 fits_sound n (Customer (Active iface source group)) at fits = fits.1
-fits_sound n (Customer (Idle iface source group)) at fits = tt
 fits_sound n (Customer (Select vrf pattern)) at fits = fits.1
 fits_sound n (Customer (Unselect vrf pattern)) at fits = tt
+fits_sound n (Customer other) at fits = tt
 fits_sound n other at fits = absurd fits
 
 -- it begins no stream
@@ -268,9 +265,6 @@ fits_edge : (n : NodeId) (call : Call) (at : Standing) → FitsAt n call at → 
     → ((vrf : VrfId) → edge_of_vrf at.scenario vrf ≡ Some n → HasVrf node vrf)
     → control_at n at ≡ control_of (data_in node) → FitsIn node call
 fits_edge n (Customer (Pim iface message)) at fits (nodes.Edge edge) ifaces vrfs keeps = (ifaces iface fits.0.edge, has_groups message fits.1)
-fits_edge n (Customer (Active iface source group)) at fits (nodes.Edge edge) ifaces vrfs keeps =
-    (ifaces iface fits.0.edge, flow_group source group fits.1)
-fits_edge n (Customer (Idle iface source group)) at fits (nodes.Edge edge) ifaces vrfs keeps = (ifaces iface fits.0.edge, flow_group source group fits.1)
 fits_edge n (Customer (Select vrf pattern)) at fits (nodes.Edge edge) ifaces vrfs keeps = (
   vrfs vrf fits.0.edge,
   pattern_group pattern.source pattern.group fits.1.1 fits.1.2,
@@ -278,11 +272,10 @@ fits_edge n (Customer (Select vrf pattern)) at fits (nodes.Edge edge) ifaces vrf
 )
 fits_edge n (Customer (Unselect vrf pattern)) at fits (nodes.Edge edge) ifaces vrfs keeps =
     (vrfs vrf fits.0.edge, pattern_group pattern.source pattern.group fits.1.1 fits.1.2)
-fits_edge n (Customer (Pim iface message)) at fits (nodes.CoreNode core) ifaces vrfs keeps = ifaces iface fits.0.edge
-fits_edge n (Customer (Active iface source group)) at fits (nodes.CoreNode core) ifaces vrfs keeps = ifaces iface fits.0.edge
-fits_edge n (Customer (Idle iface source group)) at fits (nodes.CoreNode core) ifaces vrfs keeps = ifaces iface fits.0.edge
+fits_edge n (Customer other) at fits (nodes.Edge edge) ifaces vrfs keeps = (ifaces _ fits.0.edge, flow_group _ _ fits.1)
 fits_edge n (Customer (Select vrf pattern)) at fits (nodes.CoreNode core) ifaces vrfs keeps = vrfs vrf fits.0.edge
 fits_edge n (Customer (Unselect vrf pattern)) at fits (nodes.CoreNode core) ifaces vrfs keeps = vrfs vrf fits.0.edge
+fits_edge n (Customer other) at fits (nodes.CoreNode core) ifaces vrfs keeps = ifaces _ fits.0.edge
 fits_edge n other at fits node ifaces vrfs keeps = absurd fits
 
 pub fits_node : (plane : PlaneView) (n : NodeId) (call : Call) (old : NetworkNode) → slice_get plane.nodes n.0 ≡ Some old
@@ -305,8 +298,7 @@ pub only_full : (n : NodeId) (call : Call) (at : Standing) → FitsAt n call at 
 only_full n (Customer (Pim iface message)) at fits answer only = only
 only_full n (Customer (Active iface source group)) at fits answer only = only
 only_full n (Customer (Select vrf pattern)) at fits answer only = only
-only_full n (Customer (Idle iface source group)) at fits answer only = λ fault e. spending_only fault (only fault e)
-only_full n (Customer (Unselect vrf pattern)) at fits answer only = λ fault e. spending_only fault (only fault e)
+only_full n (Customer other) at fits answer only = λ fault e. spending_only fault (only fault e)
 only_full n other at fits answer only = absurd fits
 
 -- ---- the act of a call

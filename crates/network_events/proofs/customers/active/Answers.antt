@@ -1,4 +1,5 @@
 use Rattle.std.proofs.Common.{Option, Some, None, Result, sym, subst, false}
+use Rattle.scenario_defs.specs.declared.event.CustomerEvent.TheVariants as customers
 use Rattle.scenario_defs.specs.declared.event.Event.TheVariants as events
 use Rattle.scenario_defs.specs.declared.report.Refusal.{Refusal}
 use Rattle.network_events.specs.Meeting.{Meets}
@@ -22,7 +23,7 @@ unreachable-requires c =
 
 pub returns : goal.returns
 returns c =
-    subst (λ (r : Result (Option Refusal) Halt). Meets (events.Active c.args.iface c.args.source c.args.group) c.args.network.now c.call.new.self
+    subst (λ (r : Result (Option Refusal) Halt). Meets (events.Customer (customers.Active c.args.iface c.args.source c.args.group)) c.args.network.now c.call.new.self
     c.args.lines.now c.call.new.lines r) (sym c.verdict_at.ensures)
     (note_taken c.args.network.now c.args.iface c.args.source c.args.group c.args.lines.now c.in-Some.n
     (found_edge c.args.network.now c.args.iface c.scenario.result.now c.scenario.ensures c.edge_of.result (Some c.in-Some.n) c.edge_of.ensures

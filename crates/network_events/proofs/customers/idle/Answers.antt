@@ -1,4 +1,5 @@
 use Rattle.std.proofs.Common.{Option, Some, None, Result, sym, subst, false}
+use Rattle.scenario_defs.specs.declared.event.CustomerEvent.TheVariants as customers
 use Rattle.scenario_defs.specs.declared.event.Event.TheVariants as events
 use Rattle.scenario_defs.specs.declared.report.Refusal.{Refusal}
 use Rattle.network_events.specs.Meeting.{Meets}
@@ -28,7 +29,7 @@ returns c =
     let flow =
     idle_flow c.args.network.now c.args.iface c.args.source c.args.group c.args.lines.now c.requires.network c.requires.event c.has_octets.ensures
     c.has_octets-2.ensures in
-    subst (λ (r : Result (Option Refusal) Halt). Meets (events.Idle c.args.iface c.args.source c.args.group) c.args.network.now c.call.new.self
+    subst (λ (r : Result (Option Refusal) Halt). Meets (events.Customer (customers.Idle c.args.iface c.args.source c.args.group)) c.args.network.now c.call.new.self
     c.args.lines.now c.call.new.lines r) (sym c.verdict_at.ensures)
     (idle_taken c.args.network.now c.args.iface c.args.source c.args.group c.args.lines.now c.in-Some.n
     (found_edge c.args.network.now c.args.iface c.scenario.result.now c.scenario.ensures c.edge_of.result (Some c.in-Some.n) c.edge_of.ensures

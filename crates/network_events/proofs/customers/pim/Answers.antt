@@ -1,3 +1,4 @@
+use Rattle.scenario_defs.specs.declared.event.CustomerEvent.TheVariants as customers
 use Rattle.scenario_defs.specs.declared.event.Event.TheVariants as events
 use Rattle.network_events.proofs.CustomerLemmas.{read_at, read_given}
 use Rattle.network_events.proofs.customers.pim.Goals as goal
@@ -9,5 +10,5 @@ take_read-requires-clause-message c =
 
 pub returns-in-Ok : goal.returns-in-Ok
 returns-in-Ok c =
-    c.take_read.ensures (events.Pim c.args.iface c.args.octets.now)
+    c.take_read.ensures (events.Customer (customers.Pim c.args.iface c.args.octets.now))
     (read_given c.args.network.now c.args.iface c.args.octets.now c.args.lines.now c.in-Ok.message c.in-Ok.ensures.exact)

@@ -1,4 +1,5 @@
 use Rattle.std.proofs.Common.{◌∙◌, Option, Result, sym, subst, true, false}
+use Rattle.scenario_defs.specs.declared.event.CustomerEvent.TheVariants as customers
 use Rattle.scenario_defs.specs.declared.event.Event.TheVariants as events
 use Rattle.scenario_defs.specs.declared.report.Refusal.{Refusal}
 use Rattle.network_events.specs.Meeting.{Meets}
@@ -30,7 +31,7 @@ call-requires c = record {
 
 pub returns : goal.returns
 returns c =
-    subst (λ (r : Result (Option Refusal) Halt). Meets (events.Select c.args.vrf c.args.pattern) c.args.network.now c.call.new.self c.args.lines.now
+    subst (λ (r : Result (Option Refusal) Halt). Meets (events.Customer (customers.Select c.args.vrf c.args.pattern)) c.args.network.now c.call.new.self c.args.lines.now
     c.call.new.lines r) (sym c.verdict_at.ensures)
     (select_taken c.args.network.now c.args.vrf c.args.pattern c.args.n c.requires.edge c.args.lines.now
     (λ at fits is. sym c.if-is_selected.false ∙ c.is_selected.ensures at fits is) c.requires.event.sound

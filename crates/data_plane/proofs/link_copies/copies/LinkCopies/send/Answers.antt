@@ -80,7 +80,7 @@ invariant_of-self-else-put-hops c =
     let opens : c.put.new.self ≡ maps.insert was.pool c.in_ok-buffer.buffer (held c.args.octets.now (length c.args.hops.now)) =
     c.in_ok-buffer.ensures.put ∙ ap (λ (count : ℕ). maps.insert was.pool c.in_ok-buffer.buffer (held c.args.octets.now count)) c.in_ok-copies.ensures
     in
-    let some : 0 < length c.args.hops.now = search (rules, c) in
+    let some : 0 < length c.args.hops.now = c.requires.some in
     subst
     (λ (o : Option Current). IsUnique is_way c.put_on_each-put.new.ways
     × (c.self.inside.count + c.put_on_each-put.result ≡ length (all_kept (data_of c.put_on_each-put.new.ways o c.put.new.self)))
@@ -100,7 +100,7 @@ invariant_of-self-else-put-hops c =
     )
 
 pub returns-clause-sent : goal.returns-clause-sent
-returns-clause-sent c = λ some.
+returns-clause-sent c =
     let was = c.self.inside in
     let none : was.current ≡ None = ap (λ (d : CopiesData). d.current) c.self.view_is ∙ c.requires.current in
     let account : IsShared (data_of was.ways None was.pool) =

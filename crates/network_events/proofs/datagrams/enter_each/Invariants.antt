@@ -1,6 +1,0 @@
-use Rattle.std.proofs.Common.{take}
-use Rattle.network_events.proofs.DatagramLemmas.{OnEntering}
-use Rattle.network_events.proofs.datagrams.enter_each.Given as goal
-
-abbrev pub invariant-loop-vrf : goal.invariant-loop-vrf
-invariant-loop-vrf l = OnEntering l.fn.site l.fn.datagram (take l.vrf-index l.vrfs) l.fn.network l.fn.lines l.lines l.network

@@ -346,13 +346,8 @@ impl EdgeInCore {
         requires { IsGroup (afi_of source) group }
     {
         let iface = self.role.iface;
-        let call = CustomerCall::Active {
-            iface,
-            source,
-            group,
-        };
         self.edge
-            .call(EdgeCall::Customer(call), NOW, &self.core)
+            .active(iface, source, group, NOW, &self.core)
             .is_ok()
     }
 
@@ -361,13 +356,8 @@ impl EdgeInCore {
         requires { IsGroup (afi_of source) group }
     {
         let iface = self.role.iface;
-        let call = CustomerCall::Idle {
-            iface,
-            source,
-            group,
-        };
         self.edge
-            .call(EdgeCall::Customer(call), NOW, &self.core)
+            .idle(iface, source, group, NOW, &self.core)
             .is_ok()
     }
 

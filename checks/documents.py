@@ -11,10 +11,10 @@ an example, which is a row of rows.py.
 
 Of the crates: that each begins with a paragraph about itself, at the head of `src/lib.rt` or `src/main.rt`; that each names words
 of no other crates than those of its line in crates.txt, which the prover would say only once all of these are proved; and that the
-ways down crates.txt, which `rt` walks at each start, are not too many.
+ways down crates.txt, which `rt` walks at each start, are not too many, nor the files that have a case of one event of a customer.
 
-Prints what is wrong and how many crates, edges and ways there are, and then 'N passed, M failed', one for each document, one for
-the heads of the crates, one for the words that they name and one for crates.txt.
+Prints what is wrong, how many crates, edges and ways there are and how many such files, and then 'N passed, M failed', one for each
+document, one for the heads of the crates, one for the words that they name, one for crates.txt and one for the cases.
 """
 
 import functools
@@ -38,6 +38,8 @@ QUOTED = re.compile(r'`([A-Za-z0-9_./-]+)`')
 ANY_NAME = re.compile(r'(^|/)[A-Z]+(/|$)')
 # two events that are alike in nothing but that they are events: what has a case for both goes by cases over all of them
 EVENTS = (re.compile(r'\bIdle\b'), re.compile(r'\bUnselect\b'))
+# a file with both words has a case of an event of a customer; labels have a phase of the first name
+CASE = (re.compile(r'\bIdle\b'), re.compile(r'\b(Customer|Active|CustomerEvent|CustomerCall)\b'))
 # the sections of FAULTS, each with the file of its enum and the enum
 WORDS = {
     'Faults of a text': ('line_words/src/fault.rt', 'Reason'),
@@ -54,6 +56,7 @@ WORDS = {
 }
 LEAST_HEAD = 4
 MOST_WAYS = 100_000
+MOST_CASES = 35
 
 
 def documents():
@@ -262,9 +265,18 @@ def faults_of_ways():
         yield 0, f'more than {MOST_WAYS} ways'
 
 
+def faults_of_cases():
+    """Whether the files that have a case of one event of a customer are too many. Prints how many they are."""
+    texts = itertools.chain(*(texts_of(crate, part).values() for crate in lower_crates() for part in ('src', 'specs', 'proofs')))
+    count = sum(all(word.search(text) for word in CASE) for text in texts)
+    print(f'{count} files have a case of the event Idle')
+    if count > MOST_CASES:
+        yield 0, f'more than {MOST_CASES} files have a case of one event of a customer'
+
+
 def main():
     looked_at = [(document, faults_of_document(document)) for document in documents()]
-    looked_at += [('crates', faults_of_heads()), ('names', faults_of_names()), ('crates.txt', faults_of_ways())]
+    looked_at += [('crates', faults_of_heads()), ('names', faults_of_names()), ('crates.txt', faults_of_ways()), ('events', faults_of_cases())]
     passed, failed = 0, 0
     for name, found in looked_at:
         faults = list(found)

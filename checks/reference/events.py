@@ -5,9 +5,8 @@ from dataclasses import dataclass, replace
 from . import report
 from .base import flat_map
 from .octets import packet
-from .pim import message_of
-from .refusals import edge_of_vrf, group_in, refusal, source_in
-from .scenario import edge_of, entered, sessions
+from .refusals import call_for, edge_for, group_in, refusal, source_in
+from .scenario import entered, sessions
 from .world import Acted, Datagram, World, act, all_nodes, directions, is_joined, is_up, link_ways, scenario_of, start
 
 
@@ -118,10 +117,9 @@ def at_edge(number, call, world):
     return Done((), world) if number is None else row([('at', number, call)], world)
 
 
-def with_message(given, world):
-    if given is None:
-        return Done((), world)
-    return at_edge(edge_of(scenario_of(world), given.iface), ('pim', given.iface, given.message), world)
+def called(call, world):
+    """What a customer calls for, where it does."""
+    return Done((), world) if call is None else at_edge(edge_for(scenario_of(world), call), call, world)
 
 
 def done(world, event):
@@ -141,16 +139,12 @@ def done(world, event):
             return row([(event.word, kind, a, b)], world)
         case 'raise':
             return row(raises(world, kind, a, b), world)
-        case 'join' | 'prune' | 'pim':
-            return with_message(message_of(scenario, event), world)
-        case 'active' | 'idle':
-            return at_edge(edge_of(scenario, event.iface), (event.word, event.iface, event.source, event.group), world)
+        case 'join' | 'prune' | 'pim' | 'active' | 'idle' | 'select' | 'unselect':
+            return called(call_for(scenario, event), world)
         case 'send':
             return sent(event.site, event.source, event.group, packet(event.source, event.group, event.octets), world)
         case 'packet':
             return sent(event.site, source_in(event.octets), group_in(event.octets), event.octets, world)
-        case 'select' | 'unselect':
-            return at_edge(edge_of_vrf(scenario, event.vrf), (event.word, event.vrf, event.entry), world)
         case 'hop':
             return row([('land', a, b, count)], world)
         case 'drop':

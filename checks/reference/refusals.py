@@ -103,6 +103,26 @@ def edge_of_vrf(scenario, vrf):
     return None if found is None else found.edge
 
 
+# ---- calls of customers
+
+def call_for(scenario, event):
+    """What an event of a customer calls for; octets that spell no message call for nothing."""
+    match event.word:
+        case 'join' | 'prune' | 'pim':
+            given = message_of(scenario, event)
+            return None if given is None else ('pim', given.iface, given.message)
+        case 'active' | 'idle':
+            return (event.word, event.iface, event.source, event.group)
+        case 'select' | 'unselect':
+            return (event.word, event.vrf, event.entry)
+
+
+def edge_for(scenario, call):
+    """The edge at which a customer calls: that of the interface or of the VRF."""
+    at = edge_of_vrf if call[0] in ('select', 'unselect') else edge_of
+    return at(scenario, call[1])
+
+
 # ---- refusals
 
 def octets_refusal(octets):

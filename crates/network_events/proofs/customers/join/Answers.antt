@@ -1,5 +1,6 @@
 use Rattle.std.proofs.Common.{◌∙◌, ap, refl}
 use Rattle.pim_defs.specs.Single.{join_of}
+use Rattle.scenario_defs.specs.declared.event.CustomerEvent.TheVariants as customers
 use Rattle.scenario_defs.specs.declared.event.Event.TheVariants as events
 use Rattle.scenario_defs.specs.declared.scenario.Scenario.{Scenario}
 use Rattle.mvpn_model.specs.Messages.{own_addr}
@@ -18,6 +19,6 @@ take-requires-clause-message c =
 
 pub returns-in-Ok : goal.returns-in-Ok
 returns-in-Ok c =
-    c.take.ensures (events.Join c.args.iface c.args.entry.now)
+    c.take.ensures (events.Customer (customers.Join c.args.iface c.args.entry.now))
     (join_hands c.args.network.now c.args.iface c.args.entry.now c.in-Ok.message c.own_addr.result
     (c.own_addr.ensures ∙ ap (λ (s : Scenario). own_addr s c.args.iface) c.scenario.ensures) c.in-Ok.ensures)

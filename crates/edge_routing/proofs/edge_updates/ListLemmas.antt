@@ -1,19 +1,21 @@
 -- What is found in lists one after another, and what VRFs of an edge are given.
-use Rattle.std.proofs.Common.{◌≡◌, ℕ, ◌+◌, ◌<◌, List, [], ◌∷◌, ◌++◌, length, get_or, map, take, Option, None, Some, refl, sym, ap, ◌∙◌}
+use Rattle.std.proofs.Common.{◌≡◌, ℕ, ◌+◌, ◌<◌, List, [], ◌∷◌, ◌++◌, length, get_or, map, take, Option, None, Some, option_map, refl, sym, ap, ◌∙◌}
 use Rattle.std.proofs.lemmas.List.{map-append, take_more}
+use Rattle.std.specs.FinMap as maps
 use Rattle.mv_base.specs.declared.addr.Addr.{Addr}
 use Rattle.mv_base.specs.declared.ids.NodeId.{NodeId}
 use Rattle.mldp.specs.declared.mldp_fec.fec.Fec.{Fec}
 use Rattle.bgp_messages.specs.declared.bgp_attributes.key.Key.{Key}
 use Rattle.bgp_messages.specs.declared.bgp_attributes.update.Change.TheVariants as updates
 use Rattle.bgp_messages.specs.bgp_update.Table.{unannounced}
+use Rattle.edge_defs.specs.Edge.{Taken, TakenRoute}
 use Rattle.edge_defs.specs.Imported.{found_in, imported_inclusive}
 use Rattle.edge_defs.specs.Keys.{Value}
 use Rattle.edge_defs.specs.Place.{OwnVrf, addr_of}
 use Rattle.edge_routes.specs.edge_home.Home.{AreOwn, Home, as_own}
 use Rattle.edge_routes.specs.declared.edge_home.own_vrf.OwnVrf as homes
 use Rattle.control_laws.proofs.Parts.{no_core}
-use Rattle.edge_routing.specs.edge_updates.Told.{listed, route_of, told_by, told_to}
+use Rattle.edge_routing.specs.edge_updates.Told.{listed, route_of, told_by, told_from, told_to}
 
 abbrev found_or : {B : Type 0} → Option B → List B → List B
 found_or o rest = elim o [ None ↦ rest | Some found ↦ found ∷ rest ]
@@ -62,3 +64,15 @@ pub unannounced_more : (keys : List Key) (n : ℕ) (key : Key) → n < length ke
 unannounced_more keys n key lt is =
     ap (λ (k : Key). unannounced (take n keys) ++ (updates.Unreach k ∷ [])) is
     ∙ sym (ap unannounced (take_more keys n key lt) ∙ map-append (λ (k : Key). updates.Unreach k) (take n keys) (get_or keys n key ∷ []))
+
+-- ---- whether routes are taken from the peer
+
+pub from_none : (home : Home) (o : Option Taken) (peer : NodeId) (key : Key) (value : Value)
+    → None ≡ option_map (λ (taken : Taken). maps.entries taken) o → told_from home o peer key value ≡ []
+from_none home None peer key value e = refl
+from_none home (Some taken) peer key value e = absurd cc
+
+pub from_some : (home : Home) (o : Option Taken) (peer : NodeId) (key : Key) (value : Value) (all : List (Key × TakenRoute))
+    → Some all ≡ option_map (λ (taken : Taken). maps.entries taken) o → told_from home o peer key value ≡ told_by home peer key value
+from_some home None peer key value all e = absurd cc
+from_some home (Some taken) peer key value all e = refl

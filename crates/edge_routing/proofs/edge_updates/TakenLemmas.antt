@@ -19,15 +19,15 @@ use Rattle.label_defs.specs.LabelData.{same_fec}
 use Rattle.label_defs.proofs.KeyLemmas.{same_fec_equal, same_fec_itself}
 use Rattle.edge_defs.specs.Edge.{Control, Taken, TakenRoute}
 use Rattle.edge_defs.specs.Imported.{imported_inclusive, taken_from}
-use Rattle.edge_defs.specs.Keys.{key_cmp}
+use Rattle.edge_defs.specs.Keys.{Value, key_cmp}
 use Rattle.edge_defs.specs.Place.{EdgePlace, OwnVrf, addr_of, own_vrfs}
-use Rattle.edge_defs.specs.Steps.{taken_change, with_update}
+use Rattle.edge_defs.specs.Steps.{learned, taken_change, with_update}
 use Rattle.edge_defs.proofs.KeyLemmas.{key_exact, key_total}
 use Rattle.edge_routes.specs.edge_home.Home.{Home, place_of}
 use Rattle.edge_words.proofs.edge_laws.Taken.{table_in}
 use Rattle.edge_words.proofs.calm_laws.Lists.{among_flat_map, among_found, any_among, any_from, flat_map_among, found_among, not_both}
 use Rattle.edge_words.proofs.calm_laws.Maps.{entry_get, get_entry}
-use Rattle.edge_control.specs.edge_tables.taken_tables.Tables.{Tables, changed_at, route_at}
+use Rattle.edge_control.specs.edge_tables.taken_tables.Tables.{Tables, changed_at, reach, route_at}
 use Rattle.edge_control.proofs.edge_tables.taken_tables.MapLemmas.{one_after_another}
 use Rattle.control_laws.specs.Control.{Kept, control_of}
 use Rattle.control_laws.proofs.PeersKinds.{tables_of}
@@ -36,7 +36,7 @@ use Rattle.control_laws.proofs.PeersTold.{Changes, Here}
 use Rattle.edge_control.specs.Sound.{wants_of}
 use Rattle.edge_routing.specs.edge_updates.Changed.{AreListed, AreTaken, changed_by}
 use Rattle.edge_routing.specs.edge_updates.Inclusive.{AreTunnels, IsInclusiveFrom}
-use Rattle.edge_routing.specs.edge_updates.Told.{route_of, told_at, told_by, told_by_all}
+use Rattle.edge_routing.specs.edge_updates.Told.{route_of, told_at, told_by, told_by_all, told_from}
 use Rattle.edge_routing.proofs.edge_updates.TunnelLemmas.{IsUntold, unlisted, untold_stays}
 
 -- ---- what is listed
@@ -131,6 +131,23 @@ pub withdrawn_route : (now : ℕ) (peer : NodeId) (key : Key) (old : Control)
 withdrawn_route now peer key old =
     sym (route_is (changed_by now peer (updates.Unreach key ∷ []) old) peer key) ∙ withdrawn now peer key old (maps.get old.peers peer) refl
 
+-- after an announcement at a key at which there was none, it is that of the value, where routes are taken from the peer
+announced : (home : Home) (now : ℕ) (peer : NodeId) (key : Key) (value : Value) (old : Control) (o : Option Taken) → maps.get old.peers peer ≡ o
+    → route_at old.peers peer key ≡ None
+    → told_at home peer key (tables_of (behind now peer (reach key value) old o) peer key) ≡ told_from home o peer key value
+announced home now peer key value old None e fresh = ap (told_at home peer key) (route_is old peer key ∙ fresh)
+announced home now peer key value old (Some taken) e fresh =
+    let none : maps.get taken key ≡ None = sym (ap (λ (o : Option Taken). o >>? λ (t : Taken). maps.get t key) e) ∙ fresh in
+    ap (told_at home peer key)
+    ((changed old peer taken e now (reach key value)).is ∙ ap (λ (route : Option TakenRoute). Some (learned now value route)) none)
+
+pub announced_told : (home : Home) (now : ℕ) (peer : NodeId) (key : Key) (value : Value) (old : Control) → route_at old.peers peer key ≡ None
+    → told_at home peer key (route_at (changed_by now peer (reach key value ∷ []) old).peers peer key)
+    ≡ told_from home (maps.get old.peers peer) peer key value
+announced_told home now peer key value old fresh =
+    ap (told_at home peer key) (sym (route_is (changed_by now peer (reach key value ∷ []) old) peer key))
+    ∙ announced home now peer key value old (maps.get old.peers peer) refl fresh
+
 module _ (now : ℕ) (peer : NodeId) (change : Change) (home : Home) where
   -- the tunnels by the route at the key of the change
   abbrev told_of : Tables → List Fec
@@ -176,6 +193,22 @@ withdrawal_taken now peer key old new before after home wants control is =
     let first = before ++ told_at old.home peer key (route_at old.peers peer key) in
     change_taken now peer (updates.Unreach key) old new before after home wants control
     (is ∙ sym (append-nil first) ∙ ap (λ (route : Option TakenRoute). first ++ told_at old.home peer key route) (sym gone))
+
+-- An announcement at a key at which there was no route is taken, where those of its value are.
+pub announcement_taken : (now : ℕ) (peer : NodeId) (key : Key) (value : Value) (old new : Kept) (before after : List Fec) → new.home ≡ old.home
+    → wants_of new.trees ≡ wants_of old.trees → control_of new ≡ changed_by now peer (reach key value ∷ []) (control_of old)
+    → route_at old.peers peer key ≡ None → after ≡ before ++ told_from old.home (maps.get old.peers peer) peer key value
+    → AreTaken now peer (reach key value ∷ []) old new before after
+announcement_taken now peer key value old new before after home wants control fresh is =
+    let next = told_from old.home (maps.get old.peers peer) peer key value in
+    let come : told_at old.home peer key (route_at new.peers peer key) ≡ next =
+    ap (λ (c : Control). told_at old.home peer key (route_at c.peers peer key)) control
+    ∙ announced_told old.home now peer key value (control_of old) fresh in
+    change_taken now peer (reach key value) old new before after home wants control
+    (is
+    ∙ ap (λ (fecs : List Fec). fecs ++ next) (sym (append-nil before)
+    ∙ ap (λ (route : Option TakenRoute). before ++ told_at old.home peer key route) (sym fresh))
+    ∙ ap (λ (fecs : List Fec). (before ++ told_at old.home peer key (route_at old.peers peer key)) ++ fecs) (sym come))
 
 -- ---- rows of changes
 

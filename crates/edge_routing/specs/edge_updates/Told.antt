@@ -5,7 +5,7 @@ use Rattle.mv_base.specs.declared.addr.Addr.{Addr}
 use Rattle.mv_base.specs.declared.ids.NodeId.{NodeId}
 use Rattle.mldp.specs.declared.mldp_fec.fec.Fec.{Fec}
 use Rattle.bgp_messages.specs.declared.bgp_attributes.key.Key.{Key}
-use Rattle.edge_defs.specs.Edge.{TakenRoute}
+use Rattle.edge_defs.specs.Edge.{Taken, TakenRoute}
 use Rattle.edge_defs.specs.Imported.{found_in, imported_inclusive}
 use Rattle.edge_defs.specs.Keys.{Value}
 use Rattle.edge_defs.specs.Place.{OwnVrf, addr_of}
@@ -39,3 +39,8 @@ told_at home peer key (Some taken) = told_by home peer key taken.value
 -- by all of these routes
 abbrev pub told_by_all : Home → NodeId → List (Key × TakenRoute) → List Fec
 told_by_all home peer entries = flat_map (λ (entry : Key × TakenRoute). told_by home peer entry.0 entry.1.value) entries
+
+-- and where routes are taken from the peer
+abbrev pub told_from : Home → Option Taken → NodeId → Key → Value → List Fec
+told_from home None peer key value = []
+told_from home (Some taken) peer key value = told_by home peer key value

@@ -11,7 +11,7 @@ ghost use Rattle.edge_control.specs.edge_tables.taken_tables.Tables.{route_at};
 ghost use Rattle.control_laws.specs.Control.{control_of};
 ghost use Rattle.edge_control.specs.Taking.{table_of};
 ghost use Rattle.edge_routing.specs.edge_updates.Inclusive.{IsInclusiveFrom};
-ghost use Rattle.edge_routing.specs.edge_updates.Told.{listed, told_at, told_by, told_by_all, told_to};
+ghost use Rattle.edge_routing.specs.edge_updates.Told.{listed, told_at, told_by, told_by_all, told_from, told_to};
 
 use bgp_messages::bgp_attributes::Key;
 use edge_control::EdgeControl;
@@ -81,6 +81,24 @@ pub(crate) fn append_at(
     match control.taken().get(peer, key) {
         None => Ok(()),
         Some(entry) => append_of_route(fecs, home, peer, key.key(), &entry.value()),
+    }
+}
+
+/// Appends those of a route of that key and value, where routes are taken from the peer.
+pub(crate) fn append_by(
+    fecs: &mut Vec<Fec>,
+    control: &EdgeControl,
+    peer: NodeId,
+    key: &Key,
+    value: &TakenValue,
+) -> Result<(), NoMemory>
+    ensures { OnOk result (fecs.new.items ≡ fecs.old.items
+        ++ told_from control.now.home (maps.get control.now.peers peer) peer key.now (value_of value.now)) }
+{
+    let home = control.home();
+    match control.taken().entries(peer) {
+        None => Ok(()),
+        Some(_) => append_of_route(fecs, home, peer, key, value),
     }
 }
 

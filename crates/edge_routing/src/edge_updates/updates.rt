@@ -15,7 +15,7 @@ ghost use Rattle.edge_control.specs.Sound.{wants_of};
 ghost use Rattle.edge_routing.specs.edge_updates.Inclusive.{AreTunnels};
 ghost use Rattle.edge_routing.specs.edge_updates.Changed.{AreTaken};
 
-use crate::edge_updates::inclusive::append_at;
+use crate::edge_updates::inclusive::{append_at, append_by};
 use bgp_messages::bgp_attributes::{Advert, Key, Message, Update};
 use edge_control::EdgeControl;
 use edge_control::of_edge_tables::taken_tables::RouteValue;
@@ -58,8 +58,8 @@ fn announce_fresh(
     ensures home { control.new.home ≡ control.old.home }
     ensures wants { wants_of control.new.trees ≡ wants_of control.old.trees }
 {
-    control.announce_fresh(peer, key, value, now)?;
-    append_at(fecs, control, peer, key)
+    append_by(fecs, control, peer, key.key(), &value.lent())?;
+    control.announce_fresh(peer, key, value, now)
 }
 
 /// The peer announces a route, of a key of which it may have one. The tunnels that may come or go are appended.

@@ -12,6 +12,7 @@ use indexmap::IndexMap;
 use label_defs::of_mldp::mldp_fec::Fec;
 use mv_base::NoMemory;
 use std::alloc::Global;
+use std::mem;
 
 /// An entry, and how many noted labels name its FEC.
 #[derive(Drop)]
@@ -61,9 +62,13 @@ pub(crate) fn take(slots: &mut Slots, alloc: Global, fec: &Fec) -> Slot
     ensures there { is_some (get is_fec slots.new fec.now) ≡ true }
     ensures unique { IsUnique is_fec slots.new }
 {
-    let idle = Slot::of(alloc, fec);
-    let own = slots.insert(*fec, idle).unwrap();
-    own.unwrap_or(Slot::of(alloc, fec))
+    match slots.get_mut(fec) {
+        Some(own) => mem::replace(own, Slot::of(alloc, fec)),
+        None => {
+            slots.insert(*fec, Slot::of(alloc, fec)).unwrap();
+            Slot::of(alloc, fec)
+        }
+    }
 }
 
 /// Puts the slot of the FEC back in its place, or drops it where nothing needs it.
@@ -74,8 +79,8 @@ pub(crate) fn give_back(slots: &mut Slots, fec: &Fec, slot: Slot)
 {
     if slot.is_idle() {
         slots.swap_remove(fec);
-    } else {
-        slots.insert(*fec, slot).unwrap();
+    } else if let Some(own) = slots.get_mut(fec) {
+        *own = slot;
     }
 }
 

@@ -17,7 +17,6 @@ mod exits;
 mod findings;
 mod judging;
 mod octets;
-mod packet;
 mod verdict;
 
 pub use verdict::audit;

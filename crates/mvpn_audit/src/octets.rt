@@ -3,7 +3,7 @@ ghost use Rattle.std.specs.Prelude.{◌≡◌, nat_eq, IfOk};
 ghost use Rattle.std.specs.Cmp.Lexicographic.{pointwise};
 ghost use Rattle.mvpn_audit.specs.Judging.{IsShort, octets_sent};
 
-use crate::packet::packet;
+use audit_events::of_audit_defs::of_mvpn_model::packet;
 use audit_events::of_mv_base::NoMemory;
 use audit_events::of_scenario_defs::Event;
 use std::alloc::Global;

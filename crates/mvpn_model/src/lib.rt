@@ -14,6 +14,7 @@
 mod active;
 mod history;
 mod message;
+mod packets;
 mod readiness;
 mod routing;
 mod session;
@@ -22,6 +23,7 @@ mod vpn;
 
 pub use history::{History, LineNumbers, asks, home, receivers};
 pub use message::{Given, customer_message, fault_word, message_of, own_addr};
+pub use packets::packet;
 pub use readiness::{UpEnd, unready};
 pub use routing::{home_among, local_routes};
 pub use session::Session;

@@ -11,7 +11,7 @@ ghost use Rattle.mvpn_tool.specs.declared.command.Output.TheVariants as outputs;
 
 use core_pcap::{CoreHop, write_hop};
 use mv_base::{Bytes, NoMemory, Seq};
-use network_events::packet;
+use mvpn_model::packet;
 use scenario_defs::{Event, ReportLine, Timed};
 use std::alloc::Global;
 

@@ -11,10 +11,10 @@ ghost use Rattle.network_events.specs.Datagrams.{Fits, IsRefusedFor, Makes, of_m
 ghost use Rattle.network_events.specs.Meeting.{IsGiven, IsReady, Meets};
 
 use crate::halt::{Halt, met};
-use crate::packets::packet;
 use crate::places::{edge_of_vrf, entered};
 use label_forwarding::{Datagram, PacketFault, read_packet};
 use mv_base::{Addr, NoMemory, NodeId, SiteId};
+use mvpn_model::packet;
 use network_acts::{Network, sessions_of};
 use scenario_defs::{FaultWord, Lines, Refusal};
 

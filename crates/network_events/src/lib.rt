@@ -18,7 +18,6 @@ mod dispatch;
 mod draining;
 mod halt;
 mod nodes;
-mod packets;
 mod places;
 mod selections;
 mod sessions;
@@ -30,5 +29,4 @@ pub use mldp_node::LdpNode;
 // The names `of_..`: words of lower crates that this crate's contracts are made of.
 pub use network_acts::{Edge, Pool, of_network_laws as of_network_laws};
 pub use once_laws as of_once_laws;
-pub use packets::packet;
 pub use world::World;

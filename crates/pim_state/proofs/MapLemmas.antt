@@ -1,5 +1,5 @@
 -- A list of entries with distinct keys, and the finite map of them.
-use Rattle.std.proofs.Common.{◌≡◌, ℕ, ◌+◌, ◌==◌, suc, Bool, true, false, cond, ◌&&◌, List, [], ◌∷◌, filter, length, None, Some, Result, Ok, Err, OnOk, OnErr, count_by, is_some, refl, sym, ap, subst, ◌∙◌, arith}
+use Rattle.std.proofs.Common.{◌≡◌, ℕ, ◌+◌, ◌==◌, suc, Bool, true, false, cond, ◌&&◌, List, [], ◌∷◌, filter, length, None, Some, count_by, is_some, refl, sym, ap, subst, ◌∙◌, arith}
 use Rattle.std.specs.List.{AllByRecursion, IsDistinct}
 use Rattle.std.specs.Ordering.{eq_by_cmp, is_eq}
 use Rattle.std.specs.declared.cmp.Ordering.TheVariants.{Less, Equal, Greater}
@@ -182,8 +182,3 @@ pub left-kept : (clock : ℕ) (es : List (IfaceEntry × Expiry)) → IsDistinct 
 left-kept clock es h = same_map entry_cmp_total entry_cmp_exact _ _ (λ q.
     get-lookup (left_at clock es) q ∙ (lookup-left clock q es h
     ∙ (ap (remaining clock) (sym (get-lookup es q)) ∙ sym (get-kept (from_entries es) clock q))))
-
--- what follows from either answer
-pub either : {X E P Q R : Type 0} (result : Result X E) → OnOk result P → OnErr result Q → (P → R) → (Q → R) → R
-either (Ok x) p q f g = f p
-either (Err e) p q f g = g q

@@ -8,17 +8,18 @@ ghost use Rattle.pim_defs.specs.Expiry.{is_after};
 ghost use Rattle.scenario_defs.specs.declared.event.JoinEntry.TheVariants as entries;
 ghost use Rattle.pim_defs.specs.Expiry.{counts};
 ghost use Rattle.pim_defs.specs.Entries.{applied, are_too_many, asks, due, expiry_at, kept_at};
+ghost use Rattle.pim_state.specs.Changes.{changed_by};
 ghost use Rattle.pim_state.specs.Plan.{is_at};
 
 use crate::arrival::Arrival;
-use crate::changes::{apply, count_after};
-use crate::index::{EntryIndex, key_of, listed, unlist_ended};
+use crate::changes::{Changes, count_after, count_kept};
+use crate::index::{EntryIndex, key_of, list_all, listed, unlist_ended, unlist_gone};
 use indexmap::IndexMap;
 use mv_base::{Addr, IfaceId, NoMemory};
 use pim_defs::{Expiry, counts};
 use pim_joinprune::JoinPrune;
 use scenario_defs::{IfaceEntry, JoinEntry};
-use std::alloc::Global;
+use std::alloc::{AllocError, Global};
 use std::marker::Model;
 
 /// The most entries of an edge.
@@ -39,6 +40,17 @@ impl From<NoMemory> for TakeFault {
     ghost from_gives = { λ fault result. result ≡ faults.NoMemory };
 
     fn from(_: NoMemory) -> Self {
+        TakeFault::NoMemory
+    }
+}
+
+impl From<AllocError> for TakeFault {
+    ghost use Rattle.std.specs.Prelude.{◌≡◌};
+    ghost use Rattle.pim_state.specs.declared.downstream.TakeFault.TheVariants as faults;
+
+    ghost from_gives = { λ fault result. result ≡ faults.NoMemory };
+
+    fn from(_: AllocError) -> Self {
         TakeFault::NoMemory
     }
 }
@@ -98,13 +110,39 @@ impl Downstream {
         ensures full { result ≡ Err TakeFault.Full → are_too_many (applied self.old iface message.now now) ≡ true }
         ensures unchanged { OnErr result (self.new ≡ self.old) }
     {
-        let arrival = Arrival::of(self.alloc, iface, message, now)?;
-        let changes = arrival.changes(self.alloc, &self.entries, &self.index)?;
+        let changes = self.changes(self.alloc, iface, message, now)?;
         if count_after(&self.entries, &changes) > ENTRY_LIMIT {
             return Err(TakeFault::Full);
         }
-        apply(&mut self.entries, &mut self.index, self.alloc, &changes)?;
+        self.entries.reserve(count_kept(&changes))?;
+        list_all(&mut self.index, self.alloc, &self.entries, &changes)?;
+        for (at, expiry) in changes.iter() {
+            match expiry {
+                Some(expiry) => {
+                    self.entries.insert(*at, *expiry).unwrap();
+                }
+                None => {
+                    self.entries.swap_remove(at);
+                }
+            }
+        }
+        unlist_gone(&mut self.index, &self.entries, &changes);
         Ok(())
+    }
+
+    /// What the message changes, where the interface takes it at the clock.
+    fn changes(
+        &self,
+        alloc: Global,
+        iface: IfaceId,
+        message: &JoinPrune,
+        now: u64,
+    ) -> Result<Changes, NoMemory>
+        requires { now < 2 ^ 63 }
+        ensures { IfOk result (λ changes. changed_by self.now changes.entries ≡ applied self.now iface message.now now) }
+    {
+        let arrival = Arrival::of(alloc, iface, message, now)?;
+        arrival.changes(alloc, &self.entries, &self.index)
     }
 
     /// How many entries would stand behind the message.
@@ -118,8 +156,7 @@ impl Downstream {
         requires { now < 2 ^ 63 }
         ensures { IfOk result (λ count. count ≡ len (applied self.now iface message.now now)) }
     {
-        let arrival = Arrival::of(alloc, iface, message, now)?;
-        let changes = arrival.changes(alloc, &self.entries, &self.index)?;
+        let changes = self.changes(alloc, iface, message, now)?;
         u32::try_from(count_after(&self.entries, &changes)).map_err(|_| NoMemory)
     }
 

@@ -2,7 +2,8 @@
 //! entries of its interfaces goes out, and whether an interface asks for a flow. `Downstream` (`downstream.rt`) has the
 //! entries in a map in order of insertion, at most 1,024, and a contract sees the finite map of `pim_defs`.
 //! `arrival.rt` has what a message joins and prunes, and the plan of what becomes of each entry that it may change;
-//! `changes.rt` makes the planned changes, with the memory first, so that a message is taken whole or not at all.
+//! `changes.rt` counts the planned changes, and `take` makes them, with the memory first, so that a message is taken
+//! whole or not at all.
 //! `index.rt` lists each entry by what it is looked for by: joins (S,G) by source and group, joins (*,G) by the group,
 //! prunes (S,G,rpt) by the group alone (`entry_set.rt` has one such list). `specs/Plan.antt`, `Changes.antt` and
 //! `Index.antt` say the same in words, and `Codes` what the model's value is in the code. A message is looked up and not

@@ -1,17 +1,55 @@
-use Rattle.std.proofs.Common.{rules, ◌≡◌, ◌≤◌, length, arith, ap}
+use Rattle.std.proofs.Common.{rules, ◌≡◌, ◌≤◌, ◌||◌, ◌&&◌, not, is_some, Bool, Option, length, arith, sym, ap, ◌∙◌, List}
+use Rattle.std.specs.List.{list_any}
 use Rattle.std.specs.FinMap.{from_entries, len}
+use Rattle.std.specs.Map.{keys_of, lookup}
+use Rattle.indexmap.specs.IndexMap.{get}
+use Rattle.scenario_defs.specs.declared.event.IfaceEntry.{IfaceEntry}
+use Rattle.pim_defs.specs.declared.expiry.Expiry.{Expiry}
 use Rattle.pim_defs.specs.Entries.{Entries, entry_cmp}
-use Rattle.pim_state.proofs.MapLemmas.{either, length-map}
+use Rattle.pim_state.specs.Changes.{changed_by, then_at}
+use Rattle.pim_state.specs.Index.{is_kept, is_listed}
+use Rattle.pim_state.specs.Plan.{is_at}
+use Rattle.pim_state.proofs.ChangesLemmas.{made-changes}
+use Rattle.pim_state.proofs.IndexLemmas.{changed-keys, then-exact}
+use Rattle.pim_state.proofs.MapLemmas.{length-map}
 use Rattle.pim_state.proofs.downstream.Downstream.take.Goals as goal
+
+pub list_all-requires : goal.list_all-requires
+list_all-requires c = λ at.
+    c.self.invariant.2 at ∙ ap (λ (es : List (IfaceEntry × Expiry)). is_some (lookup (is_at at) es)) (sym c.reserve.ensures.entries)
 
 pub invariant_of-self-2 : goal.invariant_of-self-2
 invariant_of-self-2 c =
+    let changes = c.in_ok-changes.changes.entries in
     let few : c.count_after.result ≤ 1024 = search rules in
-    let behind : len (from_entries {R = entry_cmp} c.apply.new.entries.entries) ≡ length c.apply.new.entries.entries =
-    length-map c.apply.new.entries.entries c.apply.ensures.unique in (
-      c.apply.ensures.unique,
-      either c.apply.result c.apply.ensures.ok c.apply.ensures.err
-          (λ same. omega (arith, few, behind, ap (λ (m : Entries). len m) same, c.count_after.ensures))
-          (λ same. omega (arith, c.self.invariant.1, ap length same)),
-      c.apply.ensures.exact,
+    let made : (at : IfaceEntry) → get is_at c.loop-at.self-inside.entries at ≡ then_at changes (get is_at c.reserve.new.self at) at =
+    λ at. search rules in
+    let all : from_entries {R = entry_cmp} c.loop-at.self-inside.entries.entries ≡ changed_by (from_entries c.self.inside.entries.entries) changes =
+    made-changes c.self.inside.entries.entries c.loop-at.self-inside.entries.entries changes (λ at.
+    made at ∙ ap (λ (es : List (IfaceEntry × Expiry)). then_at changes (lookup (is_at at) es) at) c.reserve.ensures.entries) in
+    let behind : len (from_entries {R = entry_cmp} c.loop-at.self-inside.entries.entries) ≡ length c.loop-at.self-inside.entries.entries =
+    length-map c.loop-at.self-inside.entries.entries c.loop-at.invariant.unique in (
+      c.loop-at.invariant.unique,
+      omega (arith, few, behind, ap (λ (m : Entries). len m) all, c.count_after.ensures),
+      (λ at.
+          let there = get is_at c.reserve.new.self at in
+          let own : is_listed c.self.inside.index at ≡ is_some there =
+          c.self.invariant.2 at ∙ ap (λ (es : List (IfaceEntry × Expiry)). is_some (lookup (is_at at) es)) (sym c.reserve.ensures.entries) in
+          c.unlist_gone.ensures at
+          ∙ ((λ i. is_listed (c.loop-at.invariant.index i) at
+          && (not (list_any (λ own. is_at own at) (keys_of changes)) || is_some (made at i)))
+          ∙ (then-exact changes there at (is_listed c.list_all.new.index at) _
+          (c.in_ok-list_all.ensures.each at ∙ ap (λ (b : Bool). b || is_kept changes at) own)
+          (changed-keys changes at)
+          ∙ ap (λ (o : Option Expiry). is_some o) (sym (made at))))),
     )
+
+pub returns-clause-taken : goal.returns-clause-taken
+returns-clause-taken c =
+    let changes = c.in_ok-changes.changes.entries in
+    let made : (at : IfaceEntry) → get is_at c.loop-at.self-inside.entries at ≡ then_at changes (get is_at c.reserve.new.self at) at =
+    λ at. search rules in
+    let all : from_entries {R = entry_cmp} c.loop-at.self-inside.entries.entries ≡ changed_by (from_entries c.self.inside.entries.entries) changes =
+    made-changes c.self.inside.entries.entries c.loop-at.self-inside.entries.entries changes (λ at.
+    made at ∙ ap (λ (es : List (IfaceEntry × Expiry)). then_at changes (lookup (is_at at) es) at) c.reserve.ensures.entries) in
+    all ∙ (ap (λ (m : Entries). changed_by m changes) c.self.view_is ∙ c.in_ok-changes.ensures)

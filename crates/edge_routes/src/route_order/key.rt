@@ -153,7 +153,9 @@ fn compare_mcast(afi: Afi, own: &Route, other_afi: Afi, other: &Route) -> Orderi
     family.then(compare_routes(own, other))
 }
 
-/// The order of keys that have spellings.
+/// The order of keys that have spellings. A function of its own in the program too: most keys differ in their numbers, and a comparison
+/// of these alone is short enough to be a part of each search.
+#[inline(never)]
 fn compare_keys(own: &Key, other: &Key) -> Ordering
     requires own { IsWritableKey own.now }
     requires other { IsWritableKey other.now }
@@ -176,6 +178,7 @@ fn compare_keys(own: &Key, other: &Key) -> Ordering
 }
 
 /// The order of keys, by the numbers by which they are compared first, and then by the keys.
+#[inline(always)]
 pub(crate) fn compare_fronted(
     own: &Key,
     front: &[u64; 4],

@@ -4,6 +4,7 @@ pub mod RefreshTrees
 pub mod RefreshMade
 pub mod PeerTurns
 pub mod PeerKinds
+pub mod PeerWithout
 pub mod PeerSound
 pub mod PeerCalls
 pub mod PeerTaken

@@ -33,12 +33,13 @@ use Rattle.control_laws.proofs.PeersKept.{update_makes}
 use Rattle.control_laws.proofs.PeersMaps.{itself_by, one_by}
 use Rattle.control_laws.proofs.PeersParts.{Customers}
 use Rattle.edge_control.specs.Sound.{IsSingle, IsSound, kept_of}
-use Rattle.edge_control.specs.Taking.{coming, dropping, turned_all}
+use Rattle.edge_control.specs.Taking.{IsWithout, coming, dropping, turned_all}
 use Rattle.edge_control.proofs.SoundLemmas.{sound_between}
 use Rattle.edge_control.proofs.PeerCalls.{more_nodes, sound_with}
 use Rattle.edge_control.proofs.PeerKinds.{gone_map, put_map, with_back, with_split}
 use Rattle.edge_control.proofs.PeerTaken.{none_turned}
-use Rattle.edge_control.proofs.PeerTurns.{turned_each}
+use Rattle.edge_control.proofs.PeerTurns.{turned_alike, turned_each}
+use Rattle.edge_control.proofs.PeerWithout.{trees_without}
 
 -- ---- tables
 
@@ -215,18 +216,22 @@ module _ (kept : Kept) (sound : IsSound kept) (peer : NodeId) (key : Key) (writa
       abbrev without_it : Taken
       without_it = taken_change now with_it (Unreach key)
 
-      split_back : (core : Core) (own : OwnVrf) (tree : TreeData) → dropping kept.home core peer now key (Some anew) own tree
+      split_back : (core : Core) (own : OwnVrf) (tree : TreeData) → IsWithout peer key tree
+          → dropping kept.home core peer now key (Some anew) own tree
           ≡ dropping kept.home core peer now key (Some anew) own (coming kept.home core peer now key (Some anew) own tree)
-      split_back core own tree =
+      split_back core own tree without =
           sym (with_back (place_of kept.home core) own peer now now key (Some anew) tree)
           ∙ ap (tree_with (place_of kept.home core) own peer now key (Some anew) None)
-          (sym (with_split (place_of kept.home core) own peer now key (Some anew) tree))
+          (sym (with_split (place_of kept.home core) own peer now key (Some anew) tree without))
 
       went_made : MakesBetween (record kept { trees = trees; peers = maps.insert kept.peers peer without_it })
           (record (control_of kept) { peers = maps.insert kept.peers peer without_it })
       went_made = update_makes kept (sound_between kept sound) peer now trees taken (reach key value ∷ Unreach key ∷ []) up sound.spelled two_writable
           (λ core. are core
-          ∙ (λ i. turned_all (λ own tree. split_back core own tree i) owns kept.trees)
+          ∙ turned_alike (IsWithout peer key) (dropping kept.home core peer now key (Some anew))
+          (λ own tree. dropping kept.home core peer now key (Some anew) own (coming kept.home core peer now key (Some anew) own tree))
+          (split_back core) owns kept.trees
+          (trees_without kept sound peer key writable (ap (λ (o : Option Taken). o >>? λ table. maps.get table key) up ∙ none))
           ∙ ap (λ (o : Option TakenRoute). turned_all
           (λ own tree. dropping kept.home core peer now key o own (coming kept.home core peer now key (Some anew) own tree)) owns kept.trees)
           (sym there)

@@ -29,8 +29,8 @@ use Rattle.edge_defs.specs.Imported.{FlowRoute, ImportedSelective}
 use Rattle.edge_defs.specs.Place.{EdgePlace, OwnVrf}
 use Rattle.control_laws.specs.Peers.{active_of, actives_with, join_of, joined_with, learned_with, left_with, pattern_of, selective_with, selective_without}
 use Rattle.control_laws.specs.Peers.{told_active, told_join, told_selective, told_unicast, tree_with, tree_without, with_actives, with_joined, with_learned, with_selective}
-use Rattle.control_laws.proofs.PeersMaps.{join_exact, join_total}
-use Rattle.edge_control.specs.Taking.{more_actives, more_learned, tree_learning, tree_losing}
+use Rattle.control_laws.proofs.PeersMaps.{join_exact, join_total, one_by}
+use Rattle.edge_control.specs.Taking.{IsWithout, more_actives, more_learned, tree_learning, tree_losing}
 
 -- What is at a key counts for nothing where another value is put there, or where the key is removed.
 module _ {K X : Type 0} {R : K → K → Ordering} (total : IsTotalOrder R) (exact : IsAntisymmetric R) (m : FinMap R X) (k : K) where
@@ -52,14 +52,13 @@ module _ {K X : Type 0} {R : K → K → Ordering} (total : IsTotalOrder R) (exa
       by true o = refl
       by false o = refl
 
-  twice_map : maps.remove (maps.remove m k) k ≡ maps.remove m k
-  twice_map = maps.same_map total exact (maps.remove (maps.remove m k) k) (maps.remove m k)
-      (λ q. maps.get-remove total (maps.remove m k) k q ∙ ap (cond (eq_by_cmp R q k) None) (maps.get-remove total m k q)
-      ∙ by (eq_by_cmp R q k) (maps.get m q) ∙ sym (maps.get-remove total m k q))
+  -- a key that is not there may be removed
+  absent_map : maps.get m k ≡ None → maps.remove m k ≡ m
+  absent_map none = maps.same_map total exact (maps.remove m k) m (λ q. maps.get-remove total m k q ∙ by q (eq_by_cmp R q k) refl)
     where
-      by : (b : Bool) (o : Option X) → cond b None (cond b None o) ≡ cond b None o
-      by true o = refl
-      by false o = refl
+      by : (q : K) (b : Bool) → eq_by_cmp R q k ≡ b → cond b None (maps.get m q) ≡ maps.get m q
+      by q true e = sym none ∙ ap (maps.get m) (sym (one_by R exact q k e))
+      by q false e = refl
 
 module _ {K : Type 0} {R : K → K → Ordering} (total : IsTotalOrder R) (exact : IsAntisymmetric R) (s : FinSet R) (k : K) where
   put_set : sets.insert (sets.remove s k) k ≡ sets.insert s k
@@ -80,52 +79,50 @@ module _ {K : Type 0} {R : K → K → Ordering} (total : IsTotalOrder R) (exact
       by true o = refl
       by false o = refl
 
-  twice_set : sets.remove (sets.remove s k) k ≡ sets.remove s k
-  twice_set = sets.same_set total exact (sets.remove (sets.remove s k) k) (sets.remove s k)
-      (λ q. sets.contains-remove total (sets.remove s k) k q ∙ ap (λ b. not (eq_by_cmp R q k) && b) (sets.contains-remove total s k q)
-      ∙ by (eq_by_cmp R q k) (sets.contains s q) ∙ sym (sets.contains-remove total s k q))
+  absent_set : sets.contains s k ≡ false → sets.remove s k ≡ s
+  absent_set none = sets.same_set total exact (sets.remove s k) s (λ q. sets.contains-remove total s k q ∙ by q (eq_by_cmp R q k) refl)
     where
-      by : (b o : Bool) → (not b && (not b && o)) ≡ (not b && o)
-      by true o = refl
-      by false o = refl
+      by : (q : K) (b : Bool) → eq_by_cmp R q k ≡ b → (not b && sets.contains s q) ≡ sets.contains s q
+      by q true e = sym none ∙ ap (sets.contains s) (sym (one_by R exact q k e))
+      by q false e = refl
 
 -- ---- a route that comes where there was none
 
 learned_split : (key : RouteKey) (told : Option Held) (learned : FinMap unicast_order.key_cmp Held)
-    → learned_with key told learned ≡ more_learned key told learned
-learned_split key None learned = refl
-learned_split key (Some held) learned = put_map unicast_order.key_total unicast_lemmas.key_exact learned key held
+    → maps.get learned key ≡ None → learned_with key told learned ≡ more_learned key told learned
+learned_split key None learned none = absent_map unicast_order.key_total unicast_lemmas.key_exact learned key none
+learned_split key (Some held) learned none = put_map unicast_order.key_total unicast_lemmas.key_exact learned key held
 
 actives_split : (route : ActiveRoute) (told : Option FlowRoute) (actives : FinSet active_cmp)
-    → actives_with route told actives ≡ more_actives route told actives
-actives_split route None actives = refl
-actives_split route (Some flow) actives = put_set active_total active_exact actives route
+    → sets.contains actives route ≡ false → actives_with route told actives ≡ more_actives route told actives
+actives_split route None actives none = absent_set active_total active_exact actives route none
+actives_split route (Some flow) actives none = put_set active_total active_exact actives route
 
 pub with_split : (place : EdgePlace) (own : OwnVrf) (peer : NodeId) (now : ℕ) (key : Key) (new : Option TakenRoute) (tree : TreeData)
-    → tree_with place own peer now key None new tree ≡ tree_learning place own peer now key new tree
-with_split place own peer now (Unicast rd prefix) new tree =
-    ap (λ next. with_learned next tree) (learned_split (key_from peer rd prefix) (told_unicast place own peer new) tree.vrf.routes.learned)
-with_split place own peer now (Mcast afi (routes.Active rd source group)) new tree =
+    → IsWithout peer key tree → tree_with place own peer now key None new tree ≡ tree_learning place own peer now key new tree
+with_split place own peer now (Unicast rd prefix) new tree none =
+    ap (λ next. with_learned next tree) (learned_split (key_from peer rd prefix) (told_unicast place own peer new) tree.vrf.routes.learned none)
+with_split place own peer now (Mcast afi (routes.Active rd source group)) new tree none =
     ap (λ next. with_actives next tree) (actives_split (active_of peer rd source group)
-    (told_active own (Mcast afi (routes.Active rd source group)) new) tree.vrf.actives)
-with_split place own peer now (Mcast afi (routes.SourceJoin rd source_as source group)) new tree = refl
-with_split place own peer now (Mcast afi (routes.Selective rd source group originator)) new tree = refl
-with_split place own peer now (Mcast afi (routes.Intra rd originator)) new tree = refl
-with_split place own peer now (Mcast afi (routes.Inter rd source_as)) new tree = refl
-with_split place own peer now (Mcast afi (routes.Leaf leaf originator)) new tree = refl
-with_split place own peer now (Mcast afi (routes.SharedJoin rd source_as source group)) new tree = refl
-with_split place own peer now (Mcast afi (routes.Other kind octets)) new tree = refl
+    (told_active own (Mcast afi (routes.Active rd source group)) new) tree.vrf.actives none)
+with_split place own peer now (Mcast afi (routes.SourceJoin rd source_as source group)) new tree none = refl
+with_split place own peer now (Mcast afi (routes.Selective rd source group originator)) new tree none = refl
+with_split place own peer now (Mcast afi (routes.Intra rd originator)) new tree none = refl
+with_split place own peer now (Mcast afi (routes.Inter rd source_as)) new tree none = refl
+with_split place own peer now (Mcast afi (routes.Leaf leaf originator)) new tree none = refl
+with_split place own peer now (Mcast afi (routes.SharedJoin rd source_as source group)) new tree none = refl
+with_split place own peer now (Mcast afi (routes.Other kind octets)) new tree none = refl
 
 -- ---- a route that came and goes
 
 learned_back : (key : RouteKey) (told : Option Held) (learned : FinMap unicast_order.key_cmp Held)
     → maps.remove (more_learned key told learned) key ≡ maps.remove learned key
-learned_back key None learned = twice_map unicast_order.key_total unicast_lemmas.key_exact learned key
+learned_back key None learned = refl
 learned_back key (Some held) learned = gone_map unicast_order.key_total unicast_lemmas.key_exact learned key held
 
 actives_back : (route : ActiveRoute) (told : Option FlowRoute) (actives : FinSet active_cmp)
     → sets.remove (more_actives route told actives) route ≡ sets.remove actives route
-actives_back route None actives = twice_set active_total active_exact actives route
+actives_back route None actives = refl
 actives_back route (Some flow) actives = gone_set active_total active_exact actives route
 
 joined_back : (peer : NodeId) (told : Option FlowRoute) (joined : FinSet join_cmp)

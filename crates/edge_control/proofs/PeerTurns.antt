@@ -66,6 +66,15 @@ turned_back second first same (suc n) [] trees = refl
 turned_back second first same (suc n) (own ∷ owns) [] = refl
 turned_back second first same (suc n) (own ∷ owns) (tree ∷ trees) = λ i. same own tree i ∷ turned_back second first same n owns trees i
 
+-- two changes that are the same of each tree of which something holds
+pub turned_alike : (P : TreeData → Type 0) (one other : OwnVrf → TreeData → TreeData)
+    → ((own : OwnVrf) (tree : TreeData) → P tree → one own tree ≡ other own tree)
+    → (owns : List OwnVrf) (trees : List TreeData) → AllByRecursion P trees → turned_all one owns trees ≡ turned_all other owns trees
+turned_alike P one other same [] trees h = refl
+turned_alike P one other same (own ∷ owns) [] h = refl
+turned_alike P one other same (own ∷ owns) (tree ∷ trees) h =
+    λ i. same own tree h.0 i ∷ turned_alike P one other same owns trees h.1 i
+
 -- what each change keeps holds of each tree after them
 pub turned_each : (P : TreeData → Type 0) (change : OwnVrf → TreeData → TreeData) → ((own : OwnVrf) (tree : TreeData) → P tree → P (change own tree))
     → (owns : List OwnVrf) (trees : List TreeData) → AllByRecursion P trees → AllByRecursion P (turned_all change owns trees)

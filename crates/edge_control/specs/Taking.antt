@@ -1,5 +1,5 @@
 -- What the tree of a VRF makes of a route of a peer that is there no more, and of one that is there anew.
-use Rattle.std.specs.Prelude.{◌≡◌, ℕ, zero, suc, List, [], ◌∷◌, map, Option, None, Some}
+use Rattle.std.specs.Prelude.{◌≡◌, ℕ, false, zero, suc, List, [], ◌∷◌, map, Option, None, Some}
 use Rattle.std.specs.FinMap as maps
 use Rattle.std.specs.FinMap.{FinMap}
 use Rattle.std.specs.FinSet as sets
@@ -42,15 +42,21 @@ Says None None = Unit {0}
 Says (Some value) (Some taken) = taken.value ≡ value_of value
 Says value taken = ⊥
 
--- the learned routes of a VRF with this one where it keeps it, and else without one of the key
+-- the learned routes of a VRF, which has none of the key, with this one where it keeps it
 abbrev pub more_learned : RouteKey → Option Held → FinMap unicast_order.key_cmp Held → FinMap unicast_order.key_cmp Held
-more_learned key None learned = maps.remove learned key
+more_learned key None learned = learned
 more_learned key (Some held) learned = maps.insert learned key held
 
 -- and its Source Active routes
 abbrev pub more_actives : ActiveRoute → Option FlowRoute → FinSet active_cmp → FinSet active_cmp
-more_actives route None actives = sets.remove actives route
+more_actives route None actives = actives
 more_actives route (Some flow) actives = sets.insert actives route
+
+-- The tree has no unicast route, and no Source Active route, of the key of the peer.
+abbrev pub IsWithout : NodeId → Key → TreeData → Type 0
+IsWithout peer (Unicast rd prefix) tree = maps.get tree.vrf.routes.learned (key_from peer rd prefix) ≡ None
+IsWithout peer (Mcast afi (routes.Active rd source group)) tree = sets.contains tree.vrf.actives (active_of peer rd source group) ≡ false
+IsWithout peer key tree = Unit {0}
 
 -- What the tree becomes where a route comes to a key at which there was none, by the kind of the key.
 abbrev pub tree_learning : EdgePlace → OwnVrf → NodeId → ℕ → Key → Option TakenRoute → TreeData → TreeData

@@ -162,10 +162,7 @@ fn learn_unicast(
     ensures unchanged { OnErr result (tree.new ≡ tree.old) }
 {
     match told {
-        None => {
-            tree.umh_forget(peer, rd, prefix);
-            Ok(())
-        }
+        None => Ok(()),
         Some(route) => tree.umh_learn(peer, route),
     }
 }
@@ -183,10 +180,7 @@ fn learn_active(
     ensures unchanged { OnErr result (tree.new ≡ tree.old) }
 {
     match told {
-        None => {
-            tree.forget_active(peer, rd, source, group);
-            Ok(())
-        }
+        None => Ok(()),
         Some(_) => tree.learn_active(peer, rd, source, group),
     }
 }

@@ -1,6 +1,7 @@
 //! Routes that peers withdraw and announce (RFC 4271 section 9.2).
 ghost use Rattle.std.specs.Prelude.{◌≡◌, ◌<◌, ℕ, None, true, length, is_some, OnOk, OnErr};
 ghost use Rattle.std.specs.FinMap as maps;
+ghost use Rattle.std.specs.List.{AllByRecursion};
 ghost use Rattle.bgp_messages.specs.declared.bgp_attributes.update.Change.TheVariants.{Unreach};
 ghost use Rattle.bgp_messages.specs.bgp_update.Written.{IsWritableKey};
 ghost use Rattle.mv_base.specs.core_walks.Core.{Core};
@@ -10,7 +11,7 @@ ghost use Rattle.edge_tables.specs.taken_tables.Routes.{handed};
 ghost use Rattle.edge_tables.specs.taken_tables.Tables.{changed_at, is_news, reach, route_at};
 ghost use Rattle.control_laws.specs.Control.{control_of};
 ghost use Rattle.edge_control.specs.Sound.{wants_of};
-ghost use Rattle.edge_control.specs.Taking.{coming, dropping, turned_all};
+ghost use Rattle.edge_control.specs.Taking.{IsWithout, coming, dropping, turned_all};
 
 use crate::control::EdgeControl;
 use crate::each::{forget_in, learn_or_forget};
@@ -72,6 +73,7 @@ fn learn_said(
 ) -> Result<(), NoMemory>
     requires each { length trees.old.items ≡ length (vrfs_from home.now.me 0 home.now.scenario.vrfs) }
     requires known { is_some (maps.get taken.now peer) ≡ true → peer.0 < length home.now.scenario.nodes }
+    requires without { AllByRecursion (IsWithout peer key.now) trees.old.items }
     ensures learned { OnOk result ((core : Core) → trees.new.items ≡ turned_all
         (coming home.now core peer now key.now (route_at taken.now peer key.now))
         (vrfs_from home.now.me 0 home.now.scenario.vrfs) trees.old.items) }

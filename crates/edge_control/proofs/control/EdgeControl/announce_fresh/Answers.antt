@@ -12,11 +12,19 @@ use Rattle.edge_control.specs.Places.{vrfs_of}
 use Rattle.edge_control.specs.Taking.{coming, dropping, turned_all}
 use Rattle.edge_control.proofs.PeerSound.{as_many}
 use Rattle.edge_control.proofs.PeerAnnounced.{came, table_back, went}
+use Rattle.edge_control.proofs.PeerWithout.{trees_without}
 use Rattle.control_laws.proofs.Parts.{no_core}
 use Rattle.control_laws.proofs.PeersChange.{change_leaves}
 use Rattle.edge_routes.specs.edge_home.Home.{place_of}
 use Rattle.edge_control.proofs.WantLemmas.{turned_wants}
 use Rattle.edge_control.proofs.control.EdgeControl.announce_fresh.Goals as goal
+
+pub learn_said-requires-clause-without : goal.learn_said-requires-clause-without
+learn_said-requires-clause-without c =
+    let kept : Kept = kept_of c.self.inside.home c.self.inside.trees.items c.self.inside.taken in
+    let none : route_at kept.peers c.args.peer c.args.key.now ≡ None =
+    ap (λ (k : Kept). route_at k.peers c.args.peer c.args.key.now) c.self.view_is ∙ c.requires.fresh in
+    trees_without kept c.self.invariant c.args.peer c.args.key.now c.spelled.ensures none
 
 pub invariant_of-self-in-Ok-learn_said : goal.invariant_of-self-in-Ok-learn_said
 invariant_of-self-in-Ok-learn_said c =

@@ -21,7 +21,8 @@ use selective::LeafTunnels;
 use std::alloc::Global;
 use vrf_flows::VrfFlows;
 
-/// Brings the flows and what they want up to date. Where nothing is stale that is seen at once. After want of memory nothing is known of these; all else is as it was.
+/// Brings the flows and what they want up to date. Where nothing is stale that is seen at once. After want of memory nothing is known
+/// of these; all else is as it was.
 pub(crate) fn refresh(
     alloc: Global,
     flows: &mut VrfFlows,

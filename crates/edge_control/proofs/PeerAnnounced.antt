@@ -1,5 +1,5 @@
 -- What an edge keeps after a route that a peer announces.
-use Rattle.std.proofs.Common.{◌≡◌, ℕ, not, Bool, true, false, cond, inl, inr, List, [], ◌∷◌, length, is_some, Option, Some, None, refl, sym, ap, subst, ◌∙◌}
+use Rattle.std.proofs.Common.{◌≡◌, ℕ, not, Bool, true, false, cond, inl, inr, List, [], ◌∷◌, is_some, Option, Some, None, refl, sym, ap, subst, ◌∙◌}
 use Rattle.std.specs.Ordering.{eq_by_cmp}
 use Rattle.std.specs.FinMap as maps
 use Rattle.std.specs.FinMap.{FinMap}
@@ -20,7 +20,7 @@ use Rattle.edge_defs.specs.Keys.{Value, key_cmp, same_value}
 use Rattle.edge_defs.proofs.KeyLemmas.{key_exact, key_total}
 use Rattle.edge_defs.specs.Place.{OwnVrf, vrfs_from}
 use Rattle.edge_defs.specs.Steps.{learned, taken_change}
-use Rattle.edge_routes.specs.edge_home.Home.{place_of}
+use Rattle.edge_routes.specs.edge_home.Home.{Home, place_of}
 use Rattle.edge_tables.specs.taken_tables.Tables.{changed_at, is_news, reach, route_at}
 use Rattle.edge_tables.proofs.taken_tables.MapLemmas.{put_itself}
 use Rattle.control_laws.specs.Between.{MakesBetween}
@@ -33,12 +33,11 @@ use Rattle.control_laws.proofs.PeersKept.{update_makes}
 use Rattle.control_laws.proofs.PeersMaps.{itself_by, one_by}
 use Rattle.control_laws.proofs.PeersParts.{Customers}
 use Rattle.edge_control.specs.Sound.{IsSingle, IsSound, kept_of}
-use Rattle.edge_control.specs.Taking.{IsWithout, coming, dropping, turned_all}
+use Rattle.edge_control.specs.Taking.{IsWithout, coming, dropping, learning, route_of, turned_all}
 use Rattle.edge_control.proofs.SoundLemmas.{sound_between}
 use Rattle.edge_control.proofs.PeerCalls.{more_nodes, sound_with}
 use Rattle.edge_control.proofs.PeerKinds.{gone_map, put_map, with_back, with_split}
-use Rattle.edge_control.proofs.PeerTaken.{none_turned}
-use Rattle.edge_control.proofs.PeerTurns.{turned_alike, turned_each}
+use Rattle.edge_control.proofs.PeerTurns.{turned_again, turned_alike, turned_each}
 use Rattle.edge_control.proofs.PeerWithout.{trees_without}
 
 -- ---- tables
@@ -144,17 +143,6 @@ module _ (tables : FinMap node_cmp Taken) (peer : NodeId) (key : Key) (value : V
   pub none_left : route_at (changed_at peer unreached tables) peer key ≡ None
   none_left = left_of (maps.get tables peer) refl
 
-  back_of : (o : Option Taken) → maps.get tables peer ≡ o → route_in o ≡ None → changed_at peer unreached (behind reached o) ≡ tables
-  back_of None up none = ap (behind unreached) up
-  back_of (Some taken) up none =
-      changed_put tables peer unreached (reached taken)
-      ∙ ap (maps.insert tables peer) (absent taken key (learned now value (maps.get taken key)) none)
-      ∙ put_itself node_cmp_total node_cmp_exact tables peer taken up
-
-  -- one that comes where there was none, and goes
-  pub table_back : route_at tables peer key ≡ None → changed_at peer unreached (changed_at peer reached tables) ≡ tables
-  table_back = back_of (maps.get tables peer) refl
-
 -- ---- trees
 
 module _ (kept : Kept) (sound : IsSound kept) (peer : NodeId) (key : Key) (writable : IsWritableKey key) (value : Value) (now : ℕ)
@@ -185,9 +173,6 @@ module _ (kept : Kept) (sound : IsSound kept) (peer : NodeId) (key : Key) (writa
 
     there : maps.get with_it key ≡ Some anew
     there = own_route taken key (learned now value (maps.get taken key)) ∙ ap (λ (o : Option TakenRoute). Some (learned now value o)) none
-
-    at_peer : route_at (maps.insert kept.peers peer with_it) peer key ≡ Some anew
-    at_peer = ap (λ (o : Option Taken). o >>? λ table. maps.get table key) (own_table kept.peers peer with_it) ∙ there
 
     module _ (are : (core : Core) → trees ≡ turned_all (coming kept.home core peer now key (Some anew)) owns kept.trees) where
       came_made : MakesBetween (record kept { trees = trees; peers = maps.insert kept.peers peer with_it })
@@ -256,15 +241,6 @@ module _ (kept : Kept) (sound : IsSound kept) (peer : NodeId) (key : Key) (writa
           (record (control_of kept) { peers = tables })) as_before went_made in
           (sound_with kept sound trees kept.peers made went_single sound.spelled sound.peers, made.is)
 
-  -- the trees stay as they are
-  stay : trees ≡ kept.trees → Ends kept.peers
-  stay same =
-      subst (λ (xs : List TreeData). IsSound (kept_of kept.home xs kept.peers)
-      × (control_of (kept_of kept.home xs kept.peers) ≡ record (control_of kept) { peers = kept.peers })) (sym same) (sound, refl)
-
-  abbrev route_of : Option Taken → Option TakenRoute
-  route_of o = o >>? λ taken. maps.get taken key
-
   abbrev tables_of : Option Taken → FinMap node_cmp Taken
   tables_of o =
       elim o as (λ x. FinMap node_cmp Taken) [
@@ -273,37 +249,51 @@ module _ (kept : Kept) (sound : IsSound kept) (peer : NodeId) (key : Key) (writa
             maps.insert kept.peers peer (taken_change now taken (reach key value))
       ]
 
-  came_of : (o : Option Taken) → maps.get kept.peers peer ≡ o → route_of o ≡ None → length kept.trees ≡ length owns
-      → ((core : Core) → trees ≡ turned_all (coming kept.home core peer now key (route_at (tables_of o) peer key)) owns kept.trees)
-      → Ends (tables_of o)
-  came_of None up none many are =
-      stay (are no_core ∙ ap (λ (r : Option TakenRoute). turned_all (coming kept.home no_core peer now key r) owns kept.trees) (ap route_of up)
-      ∙ none_turned owns kept.trees many)
-  came_of (Some taken) up none many are =
-      came_ends taken up none (λ core. are core ∙ ap (λ (r : Option TakenRoute). turned_all (coming kept.home core peer now key r) owns kept.trees)
-      (at_peer taken up none))
+  module _ (none : route_at kept.peers peer key ≡ None) where
+    pub as_coming : (core : Core) → turned_all (learning kept.home core peer now key (Some anew)) owns kept.trees
+        ≡ turned_all (coming kept.home core peer now key (Some anew)) owns kept.trees
+    as_coming core =
+        turned_alike (IsWithout peer key) (learning kept.home core peer now key (Some anew)) (coming kept.home core peer now key (Some anew))
+        (λ own tree without. sym (with_split (place_of kept.home core) own peer now key (Some anew) tree without)) owns kept.trees
+        (trees_without kept sound peer key writable none)
 
-  went_of : (o : Option Taken) → maps.get kept.peers peer ≡ o → route_of o ≡ None → length kept.trees ≡ length owns
-      → ((core : Core) → trees ≡ turned_all (dropping kept.home core peer now key (route_at (tables_of o) peer key)) owns kept.trees)
-      → Ends kept.peers
-  went_of None up none many are =
-      stay (are no_core ∙ ap (λ (r : Option TakenRoute). turned_all (dropping kept.home no_core peer now key r) owns kept.trees) (ap route_of up)
-      ∙ none_turned owns kept.trees many)
-  went_of (Some taken) up none many are =
-      went_ends taken up none (λ core. are core ∙ ap (λ (r : Option TakenRoute). turned_all (dropping kept.home core peer now key r) owns kept.trees)
-      (at_peer taken up none))
+    came_of : (o : Option Taken) → maps.get kept.peers peer ≡ o → is_some o ≡ true → (o >>? λ taken. maps.get taken key) ≡ None
+        → ((core : Core) → trees ≡ turned_all (coming kept.home core peer now key (Some anew)) owns kept.trees) → Ends (tables_of o)
+    came_of None at up absent are = absurd (let bad : false ≡ true = up in cc)
+    came_of (Some taken) at up absent are = came_ends taken at absent are
 
-  module _ (none : route_at kept.peers peer key ≡ None) (many : length kept.trees ≡ length owns) where
-    -- the trees took the route that the table has anew
-    pub came : ((core : Core) → trees ≡ turned_all
-        (coming kept.home core peer now key (route_at (changed_at peer (λ taken. taken_change now taken (reach key value)) kept.peers) peer key)) owns
-        kept.trees)
-        → Ends (changed_at peer (λ taken. taken_change now taken (reach key value)) kept.peers)
-    came = came_of (maps.get kept.peers peer) refl none many
+    went_of : (o : Option Taken) → maps.get kept.peers peer ≡ o → is_some o ≡ true → (o >>? λ taken. maps.get taken key) ≡ None
+        → ((core : Core) → trees ≡ turned_all (dropping kept.home core peer now key (Some anew)) owns kept.trees) → Ends kept.peers
+    went_of None at up absent are = absurd (let bad : false ≡ true = up in cc)
+    went_of (Some taken) at up absent are = went_ends taken at absent are
 
-    -- and they forgot it
-    pub went : ((core : Core) → trees ≡ turned_all
-        (dropping kept.home core peer now key (route_at (changed_at peer (λ taken. taken_change now taken (reach key value)) kept.peers) peer key))
-        owns kept.trees)
-        → Ends kept.peers
-    went = went_of (maps.get kept.peers peer) refl none many
+    -- the peer's session is up
+    module _ (up : maps.contains_key kept.peers peer ≡ true) where
+      -- the trees took the route that the table takes
+      pub came : ((core : Core) → trees ≡ turned_all (learning kept.home core peer now key (Some anew)) owns kept.trees)
+          → Ends (changed_at peer (λ taken. taken_change now taken (reach key value)) kept.peers)
+      came are = came_of (maps.get kept.peers peer) refl up none (λ core. are core ∙ as_coming core)
+
+      -- they forgot it
+      pub went : ((core : Core) → trees ≡ turned_all (dropping kept.home core peer now key (Some anew)) owns kept.trees) → Ends kept.peers
+      went are = went_of (maps.get kept.peers peer) refl up none are
+
+-- they took it and forgot it
+pub forgot : (home : Home) (core : Core) (peer : NodeId) (key : Key) (value : Value) (now : ℕ) (owns : List OwnVrf) (old between trees : List TreeData)
+    → between ≡ turned_all (learning home core peer now key (Some (route_of value now))) owns old
+    → trees ≡ turned_all (dropping home core peer now key (Some (route_of value now))) owns between
+    → trees ≡ turned_all (dropping home core peer now key (Some (route_of value now))) owns old
+forgot home core peer key value now owns old between trees took went =
+    went ∙ ap (turned_all (dropping home core peer now key (Some (route_of value now))) owns) took
+    ∙ turned_again (dropping home core peer now key (Some (route_of value now))) (learning home core peer now key (Some (route_of value now)))
+    (λ own tree. with_back (place_of home core) own peer now now key (Some (route_of value now)) tree) owns old
+
+-- where the session is down nothing is taken
+pub table_down : (tables : FinMap node_cmp Taken) (peer : NodeId) (change : Taken → Taken) → maps.contains_key tables peer ≡ false
+    → changed_at peer change tables ≡ tables
+table_down tables peer change down = by (maps.get tables peer) down
+  where
+    by : (o : Option Taken) → is_some o ≡ false
+        → elim o as (λ x. FinMap node_cmp Taken) [ None ↦ tables | Some taken ↦ maps.insert tables peer (change taken) ] ≡ tables
+    by None e = refl
+    by (Some taken) e = absurd (let bad : true ≡ false = e in cc)

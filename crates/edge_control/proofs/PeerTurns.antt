@@ -48,6 +48,14 @@ turned_end change (suc n) (own ∷ owns) [] le same = refl
 turned_end change (suc n) (own ∷ owns) (tree ∷ trees) le same =
     ap (λ xs. change own tree ∷ xs) (turned_end change n owns trees (omega (arith, le)) (omega (arith, same)))
 
+-- there are as many as before
+pub all_length : (change : OwnVrf → TreeData → TreeData) (owns : List OwnVrf) (trees : List TreeData) → length trees ≡ length owns
+    → length (turned_all change owns trees) ≡ length owns
+all_length change [] trees same = refl
+all_length change (own ∷ owns) [] same = same
+all_length change (own ∷ owns) (tree ∷ trees) same =
+    ap suc (all_length change owns trees (let next : length trees ≡ length owns = omega (arith, same) in next))
+
 -- a place that is set to what is there
 pub set_itself : {A : Type 0} (xs : List A) (i : ℕ) (d : A) → d ≡ get_or xs i d → set xs i d ≡ xs
 set_itself [] i d is = refl
@@ -65,6 +73,13 @@ turned_back second first same zero owns trees = refl
 turned_back second first same (suc n) [] trees = refl
 turned_back second first same (suc n) (own ∷ owns) [] = refl
 turned_back second first same (suc n) (own ∷ owns) (tree ∷ trees) = λ i. same own tree i ∷ turned_back second first same n owns trees i
+
+-- and where it came before to all of them
+pub turned_again : (second first : OwnVrf → TreeData → TreeData) → ((own : OwnVrf) (tree : TreeData) → second own (first own tree) ≡ second own tree)
+    → (owns : List OwnVrf) (trees : List TreeData) → turned_all second owns (turned_all first owns trees) ≡ turned_all second owns trees
+turned_again second first same [] trees = refl
+turned_again second first same (own ∷ owns) [] = refl
+turned_again second first same (own ∷ owns) (tree ∷ trees) = λ i. same own tree i ∷ turned_again second first same owns trees i
 
 -- two changes that are the same of each tree of which something holds
 pub turned_alike : (P : TreeData → Type 0) (one other : OwnVrf → TreeData → TreeData)

@@ -19,6 +19,7 @@ use Rattle.vrf_words.specs.tree_defs.Keys.{active_cmp}
 use Rattle.vrf_words.specs.tree_defs.Trees.{TreeData}
 use Rattle.edge_defs.specs.Edge.{Taken, TakenRoute}
 use Rattle.edge_defs.specs.Imported.{FlowRoute}
+use Rattle.edge_defs.specs.Keys.{Value}
 use Rattle.edge_defs.specs.Place.{EdgePlace, OwnVrf, addr_of}
 use Rattle.edge_routes.specs.edge_home.Home.{Home, place_of}
 use Rattle.edge_routes.specs.declared.edge_home.own_vrf.OwnVrf as homes
@@ -73,6 +74,10 @@ tree_learning place own peer now (Mcast afi (routes.Selective rd source group or
     (selective_with peer now (told_selective place own peer (Mcast afi (routes.Selective rd source group originator)) new) tree.leaf.routes)
     tree
 tree_learning place own peer now key new tree = tree
+
+-- a route of that value that is taken at the clock
+abbrev pub route_of : Value → ℕ → TakenRoute
+route_of value now = record { value = value; since = now; run = false }
 
 -- ---- all trees
 

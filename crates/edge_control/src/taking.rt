@@ -1,7 +1,6 @@
 //! Routes that peers withdraw and announce (RFC 4271 section 9.2).
-ghost use Rattle.std.specs.Prelude.{◌≡◌, ◌<◌, ℕ, None, true, length, is_some, OnOk, OnErr};
+ghost use Rattle.std.specs.Prelude.{◌≡◌, ◌<◌, ℕ, None, Some, true, length, is_some, OnOk, OnErr};
 ghost use Rattle.std.specs.FinMap as maps;
-ghost use Rattle.std.specs.List.{AllByRecursion};
 ghost use Rattle.bgp_messages.specs.declared.bgp_attributes.update.Change.TheVariants.{Unreach};
 ghost use Rattle.bgp_messages.specs.bgp_update.Written.{IsWritableKey};
 ghost use Rattle.mv_base.specs.core_walks.Core.{Core};
@@ -11,7 +10,7 @@ ghost use Rattle.edge_tables.specs.taken_tables.Routes.{handed};
 ghost use Rattle.edge_tables.specs.taken_tables.Tables.{changed_at, is_news, reach, route_at};
 ghost use Rattle.control_laws.specs.Control.{control_of};
 ghost use Rattle.edge_control.specs.Sound.{wants_of};
-ghost use Rattle.edge_control.specs.Taking.{IsWithout, coming, dropping, turned_all};
+ghost use Rattle.edge_control.specs.Taking.{dropping, learning, route_of, turned_all};
 
 use crate::control::EdgeControl;
 use crate::each::{forget_in, learn_or_forget};
@@ -61,33 +60,45 @@ fn spelled(key: &TakenKey)
     let _key = key.key();
 }
 
-/// The trees take what their VRFs use of the route of the key, where the peer's table has one, and there was none before. Where
-/// memory runs out, they forget it again.
+/// The trees take what their VRFs use of a route of that value at the key, where there was none. Where memory runs out, they forget
+/// it again.
 fn learn_said(
     home: &EdgeHome,
     trees: &mut Vec<VrfTree>,
-    taken: &TakenTables,
     peer: NodeId,
     key: &TakenKey,
+    value: &RouteValue,
     now: u64,
 ) -> Result<(), NoMemory>
     requires each { length trees.old.items ≡ length (vrfs_from home.now.me 0 home.now.scenario.vrfs) }
-    requires known { is_some (maps.get taken.now peer) ≡ true → peer.0 < length home.now.scenario.nodes }
-    requires without { AllByRecursion (IsWithout peer key.now) trees.old.items }
+    requires known { peer.0 < length home.now.scenario.nodes }
     ensures learned { OnOk result ((core : Core) → trees.new.items ≡ turned_all
-        (coming home.now core peer now key.now (route_at taken.now peer key.now))
+        (learning home.now core peer now key.now (Some (route_of (handed value.now) now)))
         (vrfs_from home.now.me 0 home.now.scenario.vrfs) trees.old.items) }
     ensures forgot { OnErr result ((core : Core) → trees.new.items ≡ turned_all
-        (dropping home.now core peer now key.now (route_at taken.now peer key.now))
+        (dropping home.now core peer now key.now (Some (route_of (handed value.now) now)))
         (vrfs_from home.now.me 0 home.now.scenario.vrfs) trees.old.items) }
 {
-    match taken.get(peer, key) {
-        None => Ok(()),
-        Some(entry) => {
-            let addr = home.addr_of(peer);
-            learn_or_forget(home, trees, peer, addr, key.key(), Some(entry.value()), now)
-        }
-    }
+    let addr = home.addr_of(peer);
+    learn_or_forget(home, trees, peer, addr, key.key(), Some(value.lent()), now)
+}
+
+/// The trees forget it. It takes no memory.
+fn forget_said(
+    home: &EdgeHome,
+    trees: &mut Vec<VrfTree>,
+    peer: NodeId,
+    key: &TakenKey,
+    value: &RouteValue,
+)
+    requires each { length trees.old.items ≡ length (vrfs_from home.now.me 0 home.now.scenario.vrfs) }
+    requires known { peer.0 < length home.now.scenario.nodes }
+    ensures { (core : Core) (now : ℕ) → trees.new.items ≡ turned_all
+        (dropping home.now core peer now key.now (Some (route_of (handed value.now) now)))
+        (vrfs_from home.now.me 0 home.now.scenario.vrfs) trees.old.items }
+{
+    let addr = home.addr_of(peer);
+    forget_in(home, trees, peer, addr, key.key(), Some(value.lent()));
 }
 
 impl EdgeControl {
@@ -121,13 +132,16 @@ impl EdgeControl {
         ensures wants { wants_of self.new.trees ≡ wants_of self.old.trees }
     {
         spelled(key);
-        match self.taken.learn_new(peer, key, value, now) {
+        if !self.taken.is_up(peer) {
+            return Ok(());
+        }
+        match learn_said(&self.home, &mut self.trees, peer, key, &value, now) {
             Err(fault) => Err(fault),
-            Ok(()) => match learn_said(&self.home, &mut self.trees, &self.taken, peer, key, now) {
+            Ok(()) => match self.taken.learn_new(peer, key, value, now) {
                 Ok(()) => Ok(()),
-                Err(fault) => {
-                    self.taken.forget(peer, key);
-                    Err(fault)
+                Err(value) => {
+                    forget_said(&self.home, &mut self.trees, peer, key, &value);
+                    Err(NoMemory)
                 }
             },
         }

@@ -1,5 +1,5 @@
 //! The table that was taken from a peer.
-ghost use Rattle.std.specs.Prelude.{◌≡◌, OnOk, OnErr, if◌then◌else◌};
+ghost use Rattle.std.specs.Prelude.{◌≡◌, Some, IfErr, OnOk, OnErr, if◌then◌else◌};
 ghost use Rattle.std.specs.Option.{option_copied};
 ghost use Rattle.std.specs.Ordering.{eq_by_cmp};
 ghost use Rattle.std.specs.BTreeMap as tree;
@@ -12,7 +12,7 @@ ghost use Rattle.edge_tables.specs.rib_sync.Ribs.{rib_in};
 
 use mv_base::NoMemory;
 use mv_base::table_defs::Change;
-use std::alloc::Global;
+use std::alloc::{AllocFailed, Global};
 use std::collections::{BTreeMap, btree_map};
 use std::marker::Model;
 
@@ -57,6 +57,20 @@ fn make<K: Ord + Drop, V: Drop>(
     Ok(())
 }
 
+// Puts the value at the key of a map. Where there is no memory, it hands the value back.
+fn put_in<K: Ord + Drop, V: Drop>(map: &mut BTreeMap<K, V>, key: K, value: V) -> Result<(), V>
+    ensures put { OnOk result ((q : K) →
+        tree.get K.cmp map.new q ≡ (if eq_by_cmp K.cmp key q then Some value else tree.get K.cmp map.old q)) }
+    ensures returned { IfErr result (λ back. back ≡ value) }
+    ensures unchanged { OnErr result (IsUnchanged map.old map.new) }
+    ensures ordered { IsOrdered K.cmp map.new }
+{
+    match map.insert(key, value) {
+        Ok(_) => Ok(()),
+        Err(AllocFailed { value: (_, value) }) => Err(value),
+    }
+}
+
 impl<K: Ord + Drop, V: Drop> Inbox<K, V> {
     /// An empty inbox. It takes no memory.
     pub fn of(alloc: Global) -> Inbox<K, V>
@@ -74,6 +88,16 @@ impl<K: Ord + Drop, V: Drop> Inbox<K, V> {
         ensures unchanged { OnErr result (self.new ≡ self.old) }
     {
         make(&mut self.map, change)
+    }
+
+    /// Puts the value at the key. It hands the value back where there is no memory.
+    pub fn put(&mut self, key: K, value: V) -> Result<(), V>
+        requires { IsAntisymmetric K.cmp }
+        ensures put { OnOk result (rib_in K.cmp self.new ≡ map.insert (rib_in K.cmp self.old) key value) }
+        ensures returned { IfErr result (λ back. back ≡ value) }
+        ensures unchanged { OnErr result (self.new ≡ self.old) }
+    {
+        put_in(&mut self.map, key, value)
     }
 
     /// Takes out the entry at the key. It takes no memory.

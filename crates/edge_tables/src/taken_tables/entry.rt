@@ -71,6 +71,18 @@ impl TakenEntry {
         self.value.lent()
     }
 
+    /// What the route says, taken out.
+    pub(crate) fn into_value(self) -> RouteValue
+        ensures { handed result ≡ self.value }
+    {
+        let TakenEntry {
+            value,
+            since: _,
+            run: _,
+        } = self;
+        value
+    }
+
     /// The clock at which the route was learned.
     pub fn since(&self) -> u64
         ensures { result ≡ self.now.since }

@@ -1,5 +1,5 @@
 //! What a table takes of the routes that its peer announces.
-ghost use Rattle.std.specs.Prelude.{◌≡◌, None, not, IfOk, OnOk, OnErr};
+ghost use Rattle.std.specs.Prelude.{◌≡◌, None, not, IfErr, IfOk, OnOk, OnErr};
 ghost use Rattle.std.specs.FinMap as maps;
 ghost use Rattle.bgp_messages.specs.bgp_update.Written.{HasOctets};
 ghost use Rattle.edge_defs.specs.Steps.{taken_change};
@@ -60,18 +60,22 @@ pub(crate) fn learn(
     Ok(true)
 }
 
-/// Takes the route at the clock, where the table has none of its key.
+/// Takes the route at the clock, where the table has none of its key. It hands the value back where there is no memory.
 pub(crate) fn learn_new(
     table: &mut TakenTable,
     key: &TakenKey,
     value: RouteValue,
     now: u64,
-) -> Result<(), NoMemory>
+) -> Result<(), RouteValue>
     requires new { maps.get (taken_in table.old) key.now ≡ None }
     ensures learned { OnOk result (taken_in table.new ≡ taken_change now (taken_in table.old) (reach key.now (handed value))) }
     ensures spelled { IsSpelledKey key.now }
+    ensures returned { IfErr result (λ back. handed back ≡ handed value) }
     ensures unchanged { OnErr result (table.new ≡ table.old) }
 {
     spelled(key);
-    table.put(key, TakenEntry::of(value, now))
+    match table.put_or_back(key, TakenEntry::of(value, now)) {
+        Ok(()) => Ok(()),
+        Err(entry) => Err(entry.into_value()),
+    }
 }

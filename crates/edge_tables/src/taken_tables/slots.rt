@@ -1,5 +1,5 @@
 //! The table of one peer among all.
-ghost use Rattle.std.specs.Prelude.{◌≡◌, ℕ, None, IfOk, OnOk, OnErr};
+ghost use Rattle.std.specs.Prelude.{◌≡◌, ℕ, None, IfErr, IfOk, OnOk, OnErr};
 ghost use Rattle.bgp_messages.specs.declared.bgp_attributes.update.Change.TheVariants.{Unreach};
 ghost use Rattle.edge_defs.specs.Steps.{taken_change};
 ghost use Rattle.edge_tables.specs.taken_tables.Routes.{handed};
@@ -36,15 +36,17 @@ pub(crate) fn learn_from(
     }
 }
 
-/// Takes the route from the peer at the clock, where it has a table, which has none of its key.
+/// Takes the route from the peer at the clock, where it has a table, which has none of its key. It hands the value back where there is
+/// no memory.
 pub(crate) fn learn_new_from(
     slots: &mut Slots,
     peer: NodeId,
     key: &TakenKey,
     value: RouteValue,
     now: u64,
-) -> Result<(), NoMemory>
+) -> Result<(), RouteValue>
     requires new { route_at (tables_of slots.old.entries) peer key.now ≡ None }
+    ensures returned { IfErr result (λ back. handed back ≡ handed value) }
     ensures learned { OnOk result (tables_of slots.new.entries
         ≡ changed_at peer (λ taken. taken_change now taken (reach key.now (handed value))) (tables_of slots.old.entries)) }
     ensures unchanged { OnErr result (tables_of slots.new.entries ≡ tables_of slots.old.entries) }

@@ -1,5 +1,5 @@
 //! The table of one peer.
-ghost use Rattle.std.specs.Prelude.{◌≡◌, OnOk, OnErr};
+ghost use Rattle.std.specs.Prelude.{◌≡◌, IfErr, OnOk, OnErr};
 ghost use Rattle.std.specs.Option.{option_copied};
 ghost use Rattle.std.specs.FinMap as maps;
 ghost use Rattle.edge_tables.specs.taken_tables.Running.{node_run, table_run};
@@ -10,7 +10,6 @@ use crate::taken_tables::entry::TakenEntry;
 use crate::taken_tables::running::{TakenRoutes, any_awaits, awaits_with, run_routes};
 use edge_routes::LocalVrf;
 use edge_routes::route_order::TakenKey;
-use mv_base::table_defs::Change;
 use mv_base::{Addr, NoMemory, NodeId};
 use scenario_defs::Node;
 use std::alloc::Global;
@@ -60,16 +59,21 @@ impl TakenTable {
         self.routes.iter()
     }
 
-    /// Puts the route of the key, which is the table's own.
+    /// Puts the route of the key, which is the table's own. It hands the route back where there is no memory.
     #[tactic(auto, using(edge_defs::proofs::KeyLemmas::key_exact))]
-    fn put_own(&mut self, key: TakenKey, entry: TakenEntry) -> Result<(), NoMemory>
+    fn put_own(&mut self, key: TakenKey, entry: TakenEntry) -> Result<(), TakenEntry>
         ensures put { OnOk result (taken_in self.new ≡ maps.insert (taken_in self.old) key entry) }
+        ensures returned { IfErr result (λ back. back ≡ entry) }
         ensures unchanged { OnErr result (self.new ≡ self.old) }
     {
         let waits = awaits_with(self.waits, &key, &entry);
-        self.routes.apply(Change::Reach(key, entry))?;
-        self.waits = waits;
-        Ok(())
+        match self.routes.put(key, entry) {
+            Ok(()) => {
+                self.waits = waits;
+                Ok(())
+            }
+            Err(entry) => Err(entry),
+        }
     }
 
     /// Puts the route of the key.
@@ -78,7 +82,26 @@ impl TakenTable {
         ensures unchanged { OnErr result (self.new ≡ self.old) }
     {
         let own = key.share()?;
-        self.put_own(own, entry)
+        match self.put_own(own, entry) {
+            Ok(()) => Ok(()),
+            Err(_) => Err(NoMemory),
+        }
+    }
+
+    /// The same, but that it hands the route back where there is no memory.
+    pub(crate) fn put_or_back(
+        &mut self,
+        key: &TakenKey,
+        entry: TakenEntry,
+    ) -> Result<(), TakenEntry>
+        ensures put { OnOk result (taken_in self.new ≡ maps.insert (taken_in self.old) key.now entry) }
+        ensures returned { IfErr result (λ back. back ≡ entry) }
+        ensures unchanged { OnErr result (self.new ≡ self.old) }
+    {
+        match key.share() {
+            Ok(own) => self.put_own(own, entry),
+            Err(_) => Err(entry),
+        }
     }
 
     /// Takes out the route of the key. It takes no memory.

@@ -1,5 +1,5 @@
 //! The tables of all peers.
-ghost use Rattle.std.specs.Prelude.{◌≡◌, ℕ, None, true, is_some, option_map, IfOk, OnOk, OnErr};
+ghost use Rattle.std.specs.Prelude.{◌≡◌, ℕ, None, true, is_some, option_map, IfErr, IfOk, OnOk, OnErr};
 ghost use Rattle.std.specs.Option.{option_copied};
 ghost use Rattle.std.specs.FinMap as maps;
 ghost use Rattle.edge_defs.specs.Edge.{Taken};
@@ -98,17 +98,19 @@ impl TakenTables {
         learn_from(&mut self.slots, peer, key, value, now)
     }
 
-    /// Takes a route of a key of which the peer has none, at the clock, where the end of the session is up.
+    /// Takes a route of a key of which the peer has none, at the clock, where the end of the session is up. It hands the value back
+    /// where there is no memory.
     pub fn learn_new(
         &mut self,
         peer: NodeId,
         key: &TakenKey,
         value: RouteValue,
         now: u64,
-    ) -> Result<(), NoMemory>
+    ) -> Result<(), RouteValue>
         requires new { route_at self.old peer key.now ≡ None }
         ensures learned { OnOk result (
             self.new ≡ changed_at peer (λ taken. taken_change now taken (reach key.now (handed value))) self.old) }
+        ensures returned { IfErr result (λ back. handed back ≡ handed value) }
         ensures unchanged { OnErr result (self.new ≡ self.old) }
     {
         learn_new_from(&mut self.slots, peer, key, value, now)

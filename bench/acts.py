@@ -20,6 +20,7 @@ from reference.script import read
 PEERS = range(1, 32)
 CORE = 32
 FLOWS = 255
+FEW_FLOWS = 25
 IN_A_TURN = 1000
 RAISED, HELD, DELAYED = 5, 8, 12
 
@@ -160,6 +161,12 @@ def thousand_entries(edge):
         yield edge.pim(number // FLOWS, wanted_flow(number % FLOWS), True)
 
 
+def hundred_entries(edge):
+    """Each of 25 flows is joined at four interfaces."""
+    for number in range(4 * FEW_FLOWS):
+        yield edge.pim(number // FEW_FLOWS, wanted_flow(number % FEW_FLOWS), True)
+
+
 def two_entries(edge):
     """The flow of the own site is joined at two interfaces."""
     yield edge.pim(0, OWN_FLOW, True)
@@ -168,11 +175,21 @@ def two_entries(edge):
 
 # ---- what is measured, in turns of a thousand acts; what is handed out besides does not count
 
-def joins(edge):
-    """Flows are pruned and joined at one interface. Others want them still, so no peer is sent anything."""
+def joins_among(edge, flows):
+    """Flows, of so many, are pruned and joined at one interface. Others want them still, so no peer is sent anything."""
     for number in range(IN_A_TURN // 2):
         for is_join in (False, True):
-            yield edge.pim(0, wanted_flow(number % FLOWS), is_join)
+            yield edge.pim(0, wanted_flow(number % flows), is_join)
+
+
+def joins(edge):
+    """Those of all flows."""
+    return joins_among(edge, FLOWS)
+
+
+def few_joins(edge):
+    """Those of the flows of `hundred_entries`."""
+    return joins_among(edge, FEW_FLOWS)
 
 
 def told_joins(edge):

@@ -50,6 +50,7 @@ ENTERS = [('enters', acts.enters, 1000)]
 EDGES = [
     ('8,247 routes, 1,023 entries', (5, 88), acts.thousand_entries, CALLS),
     ('1,086 routes, 1,023 entries', (5, 11), acts.thousand_entries, CALLS),
+    ('1,086 routes, 100 entries', (5, 11), acts.hundred_entries, [('joins', acts.few_joins, 100)]),
     ('8,247 routes, 3 interfaces', (2, 88), acts.two_entries, ENTERS),
     ('8,247 routes, 256 interfaces', (255, 88), acts.two_entries, ENTERS),
 ]

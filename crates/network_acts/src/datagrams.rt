@@ -86,7 +86,14 @@ impl Network {
             Ok(packet) => {
                 let plane = &self.plane;
                 let node = plane.node(to);
-                let fate = node.arrive(alloc, from, landed.label, &packet, plane.clock, &plane.core)?;
+                let fate = node.arrive(
+                    alloc,
+                    from,
+                    landed.label,
+                    &packet,
+                    plane.clock,
+                    &plane.core,
+                )?;
                 Ok(with_ttl(alloc, landed.ttl, fate))
             }
             Err(_) => unreachable!(),

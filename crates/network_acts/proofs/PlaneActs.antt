@@ -29,7 +29,7 @@ use Rattle.data_plane.specs.datagram_acts.DatagramsView.{DatagramsView}
 use Rattle.data_plane.specs.datagram_acts.Stored.{IsIdle}
 use Rattle.network_acts.specs.Acting.{ActsAs, Made, Passes, PassesAs}
 use Rattle.network_acts.specs.Customers.{CustomerActsAs}
-use Rattle.network_acts.specs.Instant.{Any, Instant, IsSome, IsWorld, OfPlane, standing_of}
+use Rattle.network_acts.specs.Instant.{Instant, IsSome, IsWorld, OfPlane, standing_of}
 use Rattle.network_acts.specs.NetworkView.{NetworkView}
 
 -- ---- which world it is
@@ -59,9 +59,10 @@ world_behind at moment network own plane is now = record {
 pub some_plane : (Fits : Standing → Type 0) (own old : NetworkView) → own ≡ old → IsSome (OfPlane Fits) old → planes.IsSome Fits own.plane
 some_plane Fits own old same (at, fits, is) = (standing_of at, fits, (subst (IsWorld at) (sym same) is).plane)
 
--- and is of the network's scenario
-pub some_of : (own old : NetworkView) → own ≡ old → IsSome Any old → planes.IsSome (passing.IsOf own.scenario) own.plane
-some_of own old same (at, fits, is) = let now = subst (IsWorld at) (sym same) is in (standing_of at, sym now.scenario, now.plane)
+-- and so has the plane as the call has it
+pub some_here : (Fits : Standing → Type 0) (own old : NetworkView) → own ≡ old → (plane : PlaneView) → plane ≡ own.plane
+    → IsSome (OfPlane Fits) old → planes.IsSome Fits plane
+some_here Fits own old same plane seen some = subst (planes.IsSome Fits) (sym seen) (some_plane Fits own old same some)
 
 pub own_is : (own old : NetworkView) → own ≡ old → (at : Instant) → IsWorld at old → IsWorld at own
 own_is own old same at is = subst (IsWorld at) (sym same) is

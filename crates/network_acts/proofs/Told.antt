@@ -42,7 +42,7 @@ exact most count counted n same below is = omega (arith, same, below, is)
 
 pub tells : (own old : NetworkView) → own ≡ old → (all : List Session) → all ≡ sessions old.scenario
     → (octets copies live due due_told waiting waiting_told : ℕ) (lines new_lines : List ReportLine)
-    → ((at : Standing) → IsIn at own.plane → octets ≡ octets_in_transit (without_copies at.network))
+    → ((at : Instant) → IsWorld at old → octets ≡ octets_in_transit at.world)
     → ((world : World) → IsIdle world own.datagrams → AreLinked world → copies ≡ length (all_copies world))
     → ((world : World) → IsIdle world own.datagrams → AreLinked world → live ≡ datagrams_with_copy (all_copies world) (length world.datagrams))
     → ((at : Standing) → IsIn at own.plane → due ≡ min (sum_by (node_due at.network.state) (all_nodes at.scenario)) 18446744073709551615)
@@ -70,6 +70,6 @@ tells own old same all are octets copies live due due_told waiting waiting_told 
       stands = is;
       told =
           pushed
-          ∙ (λ i. lines ++ told.State (total standing now.plane i) (on at.world now.datagrams linked i) (with_copy at.world now.datagrams linked i)
+          ∙ (λ i. lines ++ told.State (total at is i) (on at.world now.datagrams linked i) (with_copy at.world now.datagrams linked i)
           (late i) (open_ i) ∷ []);
     }

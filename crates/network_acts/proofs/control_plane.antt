@@ -6,18 +6,18 @@ mod RestLemmas
 mod SteadyLemmas
 mod MidLemmas
 pub mod OwnLemmas
-mod FollowLemmas
+pub mod FollowLemmas
 pub mod CustomerLemmas
 mod HandLemmas
-mod NetworkLemmas
+pub mod NetworkLemmas
 mod StartLemmas
 mod DataLemmas
 mod MoveLemmas
-mod MoveActs
-mod BeginLemmas
+pub mod MoveActs
+pub mod BeginLemmas
 pub mod EndLemmas
-mod NoticeLemmas
-mod RaiseLemmas
+pub mod NoticeLemmas
+pub mod RaiseLemmas
 mod QueryLemmas
 pub mod DatagramLemmas
-mod TotalLemmas
+pub mod TotalLemmas

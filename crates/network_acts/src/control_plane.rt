@@ -3,11 +3,9 @@
 mod calls;
 mod customers;
 mod handing;
-mod network;
 mod octets;
 mod plane;
 mod queries;
-mod sessions;
 mod start;
 
 pub use customers::Verdict;

@@ -58,7 +58,9 @@ impl Network {
             IsHandling at (length at.world.datagrams) own self.old → Enters at vrf own lines.old lines.new self.new) }
     {
         let alloc = lines.alloc();
-        let fate = self.plane.enter(alloc, vrf, n, site, datagram)?;
+        let plane = &self.plane;
+        let node = plane.node(n);
+        let fate = node.enter(alloc, vrf, site, datagram, plane.clock, &plane.core)?;
         self.datagrams.enter(
             n,
             datagram.bytes(),
@@ -82,7 +84,16 @@ impl Network {
     {
         match read_packet(self.datagrams.octets()) {
             Ok(packet) => {
-                let fate = self.plane.arrive(alloc, to, from, landed.label, &packet)?;
+                let plane = &self.plane;
+                let node = plane.node(to);
+                let fate = node.arrive(
+                    alloc,
+                    from,
+                    landed.label,
+                    &packet,
+                    plane.clock,
+                    &plane.core,
+                )?;
                 Ok(with_ttl(alloc, landed.ttl, fate))
             }
             Err(_) => unreachable!(),

@@ -6,9 +6,10 @@
 //! for which there may be no room, `Enters` that of a datagram at a VRF; `Words` hands on the words of the crates
 //! below. The proofs join two crates by their contracts alone: `PlaneActs` has that a change of nodes and sessions
 //! leaves the datagrams as they are, `CopyActs` that a change of copies leaves the plane as it is. `control_plane`: the
-//! nodes and the octets in transit between them (RFC 4271, RFC 5036, RFC 6513). An act of a node is its own call, and
-//! then `hand_out` hands out over its directions what it put, with a line for each that has octets; the network stays
-//! steady. A `Moment` says which nodes have not acted on the present costs, and which end is to come up next. Below it
+//! nodes and the octets in transit between them (RFC 4271, RFC 5036, RFC 6513). An act of a node is its own call, made
+//! by the `Network`, and then `settle` of the plane has it hand out over its directions what it put, with a line for
+//! each that has octets; the network stays steady, and `Acts` says in proofs what that makes of the whole act. A
+//! `Moment` says which nodes have not acted on the present costs, and which end is to come up next. Below it
 //! are `network_nodes`, `net_sessions` and `data_plane`; above it `network_events` makes the acts of each event.
 #![tactic(auto)]
 

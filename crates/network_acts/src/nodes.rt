@@ -9,7 +9,9 @@ ghost use Rattle.network_acts.specs.Instant.{Any, Instant, IsSome, IsWorld, OfPl
 use crate::network::Network;
 use mldp_node::NodeFault;
 use mv_base::{NoMemory, NodeId};
+use network_nodes::NetworkNode;
 use scenario_defs::Lines;
+use std::mem;
 
 impl Network {
     /// So many ticks pass, and copies that have been on their link for longer than they may are dropped. It takes no memory.
@@ -27,7 +29,9 @@ impl Network {
         requires network { IsSome (OfPlane (IsCurrent n)) self.old }
         ensures { ActsAs (OfPlane (IsCurrent n)) same_moment (Timers n) n self.old self.new lines.old lines.new result }
     {
-        self.plane.timers(n, lines)
+        let plane = &mut self.plane;
+        let answer = plane.nodes[usize::from(n.0)].timers(plane.clock, &plane.core);
+        plane.settle(n, answer, lines)
     }
 
     /// The link between the two nodes costs so much from now on. Each node has yet to act on it.
@@ -35,7 +39,8 @@ impl Network {
         requires cost { (1 ≤ cost) × (cost ≤ 65535) }
         ensures { PassesAs Any all_late (SetCost a b cost) self.old self.new result }
     {
-        self.plane.set_cost(a, b, cost)
+        let plane = &mut self.plane;
+        plane.core.set_cost(a, b, cost)
     }
 
     /// Node n acts on the present costs.
@@ -43,7 +48,9 @@ impl Network {
         requires network { IsSome (OfPlane (IsWithin n)) self.old }
         ensures { ActsAs (OfPlane (IsWithin n)) (with_current n) (Reroute n) n self.old self.new lines.old lines.new result }
     {
-        self.plane.reroute(n, lines)
+        let plane = &mut self.plane;
+        let answer = plane.nodes[usize::from(n.0)].rerouted(plane.clock, &plane.core);
+        plane.settle(n, answer, lines)
     }
 
     /// The node begins anew: its sessions are lost, and it has forgotten all that it knew but the costs of links.
@@ -52,6 +59,11 @@ impl Network {
         requires within { n.0 < length self.old.scenario.nodes }
         ensures { PassesAs Any same_moment (Restart n) self.old self.new result }
     {
-        self.plane.restart(&self.scenario, n)
+        let plane = &mut self.plane;
+        let node = NetworkNode::of(*plane.nodes.allocator(), &self.scenario, n)?;
+        let old = mem::replace(&mut plane.nodes[usize::from(n.0)], node);
+        old.close();
+        plane.transit.lose_all(n);
+        Ok(())
     }
 }

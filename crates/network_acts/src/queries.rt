@@ -31,21 +31,24 @@ impl Network {
     pub fn transit(&self, over: Direction) -> usize
         ensures { (at : Instant) → IsWorld at self.now → result ≡ length (at.world.network.transit over) }
     {
-        self.plane.waiting(over)
+        let plane = &self.plane;
+        plane.transit.waiting(over)
     }
 
     /// How many octets are in transit over all sessions of the network together.
     pub fn total(&self) -> u64
         ensures { (at : Instant) → IsWorld at self.now → result ≡ octets_in_transit at.world }
     {
-        self.plane.total()
+        let plane = &self.plane;
+        plane.transit.total()
     }
 
     /// Whether the session is joined, as the direction from the first node says it.
     pub fn is_joined(&self, kind: Kind, a: NodeId, b: NodeId) -> bool
         ensures { (at : Instant) → IsWorld at self.now → result ≡ at.world.network.joined (direction kind a b) }
     {
-        self.plane.is_joined(kind, a, b)
+        let plane = &self.plane;
+        plane.transit.is_joined(kind, a, b)
     }
 
     /// Whether node n's end of the session with the peer is up.
@@ -54,7 +57,7 @@ impl Network {
         ensures { (at : Instant) → IsWithin n (standing_of at) → IsWorld at self.now →
             result ≡ is_end_up kind (at.world.network.state.node n) peer }
     {
-        self.plane.is_up(kind, n, peer)
+        self.plane.node(n).is_up(kind, peer)
     }
 
     /// Whether the VRF, whose edge is node n, has selected the pattern.
@@ -63,7 +66,7 @@ impl Network {
         ensures { (at : Instant) → IsVrfEdge n vrf (standing_of at) → IsWorld at self.now →
             result ≡ maps.contains_key (control_at n (standing_of at)).selections (record { vrf = vrf; pattern = pattern }) }
     {
-        self.plane.is_selected(n, vrf, pattern)
+        self.plane.node(n).is_selected(vrf, pattern)
     }
 
     /// The node of that number, which is an edge.

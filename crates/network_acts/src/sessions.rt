@@ -1,4 +1,5 @@
-//! Acts on sessions: octets are moved, a session is lost, its loss is noticed, and its ends come up.
+//! Acts on sessions: octets are moved, a session is lost, its loss is noticed, and its ends come up (RFC 4271 sections 4 and 8, RFC 5036
+//! sections 2.5 and 3.1).
 ghost use Rattle.network_defs.specs.Acts as acts;
 ghost use Rattle.network_defs.specs.Counts.{direction};
 ghost use Rattle.network_acts.specs.control_plane.Acted.{same_moment};
@@ -14,7 +15,8 @@ use network_defs::session_defs::Direction;
 use scenario_defs::{Kind, Lines};
 
 impl Network {
-    /// The first so many octets in transit over the direction, or all where there are fewer, go to the receiver.
+    /// The first so many octets in transit over the direction, or all where there are fewer, go to the receiver, and the messages that are
+    /// whole then are taken.
     pub fn move_octets(
         &mut self,
         over: Direction,
@@ -25,17 +27,27 @@ impl Network {
         ensures { ActsAs (OfPlane (IsMovable over)) same_moment (acts.Move over.kind over.from over.to count) over.to
             self.old self.new lines.old lines.new result }
     {
-        self.plane.move_octets(over, count, lines)
+        let plane = &mut self.plane;
+        let bytes = plane.transit.take(over, count)?;
+        let answer = plane.nodes[usize::from(over.to.0)].take(
+            over.kind,
+            over.from,
+            bytes.as_slice(),
+            plane.clock,
+            &plane.core,
+        );
+        plane.settle_taken(over, bytes, answer, lines)
     }
 
     /// The session is lost, and what was in transit there is gone. It takes no memory.
     pub fn lose(&mut self, kind: Kind, a: NodeId, b: NodeId)
         ensures { (at : Instant) → IsWorld at self.old → Passes at at.moment (acts.Lose kind a b) self.new }
     {
-        self.plane.lose(kind, a, b);
+        let plane = &mut self.plane;
+        plane.transit.lose(kind, a, b);
     }
 
-    /// The end of node a of its session with b notices the loss.
+    /// The end of node a of its session with b notices the loss: what it holds back of the session's stream is forgotten.
     pub fn notice(
         &mut self,
         kind: Kind,
@@ -46,10 +58,12 @@ impl Network {
         requires network { IsSome (OfPlane (IsLost kind a b)) self.old }
         ensures { ActsAs (OfPlane (IsLost kind a b)) same_moment (acts.Notice kind a b) a self.old self.new lines.old lines.new result }
     {
-        self.plane.notice(kind, a, b, lines)
+        let plane = &mut self.plane;
+        let answer = plane.nodes[usize::from(a.0)].noticed(kind, b, plane.clock, &plane.core);
+        plane.settle(a, answer, lines)
     }
 
-    /// The session of a and b is joined, and the end of a comes up.
+    /// The session of a and b is joined, with nothing in transit there, and the end of a comes up.
     pub fn raise_first(
         &mut self,
         kind: Kind,
@@ -61,7 +75,10 @@ impl Network {
         ensures { ActsAs (OfPlane (IsDown kind a b)) (with_rising kind a b) (acts.RaiseFirst kind a b) a
             self.old self.new lines.old lines.new result }
     {
-        self.plane.raise_first(kind, a, b, lines)
+        let plane = &mut self.plane;
+        plane.transit.join(kind, a, b)?;
+        let answer = plane.nodes[usize::from(a.0)].raised(kind, b, plane.clock, &plane.core);
+        plane.settle(a, answer, lines)
     }
 
     /// The end of b of its session with a, which is joined, comes up too.
@@ -76,6 +93,8 @@ impl Network {
         ensures { ActsAs (OfPlane (IsHalfUp kind a b)) none_rising (acts.RaiseSecond kind a b) b
             self.old self.new lines.old lines.new result }
     {
-        self.plane.raise_second(kind, a, b, lines)
+        let plane = &mut self.plane;
+        let answer = plane.nodes[usize::from(b.0)].raised(kind, a, plane.clock, &plane.core);
+        plane.settle(b, answer, lines)
     }
 }

@@ -33,7 +33,7 @@ impl Network {
         let due = counted(self.plane.due())?;
         let unready = counted(self.plane.unready(sessions))?;
         lines.push(ReportLine::State {
-            bytes: self.plane.total(),
+            bytes: self.total(),
             copies: self.datagrams.copies(),
             buffers: self.datagrams.live() as u64,
             due,

@@ -3,25 +3,32 @@ use Rattle.std.proofs.Common.{◌≡◌, ◌∙◌, refl, sym, ap, subst, arith,
 use Rattle.std.specs.List.{list_any}
 use Rattle.std.proofs.lemmas.Option.{none-some, same_Some}
 use Rattle.mv_base.specs.Lists.{Among}
+use Rattle.mv_base.specs.core_walks.Topology.{Topology}
+use Rattle.mv_base.specs.declared.addr.Addr.{Addr}
 use Rattle.mv_base.specs.declared.ids.NodeId.{NodeId}
+use Rattle.mv_base.specs.declared.ids.SiteId.{SiteId}
 use Rattle.mv_base.specs.declared.ids.VrfId.{VrfId}
 use Rattle.scenario_defs.specs.Rules.{IsEdge, Rules}
 use Rattle.scenario_defs.proofs.RuleLemmas.{vrf_rules_at}
 use Rattle.scenario_defs.specs.declared.scenario.Node.{Node}
 use Rattle.scenario_defs.specs.declared.scenario.Scenario.{Scenario}
 use Rattle.scenario_defs.specs.declared.scenario.Vrf.{Vrf}
+use Rattle.edge_defs.specs.Datagrams.{entering_fate}
 use Rattle.edge_defs.specs.Edge.{EdgeData}
 use Rattle.edge_defs.specs.Place.{OwnVrf, own_vrfs, vrfs_from}
 use Rattle.network_nodes.specs.wire_laws.edge_routes.edge_home.Home.{Home}
 use Rattle.network_defs.specs.Nodes as world
-use Rattle.network_defs.specs.Nodes.{place_of}
+use Rattle.network_defs.specs.Nodes.{NodeState, Nodes, place_of}
+use Rattle.network_nodes.specs.Answers.{Stands}
 use Rattle.network_nodes.specs.Edges.{data_of}
-use Rattle.network_nodes.specs.NodeView.{HasVrf, IsPlacedAt, data_in}
+use Rattle.network_nodes.specs.NodeView.{HasVrf, IsPlacedAt, count_around, data_in, spent_in}
 use Rattle.network_nodes.specs.declared.node.NetworkNode.{NetworkNode}
 use Rattle.network_nodes.specs.declared.node.NetworkNode.TheVariants as nodes
-use Rattle.network_acts.specs.control_plane.Acted.{IsIn, IsSome, IsWithin, Standing}
+use Rattle.network_acts.specs.control_plane.Acted.{IsCurrent, IsIn, IsSome, IsWithin, Standing}
 use Rattle.network_acts.specs.control_plane.PlaneView.{PlaneView}
-use Rattle.network_acts.specs.control_plane.Queries.{IsEdgeOf, IsNodeThere}
+use Rattle.network_acts.specs.control_plane.Queries.{Fate, IsEdgeOf, IsFate, IsNodeThere, landing_fate}
+use Rattle.network_acts.proofs.control_plane.MidLemmas.{stands_in}
+use Rattle.network_acts.proofs.control_plane.OwnLemmas.{counted}
 use Rattle.network_acts.proofs.control_plane.QueryLemmas.{there}
 
 -- ---- the VRFs of an edge
@@ -103,3 +110,45 @@ module _ (n : NodeId) (vrf : VrfId) (plane : PlaneView) where
   own_here at own is =
       own_among n 0 vrf.0 at.network.state.scenario.vrfs own.vrf vrf
       (ap (λ (s : Scenario). slice_get s.vrfs vrf.0) is.around.scenario_is ∙ own.stands) own.edge (omega arith)
+
+-- ---- where datagrams go
+
+-- the node that stands there, as the caller has it
+module _ (n : NodeId) (plane seen : PlaneView) (view : plane ≡ seen) (node : NetworkNode)
+    (stands : (at : Standing) → IsWithin n at → IsIn at seen → IsNodeThere at n node) where
+  in_own : (at : Standing) → IsIn at seen → IsIn at plane
+  in_own at is = subst (IsIn at) (sym view) is
+
+  -- it knows a core of so many nodes
+  pub count_there : (Fits : Standing → Type 0) → ((at : Standing) → Fits at → IsWithin n at) → IsSome Fits seen
+      → plane.core.nodes ≡ count_around node
+  count_there Fits below (at, fits, is) =
+      let around = (in_own at is).around in
+      ap (λ (t : Topology). t.nodes) around.core
+      ∙ counted at.scenario n node (subst (λ (s : Scenario). IsPlacedAt s n node) around.scenario_is (stands at (below at fits) is).placed)
+
+  stands_now : (at : Standing) → IsCurrent n at → IsIn at seen → Stands at.network.state n plane.core plane.clock node
+  stands_now at current is =
+      let around = (in_own at is).around in
+      stands_in at.scenario at.cores at.moment n at.network plane node around (around.known n current.within current.current)
+      (stands at current.within is).placed
+
+  pub enters_there : (vrf : VrfId) (site : SiteId) (source group : Addr) (fate : Fate)
+      → ((network : Nodes) (m : NodeId) → Stands network m plane.core plane.clock node → (own : OwnVrf)
+      → Among own (own_vrfs (place_of network m)) → own.id ≡ vrf → (edge : EdgeData) → data_in node ≡ world.Edge edge
+      → IsFate (entering_fate (place_of network m) network.clock edge own site source group) fate)
+      → (at : Standing) (own : IsEdgeOf vrf n at) → IsIn at seen → (edge : EdgeData) → at.network.state.node n ≡ world.Edge edge
+      → IsFate (entering_fate (place_of at.network.state n) at.network.state.clock edge (record { id = vrf; vrf = own.vrf }) site source group) fate
+  enters_there vrf site source group fate enters at own is edge e =
+      enters at.network.state n (stands_now at own.current is) (record { id = vrf; vrf = own.vrf }) (own_here n vrf plane at own (in_own at is)) refl
+      edge (sym (stands at own.current.within is).keeps ∙ e)
+
+  pub arrives_there : (from : NodeId) (label : ℕ) (source group : Addr) (fate : Fate)
+      → (spent_in node ≡ None → (network : Nodes) (m : NodeId) → Stands network m plane.core plane.clock node
+      → IsFate (landing_fate network m (data_in node) from label source group) fate)
+      → (at : Standing) → IsCurrent n at → IsIn at seen
+      → IsFate (landing_fate at.network.state n (at.network.state.node n) from label source group) fate
+  arrives_there from label source group fate arrives at current is =
+      let own = stands at current.within is in
+      subst (λ (s : NodeState). IsFate (landing_fate at.network.state n s from label source group) fate) (sym own.keeps)
+      (arrives own.unspent at.network.state n (stands_now at current is))

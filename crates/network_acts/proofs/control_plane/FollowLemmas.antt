@@ -1,5 +1,5 @@
 -- A node that acts on the present costs, as an act of the control plane.
-use Rattle.std.proofs.Common.{◌≡◌, ◌∙◌, refl, sym, subst, ◌<◌, ◌==◌, Bool, true, false, cond, List, [], ◌∷◌, ◌++◌, length, slice_get, Some, None, Result, Ok, Err, OnOk}
+use Rattle.std.proofs.Common.{◌≡◌, ◌∙◌, refl, sym, subst, ℕ, ◌<◌, ◌==◌, Bool, true, false, cond, List, [], ◌∷◌, ◌++◌, length, slice_get, slice_set, get_or, Some, None, Result, Ok, Err, OnOk}
 use Rattle.std.proofs.lemmas.Option.{same_Some}
 use Rattle.mv_base.specs.declared.ids.NodeId.{NodeId}
 use Rattle.mv_base.specs.core_walks.Core.{Core, IsCoreOf}
@@ -31,7 +31,7 @@ use Rattle.network_acts.specs.control_plane.Acted.{Acts, IsIn, IsSome, IsSomeMid
 use Rattle.network_acts.specs.control_plane.Plane.{HasNode, IsMidway, IsPlane, IsSteady, Moment}
 use Rattle.network_acts.specs.control_plane.PlaneView.{PlaneView}
 use Rattle.network_acts.proofs.control_plane.MidLemmas.{IsBase, turn_lacks, turn_made, worked}
-use Rattle.network_acts.proofs.control_plane.OwnLemmas.{turn_acts, turn_some}
+use Rattle.network_acts.proofs.control_plane.OwnLemmas.{node_here, turn_acts, turn_some}
 use Rattle.network_acts.proofs.control_plane.SteadyLemmas.{alone, call_streams, run_none, run_one, run_stays, steady_next, steady_stays}
 
 -- a node is the same where another one takes over the present costs
@@ -181,3 +181,29 @@ module _ (plane : PlaneView) (n : NodeId) (old node : NetworkNode) (place : slic
         (λ at fits is e. run_none at.network (octets.Call (Follow n))
         (follow_lacks_at at.scenario at.cores at.moment n at.network plane is fits node answer (answers_in at (is.nodes n fits)) waits e))
         new lines new_lines result (λ at. refl) settles
+
+-- the same of the node at a place of the plane, as the caller has it
+module _ (plane seen : PlaneView) (view : plane ≡ seen) (n : NodeId) (some : IsSome (IsWithin n) seen) (place : ℕ) (own : place ≡ n.0)
+    (old d node : NetworkNode) (is : old ≡ get_or plane.nodes place d) (answer : Result (Unit {0}) EdgeFault)
+    (answers : Answers plane.core plane.clock (after Rerouted) old node answer) (waits : OnOk answer (WaitsTowardRootsOf plane.core (labels_in node)))
+  where
+    some_own : IsSome (IsWithin n) plane
+    some_own = subst (IsSome (IsWithin n)) (sym view) some
+
+    stands_there : slice_get plane.nodes n.0 ≡ Some old
+    stands_there = node_here (IsWithin n) n (λ at fits. fits) plane some_own place own old d is
+
+    abbrev turned : ℕ → PlaneView
+    turned at = record plane { nodes = slice_set plane.nodes at node }
+
+    pub follow_midway : OnOk answer (IsSomeMidway n (turned place))
+    follow_midway =
+        subst (λ (k : ℕ). OnOk answer (IsSomeMidway n (turned k))) (sym own) (follow_some plane n old node stands_there answer answers waits some_own)
+
+    pub follow_done : (new : PlaneView) (lines new_lines : List ReportLine) (result : Result (Unit {0}) NodeFault)
+        → Settles n answer (turned place) new lines new_lines result
+        → Acts (IsWithin n) (with_current n) (octets.Call (Follow n) ∷ []) no_lines seen new lines new_lines result
+    follow_done new lines new_lines result settles =
+        subst (λ (p : PlaneView). Acts (IsWithin n) (with_current n) (octets.Call (Follow n) ∷ []) no_lines p new lines new_lines result) view
+        (follow_acts plane n old node stands_there answer answers waits new lines new_lines result
+        (subst (λ (k : ℕ). Settles n answer (turned k) new lines new_lines result) own settles))

@@ -1,5 +1,5 @@
 -- What the control plane leaves and writes where octets are moved.
-use Rattle.std.proofs.Common.{◌≡◌, ◌∙◌, sym, ap, subst, ℕ, true, List, [], ◌∷◌, ◌++◌, take, get_or, Some, Result, Ok, Err, OnOk}
+use Rattle.std.proofs.Common.{◌≡◌, ◌∙◌, sym, ap, subst, ℕ, true, List, [], ◌∷◌, ◌++◌, take, get_or, slice_set, Some, Result, Ok, Err, OnOk}
 use Rattle.std.proofs.lemmas.Option.{same_Some}
 use Rattle.scenario_defs.specs.declared.report.ReportLine.{ReportLine}
 use Rattle.scenario_defs.specs.declared.scenario.Scenario.{Scenario}
@@ -118,3 +118,35 @@ module _ (over : Direction) (count : ℕ) (plane : PlaneView) (some : IsSome (Is
             acted at at.moment (octets.Move over count ∷ []) (taken_line over count at) x.0 lines (lines ++ line_of over bytes ∷ []) new_lines new x.1
             (ap (λ (o : List ℕ). lines ++ line_of over o ∷ []) (bytes_in at is)) (made at.scenario at.cores at.moment x.0.puts x.0.network x.2)
         by (Err halt) answered made = tt
+
+-- the same of the node at a place of the plane, as the caller has it
+module _ (over : Direction) (count : ℕ) (plane seen : PlaneView) (view : plane ≡ seen) (some : IsSome (IsMovable over) seen) (place : ℕ)
+    (own : place ≡ over.to.0) (node d next : NetworkNode) (is_node : node ≡ get_or plane.nodes place d)
+    (transit : TransitData) (takes : Takes over count plane.transit transit) (bytes lent : List ℕ)
+    (are : bytes ≡ take count (octets_at plane.transit over)) (taken : lent ≡ bytes)
+    (answer : Result (Unit {0}) EdgeFault) (taking : AnswersOctets plane.core plane.clock over.kind over.from lent node next answer) where
+  some_own : IsSome (IsMovable over) plane
+  some_own = subst (IsSome (IsMovable over)) (sym view) some
+
+  answers : AnswersOctets plane.core plane.clock over.kind over.from bytes node next answer
+  answers = subst (λ (o : List ℕ). AnswersOctets plane.core plane.clock over.kind over.from o node next answer) taken taking
+
+  abbrev turned : ℕ → PlaneView
+  turned at = record plane { nodes = slice_set plane.nodes at next; transit = transit }
+
+  pub moved_midway : OnOk answer (IsSomeMidway over.to (turned place))
+  moved_midway =
+      subst (λ (k : ℕ). OnOk answer (IsSomeMidway over.to (turned k))) (sym own)
+      (move_some over count plane some_own place own node d is_node transit takes bytes are next answer answers)
+
+  pub moved_spends : IsOneOf [] answer
+  moved_spends = move_spends over count plane some_own place own node d is_node transit takes bytes are next answer answers
+
+  pub moved_done : (new : PlaneView) (lines new_lines : List ReportLine) (result : Result (Unit {0}) NodeFault)
+      → SettlesTaken over bytes answer (turned place) new lines new_lines result
+      → Acts (IsMovable over) same_moment (octets.Move over count ∷ []) (taken_line over count) seen new lines new_lines result
+  moved_done new lines new_lines result settles =
+      subst (λ (p : PlaneView). Acts (IsMovable over) same_moment (octets.Move over count ∷ []) (taken_line over count) p new lines new_lines result)
+      view
+      (move_acts over count plane some_own place own node d is_node transit takes bytes are next answer answers new lines new_lines result
+      (subst (λ (k : ℕ). SettlesTaken over bytes answer (turned k) new lines new_lines result) own settles))

@@ -37,7 +37,7 @@ use Rattle.mldp_node.proofs.NodeLemmas.{none_astray}
 use Rattle.network_nodes.specs.NodeView.{IsNode, IsPlacedAt, first_node, labels_in}
 use Rattle.network_nodes.specs.declared.node.NetworkNode.{NetworkNode}
 use Rattle.network_acts.specs.control_plane.Acted.{IsIn, Standing}
-use Rattle.network_acts.specs.control_plane.Passing.{IsOf, Passes, all_late}
+use Rattle.network_acts.specs.control_plane.Passing.{Passes, all_late}
 use Rattle.network_acts.specs.control_plane.Plane.{HasNode, IsAround, IsSteady}
 use Rattle.network_acts.specs.control_plane.PlaneView.{PlaneView}
 use Rattle.network_acts.specs.control_plane.Starting.{IsFirst}
@@ -369,7 +369,7 @@ sets_cost plane old seen a b cost core (Err fault) is_cost set = tt
 
 pub restarts : (plane old : PlaneView) → plane ≡ old
     → (scenario : Scenario) (n : NodeId) (place : ℕ) (first node : NetworkNode) (transit : TransitData) → place ≡ n.0 → node ≡ first
-    → IsFirst scenario n first → n.0 < length scenario.nodes → Loses (is_at n) plane.transit transit → (at : Standing) → IsOf scenario at
+    → IsFirst scenario n first → n.0 < length scenario.nodes → Loses (is_at n) plane.transit transit → (at : Standing) → at.scenario ≡ scenario
     → IsIn at old
     → Passes at (octets.Lose (is_at n) ∷ octets.Forget (leads_to n) ∷ octets.Call (Reset n) ∷ []) at.moment
     (record plane { nodes = slice_set plane.nodes place node; transit = transit })

@@ -1,5 +1,5 @@
 -- A call of a node by itself, as an act of the control plane.
-use Rattle.std.proofs.Common.{◌≡◌, ◌∙◌, refl, sym, ap, subst, ℕ, ◌<◌, Bool, true, false, List, [], ◌∷◌, ◌++◌, length, slice_get, get_or, Option, Some, None, Result, Ok, Err, OnOk}
+use Rattle.std.proofs.Common.{◌≡◌, ◌∙◌, refl, sym, ap, subst, ℕ, ◌<◌, Bool, true, false, List, [], ◌∷◌, ◌++◌, length, slice_get, slice_set, get_or, Option, Some, None, Result, Ok, Err, OnOk}
 use Rattle.std.proofs.lemmas.List.{append-nil, append_assoc}
 use Rattle.std.proofs.lemmas.Option.{same_Some}
 use Rattle.mv_base.specs.Lists.{Among}
@@ -248,3 +248,31 @@ module _ (Fits : Standing → Type 0) (n : NodeId) (below : (at : Standing) → 
       ap (λ (t : Topology). t.nodes) some.2.around.core
       ∙ (counted at.scenario n has.node (subst (λ (s : Scenario). IsPlacedAt s n has.node) some.2.around.scenario_is has.placed)
       ∙ ap count_around same)
+
+-- a call of the node at a place of the plane, as the caller has it
+module _ (plane seen : PlaneView) (view : plane ≡ seen) (n : NodeId) (some : IsSome (IsCurrent n) seen) (call : Call)
+    (calm : (kind : Kind) (peer : NodeId) → begins call kind peer ≡ false) (sound : IsSoundCall call) (place : ℕ) (own : place ≡ n.0)
+    (old d node : NetworkNode)
+    (is : old ≡ get_or plane.nodes place d) (answer : Result (Unit {0}) EdgeFault)
+    (answers : Answers plane.core plane.clock (after call) old node answer) where
+  some_own : IsSome (IsCurrent n) plane
+  some_own = subst (IsSome (IsCurrent n)) (sym view) some
+
+  stands_there : slice_get plane.nodes n.0 ≡ Some old
+  stands_there = node_here (IsCurrent n) n (λ at fits. fits.within) plane some_own place own old d is
+
+  abbrev turned : ℕ → PlaneView
+  turned at = record plane { nodes = slice_set plane.nodes at node }
+
+  pub own_midway : OnOk answer (IsSomeMidway n (turned place))
+  own_midway =
+      subst (λ (k : ℕ). OnOk answer (IsSomeMidway n (turned k))) (sym own)
+      (own_some plane n call calm sound old node stands_there answer answers some_own)
+
+  pub own_done : (new : PlaneView) (lines new_lines : List ReportLine) (result : Result (Unit {0}) NodeFault)
+      → Settles n answer (turned place) new lines new_lines result
+      → Acts (IsCurrent n) same_moment (octets.Call (Own n call) ∷ []) no_lines seen new lines new_lines result
+  own_done new lines new_lines result settles =
+      subst (λ (p : PlaneView). Acts (IsCurrent n) same_moment (octets.Call (Own n call) ∷ []) no_lines p new lines new_lines result) view
+      (own_acts plane n call calm sound old node stands_there answer answers new lines new_lines result
+      (subst (λ (k : ℕ). Settles n answer (turned k) new lines new_lines result) own settles))

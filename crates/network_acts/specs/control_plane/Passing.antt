@@ -1,6 +1,5 @@
 -- Acts by which nothing is put: time passes, a cost changes, a session is lost, a node begins anew.
 use Rattle.std.specs.Prelude.{◌≡◌, List, [], Some, true}
-use Rattle.scenario_defs.specs.declared.scenario.Scenario.{Scenario}
 use Rattle.network_defs.specs.session_defs.Octets.{OctetAct, OctetNetwork, octet_run}
 use Rattle.network_defs.specs.Nodes.{Nodes}
 use Rattle.network_defs.specs.System.{NodeCall, system}
@@ -17,7 +16,3 @@ pub record Passes (at : Standing) (acts : List (OctetAct NodeCall)) (moment : Mo
 -- no node has acted on the present costs yet
 abbrev pub all_late : Moment → Moment
 all_late moment = record moment { late = λ n. true }
-
--- the network is one of that scenario
-abbrev pub IsOf : Scenario → Standing → Type 0
-IsOf scenario at = at.scenario ≡ scenario

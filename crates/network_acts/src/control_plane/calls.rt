@@ -1,11 +1,7 @@
-//! Acts of a node by itself: what it puts is handed out (RFC 4271 section 9.2, RFC 5036 section 3.5).
-ghost use Rattle.std.specs.Prelude.{[], ◌∷◌, Ok, OnOk};
-ghost use Rattle.network_defs.specs.session_defs.Octets.{Call};
-ghost use Rattle.edge_defs.specs.Steps.{Timers};
-ghost use Rattle.network_defs.specs.System.{Follow, Own};
+//! What comes of a call of a node: what it puts is handed out (RFC 4271 section 9.2, RFC 5036 section 3.5).
+ghost use Rattle.std.specs.Prelude.{[], OnOk};
 ghost use Rattle.network_nodes.specs.Edges.{IsOneOf};
-ghost use Rattle.network_acts.specs.control_plane.Acted.{Acts, HandsOutAt, IsCurrent, IsSome, IsSomeMidway};
-ghost use Rattle.network_acts.specs.control_plane.Acted.{IsWithin, Settles, no_lines, same_moment, with_current};
+ghost use Rattle.network_acts.specs.control_plane.Acted.{HandsOutAt, IsSomeMidway, Settles};
 ghost use Rattle.network_acts.specs.control_plane.Plane.{KeepsPlaces};
 
 use crate::control_plane::handing;
@@ -46,25 +42,5 @@ impl ControlPlane {
             },
             Err(fault) => Err(halt_of(fault)),
         }
-    }
-
-    /// The timers of node n run.
-    pub fn timers(&mut self, n: NodeId, lines: &mut Lines) -> Result<(), NodeFault>
-        requires plane { IsSome (IsCurrent n) self.old }
-        ensures acts { Acts (IsCurrent n) same_moment (Call (Own n Timers) ∷ []) no_lines self.old self.new lines.old lines.new result }
-        ensures places { KeepsPlaces self.old self.new }
-    {
-        let answer = self.nodes[usize::from(n.0)].timers(self.clock, &self.core);
-        self.settle(n, answer, lines)
-    }
-
-    /// Node n acts on the present costs.
-    pub fn reroute(&mut self, n: NodeId, lines: &mut Lines) -> Result<(), NodeFault>
-        requires plane { IsSome (IsWithin n) self.old }
-        ensures acts { Acts (IsWithin n) (with_current n) (Call (Follow n) ∷ []) no_lines self.old self.new lines.old lines.new result }
-        ensures places { KeepsPlaces self.old self.new }
-    {
-        let answer = self.nodes[usize::from(n.0)].rerouted(self.clock, &self.core);
-        self.settle(n, answer, lines)
     }
 }

@@ -1,9 +1,8 @@
 //! Octets that are moved over a session, from what is in transit to the node at its end (RFC 4271 section 4, RFC 5036 section 3.1).
 ghost use Rattle.std.specs.Prelude.{◌++◌, [], ◌∷◌, OnOk};
-ghost use Rattle.network_defs.specs.session_defs.Octets.{Move};
 ghost use Rattle.network_nodes.specs.Edges.{IsOneOf};
-ghost use Rattle.network_acts.specs.control_plane.Acted.{Acts, HandsOutAt, IsSome, IsSomeMidway, same_moment};
-ghost use Rattle.network_acts.specs.control_plane.Moving.{IsMovable, SettlesTaken, line_of, taken_line};
+ghost use Rattle.network_acts.specs.control_plane.Acted.{HandsOutAt, IsSomeMidway};
+ghost use Rattle.network_acts.specs.control_plane.Moving.{SettlesTaken, line_of};
 ghost use Rattle.network_acts.specs.control_plane.Plane.{KeepsPlaces};
 
 use crate::control_plane::plane::{ControlPlane, halt_of};
@@ -35,7 +34,7 @@ impl ControlPlane {
     }
 
     /// What comes of a move by what the receiver answered.
-    fn settle_taken(
+    pub(crate) fn settle_taken(
         &mut self,
         over: Direction,
         bytes: Bytes,
@@ -54,29 +53,5 @@ impl ControlPlane {
             },
             Err(fault) => Err(halt_of(fault)),
         }
-    }
-
-    /// The first so many octets in transit over the direction, or all where there are fewer, go to the receiver, and the messages that are
-    /// whole then are taken.
-    pub fn move_octets(
-        &mut self,
-        over: Direction,
-        count: usize,
-        lines: &mut Lines,
-    ) -> Result<(), NodeFault>
-        requires plane { IsSome (IsMovable over) self.old }
-        ensures acts { Acts (IsMovable over) same_moment (Move over count ∷ []) (taken_line over count)
-            self.old self.new lines.old lines.new result }
-        ensures places { KeepsPlaces self.old self.new }
-    {
-        let bytes = self.transit.take(over, count)?;
-        let answer = self.nodes[usize::from(over.to.0)].take(
-            over.kind,
-            over.from,
-            bytes.as_slice(),
-            self.clock,
-            &self.core,
-        );
-        self.settle_taken(over, bytes, answer, lines)
     }
 }

@@ -1,8 +1,12 @@
 //! The control plane of a network, as its callers have it.
-ghost use Rattle.std.specs.Prelude.{◌≡◌, [], ◌∷◌};
+ghost use Rattle.std.specs.Prelude.{◌≡◌, ◌+◌, ◌<◌, ◌^◌, [], ◌∷◌};
 ghost use Rattle.mv_base.specs.Lists.{Among};
+ghost use Rattle.network_defs.specs.session_defs.Octets.{Call};
+ghost use Rattle.network_defs.specs.System.{Elapse};
 ghost use Rattle.network_nodes.specs.Faults as EdgeFault;
-ghost use Rattle.network_acts.specs.control_plane.Acted.{halt_of};
+ghost use Rattle.network_acts.specs.control_plane.Acted.{IsIn, Standing, halt_of};
+ghost use Rattle.network_acts.specs.control_plane.Passing.{Passes};
+ghost use Rattle.network_acts.specs.control_plane.Plane.{KeepsPlaces};
 
 use core_paths::Core;
 use mldp_node::NodeFault;
@@ -41,5 +45,16 @@ pub(crate) fn halt_of(fault: EdgeFault) -> NodeFault
         EdgeFault::NoLabel => NodeFault::NoLabel,
         EdgeFault::NoMemory => NodeFault::NoMemory,
         _ => unreachable!(),
+    }
+}
+
+impl ControlPlane {
+    /// So many ticks pass. It takes no memory.
+    pub fn elapse(&mut self, ticks: u64)
+        requires small { self.old.clock + ticks < 2 ^ 63 }
+        ensures acts { (at : Standing) → IsIn at self.old → Passes at (Call (Elapse ticks) ∷ []) at.moment self.new }
+        ensures places { KeepsPlaces self.old self.new }
+    {
+        self.clock += ticks;
     }
 }

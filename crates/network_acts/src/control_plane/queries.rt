@@ -1,31 +1,20 @@
 //! What is asked of the control plane. Nothing changes.
-ghost use Rattle.std.specs.Prelude.{◌≡◌, ◌<◌, ◌≤◌, count_by, length, min, not, slice_get, sum_by, true, false, IfOk, IfSome, None, Some};
-ghost use Rattle.std.specs.FinMap as maps;
+ghost use Rattle.std.specs.Prelude.{◌≡◌, ◌<◌, ◌≤◌, count_by, length, min, not, slice_get, sum_by, true, false, IfSome, None, Some};
 ghost use Rattle.label_defs.specs.LabelData as labels;
-ghost use Rattle.edge_defs.specs.Datagrams.{entering_fate};
-ghost use Rattle.edge_defs.specs.Edge.{EdgeData};
 ghost use Rattle.scenario_defs.specs.declared.scenario.Scenario.{Scenario};
 ghost use Rattle.network_defs.specs.Counts as counts;
-ghost use Rattle.network_defs.specs.Counts.{all_nodes, direction, is_end_up, node_due, octets_in_transit};
-ghost use Rattle.network_defs.specs.Nodes.{is_edge, part_of, place_of};
-ghost use Rattle.network_defs.specs.Nodes as world;
-ghost use Rattle.network_nodes.specs.Edges.{IsFate};
-ghost use Rattle.network_nodes.specs.Network.{landing_fate};
-ghost use Rattle.network_acts.specs.control_plane.Acted.{IsCurrent, IsIn, IsSome, IsWithin, Standing};
-ghost use Rattle.network_acts.specs.control_plane.Customers.{IsVrfEdge, control_at};
-ghost use Rattle.network_acts.specs.control_plane.Queries.{HasEnds, HaveEnds, IsEdgeOf, IsNodeThere, without_copies};
+ghost use Rattle.network_defs.specs.Counts.{all_nodes, node_due};
+ghost use Rattle.network_defs.specs.Nodes.{is_edge, part_of};
+ghost use Rattle.network_acts.specs.control_plane.Acted.{IsIn, IsSome, IsWithin, Standing};
 ghost use Rattle.network_acts.specs.control_plane.Plane.{ArePlaced};
-ghost use Rattle.network_acts.specs.control_plane.Queries.{IsCoreThere, IsEdgeThere};
+ghost use Rattle.network_acts.specs.control_plane.Queries.{HasEnds, HaveEnds, IsCoreThere, IsEdgeThere, IsNodeThere, without_copies};
 
 use crate::control_plane::plane::ControlPlane;
-use label_forwarding::Datagram;
 use mldp_node::LdpNode;
-use mv_base::{NoMemory, NodeId, Pattern, SiteId, VrfId};
+use mv_base::NodeId;
 use mvpn_model::Session;
-use network_defs::session_defs::Direction;
-use network_nodes::{Edge, Fate, NetworkNode};
+use network_nodes::{Edge, NetworkNode};
 use scenario_defs::Kind;
-use std::alloc::Global;
 
 impl ControlPlane {
     /// The clock, in ticks.
@@ -44,50 +33,12 @@ impl ControlPlane {
         &self.nodes[usize::from(n.0)]
     }
 
-    /// Whether the session is joined, as the direction from the first node says it.
-    pub fn is_joined(&self, kind: Kind, a: NodeId, b: NodeId) -> bool
-        ensures { (at : Standing) → IsIn at self.now → result ≡ at.network.joined (direction kind a b) }
-    {
-        self.transit.is_joined(kind, a, b)
-    }
-
-    /// How many octets are in transit over the direction.
-    pub fn waiting(&self, over: Direction) -> usize
-        ensures { (at : Standing) → IsIn at self.now → result ≡ length (at.network.transit over) }
-    {
-        self.transit.waiting(over)
-    }
-
-    /// How many octets are in transit over all sessions of the network together.
-    pub fn total(&self) -> u64
-        ensures { (at : Standing) → IsIn at self.now → result ≡ octets_in_transit (without_copies at.network) }
-    {
-        self.transit.total()
-    }
-
-    /// Whether node n's end of the session with the peer is up.
-    pub fn is_up(&self, kind: Kind, n: NodeId, peer: NodeId) -> bool
-        requires plane { IsSome (IsWithin n) self.now }
-        ensures { (at : Standing) → IsWithin n at → IsIn at self.now → result ≡ is_end_up kind (at.network.state.node n) peer }
-    {
-        self.node(n).is_up(kind, peer)
-    }
-
     /// Whether node n's end of the LDP session with the neighbour is up and its hold was run.
     pub fn is_ready(&self, n: NodeId, peer: NodeId) -> bool
         requires plane { IsSome (IsWithin n) self.now }
         ensures { (at : Standing) → IsWithin n at → IsIn at self.now → result ≡ labels.is_ready (part_of (at.network.state.node n)) peer }
     {
         self.node(n).is_ready(peer)
-    }
-
-    /// Whether the VRF, whose edge is node n, has selected the pattern.
-    pub fn is_selected(&self, n: NodeId, vrf: VrfId, pattern: Pattern) -> bool
-        requires plane { IsSome (IsVrfEdge n vrf) self.now }
-        ensures { (at : Standing) → IsVrfEdge n vrf at → IsIn at self.now →
-            result ≡ maps.contains_key (control_at n at).selections (record { vrf = vrf; pattern = pattern }) }
-    {
-        self.node(n).is_selected(vrf, pattern)
     }
 
     /// The node that stands at that number.
@@ -149,7 +100,7 @@ impl ControlPlane {
         requires plane { IsSome (HasEnds session) self.now }
         ensures { (at : Standing) → HasEnds session at → IsIn at self.now → result ≡ counts.is_ready (without_copies at.network) session }
     {
-        let is_joined = self.is_joined(session.kind, session.a, session.b);
+        let is_joined = self.transit.is_joined(session.kind, session.a, session.b);
         match session.kind {
             Kind::Bgp => is_joined,
             Kind::Ldp => is_joined && self.are_held(session),
@@ -170,42 +121,5 @@ impl ControlPlane {
             }
         }
         count
-    }
-
-    /// Where a datagram goes that the site sends into the VRF, whose edge is node n (RFC 6513 sections 9.1.1 and 12).
-    pub fn enter(
-        &self,
-        alloc: Global,
-        vrf: VrfId,
-        n: NodeId,
-        site: SiteId,
-        datagram: &Datagram<'_>,
-    ) -> Result<Fate, NoMemory>
-        requires plane { IsSome (IsEdgeOf vrf n) self.now }
-        ensures { (at : Standing) → (own : IsEdgeOf vrf n at) → IsIn at self.now → (edge : EdgeData) →
-            at.network.state.node n ≡ world.Edge edge →
-            IfOk result (IsFate (entering_fate (place_of at.network.state n) at.network.state.clock edge
-            (record { id = vrf; vrf = own.vrf }) site datagram.now.source datagram.now.group)) }
-    {
-        self.node(n)
-            .enter(alloc, vrf, site, datagram, self.clock, &self.core)
-    }
-
-    /// Where a copy goes that came to node n from the neighbour under the label (RFC 3032, RFC 6388 section 2.4.1).
-    pub fn arrive(
-        &self,
-        alloc: Global,
-        n: NodeId,
-        from: NodeId,
-        label: u32,
-        datagram: &Datagram<'_>,
-    ) -> Result<Fate, NoMemory>
-        requires plane { IsSome (IsCurrent n) self.now }
-        ensures { (at : Standing) → IsCurrent n at → IsIn at self.now →
-            IfOk result (IsFate
-            (landing_fate at.network.state n (at.network.state.node n) from label datagram.now.source datagram.now.group)) }
-    {
-        self.node(n)
-            .arrive(alloc, from, label, datagram, self.clock, &self.core)
     }
 }

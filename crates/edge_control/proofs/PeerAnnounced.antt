@@ -143,6 +143,17 @@ module _ (tables : FinMap node_cmp Taken) (peer : NodeId) (key : Key) (value : V
   pub none_left : route_at (changed_at peer unreached tables) peer key ≡ None
   none_left = left_of (maps.get tables peer) refl
 
+  back_of : (o : Option Taken) → maps.get tables peer ≡ o → route_in o ≡ None → changed_at peer unreached (behind reached o) ≡ tables
+  back_of None up none = ap (behind unreached) up
+  back_of (Some taken) up none =
+      changed_put tables peer unreached (reached taken)
+      ∙ ap (maps.insert tables peer) (absent taken key (learned now value (maps.get taken key)) none)
+      ∙ put_itself node_cmp_total node_cmp_exact tables peer taken up
+
+  -- a route that is taken where there was none, and withdrawn
+  pub taken_back : route_at tables peer key ≡ None → changed_at peer unreached (changed_at peer reached tables) ≡ tables
+  taken_back = back_of (maps.get tables peer) refl
+
 -- ---- trees
 
 module _ (kept : Kept) (sound : IsSound kept) (peer : NodeId) (key : Key) (writable : IsWritableKey key) (value : Value) (now : ℕ)
@@ -278,15 +289,10 @@ module _ (kept : Kept) (sound : IsSound kept) (peer : NodeId) (key : Key) (writa
       pub went : ((core : Core) → trees ≡ turned_all (dropping kept.home core peer now key (Some anew)) owns kept.trees) → Ends kept.peers
       went are = went_of (maps.get kept.peers peer) refl up none are
 
--- they took it and forgot it
-pub forgot : (home : Home) (core : Core) (peer : NodeId) (key : Key) (value : Value) (now : ℕ) (owns : List OwnVrf) (old between trees : List TreeData)
-    → between ≡ turned_all (learning home core peer now key (Some (route_of value now))) owns old
-    → trees ≡ turned_all (dropping home core peer now key (Some (route_of value now))) owns between
-    → trees ≡ turned_all (dropping home core peer now key (Some (route_of value now))) owns old
-forgot home core peer key value now owns old between trees took went =
-    went ∙ ap (turned_all (dropping home core peer now key (Some (route_of value now))) owns) took
-    ∙ turned_again (dropping home core peer now key (Some (route_of value now))) (learning home core peer now key (Some (route_of value now)))
-    (λ own tree. with_back (place_of home core) own peer now now key (Some (route_of value now)) tree) owns old
+-- there is none where it is answered so
+pub none_there : (o : Option TakenRoute) → not (is_some o) ≡ true → o ≡ None
+none_there None h = refl
+none_there (Some route) h = absurd (let bad : false ≡ true = h in cc)
 
 -- where the session is down nothing is taken
 pub table_down : (tables : FinMap node_cmp Taken) (peer : NodeId) (change : Taken → Taken) → maps.contains_key tables peer ≡ false

@@ -1,5 +1,5 @@
 //! Routes that peers withdraw and announce (RFC 4271 section 9.2).
-ghost use Rattle.std.specs.Prelude.{◌≡◌, ◌<◌, ℕ, None, Some, true, length, is_some, OnOk, OnErr};
+ghost use Rattle.std.specs.Prelude.{◌≡◌, ◌<◌, ℕ, Some, false, true, length, is_some, not, IfOk, OnOk, OnErr};
 ghost use Rattle.std.specs.FinMap as maps;
 ghost use Rattle.bgp_messages.specs.declared.bgp_attributes.update.Change.TheVariants.{Unreach};
 ghost use Rattle.bgp_messages.specs.bgp_update.Written.{IsWritableKey};
@@ -14,6 +14,7 @@ ghost use Rattle.edge_control.specs.Taking.{dropping, learning, route_of, turned
 
 use crate::control::EdgeControl;
 use crate::each::{forget_in, learn_or_forget};
+use edge_routes::Shared;
 use edge_routes::edge_home::EdgeHome;
 use edge_routes::route_order::TakenKey;
 use edge_tables::taken_tables::{RouteValue, TakenTables, same_value};
@@ -83,24 +84,6 @@ fn learn_said(
     learn_or_forget(home, trees, peer, addr, key.key(), Some(value.lent()), now)
 }
 
-/// The trees forget it. It takes no memory.
-fn forget_said(
-    home: &EdgeHome,
-    trees: &mut Vec<VrfTree>,
-    peer: NodeId,
-    key: &TakenKey,
-    value: &RouteValue,
-)
-    requires each { length trees.old.items ≡ length (vrfs_from home.now.me 0 home.now.scenario.vrfs) }
-    requires known { peer.0 < length home.now.scenario.nodes }
-    ensures { (core : Core) (now : ℕ) → trees.new.items ≡ turned_all
-        (dropping home.now core peer now key.now (Some (route_of (handed value.now) now)))
-        (vrfs_from home.now.me 0 home.now.scenario.vrfs) trees.old.items }
-{
-    let addr = home.addr_of(peer);
-    forget_in(home, trees, peer, addr, key.key(), Some(value.lent()));
-}
-
 impl EdgeControl {
     /// The peer withdraws the route of the key: it is forgotten. It takes no memory.
     pub fn withdraw(&mut self, peer: NodeId, key: &TakenKey)
@@ -115,35 +98,37 @@ impl EdgeControl {
         self.taken.forget(peer, key);
     }
 
-    /// The peer announces a route at a key at which it has none. Where memory runs out, there is none.
-    pub fn announce_fresh(
+    /// The peer announces a route. Where it has none of the key, the route is taken; else nothing changes. It answers whether there was
+    /// no route of the key. Where memory runs out, there is none.
+    pub fn enter(
         &mut self,
         peer: NodeId,
         key: &TakenKey,
-        value: RouteValue,
+        value: &Shared<RouteValue>,
         now: u64,
-    ) -> Result<(), NoMemory>
-        requires fresh { route_at self.old.peers peer key.now ≡ None }
-        ensures announced { OnOk result (control_of self.new ≡ record (control_of self.old) {
-          peers = changed_at peer (λ taken. taken_change now taken (reach key.now (handed value))) self.old.peers;
+    ) -> Result<bool, NoMemory>
+        ensures fresh { IfOk result (λ fresh. fresh ≡ not (is_some (route_at self.old.peers peer key.now))) }
+        ensures entered { IfOk result (λ fresh. fresh ≡ true → control_of self.new ≡ record (control_of self.old) {
+          peers = changed_at peer (λ taken. taken_change now taken (reach key.now (handed value.now))) self.old.peers;
         }) }
+        ensures stays { IfOk result (λ fresh. fresh ≡ false → control_of self.new ≡ control_of self.old) }
         ensures unchanged { OnErr result (control_of self.new ≡ control_of self.old) }
         ensures home { self.new.home ≡ self.old.home }
         ensures wants { wants_of self.new.trees ≡ wants_of self.old.trees }
     {
         spelled(key);
         if !self.taken.is_up(peer) {
-            return Ok(());
+            return Ok(true);
         }
-        match learn_said(&self.home, &mut self.trees, peer, key, &value, now) {
-            Err(fault) => Err(fault),
-            Ok(()) => match self.taken.learn_new(peer, key, value, now) {
-                Ok(()) => Ok(()),
-                Err(value) => {
-                    forget_said(&self.home, &mut self.trees, peer, key, &value);
-                    Err(NoMemory)
-                }
-            },
+        if !self.taken.enter(peer, key, value, now)? {
+            return Ok(false);
+        }
+        match learn_said(&self.home, &mut self.trees, peer, key, value.lent(), now) {
+            Ok(()) => Ok(true),
+            Err(fault) => {
+                self.taken.forget(peer, key);
+                Err(fault)
+            }
         }
     }
 
@@ -153,23 +138,26 @@ impl EdgeControl {
         &mut self,
         peer: NodeId,
         key: &TakenKey,
-        value: RouteValue,
+        value: &Shared<RouteValue>,
         now: u64,
     ) -> Result<(), NoMemory>
         ensures announced { OnOk result (control_of self.new ≡ record (control_of self.old) {
-          peers = changed_at peer (λ taken. taken_change now taken (reach key.now (handed value))) self.old.peers;
+          peers = changed_at peer (λ taken. taken_change now taken (reach key.now (handed value.now))) self.old.peers;
         }) }
         ensures withdrawn { OnErr result (control_of self.new ≡ record (control_of self.old) {
           peers = changed_at peer (λ taken. taken_change now taken (Unreach key.now)) self.old.peers;
         }) }
-        ensures news { OnErr result (is_news (handed value) (route_at self.old.peers peer key.now) ≡ true) }
+        ensures news { OnErr result (is_news (handed value.now) (route_at self.old.peers peer key.now) ≡ true) }
         ensures home { self.new.home ≡ self.old.home }
         ensures wants { wants_of self.new.trees ≡ wants_of self.old.trees }
     {
-        if !is_news(&self.taken, peer, key, &value) {
+        if !is_news(&self.taken, peer, key, value.lent()) {
             return Ok(());
         }
         self.withdraw(peer, key);
-        self.announce_fresh(peer, key, value, now)
+        match self.enter(peer, key, value, now) {
+            Ok(_fresh) => Ok(()),
+            Err(fault) => Err(fault),
+        }
     }
 }

@@ -1,5 +1,6 @@
 -- What the maps of an outbox and of an inbox say, key by key, and as tables.
-use Rattle.std.proofs.Common.{◌≡◌, Bool, true, false, cond, List, [], ◌∷◌, Option, Some, None, refl, sym, ap, subst, ◌∙◌}
+use Rattle.std.proofs.Common.{◌≡◌, Bool, true, false, not, is_some, cond, List, [], ◌∷◌, Option, Some, None, refl, sym, ap, subst, ◌∙◌}
+use Rattle.std.specs.Prelude.{Result, Ok, Err, IfOk}
 use Rattle.std.specs.declared.cmp.Ordering.{Ordering}
 use Rattle.std.specs.Ordering.{eq_by_cmp}
 use Rattle.std.specs.Cmp.{IsTotalOrder}
@@ -8,8 +9,9 @@ use Rattle.std.specs.Map.Calls.{RetainsPairs}
 use Rattle.std.specs.BTreeMap.{BTreeMap, IsOrdered, is_at}
 use Rattle.std.specs.BTreeMap as tree
 use Rattle.std.proofs.lemmas.Cmp.{eq_by_cmp_equiv}
-use Rattle.std.specs.FinMap.{FinMap, IsAntisymmetric, get, get-insert, get-remove, get-empty, empty, entries, entries-from_sorted, from_entries, from_sorted, same_map}
+use Rattle.std.specs.FinMap.{FinMap, IsAntisymmetric, get, get-insert, get-remove, get-empty, empty, entries, entries-from_sorted, from_entries, from_sorted, insert, same_map}
 use Rattle.mv_base.specs.declared.table_defs.change.Change.{Change}
+use Rattle.mv_base.specs.declared.table_defs.change.Change.TheVariants.{Reach}
 use Rattle.mv_base.specs.table_defs.Changes.{applied, key_of, value_of}
 use Rattle.table_laws.proofs.TableLemmas.{get-applied}
 use Rattle.edge_tables.specs.rib_sync.Ribs.{RibOut, Rows, rows_of, rib_out, rib_in, flushed}
@@ -175,6 +177,22 @@ module _ {K V : Type 0} (cmp : K → K → Ordering) (total : IsTotalOrder cmp) 
       same_map total exact (from_sorted to.entries) (applied (from_sorted from.entries) change)
       (λ q. get-ordered cmp to now q ∙ get-change from to (from_sorted from.entries) change set (get-ordered cmp from was) q)
       ∙ ap (λ rows. applied (rib_in cmp rows) change) is
+
+  -- what is put where there was nothing
+  pub entered : {E : Type 0} (r : Result Bool E) → IsAntisymmetric cmp → (rows : List (K × V)) (from to : BTreeMap K V) (key : K) (value : V)
+      → from.entries ≡ rows → IsOrdered cmp from → IsOrdered cmp to
+      → IfOk r (λ fresh. fresh ≡ true → (q : K) → tree.get cmp to q ≡ cond (eq_by_cmp cmp key q) (Some value) (tree.get cmp from q))
+      → IfOk r (λ fresh. fresh ≡ true → rib_in cmp to.entries ≡ insert (rib_in cmp rows) key value)
+  entered (Ok fresh) exact rows from to key value is was now set = λ new. taken exact rows from to (Reach key value) is was now (set new)
+  entered (Err e) exact rows from to key value is was now set = set
+
+  -- whether there was nothing
+  pub seen_free : {E : Type 0} (r : Result Bool E) (rows : List (K × V)) (from : BTreeMap K V) (key : K) → from.entries ≡ rows → IsOrdered cmp from
+      → IfOk r (λ fresh. fresh ≡ not (is_some (tree.get cmp from key))) → IfOk r (λ fresh. fresh ≡ not (is_some (get (rib_in cmp rows) key)))
+  seen_free (Ok fresh) rows from key is was seen =
+      seen ∙ ap (λ (o : Option V). not (is_some o)) (sym (get-ordered cmp from was key))
+      ∙ ap (λ (rows : List (K × V)). not (is_some (get (rib_in cmp rows) key))) is
+  seen_free (Err e) rows from key is was seen = seen
 
 -- what a closure made of the entries of a map is what it made of those of the table
 module _ {K V F : Type 0} (cmp : K → K → Ordering) (T : F → K → V → Bool → V → F → Type 0) (f : F) where

@@ -1,5 +1,5 @@
 -- What the maps of the code say of each peer and key.
-use Rattle.std.proofs.Common.{◌≡◌, ℕ, ◌+◌, ◌&&◌, ◌||◌, Bool, true, false, cond, not, nat_le, List, [], ◌∷◌, map, Option, None, Some, Result, Ok, Err, OnOk, OnErr, refl, sym, ap, subst, ◌∙◌}
+use Rattle.std.proofs.Common.{◌≡◌, ℕ, ◌+◌, ◌&&◌, ◌||◌, Bool, true, false, cond, not, nat_le, List, [], ◌∷◌, map, Option, None, Some, Result, Ok, Err, IfOk, OnErr, refl, sym, ap, subst, ◌∙◌}
 use Rattle.std.specs.Prelude.{fold, is_some, slice_get}
 use Rattle.std.specs.declared.cmp.Ordering.{Ordering}
 use Rattle.std.specs.BTreeMap.{is_at}
@@ -22,14 +22,14 @@ use Rattle.scenario_defs.specs.declared.scenario.Vrf.{Vrf}
 use Rattle.label_defs.specs.Keys.{node_cmp}
 use Rattle.edge_defs.specs.Edge.{Taken, TakenRoute}
 use Rattle.edge_defs.specs.Imported.{imported_selective}
-use Rattle.edge_defs.specs.Keys.{Value, key_cmp, same_value}
+use Rattle.edge_defs.specs.Keys.{Value, key_cmp}
 use Rattle.edge_defs.specs.Place.{EdgePlace, OwnVrf, addr_of, own_vrfs}
 use Rattle.edge_defs.specs.Steps.{is_imported, learned, peers_run, route_run, taken_change}
 use Rattle.edge_defs.proofs.KeyLemmas.{key_exact, key_total}
 use Rattle.edge_routes.specs.Local.{Local}
 use Rattle.edge_tables.specs.taken_tables.Running.{IsOf, imports, node_run, run_at, table_run}
 use Rattle.edge_tables.specs.taken_tables.Slots.{Rows, slot_of, taken_in, tables_of}
-use Rattle.edge_tables.specs.taken_tables.Tables.{AreSpelled, IsSpelled, IsSpelledKey, Tables, changed_at, is_news, is_news_at}
+use Rattle.edge_tables.specs.taken_tables.Tables.{AreSpelled, IsSpelled, IsSpelledKey, Tables, changed_at}
 
 pub node_total : IsTotalOrder node_cmp
 node_total = on_total (λ (node : NodeId). node.0) nat_cmp_total
@@ -257,41 +257,19 @@ module _ (old new : List (ℕ × Rows)) (tables : Tables) (peer : NodeId) (there
 
 -- ---- routes
 
-news_off : (value : Value) (o : Option TakenRoute) → is_news value o ≡ false → (now : ℕ) → o ≡ Some (learned now value o)
-news_off value None h now = absurd cc
-news_off value (Some old) h now = by (same_value old.value value) refl h
-  where
-    by : (b : Bool) → same_value old.value value ≡ b → not b ≡ false
-        → ◌≡◌ {A = Option TakenRoute} (Some old) (Some (cond b old (record { value = value; since = now; run = false })))
-    by true e k = refl
-    by false e k = absurd cc
-
-abbrev news_by : Key → Value → Option Taken → Bool
-news_by key value o = elim o [ None ↦ false | Some taken ↦ is_news value (get taken key) ]
-
--- an equal route changes nothing
-pub equal_stays : (taken : Taken) (key : Key) (value : Value) (now : ℕ) → is_news value (get taken key) ≡ false
-    → taken ≡ insert taken key (learned now value (get taken key))
-equal_stays taken key value now h =
-    sym (put_itself key_total key_exact taken key (learned now value (get taken key)) (news_off value (get taken key) h now))
-
-pub no_news : (tables : Tables) (peer : NodeId) (key : Key) (value : Value) → get tables peer ≡ None → false ≡ is_news_at tables peer key value
-no_news tables peer key value none = sym (ap (news_by key value) none)
-
-pub news_there : (tables : Tables) (peer : NodeId) (key : Key) (value : Value) (taken : Taken) → get tables peer ≡ Some taken
-    → is_news value (get taken key) ≡ is_news_at tables peer key value
-news_there tables peer key value taken there = sym (ap (news_by key value) there)
-
--- another one is learned at the clock
-pub news_learned : (value : Value) (o : Option TakenRoute) (now : ℕ) → is_news value o ≡ true
+-- what is learned where there was none
+new_learned : (value : Value) (o : Option TakenRoute) (now : ℕ) → not (is_some o) ≡ true
     → learned now value o ≡ record { value = value; since = now; run = false }
-news_learned value None now h = refl
-news_learned value (Some old) now h = by (same_value old.value value) h
-  where
-    by : (b : Bool) → not b ≡ true → cond b old (record { value = value; since = now; run = false })
-        ≡ record { value = value; since = now; run = false }
-    by true e = absurd cc
-    by false e = refl
+new_learned value None now h = refl
+new_learned value (Some old) now h = absurd cc
+
+pub entered_learned : {E : Type 0} (r : Result Bool E) (old new : Taken) (key : Key) (value : Value) (now : ℕ)
+    → IfOk r (λ fresh. fresh ≡ not (is_some (get old key)))
+    → IfOk r (λ fresh. fresh ≡ true → new ≡ insert old key (record { value = value; since = now; run = false }))
+    → IfOk r (λ fresh. fresh ≡ true → new ≡ insert old key (learned now value (get old key)))
+entered_learned (Ok fresh) old new key value now is put = λ yes.
+    put yes ∙ ap (insert old key) (sym (new_learned value (get old key) now (sym is ∙ yes)))
+entered_learned (Err e) old new key value now is put = put
 
 -- ---- keys that have spellings
 
@@ -317,11 +295,13 @@ route_spelled taken key route old h q there = by (eq_by_cmp key_cmp q key) refl 
     by true e k = subst IsSpelledKey (sym (one_key key_exact q key e)) h
     by false e k = old q k
 
-pub learned_spelled : {A E : Type 0} (r : Result A E) (there rows : Rows) (key : Key) (route : TakenRoute)
-    → OnOk r (taken_in rows ≡ insert (taken_in there) key route) → OnErr r (rows ≡ there)
-    → IsSpelledKey key → IsSpelled (taken_in there) → IsSpelled (taken_in rows)
-learned_spelled (Ok news) there rows key route ok err writable h = subst IsSpelled (sym ok) (route_spelled (taken_in there) key route h writable)
-learned_spelled (Err e) there rows key route ok err writable h = subst (λ (r : Rows). IsSpelled (taken_in r)) (sym err) h
+pub entered_spelled : {E : Type 0} (r : Result Bool E) (there rows : Rows) (key : Key) (route : TakenRoute)
+    → IfOk r (λ fresh. fresh ≡ true → taken_in rows ≡ insert (taken_in there) key route) → IfOk r (λ fresh. fresh ≡ false → rows ≡ there)
+    → OnErr r (rows ≡ there) → IsSpelledKey key → IsSpelled (taken_in there) → IsSpelled (taken_in rows)
+entered_spelled (Ok true) there rows key route put stays err writable h =
+    subst IsSpelled (sym (put refl)) (route_spelled (taken_in there) key route h writable)
+entered_spelled (Ok false) there rows key route put stays err writable h = subst (λ (r : Rows). IsSpelled (taken_in r)) (sym (stays refl)) h
+entered_spelled (Err e) there rows key route put stays err writable h = subst (λ (r : Rows). IsSpelled (taken_in r)) (sym err) h
 
 pub rest_spelled : (taken : Taken) (key : Key) → IsSpelled taken → IsSpelled (remove taken key)
 rest_spelled taken key old q there = by (eq_by_cmp key_cmp q key) (sym (ap is_some (get-remove key_total taken key q)) ∙ there)

@@ -12,8 +12,8 @@ use Rattle.bgp_values.specs.declared.mvpn_nlri.route.Route.TheVariants as routes
 use Rattle.bgp_messages.specs.declared.bgp_attributes.key.Key.{Key}
 use Rattle.bgp_messages.specs.declared.bgp_attributes.key.Key.TheVariants.{Mcast, Unicast}
 use Rattle.edge_defs.specs.Edge.{Taken, TakenRoute}
-use Rattle.edge_defs.specs.Imported.{ImportedSelective, SelectiveRoute, imported_selective, is_admitted, selective_of, tunnel_by}
-use Rattle.edge_defs.specs.Keys.{Value, key_cmp}
+use Rattle.edge_defs.specs.Imported.{ImportedSelective, SelectiveRoute, is_admitted, selective_of, tunnel_by}
+use Rattle.edge_defs.specs.Keys.{key_cmp}
 use Rattle.edge_defs.proofs.KeyLemmas.{key_exact, key_total}
 use Rattle.edge_routes.specs.Local.{Local}
 use Rattle.edge_tables.specs.taken_tables.Running.{IsNoted, awaits, imports, is_delayed, run_at, table_run}
@@ -40,6 +40,13 @@ put_noted was waits old new key route noted is put off q at there =
     by : (b : Bool) → eq_by_cmp key_cmp q key ≡ b → cond b (Some route) (get old q) ≡ Some at → awaits q at ≡ false
     by true e k = ap (λ (other : Key). awaits other at) (one_key key_exact q key e) ∙ ap (awaits key) (sym (one_some route at k)) ∙ none.1
     by false e k = noted none.0 q at k
+
+-- where there was none of the key, and else nothing changes
+pub entered_noted : (was waits fresh : Bool) (old new : Taken) (key : Key) (route : TakenRoute) → IsNoted was old
+    → waits ≡ (was || awaits key route) → (fresh ≡ true → new ≡ insert old key route) → (fresh ≡ false → new ≡ old) → IsNoted waits new
+entered_noted was waits true old new key route noted is put stays = put_noted was waits old new key route noted is (put refl)
+entered_noted was waits false old new key route noted is put stays = λ off q at there.
+    noted (either_false was (awaits key route) (sym is ∙ off)).0 q at (ap (λ (t : Taken). get t q) (sym (stays refl)) ∙ there)
 
 pub rest_noted : (waits : Bool) (old new : Taken) (key : Key) → IsNoted waits old → new ≡ remove old key → IsNoted waits new
 rest_noted waits old new key noted is off q at there =

@@ -1,5 +1,5 @@
 -- The tables that an edge took from its peers (RFC 4271 section 3.2).
-use Rattle.std.specs.Prelude.{◌≡◌, ℕ, Bool, true, false, not, List, refl, Option, None, Some}
+use Rattle.std.specs.Prelude.{◌≡◌, ℕ, Bool, true, not, List, refl, Option, None, Some}
 use Rattle.std.specs.Coded.{Coded, code_by, coded×, coded_bool, coded_list, coded_option, coded_ℕ}
 use Rattle.std.specs.FinMap as maps
 use Rattle.std.specs.FinMap.{FinMap}
@@ -44,10 +44,6 @@ route_at tables peer key = maps.get tables peer >>? λ taken. maps.get taken key
 abbrev pub is_news : Value → Option TakenRoute → Bool
 is_news value None = true
 is_news value (Some old) = not (same_value old.value value)
-
--- whether a route that is announced is another one than that of the peer's table
-abbrev pub is_news_at : Tables → NodeId → Key → Value → Bool
-is_news_at tables peer key value = elim (maps.get tables peer) [ None ↦ false | Some taken ↦ is_news value (maps.get taken key) ]
 
 -- ---- keys
 

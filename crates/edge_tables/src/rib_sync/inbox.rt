@@ -1,5 +1,5 @@
 //! The table that was taken from a peer.
-ghost use Rattle.std.specs.Prelude.{◌≡◌, Some, IfErr, OnOk, OnErr, if◌then◌else◌};
+ghost use Rattle.std.specs.Prelude.{◌≡◌, Some, true, false, not, is_some, IfOk, OnOk, OnErr, if◌then◌else◌};
 ghost use Rattle.std.specs.Option.{option_copied};
 ghost use Rattle.std.specs.Ordering.{eq_by_cmp};
 ghost use Rattle.std.specs.BTreeMap as tree;
@@ -12,7 +12,8 @@ ghost use Rattle.edge_tables.specs.rib_sync.Ribs.{rib_in};
 
 use mv_base::NoMemory;
 use mv_base::table_defs::Change;
-use std::alloc::{AllocFailed, Global};
+use std::alloc::Global;
+use std::collections::btree_map::Entry;
 use std::collections::{BTreeMap, btree_map};
 use std::marker::Model;
 
@@ -57,18 +58,33 @@ fn make<K: Ord + Drop, V: Drop>(
     Ok(())
 }
 
-// Puts the value at the key of a map. Where there is no memory, it hands the value back.
-fn put_in<K: Ord + Drop, V: Drop>(map: &mut BTreeMap<K, V>, key: K, value: V) -> Result<(), V>
-    ensures put { OnOk result ((q : K) →
-        tree.get K.cmp map.new q ≡ (if eq_by_cmp K.cmp key q then Some value else tree.get K.cmp map.old q)) }
-    ensures returned { IfErr result (λ back. back ≡ value) }
+// Puts the value at the key of a map, where it has none there, and answers whether that is so.
+fn enter_in<K: Ord + Drop, V: Drop>(
+    map: &mut BTreeMap<K, V>,
+    key: K,
+    value: V,
+) -> Result<bool, NoMemory>
+    ensures fresh { IfOk result (λ fresh. fresh ≡ not (is_some (tree.get K.cmp map.old key))) }
+    ensures entered { IfOk result (λ fresh. fresh ≡ true → ((q : K) →
+        tree.get K.cmp map.new q ≡ (if eq_by_cmp K.cmp key q then Some value else tree.get K.cmp map.old q))) }
+    ensures stays { IfOk result (λ fresh. fresh ≡ false → IsUnchanged map.old map.new) }
     ensures unchanged { OnErr result (IsUnchanged map.old map.new) }
     ensures ordered { IsOrdered K.cmp map.new }
 {
-    match map.insert(key, value) {
-        Ok(_) => Ok(()),
-        Err(AllocFailed { value: (_, value) }) => Err(value),
-    }
+    let entry = match map.entry(key) {
+        Ok(entry) => entry,
+        Err(_refused) => return Err(NoMemory),
+    };
+    let fresh = match entry {
+        Entry::Vacant(place) => {
+            place.insert(value);
+            true
+        }
+        Entry::Occupied(_taken) => false,
+    };
+    // It is known here that the keys ascend.
+    let _ = map.len();
+    Ok(fresh)
 }
 
 impl<K: Ord + Drop, V: Drop> Inbox<K, V> {
@@ -90,14 +106,15 @@ impl<K: Ord + Drop, V: Drop> Inbox<K, V> {
         make(&mut self.map, change)
     }
 
-    /// Puts the value at the key. It hands the value back where there is no memory.
-    pub fn put(&mut self, key: K, value: V) -> Result<(), V>
+    /// Puts the value at the key, where there is none, and answers whether that is so.
+    pub fn enter(&mut self, key: K, value: V) -> Result<bool, NoMemory>
         requires { IsAntisymmetric K.cmp }
-        ensures put { OnOk result (rib_in K.cmp self.new ≡ map.insert (rib_in K.cmp self.old) key value) }
-        ensures returned { IfErr result (λ back. back ≡ value) }
+        ensures fresh { IfOk result (λ fresh. fresh ≡ not (is_some (map.get (rib_in K.cmp self.old) key))) }
+        ensures entered { IfOk result (λ fresh. fresh ≡ true → rib_in K.cmp self.new ≡ map.insert (rib_in K.cmp self.old) key value) }
+        ensures stays { IfOk result (λ fresh. fresh ≡ false → self.new ≡ self.old) }
         ensures unchanged { OnErr result (self.new ≡ self.old) }
     {
-        put_in(&mut self.map, key, value)
+        enter_in(&mut self.map, key, value)
     }
 
     /// Takes out the entry at the key. It takes no memory.

@@ -6,7 +6,7 @@ ghost use Rattle.edge_tables.specs.taken_tables.Routes.{handed};
 
 use bgp_messages::bgp_attributes::Comms;
 use bgp_values::pmsi_attr::Pmsi;
-use edge_routes::TakenValue;
+use edge_routes::{Shared, TakenValue};
 use edge_routes::route_order::{same_attribute, same_comms, same_hop};
 use mv_base::Addr;
 use std::marker::Model;
@@ -32,10 +32,11 @@ impl RouteValue {
     }
 }
 
-/// A route that was taken: its value, the clock at which it was learned, and whether its delay was run.
+/// A route that was taken: its value, the clock at which it was learned, and whether its delay was run. Values are kept beside the
+/// table, so that a search goes through keys alone.
 #[derive(Drop)]
 pub struct TakenEntry {
-    value: RouteValue,
+    value: Shared<RouteValue>,
     since: u64,
     run: bool,
 }
@@ -54,7 +55,7 @@ impl Model for TakenEntry {
 
 impl TakenEntry {
     /// The route, learned at the clock.
-    pub(crate) fn of(value: RouteValue, now: u64) -> TakenEntry
+    pub(crate) fn of(value: Shared<RouteValue>, now: u64) -> TakenEntry
         ensures { result ≡ record { value = handed value; since = now; run = false } }
     {
         TakenEntry {
@@ -68,19 +69,7 @@ impl TakenEntry {
     pub fn value(&self) -> TakenValue<'_>
         ensures { value_of result ≡ self.now.value }
     {
-        self.value.lent()
-    }
-
-    /// What the route says, taken out.
-    pub(crate) fn into_value(self) -> RouteValue
-        ensures { handed result ≡ self.value }
-    {
-        let TakenEntry {
-            value,
-            since: _,
-            run: _,
-        } = self;
-        value
+        self.value.lent().lent()
     }
 
     /// The clock at which the route was learned.

@@ -1,5 +1,5 @@
 //! The table of one peer.
-ghost use Rattle.std.specs.Prelude.{◌≡◌, IfErr, OnOk, OnErr};
+ghost use Rattle.std.specs.Prelude.{◌≡◌, false, is_some, not, true, IfOk, OnErr};
 ghost use Rattle.std.specs.Option.{option_copied};
 ghost use Rattle.std.specs.FinMap as maps;
 ghost use Rattle.edge_tables.specs.taken_tables.Running.{node_run, table_run};
@@ -59,49 +59,19 @@ impl TakenTable {
         self.routes.iter()
     }
 
-    /// Puts the route of the key, which is the table's own. It hands the route back where there is no memory.
+    /// Puts the route of the key, where there is none, and answers whether that is so.
     #[tactic(auto, using(edge_defs::proofs::KeyLemmas::key_exact))]
-    fn put_own(&mut self, key: TakenKey, entry: TakenEntry) -> Result<(), TakenEntry>
-        ensures put { OnOk result (taken_in self.new ≡ maps.insert (taken_in self.old) key entry) }
-        ensures returned { IfErr result (λ back. back ≡ entry) }
-        ensures unchanged { OnErr result (self.new ≡ self.old) }
-    {
-        let waits = awaits_with(self.waits, &key, &entry);
-        match self.routes.put(key, entry) {
-            Ok(()) => {
-                self.waits = waits;
-                Ok(())
-            }
-            Err(entry) => Err(entry),
-        }
-    }
-
-    /// Puts the route of the key.
-    pub(crate) fn put(&mut self, key: &TakenKey, entry: TakenEntry) -> Result<(), NoMemory>
-        ensures put { OnOk result (taken_in self.new ≡ maps.insert (taken_in self.old) key.now entry) }
+    pub(crate) fn enter(&mut self, key: &TakenKey, entry: TakenEntry) -> Result<bool, NoMemory>
+        ensures fresh { IfOk result (λ fresh. fresh ≡ not (is_some (maps.get (taken_in self.old) key.now))) }
+        ensures entered { IfOk result (λ fresh. fresh ≡ true → taken_in self.new ≡ maps.insert (taken_in self.old) key.now entry) }
+        ensures stays { IfOk result (λ fresh. fresh ≡ false → self.new ≡ self.old) }
         ensures unchanged { OnErr result (self.new ≡ self.old) }
     {
         let own = key.share()?;
-        match self.put_own(own, entry) {
-            Ok(()) => Ok(()),
-            Err(_) => Err(NoMemory),
-        }
-    }
-
-    /// The same, but that it hands the route back where there is no memory.
-    pub(crate) fn put_or_back(
-        &mut self,
-        key: &TakenKey,
-        entry: TakenEntry,
-    ) -> Result<(), TakenEntry>
-        ensures put { OnOk result (taken_in self.new ≡ maps.insert (taken_in self.old) key.now entry) }
-        ensures returned { IfErr result (λ back. back ≡ entry) }
-        ensures unchanged { OnErr result (self.new ≡ self.old) }
-    {
-        match key.share() {
-            Ok(own) => self.put_own(own, entry),
-            Err(_) => Err(entry),
-        }
+        let waits = awaits_with(self.waits, &own, &entry);
+        let fresh = self.routes.enter(own, entry)?;
+        self.waits = waits;
+        Ok(fresh)
     }
 
     /// Takes out the route of the key. It takes no memory.

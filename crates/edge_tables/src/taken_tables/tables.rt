@@ -1,5 +1,5 @@
 //! The tables of all peers.
-ghost use Rattle.std.specs.Prelude.{◌≡◌, ℕ, None, true, is_some, option_map, IfErr, IfOk, OnOk, OnErr};
+ghost use Rattle.std.specs.Prelude.{◌≡◌, ℕ, false, is_some, not, option_map, true, IfOk, OnOk, OnErr};
 ghost use Rattle.std.specs.Option.{option_copied};
 ghost use Rattle.std.specs.FinMap as maps;
 ghost use Rattle.edge_defs.specs.Edge.{Taken};
@@ -9,13 +9,13 @@ ghost use Rattle.bgp_messages.specs.declared.bgp_attributes.update.Change.TheVar
 ghost use Rattle.edge_tables.specs.taken_tables.Routes.{handed};
 ghost use Rattle.edge_tables.specs.taken_tables.Running.{IsOf, node_run};
 ghost use Rattle.edge_tables.specs.taken_tables.Slots.{taken_in};
-ghost use Rattle.edge_tables.specs.taken_tables.Tables.{AreSpelled, changed_at, is_news_at, reach, route_at};
+ghost use Rattle.edge_tables.specs.taken_tables.Tables.{AreSpelled, changed_at, reach, route_at};
 
 use crate::rib_sync::Entries;
 use crate::taken_tables::entry::{RouteValue, TakenEntry};
-use crate::taken_tables::slots::{Slots, forget_from, learn_from, learn_new_from};
+use crate::taken_tables::slots::{Slots, enter_from, forget_from};
 use crate::taken_tables::table::{TakenTable, run_node};
-use edge_routes::LocalVrf;
+use edge_routes::{LocalVrf, Shared};
 use edge_routes::route_order::TakenKey;
 use mv_base::{NoMemory, NodeId};
 use scenario_defs::Node;
@@ -81,39 +81,22 @@ impl TakenTables {
         self.slots.contains_key(&peer.0)
     }
 
-    /// Takes a route from the peer at the clock, where the end of the session is up, and tells whether it is another one than
-    /// before. An equal one keeps its time, and changes nothing.
-    pub fn learn(
+    /// Takes a route from the peer at the clock, where the end of the session is up and none of the key was taken from it. It answers
+    /// whether there was no route of the key.
+    pub fn enter(
         &mut self,
         peer: NodeId,
         key: &TakenKey,
-        value: RouteValue,
+        value: &Shared<RouteValue>,
         now: u64,
     ) -> Result<bool, NoMemory>
-        ensures learned { OnOk result (
-            self.new ≡ changed_at peer (λ taken. taken_change now taken (reach key.now (handed value))) self.old) }
-        ensures news { IfOk result (λ news. news ≡ is_news_at self.old peer key.now (handed value)) }
+        ensures fresh { IfOk result (λ fresh. fresh ≡ not (is_some (route_at self.old peer key.now))) }
+        ensures entered { IfOk result (λ fresh. fresh ≡ true →
+            self.new ≡ changed_at peer (λ taken. taken_change now taken (reach key.now (handed value.now))) self.old) }
+        ensures stays { IfOk result (λ fresh. fresh ≡ false → self.new ≡ self.old) }
         ensures unchanged { OnErr result (self.new ≡ self.old) }
     {
-        learn_from(&mut self.slots, peer, key, value, now)
-    }
-
-    /// Takes a route of a key of which the peer has none, at the clock, where the end of the session is up. It hands the value back
-    /// where there is no memory.
-    pub fn learn_new(
-        &mut self,
-        peer: NodeId,
-        key: &TakenKey,
-        value: RouteValue,
-        now: u64,
-    ) -> Result<(), RouteValue>
-        requires new { route_at self.old peer key.now ≡ None }
-        ensures learned { OnOk result (
-            self.new ≡ changed_at peer (λ taken. taken_change now taken (reach key.now (handed value))) self.old) }
-        ensures returned { IfErr result (λ back. handed back ≡ handed value) }
-        ensures unchanged { OnErr result (self.new ≡ self.old) }
-    {
-        learn_new_from(&mut self.slots, peer, key, value, now)
+        enter_from(&mut self.slots, peer, key, value, now)
     }
 
     /// Forgets the route of the key that was taken from the peer. It takes no memory.

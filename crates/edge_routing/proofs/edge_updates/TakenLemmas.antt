@@ -1,5 +1,5 @@
 -- What one change of a peer's routes makes of the tunnels that are listed, and a row of changes.
-use Rattle.std.proofs.Common.{◌≡◌, ◌↔◌, ℕ, true, false, List, [], ◌∷◌, ◌++◌, fold, Option, Some, None, refl, sym, ap, subst, ◌∙◌}
+use Rattle.std.proofs.Common.{◌≡◌, ◌↔◌, ℕ, true, false, cond, not, is_some, List, [], ◌∷◌, ◌++◌, fold, Option, Some, None, refl, sym, ap, subst, ◌∙◌}
 use Rattle.std.proofs.lemmas.List.Sums.{fold-append}
 use Rattle.std.proofs.lemmas.List.{append-nil}
 use Rattle.std.specs.List.{list_any}
@@ -16,7 +16,8 @@ use Rattle.bgp_messages.specs.declared.bgp_attributes.update.Change.TheVariants 
 use Rattle.bgp_messages.specs.declared.bgp_attributes.update.Message.{Message}
 use Rattle.bgp_messages.specs.bgp_update.Table.{changes_of, key_of}
 use Rattle.label_defs.specs.LabelData.{same_fec}
-use Rattle.label_defs.proofs.KeyLemmas.{same_fec_equal, same_fec_itself}
+use Rattle.label_defs.specs.Keys.{node_cmp}
+use Rattle.label_defs.proofs.KeyLemmas.{node_cmp_total, same_fec_equal, same_fec_itself}
 use Rattle.edge_defs.specs.Edge.{Control, Taken, TakenRoute}
 use Rattle.edge_defs.specs.Imported.{imported_inclusive, taken_from}
 use Rattle.edge_defs.specs.Keys.{Value, key_cmp}
@@ -31,6 +32,7 @@ use Rattle.edge_control.specs.edge_tables.taken_tables.Tables.{Tables, changed_a
 use Rattle.edge_control.proofs.edge_tables.taken_tables.MapLemmas.{one_after_another}
 use Rattle.control_laws.specs.Control.{Kept, control_of}
 use Rattle.control_laws.proofs.PeersKinds.{tables_of}
+use Rattle.control_laws.proofs.PeersMaps.{itself_by}
 use Rattle.control_laws.proofs.PeersTables.{changed}
 use Rattle.control_laws.proofs.PeersTold.{Changes, Here}
 use Rattle.edge_control.specs.Sound.{wants_of}
@@ -210,6 +212,30 @@ announcement_taken now peer key value old new before after home wants control fr
     ∙ ap (λ (route : Option TakenRoute). before ++ told_at old.home peer key route) (sym fresh))
     ∙ ap (λ (fecs : List Fec). (before ++ told_at old.home peer key (route_at old.peers peer key)) ++ fecs) (sym come))
 
+-- whether routes are taken from the peer stays as it is
+from_changed : (home : Home) (peer : NodeId) (key : Key) (value : Value) (change : Taken → Taken) (tables : Tables) (o : Option Taken)
+    → maps.get tables peer ≡ o
+    → told_from home (maps.get (elim o as (λ x. Tables) [ None ↦ tables | Some taken ↦ maps.insert tables peer (change taken) ]) peer) peer key value
+    ≡ told_from home o peer key value
+from_changed home peer key value change tables None e = ap (λ (o : Option Taken). told_from home o peer key value) e
+from_changed home peer key value change tables (Some taken) e =
+    ap (λ (o : Option Taken). told_from home o peer key value)
+    (maps.get-insert node_cmp_total tables peer (change taken) peer
+    ∙ ap (λ b. cond b (Some (change taken)) (maps.get tables peer)) (itself_by node_cmp node_cmp_total peer))
+
+-- The same where they are listed afterwards.
+pub entered_taken : (now : ℕ) (peer : NodeId) (key : Key) (value : Value) (old new : Kept) (before after : List Fec) → new.home ≡ old.home
+    → wants_of new.trees ≡ wants_of old.trees → control_of new ≡ changed_by now peer (reach key value ∷ []) (control_of old)
+    → route_at old.peers peer key ≡ None → after ≡ before ++ told_from new.home (maps.get new.peers peer) peer key value
+    → AreTaken now peer (reach key value ∷ []) old new before after
+entered_taken now peer key value old new before after home wants control fresh is =
+    announcement_taken now peer key value old new before after home wants control fresh
+    (is
+    ∙ ap (λ (fecs : List Fec). before ++ fecs)
+    (ap (λ (h : Home). told_from h (maps.get new.peers peer) peer key value) home
+    ∙ ap (λ (c : Control). told_from old.home (maps.get c.peers peer) peer key value) control
+    ∙ from_changed old.home peer key value (λ taken. taken_change now taken (reach key value)) old.peers (maps.get old.peers peer) refl))
+
 -- ---- rows of changes
 
 listed_then : (place : EdgePlace) (a b c : Control) (xs ys zs : List Fec) → AreListed place a xs b ys → AreListed place b ys c zs
@@ -227,6 +253,23 @@ none_taken now peer kept fecs = record {
   control = ap (λ (tables : Tables). record (control_of kept) { peers = tables }) (one_after_another now peer [] kept.peers);
   tunnels = λ core fec none. (none, ((λ is. is), (λ is. is)));
 }
+
+-- nothing of what an edge keeps is another one
+pub stays_taken : (now : ℕ) (peer : NodeId) (old new : Kept) (fecs : List Fec) → new.home ≡ old.home → wants_of new.trees ≡ wants_of old.trees
+    → control_of new ≡ control_of old → AreTaken now peer [] old new fecs fecs
+stays_taken now peer old new fecs home wants control = record {
+  home = home;
+  wants = wants;
+  control = control ∙ (none_taken now peer old fecs).control;
+  tunnels = λ core.
+      subst (λ (c : Control). AreListed (place_of old.home core) (control_of old) fecs c fecs) (sym control)
+      ((none_taken now peer old fecs).tunnels core);
+}
+
+-- there is none where it is answered so
+pub none_there : (o : Option TakenRoute) → not (is_some o) ≡ true → o ≡ None
+none_there None h = refl
+none_there (Some route) h = absurd (let bad : false ≡ true = h in cc)
 
 changed_twice : (now : ℕ) (peer : NodeId) (xs ys : List Change) (old : Control)
     → changed_by now peer ys (changed_by now peer xs old) ≡ changed_by now peer (xs ++ ys) old

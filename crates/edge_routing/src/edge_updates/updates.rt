@@ -1,5 +1,5 @@
 //! UPDATE messages of a peer, change by change.
-ghost use Rattle.std.specs.Prelude.{◌≡◌, ℕ, None, [], ◌∷◌, ◌++◌, IfOk, OnOk};
+ghost use Rattle.std.specs.Prelude.{◌≡◌, ℕ, false, true, [], ◌∷◌, ◌++◌, IfOk, OnOk};
 ghost use Rattle.std.specs.List.{AllByRecursion};
 ghost use Rattle.mv_base.specs.core_walks.Core.{Core};
 ghost use Rattle.bgp_messages.specs.declared.bgp_attributes.update.Change.TheVariants.{Reach, Unreach};
@@ -9,7 +9,7 @@ ghost use Rattle.edge_streams.specs.Spelled.{SaysWritable};
 ghost use Rattle.edge_defs.specs.Steps as steps;
 ghost use Rattle.edge_routes.specs.edge_home.Home.{place_of};
 ghost use Rattle.edge_control.specs.edge_tables.taken_tables.Routes.{handed};
-ghost use Rattle.edge_control.specs.edge_tables.taken_tables.Tables.{reach, route_at};
+ghost use Rattle.edge_control.specs.edge_tables.taken_tables.Tables.{reach};
 ghost use Rattle.control_laws.specs.Control.{control_of};
 ghost use Rattle.edge_control.specs.Sound.{wants_of};
 ghost use Rattle.edge_routing.specs.edge_updates.Inclusive.{AreTunnels};
@@ -19,6 +19,7 @@ use crate::edge_updates::inclusive::{append_at, append_by};
 use bgp_messages::bgp_attributes::{Advert, Key, Message, Update};
 use edge_control::EdgeControl;
 use edge_control::of_edge_tables::taken_tables::RouteValue;
+use edge_routes::Shared;
 use edge_routes::route_order::TakenKey;
 use mldp::mldp_fec::Fec;
 use mv_base::{NoMemory, NodeId};
@@ -43,23 +44,27 @@ fn withdraw(
     Ok(())
 }
 
-/// The peer announces a route of a key of which it has none. The tunnels that may come are appended.
-fn announce_fresh(
+/// The peer announces a route. Where it has none of the key, the route is taken, and the tunnels that may come are appended; else nothing
+/// changes. It answers whether there was no route of the key.
+fn enter(
     control: &mut EdgeControl,
     fecs: &mut Vec<Fec>,
     peer: NodeId,
     key: &TakenKey,
-    value: RouteValue,
+    value: &Shared<RouteValue>,
     now: u64,
-) -> Result<(), NoMemory>
-    requires fresh { route_at control.old.peers peer key.now ≡ None }
-    ensures taken { OnOk result (
-        AreTaken now peer (reach key.now (handed value) ∷ []) control.old control.new fecs.old.items fecs.new.items) }
+) -> Result<bool, NoMemory>
+    ensures taken { IfOk result (λ fresh. fresh ≡ true →
+        AreTaken now peer (reach key.now (handed value.now) ∷ []) control.old control.new fecs.old.items fecs.new.items) }
+    ensures stays { IfOk result (λ fresh. fresh ≡ false → AreTaken now peer [] control.old control.new fecs.old.items fecs.new.items) }
     ensures home { control.new.home ≡ control.old.home }
     ensures wants { wants_of control.new.trees ≡ wants_of control.old.trees }
 {
-    append_by(fecs, control, peer, key.key(), &value.lent())?;
-    control.announce_fresh(peer, key, value, now)
+    if !control.enter(peer, key, value, now)? {
+        return Ok(false);
+    }
+    append_by(fecs, control, peer, key.key(), &value.lent().lent())?;
+    Ok(true)
 }
 
 /// The peer announces a route, of a key of which it may have one. The tunnels that may come or go are appended.
@@ -68,11 +73,11 @@ fn announce_again(
     fecs: &mut Vec<Fec>,
     peer: NodeId,
     key: &TakenKey,
-    value: RouteValue,
+    value: &Shared<RouteValue>,
     now: u64,
 ) -> Result<(), NoMemory>
     ensures taken { OnOk result (
-        AreTaken now peer (reach key.now (handed value) ∷ []) control.old control.new fecs.old.items fecs.new.items) }
+        AreTaken now peer (reach key.now (handed value.now) ∷ []) control.old control.new fecs.old.items fecs.new.items) }
     ensures home { control.new.home ≡ control.old.home }
     ensures wants { wants_of control.new.trees ≡ wants_of control.old.trees }
 {
@@ -100,16 +105,18 @@ fn announce(
         comms,
         pmsi,
     } = advert;
-    let own = TakenKey::of(*fecs.allocator(), key)?;
+    let alloc = *fecs.allocator();
+    let own = TakenKey::of(alloc, key)?;
     let value = RouteValue {
         next_hop,
         comms,
         pmsi,
     };
-    match control.taken().get(peer, &own) {
-        None => announce_fresh(control, fecs, peer, &own, value, now),
-        Some(_) => announce_again(control, fecs, peer, &own, value, now),
+    let value = Shared::of(alloc, value)?;
+    if enter(control, fecs, peer, &own, &value, now)? {
+        return Ok(());
     }
+    announce_again(control, fecs, peer, &own, &value, now)
 }
 
 /// The peer withdraws the routes of the keys, one after another.

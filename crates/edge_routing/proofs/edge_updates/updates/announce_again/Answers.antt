@@ -16,7 +16,7 @@ returns-clause-taken c =
     let first = told_at old.home c.args.peer key (route_at old.peers c.args.peer key) in
     let next : Home → _ = λ home. told_at home c.args.peer key (route_at new.peers c.args.peer key) in
     on_ok_weaker c.append_at-2.result (λ e.
-    change_taken c.args.now c.args.peer (reach key (handed c.args.value)) old new before c.append_at-2.new.fecs.items c.announce.ensures.home
+    change_taken c.args.now c.args.peer (reach key (handed c.args.value.now)) old new before c.append_at-2.new.fecs.items c.announce.ensures.home
     c.announce.ensures.wants
     c.in_ok-announce.ensures.announced (e ∙ ap (λ fecs. fecs ++ next new.home) c.in_ok-append_at.ensures
     ∙ ap (λ home. (before ++ first) ++ next home) c.announce.ensures.home)) c.append_at-2.ensures

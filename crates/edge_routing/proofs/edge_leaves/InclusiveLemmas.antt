@@ -1,18 +1,21 @@
 -- Looking through the table of a tunnel's root says whether a VRF imports an inclusive route of the tunnel.
 use Rattle.std.proofs.Common.{◌≡◌, ◌↔◌, ◌<◌, ◌&&◌, ◌||◌, Bool, true, false, List, [], ◌∷◌, map, length, Option, Some, None, refl, sym, ap, subst, ◌∙◌}
 use Rattle.std.specs.List.{list_any}
+use Rattle.std.specs.Prelude.{is_some}
 use Rattle.std.specs.FinMap as maps
 use Rattle.mv_base.specs.Number.{◌>>?◌, only_if}
+use Rattle.mv_base.specs.Address.{same_addr}
 use Rattle.mv_base.specs.declared.addr.Addr.{Addr}
 use Rattle.mv_base.specs.declared.ids.NodeId.{NodeId}
 use Rattle.mldp.specs.declared.mldp_fec.fec.Fec.{Fec}
 use Rattle.mv_base.specs.core_walks.Core.{Core}
 use Rattle.bgp_messages.specs.declared.bgp_attributes.key.Key.{Key}
 use Rattle.scenario_defs.specs.declared.scenario.Vrf.{Vrf}
+use Rattle.label_defs.specs.LabelData.{same_fec}
 use Rattle.label_defs.proofs.KeyLemmas.{same_fec_equal, same_fec_from}
 use Rattle.edge_defs.specs.Datagrams.{is_tunnel}
 use Rattle.edge_defs.specs.Edge.{Control, TakenRoute}
-use Rattle.edge_defs.specs.Imported.{imported_inclusive, inclusive_of, is_admitted, taken_from, tunnel_by}
+use Rattle.edge_defs.specs.Imported.{imported_inclusive, inclusive_of, is_admitted, lsp_of, taken_from, tunnel_by}
 use Rattle.edge_defs.specs.Keys.{Value}
 use Rattle.edge_defs.specs.Place.{EdgePlace, OwnVrf, addr_of, node_with, own_vrfs}
 use Rattle.edge_defs.proofs.KeyLemmas.{key_exact, key_total}
@@ -59,6 +62,23 @@ and_true false = refl
 and_false : (t : Bool) → false ≡ (t && false)
 and_false true = refl
 and_false false = refl
+
+found_first : (fec : Fec) (from : Option Addr) (own : Option Fec) (may : Addr → Fec → Bool)
+    → is_tunnel fec (from >>? λ originator. own >>? λ f. only_if (may originator f) f)
+    ≡ (is_tunnel fec own && is_some (from >>? λ originator. own >>? λ f. only_if (may originator f) f))
+found_first fec None own may = and_false (is_tunnel fec own)
+found_first fec (Some originator) None may = refl
+found_first fec (Some originator) (Some f) may = by (may originator f)
+  where
+    by : (b : Bool) → is_tunnel fec (only_if b f) ≡ (same_fec f fec && is_some (only_if b f))
+    by true = and_true (same_fec f fec)
+    by false = and_false (same_fec f fec)
+
+-- the tunnel of a route may be looked at before its key
+pub tunnel_first : (fec : Fec) (addr : Addr) (key : Key) (value : Value)
+    → is_tunnel fec (inclusive_tunnel addr key value) ≡ (is_tunnel fec (lsp_of value.pmsi) && is_some (inclusive_tunnel addr key value))
+tunnel_first fec addr key value =
+    found_first fec (inclusive_of key) (lsp_of value.pmsi) (λ originator f. same_addr f.root addr && same_addr originator addr)
 
 admitted_only : (fec : Fec) (o : Option Addr) (b : Bool) (value : Value) (tunnel : Addr → Value → Option Fec)
     → is_tunnel fec (o >>? λ originator. only_if b value >>? λ v. tunnel originator v) ≡ (is_tunnel fec (o >>? λ originator. tunnel originator value) && b)

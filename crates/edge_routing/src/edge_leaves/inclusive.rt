@@ -4,8 +4,9 @@ ghost use Rattle.std.specs.List.{list_any};
 ghost use Rattle.mv_base.specs.core_walks.Core.{Core};
 ghost use Rattle.edge_defs.specs.Datagrams.{is_tunnel};
 ghost use Rattle.scenario_defs.specs.declared.scenario.Vrf.{Vrf};
-ghost use Rattle.edge_defs.specs.Imported.{imported_inclusive, is_admitted};
+ghost use Rattle.edge_defs.specs.Imported.{imported_inclusive, is_admitted, lsp_of};
 ghost use Rattle.edge_routes.specs.edge_home.Home.{as_own, place_of};
+ghost use Rattle.edge_routes.specs.Judged.{value_of};
 ghost use Rattle.edge_words.specs.Leaf.{IsInclusive};
 ghost use Rattle.vrf_words.specs.tree_laws.Imports.{imports_inclusive};
 ghost use Rattle.control_laws.specs.Control.{control_of};
@@ -15,20 +16,29 @@ use bgp_messages::bgp_attributes::Key;
 use edge_control::EdgeControl;
 use edge_control::of_edge_tables::taken_tables::{TableEntries, TakenEntry};
 use edge_routes::edge_home::OwnVrf;
-use edge_routes::{inclusive_tunnel, is_admitted};
+use edge_routes::{TakenValue, inclusive_tunnel, is_admitted, lsp_of};
 use mldp::mldp_fec::Fec;
 use mv_base::route_targets::ExtComm;
 use mv_base::{Addr, NodeId};
 
-/// Whether the route of that key from the peer of that address is an inclusive one of the tunnel, for each VRF that admits it.
+/// Whether this is the tunnel of a route.
+fn has_tunnel(fec: &Fec, value: &TakenValue) -> bool
+    ensures { result ≡ is_tunnel fec.now (lsp_of (value_of value.now).pmsi) }
+{
+    match lsp_of(value.pmsi) {
+        None => false,
+        Some(tunnel) => tunnel == *fec,
+    }
+}
+
+/// Whether the route of that key from the peer of that address is an inclusive one of the tunnel, for each VRF that admits it. The tunnel
+/// is looked at first, since keys are not beside the table.
 fn is_of_tunnel(addr: Addr, fec: &Fec, key: &Key, entry: &TakenEntry) -> bool
     ensures { (vrf : Vrf) → is_tunnel fec.now (imported_inclusive vrf addr (key.now, entry.now))
         ≡ (result && is_admitted vrf entry.now.value.comms) }
 {
-    match inclusive_tunnel(addr, key, &entry.value()) {
-        None => false,
-        Some(tunnel) => tunnel == *fec,
-    }
+    let value = entry.value();
+    has_tunnel(fec, &value) && inclusive_tunnel(addr, key, &value).is_some()
 }
 
 /// Whether one of the VRFs admits a route with these communities.

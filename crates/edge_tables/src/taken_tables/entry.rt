@@ -6,8 +6,8 @@ ghost use Rattle.edge_tables.specs.taken_tables.Routes.{handed};
 
 use bgp_messages::bgp_attributes::Comms;
 use bgp_values::pmsi_attr::Pmsi;
-use edge_routes::{Shared, TakenValue};
 use edge_routes::route_order::{same_attribute, same_comms, same_hop};
+use edge_routes::{Shared, TakenValue};
 use mv_base::Addr;
 use std::marker::Model;
 

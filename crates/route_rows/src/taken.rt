@@ -4,6 +4,7 @@ ghost use Rattle.bgp_messages.specs.bgp_update.Written.{IsWritableKey};
 
 use bgp_messages::bgp_attributes::Key;
 use bgp_values::mvpn_nlri::{Afi, Route};
+use edge_routes::Shared;
 use edge_routes::route_order::TakenKey;
 use edge_tables::taken_tables::{RouteValue, TakenTables};
 use mv_base::route_targets::ExtComm;
@@ -28,14 +29,15 @@ fn key(alloc: Global) -> Result<TakenKey, NoMemory> {
 }
 
 /// A value with one community.
-fn value(alloc: Global, hop: u8) -> Result<RouteValue, NoMemory> {
+fn value(alloc: Global, hop: u8) -> Result<Shared<RouteValue>, NoMemory> {
     let mut comms = Seq::new(alloc);
     comms.push(ExtComm([1, 2, 0xc0, 0, 2, 1, 0, 1]))?;
-    Ok(RouteValue {
+    let value = RouteValue {
         next_hop: Addr::V4([192, 0, 2, hop]),
         comms,
         pmsi: None,
-    })
+    };
+    Shared::of(alloc, value)
 }
 
 /// The clock at which the route was learned.
@@ -46,18 +48,20 @@ fn since(tables: &TakenTables, key: &TakenKey) -> Option<u64> {
     }
 }
 
-/// An equal route keeps its time, another one is learned anew, and where the session is down nothing is taken.
+/// A route is taken where there was none of its key, and where the session is down nothing is taken.
 #[test]
 fn takes(rt: HostRuntime) -> Result<(), Fail> {
     let mut tables = TakenTables::of(rt.alloc());
     let peer = NodeId(1);
     let key = key(rt.alloc())?;
-    assert!(rt; !tables.learn(peer, &key, value(rt.alloc(), 2)?, 4)?);
+    assert!(rt; tables.enter(peer, &key, &value(rt.alloc(), 2)?, 4)?);
+    assert_eq!(rt; since(&tables, &key), None);
     tables.raise(peer)?;
-    assert!(rt; tables.learn(peer, &key, value(rt.alloc(), 2)?, 5)?);
-    assert!(rt; !tables.learn(peer, &key, value(rt.alloc(), 2)?, 6)?);
+    assert!(rt; tables.enter(peer, &key, &value(rt.alloc(), 2)?, 5)?);
+    assert!(rt; !tables.enter(peer, &key, &value(rt.alloc(), 3)?, 6)?);
     assert_eq!(rt; since(&tables, &key), Some(5));
-    assert!(rt; tables.learn(peer, &key, value(rt.alloc(), 3)?, 7)?);
+    tables.forget(peer, &key);
+    assert!(rt; tables.enter(peer, &key, &value(rt.alloc(), 3)?, 7)?);
     assert_eq!(rt; since(&tables, &key), Some(7));
     assert!(rt; tables.entries(peer).is_some());
     tables.run_delays(&[], &[], 1000, 2000);

@@ -1,7 +1,7 @@
 -- Laws of the lists that words write.
-use Rattle.std.proofs.Common.{◌≡◌, ℕ, ◌+◌, ◌<◌, ◌≤◌, ◌==◌, Bool, true, false, not, ◌&&◌, ◌||◌, List, [], ◌∷◌, ◌++◌, length, refl, sym, ap, ◌∙◌, subst, arith, nat_le, append_assoc, take, drop, position, length-append, Option, Some, None}
+use Rattle.std.proofs.Common.{◌≡◌, ℕ, suc, ◌+◌, ◌<◌, ◌≤◌, ◌==◌, Bool, true, false, cond, not, ◌&&◌, ◌||◌, List, [], ◌∷◌, ◌++◌, length, refl, sym, ap, ◌∙◌, subst, arith, nat_le, nat_lt, append_assoc, take, drop, position, length-append, Option, Some, None}
 use Rattle.std.specs.Prelude.{All, AllPairs}
-use Rattle.std.specs.List.{list_any, slice_split}
+use Rattle.std.specs.List.{list_any, position_or_len, slice_split}
 use Rattle.std.proofs.lemmas.Bool.Decides.{nat_tests}
 use Rattle.std.proofs.lemmas.List.{append-nil}
 use Rattle.std.proofs.lemmas.List.Elements.{All-nil, All-cons}
@@ -215,3 +215,23 @@ pub list_is : {A : Type 0} (same : A → A → Bool) (read : List ℕ → Option
     → IsListOf same read text found
 unfolding list_of
 list_is same read text found h = list_parts same read text found (each_of read (slice_split (λ b. b == 44) text)) refl h
+
+-- ---- a list in which no element passes
+
+no_place : {X : Type 0} (p : X → Bool) (xs : List X) → list_any p xs ≡ false → position_or_len p xs ≡ length xs
+no_place p [] h = refl
+no_place p (x ∷ xs) h = by (p x) h (no_place p xs)
+  where
+    by : (b : Bool) → (b || list_any p xs) ≡ false → (list_any p xs ≡ false → position_or_len p xs ≡ length xs)
+        → cond (not b) (1 + position_or_len p xs) 0 ≡ suc (length xs)
+    by true e rest = absurd cc
+    by false e rest = let same : position_or_len p xs ≡ length xs = rest e in omega arith
+
+not_below : (n : ℕ) → nat_lt n n ≡ false
+not_below n = grind (arith, nat_tests)
+
+-- has no first one
+pub none_first : {X : Type 0} (p : X → Bool) (xs : List X) → list_any p xs ≡ false → position p xs ≡ None
+none_first p xs h =
+    ap (λ n. cond (nat_lt n (length xs)) (Some n) None) (no_place p xs h)
+    ∙ ap (λ b. cond b (Some (length xs)) None) (not_below (length xs))

@@ -1,5 +1,6 @@
 //! A line of a text: whether it says anything, and its words.
 ghost use Rattle.std.specs.Prelude.{◌≡◌, ◌≤◌, length, map, position, IfErr, IfOk, Ok};
+ghost use Rattle.std.specs.List.{list_any};
 ghost use Rattle.line_words.specs.Answers.{Fails};
 ghost use Rattle.line_words.specs.Lines.{are_spaces, is_blank, is_outside, row_of, words_in};
 ghost use Rattle.line_words.specs.Words.{placed_word};
@@ -18,9 +19,24 @@ fn is_outside(b: u8) -> bool
     b < 0x20 || b > 0x7e
 }
 
+/// Whether one of the octets is none from a space to a tilde. It looks at all of them, several at a time.
+fn has_outside(octets: &[u8]) -> bool
+    ensures { result ≡ list_any is_outside octets.now }
+{
+    let mut found = false;
+    for octet in octets {
+        found = found | is_outside(*octet);
+    }
+    found
+}
+
+/// The place of the first such octet. Most lines have none.
 fn first_outside(octets: &[u8]) -> Option<usize>
     ensures { result ≡ position is_outside octets.now }
 {
+    if !has_outside(octets) {
+        return None;
+    }
     octets.iter().position(|b| is_outside(*b))
 }
 

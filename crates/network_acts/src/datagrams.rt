@@ -1,14 +1,13 @@
-//! Datagrams: they are accepted, enter at VRFs, and their copies land or are dropped (RFC 6513 sections 9.1.1 and 12, RFC 3032).
-ghost use Rattle.std.specs.Prelude.{◌≡◌, ◌<◌, ◌+◌, ◌^◌, ℕ, IfOk, OnOk, length};
+//! Datagrams: they enter at VRFs, and their copies land (RFC 6513 sections 9.1.1 and 12, RFC 3032).
+ghost use Rattle.std.specs.Prelude.{ℕ, IfOk, OnOk, length};
 ghost use Rattle.edge_defs.specs.Datagrams as fates;
 ghost use Rattle.network_defs.specs.Acts as acts;
 ghost use Rattle.network_defs.specs.World as worlds;
 ghost use Rattle.network_acts.specs.control_plane.Queries.{IsEdgeOf, IsFate};
-ghost use Rattle.data_plane.specs.datagram_acts.Stored.{with_datagram};
-ghost use Rattle.network_acts.specs.Acting.{Made, Passes};
+ghost use Rattle.network_acts.specs.Acting.{Made};
 ghost use Rattle.network_acts.specs.Handling.{Enters, HasLanded, IsHandling, IsSentBy};
 ghost use Rattle.network_acts.specs.Handling.{IsSomeHandling, IsSomeLanded, Lands, MayLand, landing_fate};
-ghost use Rattle.network_acts.specs.Instant.{Any, Instant, IsSome, IsWorld, OfPlane, standing_of};
+ghost use Rattle.network_acts.specs.Instant.{Instant, IsSome, IsWorld, OfPlane, standing_of};
 
 use crate::control_plane::Fate;
 use crate::network::Network;
@@ -33,16 +32,6 @@ fn with_ttl(alloc: Global, ttl: u8, fate: Fate) -> Fate
 }
 
 impl Network {
-    /// A datagram is accepted, and is the one that is being sent. Answers its number, counted from 1.
-    pub fn accept(&mut self) -> u64
-        requires room { self.old.datagrams.count + 1 < 2 ^ 64 }
-        ensures number { (at : Instant) → IsWorld at self.old → result ≡ length at.world.datagrams + 1 }
-        ensures accepted { (at : Instant) (datagram : worlds.Datagram) → IsWorld at self.old →
-            IsHandling (record at { world = with_datagram datagram at.world }) (length at.world.datagrams + 1) datagram self.new }
-    {
-        self.datagrams.accept()
-    }
-
     /// The datagram that was accepted last, and is being sent, enters at the VRF, whose edge is node n. Its copies are on links from
     /// `Datagrams::send` on, when the branches at all VRFs are known.
     pub fn enter(
@@ -120,10 +109,11 @@ impl Network {
             number: landed.number,
         })?;
         let ttl = landed.ttl.saturating_sub(1);
+        let now = self.clock();
         self.datagrams.leave(
             to,
             ttl,
-            self.plane.clock(),
+            now,
             fate.outs.as_slice(),
             fate.branches.as_slice(),
             lines,
@@ -151,13 +141,5 @@ impl Network {
                 Ok(())
             }
         }
-    }
-
-    /// The copy at that place of the way, counted from 1, leaves its link, where there is one.
-    pub fn drop_copy(&mut self, from: NodeId, to: NodeId, place: usize)
-        requires network { IsSome Any self.old }
-        ensures { (at : Instant) → IsWorld at self.old → Passes at at.moment (acts.Drop from to place) self.new }
-    {
-        self.datagrams.drop_copy(from, to, place);
     }
 }

@@ -18,7 +18,7 @@ use std::marker::Model;
 pub struct Network {
     pub(crate) scenario: SharedScenario,
     pub(crate) plane: ControlPlane,
-    /// What changes copies and datagrams alone may be called here.
+    /// What asks for copies and datagrams alone, or changes them alone, is called here.
     pub datagrams: Datagrams,
 }
 

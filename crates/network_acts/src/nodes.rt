@@ -20,8 +20,8 @@ impl Network {
         ensures { (at : Instant) → IsWorld at self.old → Passes at at.moment (Tick ticks) self.new }
     {
         self.plane.elapse(ticks);
-        self.datagrams
-            .age(self.plane.clock(), self.scenario.lent().life);
+        let now = self.clock();
+        self.datagrams.age(now, self.scenario.lent().life);
     }
 
     /// The timers of node n run.

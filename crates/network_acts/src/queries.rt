@@ -1,18 +1,15 @@
 //! What is asked of a network. Nothing changes.
 ghost use Rattle.std.specs.Prelude.{◌≡◌, ◌<◌, length, true, false};
 ghost use Rattle.std.specs.FinMap as maps;
-ghost use Rattle.network_defs.specs.Counts.{all_copies, direction, is_end_up, octets_in_transit};
+ghost use Rattle.network_defs.specs.Counts.{direction, is_end_up, octets_in_transit};
 ghost use Rattle.network_defs.specs.Nodes.{is_edge};
 ghost use Rattle.network_acts.specs.control_plane.Acted.{IsWithin};
 ghost use Rattle.network_acts.specs.control_plane.Customers.{IsVrfEdge, control_at};
 ghost use Rattle.network_acts.specs.control_plane.Queries.{IsCoreThere, IsEdgeThere};
-ghost use Rattle.data_plane.specs.link_copies.CopiesData.{IsShared};
-ghost use Rattle.data_plane.specs.datagram_acts.Stored.{AreLinked};
 ghost use Rattle.network_acts.specs.Instant.{Instant, IsSome, IsWorld, OfPlane, standing_of};
 
 use crate::control_plane::Edge;
 use crate::network::Network;
-use data_plane::datagram_acts::Pool;
 use mldp_node::LdpNode;
 use mv_base::{NodeId, Pattern, VrfId};
 use network_defs::session_defs::Direction;
@@ -24,7 +21,7 @@ impl Network {
         ensures own { result ≡ self.now.plane.clock }
         ensures is { (at : Instant) → IsWorld at self.now → result ≡ at.world.network.state.clock }
     {
-        self.plane.clock()
+        self.plane.clock
     }
 
     /// How many octets are in transit over the direction.
@@ -90,35 +87,5 @@ impl Network {
             Some(labels) => labels,
             None => unreachable!(),
         }
-    }
-
-    /// The buffers of the copies and of the datagram that is being handled.
-    pub fn pool(&self) -> &Pool
-        ensures now { result.now ≡ self.now.datagrams.copies.buffers }
-        ensures shared { IsShared self.now.datagrams.copies }
-    {
-        self.datagrams.pool()
-    }
-
-    /// How many copies are on the way.
-    pub fn copies_on(&self, from: NodeId, to: NodeId) -> usize
-        ensures { (at : Instant) → IsWorld at self.now → result ≡ length (at.world.copies from to) }
-    {
-        self.datagrams.count_on(from, to)
-    }
-
-    /// How many copies are on links.
-    pub fn copies(&self) -> u64
-        ensures { (at : Instant) → IsWorld at self.now → AreLinked at.world → result ≡ length (all_copies at.world) }
-    {
-        self.datagrams.copies()
-    }
-
-    /// How many datagrams were accepted.
-    pub fn accepted(&self) -> u64
-        ensures own { result ≡ self.now.datagrams.count }
-        ensures is { (at : Instant) → IsWorld at self.now → result ≡ length at.world.datagrams }
-    {
-        self.datagrams.count()
     }
 }

@@ -1,5 +1,5 @@
 -- What a world lends is what the runs say that it is behind.
-use Rattle.std.proofs.Common.{◌≡◌, ◌∙◌, ℕ, sym, ap, subst, length}
+use Rattle.std.proofs.Common.{◌≡◌, ◌∙◌, sym, ap, subst}
 use Rattle.mv_base.specs.declared.ids.NodeId.{NodeId}
 use Rattle.scenario_defs.specs.declared.event.Kind.TheVariants as kinds
 use Rattle.scenario_defs.specs.declared.scenario.Scenario.{Scenario}
@@ -64,10 +64,3 @@ pool_of view account cores scenario events trace world behind =
 
 pub pool_lent : (own now : WorldView) → own ≡ now → IsShared own.network.datagrams.copies → InEachRun now (λ scenario world. IsPool world now)
 pool_lent own now same account = subst (λ (w : WorldView). InEachRun w (λ scenario world. IsPool world w)) same (pool_of own account)
-
--- ---- datagrams
-
-pub accepted_lent : (own now : WorldView) (count : ℕ) → own ≡ now → ((at : Instant) → IsWorld at own.network → count ≡ length at.world.datagrams)
-    → InEachRun now (λ scenario world. count ≡ length world.datagrams)
-accepted_lent own now count same counted cores scenario events trace world behind =
-    counted (between_events cores world) (subst (IsBehind cores scenario events trace world) (sym same) behind).stands

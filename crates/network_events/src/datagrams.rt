@@ -34,7 +34,7 @@ pub(crate) fn of_memory(answer: Result<(), NoMemory>) -> Result<(), Halt>
 fn are_links_full(network: &Network) -> bool
     ensures { (at : Instant) → IsWorld at network.now → AreLinked at.world → result ≡ are_links_full at.world }
 {
-    network.copies() >= COPY_LIMIT
+    network.datagrams.copies() >= COPY_LIMIT
 }
 
 /// The word that tells why octets are no packet.
@@ -65,10 +65,10 @@ fn sent(
         network.old network.new lines.old lines.new result }
 {
     let vrfs = entered(lines.alloc(), network.scenario(), site)?;
-    if network.accepted() == u64::MAX {
+    if network.datagrams.count() == u64::MAX {
         return Err(NoMemory);
     }
-    network.accept();
+    network.datagrams.accept();
     let own = vrfs.as_slice();
     for vrf in own {
         let Some(n) = edge_of_vrf(network.scenario(), *vrf) else {
@@ -150,7 +150,7 @@ pub(crate) fn hop(
     requires event { IsGiven network.old.scenario (events.Hop from to place) }
     ensures { Meets (events.Hop from to place) network.old network.new lines.old lines.new result }
 {
-    if network.copies_on(from, to) < place as usize {
+    if network.datagrams.count_on(from, to) < place as usize {
         return Ok(Some(Refusal::Place));
     }
     met(of_memory(network.hop(from, to, place as usize, lines)))
@@ -168,10 +168,10 @@ pub(crate) fn drop_copy(
     requires event { IsGiven network.old.scenario (events.DropCopy from to place) }
     ensures { Meets (events.DropCopy from to place) network.old network.new lines.old lines.new result }
 {
-    if network.copies_on(from, to) < place as usize {
+    if network.datagrams.count_on(from, to) < place as usize {
         return Ok(Some(Refusal::Place));
     }
-    network.drop_copy(from, to, place as usize);
+    network.datagrams.drop_copy(from, to, place as usize);
     Ok(None)
 }
 

@@ -24,7 +24,7 @@ type Ways = Seq<(NodeId, NodeId)>;
 fn add_way(ways: &mut Ways, network: &Network, from: NodeId, to: NodeId) -> Result<(), NoMemory>
     ensures { OnOk result ((at : Instant) → IsWorld at network.now → ways.new ≡ ways.old ++ ways_of at.world ((from, to) ∷ [])) }
 {
-    for _copy in 0..network.copies_on(from, to) {
+    for _copy in 0..network.datagrams.count_on(from, to) {
         ways.push((from, to))?;
     }
     Ok(())

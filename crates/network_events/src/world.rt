@@ -115,7 +115,7 @@ impl World {
         ensures own { result ≡ self.now.network.datagrams.count }
         ensures is { InEachRun self.now (λ scenario world. result ≡ length world.datagrams) }
     {
-        self.network.accepted()
+        self.network.datagrams.count()
     }
 
     /// The node of that number, which is an edge of the scenario. It takes no memory.
@@ -140,7 +140,7 @@ impl World {
         ensures now { result.now ≡ self.now.network.datagrams.copies.buffers }
         ensures is { InEachRun self.now (λ scenario world. IsPool world self.now) }
     {
-        self.network.pool()
+        self.network.datagrams.pool()
     }
 
     /// One event, which is at that line: it is refused, with the line that says so, or its acts are done, with their lines. These are

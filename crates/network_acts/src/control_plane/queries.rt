@@ -1,10 +1,9 @@
 //! What is asked of the control plane. Nothing changes.
 ghost use Rattle.std.specs.Prelude.{◌≡◌, ◌<◌, ◌≤◌, count_by, length, min, not, slice_get, sum_by, true, false, IfSome, None, Some};
-ghost use Rattle.label_defs.specs.LabelData as labels;
 ghost use Rattle.scenario_defs.specs.declared.scenario.Scenario.{Scenario};
 ghost use Rattle.network_defs.specs.Counts as counts;
 ghost use Rattle.network_defs.specs.Counts.{all_nodes, node_due};
-ghost use Rattle.network_defs.specs.Nodes.{is_edge, part_of};
+ghost use Rattle.network_defs.specs.Nodes.{is_edge};
 ghost use Rattle.network_acts.specs.control_plane.Acted.{IsIn, IsSome, IsWithin, Standing};
 ghost use Rattle.network_acts.specs.control_plane.Plane.{ArePlaced};
 ghost use Rattle.network_acts.specs.control_plane.Queries.{HasEnds, HaveEnds, IsCoreThere, IsEdgeThere, IsNodeThere, without_copies};
@@ -17,28 +16,12 @@ use network_nodes::{Edge, NetworkNode};
 use scenario_defs::Kind;
 
 impl ControlPlane {
-    /// The clock, in ticks.
-    pub fn clock(&self) -> u64
-        ensures own { result ≡ self.now.clock }
-        ensures is { (at : Standing) → IsIn at self.now → result ≡ at.network.state.clock }
-    {
-        self.clock
-    }
-
     /// Node n.
     pub(crate) fn node(&self, n: NodeId) -> &NetworkNode
         requires { IsSome (IsWithin n) self.now }
         ensures { (at : Standing) → IsWithin n at → IsIn at self.now → IsNodeThere at n result.now }
     {
         &self.nodes[usize::from(n.0)]
-    }
-
-    /// Whether node n's end of the LDP session with the neighbour is up and its hold was run.
-    pub fn is_ready(&self, n: NodeId, peer: NodeId) -> bool
-        requires plane { IsSome (IsWithin n) self.now }
-        ensures { (at : Standing) → IsWithin n at → IsIn at self.now → result ≡ labels.is_ready (part_of (at.network.state.node n)) peer }
-    {
-        self.node(n).is_ready(peer)
     }
 
     /// The node that stands at that number.
@@ -92,7 +75,7 @@ impl ControlPlane {
         requires plane { IsSome (HasEnds session) self.now }
         ensures { (at : Standing) → HasEnds session at → IsIn at self.now → result ≡ counts.are_held (without_copies at.network) session }
     {
-        self.is_ready(session.a, session.b) && self.is_ready(session.b, session.a)
+        self.node(session.a).is_ready(session.b) && self.node(session.b).is_ready(session.a)
     }
 
     /// Whether the session is ready: it is joined, and the holds of an LDP session were run.

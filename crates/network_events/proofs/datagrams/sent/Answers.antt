@@ -5,7 +5,7 @@ use Rattle.scenario_defs.specs.Vpn.{entered}
 use Rattle.scenario_defs.specs.declared.scenario.Scenario.{Scenario}
 use Rattle.network_acts.specs.Instant.{Any}
 use Rattle.network_acts.specs.NetworkView.{NetworkView}
-use Rattle.network_acts.proofs.CopyActs.{sends, some_sending}
+use Rattle.network_acts.proofs.CopyActs.{accepts, sends, some_sending}
 use Rattle.network_events.specs.Datagrams.{EntersAt}
 use Rattle.network_events.proofs.CustomerLemmas.{found_vrf_edge}
 use Rattle.network_events.proofs.DatagramLemmas.{entering_all, entering_next, entering_none, enters_nowhere, enters_there, sent_all, some_behind, some_handling, some_sent}
@@ -13,8 +13,9 @@ use Rattle.network_events.proofs.datagrams.sent.Goals as goal
 
 pub loop-vrf-init : goal.loop-vrf-init
 loop-vrf-init c =
-    entering_none c.args.site c.args.datagram.now c.accept.new.self c.args.lines.now
-    (some_sent c.args.site c.args.datagram.now c.args.network.now c.accept.new.self c.accept.ensures.accepted c.requires.network)
+    entering_none c.args.site c.args.datagram.now _ c.args.lines.now
+    (some_sent c.args.site c.args.datagram.now c.args.network.now _
+    (accepts _ c.args.network.now c.network.view_is c.accept.new.self c.accept.ensures.accepted) c.requires.network)
 
 pub enter-requires : goal.enter-requires
 enter-requires c =
@@ -33,7 +34,7 @@ loop-vrf-preserved c =
     found_vrf_edge c.loop-vrf.network vrf c.scenario-in-loop-vrf.result.now c.scenario-in-loop-vrf.ensures c.edge_of_vrf.result (Some c.in-Some.n)
     c.edge_of_vrf.ensures c.in-Some.is in
     entering_next c.args.site c.args.datagram.now c.as_slice-own.result.now c.loop-vrf.vrf-index none vrf
-    c.accept.new.self c.loop-vrf.network c.enter.new.self
+    _ c.loop-vrf.network c.enter.new.self
     c.args.lines.now c.loop-vrf.lines c.enter.new.lines c.loop-vrf-test.true refl c.loop-vrf.invariant
     (enters_there c.args.site c.args.datagram.now vrf c.loop-vrf.network c.in-Some.n edge c.enter.new.self c.loop-vrf.lines c.enter.new.lines
     (Ok tt) c.in_ok-enter.ensures)
@@ -46,30 +47,36 @@ loop-vrf-preserved-in_default c =
     found_vrf_edge c.loop-vrf.network vrf c.scenario-in-loop-vrf.result.now c.scenario-in-loop-vrf.ensures c.edge_of_vrf.result None
     c.edge_of_vrf.ensures c.in_default.is in
     entering_next c.args.site c.args.datagram.now c.as_slice-own.result.now c.loop-vrf.vrf-index none vrf
-    c.accept.new.self c.loop-vrf.network c.loop-vrf.network
+    _ c.loop-vrf.network c.loop-vrf.network
     c.args.lines.now c.loop-vrf.lines c.loop-vrf.lines c.loop-vrf-test.true refl c.loop-vrf.invariant
     (enters_nowhere c.args.site c.args.datagram.now vrf c.loop-vrf.network edge c.loop-vrf.lines)
 
 pub send-requires : goal.send-requires
 send-requires c =
-    let enters : EntersAt c.args.site c.args.datagram.now c.as_slice-own.result.now c.accept.new.self c.loop-vrf.network c.args.lines.now c.loop-vrf.lines =
-    entering_all c.args.site c.args.datagram.now c.as_slice-own.result.now c.loop-vrf.vrf-index c.accept.new.self c.loop-vrf.network c.args.lines.now
+    let inside = c.network.inside in
+    let mid : NetworkView = record { scenario = inside.scenario; plane = inside.plane; datagrams = c.accept.new.self } in
+    let enters : EntersAt c.args.site c.args.datagram.now c.as_slice-own.result.now mid c.loop-vrf.network c.args.lines.now c.loop-vrf.lines =
+    entering_all c.args.site c.args.datagram.now c.as_slice-own.result.now c.loop-vrf.vrf-index mid c.loop-vrf.network c.args.lines.now
     c.loop-vrf.lines c.loop-vrf-test.false c.loop-vrf.invariant in
     record {
-      sending = some_sending Any _ c.loop-vrf.network c.network.view_is
-          (some_behind c.args.site c.args.datagram.now c.args.network.now c.accept.new.self c.accept.ensures.accepted c.as_slice-own.result.now
-          c.loop-vrf.network c.args.lines.now c.loop-vrf.lines enters c.requires.network);
+      sending = some_sending Any _ c.loop-vrf.network c.network-2.view_is
+          (some_behind c.args.site c.args.datagram.now c.args.network.now mid
+          (accepts _ c.args.network.now c.network.view_is c.accept.new.self c.accept.ensures.accepted)
+          c.as_slice-own.result.now c.loop-vrf.network c.args.lines.now c.loop-vrf.lines enters c.requires.network);
     }
 
 pub returns : goal.returns
 returns c =
-    let enters : EntersAt c.args.site c.args.datagram.now c.as_slice-own.result.now c.accept.new.self c.loop-vrf.network c.args.lines.now c.loop-vrf.lines =
-    entering_all c.args.site c.args.datagram.now c.as_slice-own.result.now c.loop-vrf.vrf-index c.accept.new.self c.loop-vrf.network c.args.lines.now
+    let inside = c.network.inside in
+    let mid : NetworkView = record { scenario = inside.scenario; plane = inside.plane; datagrams = c.accept.new.self } in
+    let enters : EntersAt c.args.site c.args.datagram.now c.as_slice-own.result.now mid c.loop-vrf.network c.args.lines.now c.loop-vrf.lines =
+    entering_all c.args.site c.args.datagram.now c.as_slice-own.result.now c.loop-vrf.vrf-index mid c.loop-vrf.network c.args.lines.now
     c.loop-vrf.lines c.loop-vrf-test.false c.loop-vrf.invariant in
     on_ok_weaker c.send.result (λ goes.
-    sent_all c.args.site c.args.datagram.now c.args.network.now c.accept.new.self c.accept.ensures.accepted c.as_slice-own.result.now
+    sent_all c.args.site c.args.datagram.now c.args.network.now mid
+    (accepts _ c.args.network.now c.network.view_is c.accept.new.self c.accept.ensures.accepted) c.as_slice-own.result.now
     (c.as_slice-own.ensures ∙ (c.in_ok-vrfs.ensures ∙ ap (λ (s : Scenario). entered s c.args.site) c.scenario.ensures))
     c.loop-vrf.network _ c.args.lines.now c.loop-vrf.lines enters c.bytes.result.now c.bytes.ensures
-    (sends _ c.loop-vrf.network c.network.view_is c.bytes.result.now c.clock-now.result c.send.new.self
-    (λ standing plane. c.clock-now.ensures.own ∙ (ap (λ (n : NetworkView). n.plane.clock) (sym c.network.view_is) ∙ sym plane.around.clock)) goes))
+    (sends _ c.loop-vrf.network c.network-2.view_is c.bytes.result.now c.clock-now.result c.send.new.self
+    (λ standing plane. c.clock-now.ensures.own ∙ (ap (λ (n : NetworkView). n.plane.clock) (sym c.network-2.view_is) ∙ sym plane.around.clock)) goes))
     c.send.ensures.sent

@@ -9,7 +9,7 @@ returns c = λ at is.
     ticks _ c.args.self.now c.self.view_is c.elapse.new.self at c.args.ticks c.age.new.self is (c.elapse.ensures.acts (standing_of at))
     (λ world idle in_plane same.
     c.age.ensures world idle
-    (sym (c.clock.ensures.is (record (standing_of at) { network = world.network }) in_plane))
+    (in_plane.around.clock ∙ sym c.clock-now.ensures.own)
     (ap (λ (s : Scenario). s.life) (same ∙ (sym (own_is _ c.args.self.now c.self.view_is at is).scenario ∙ sym c.lent.ensures))))
 
 pub invariant_of-self : goal.invariant_of-self

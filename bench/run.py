@@ -1,7 +1,10 @@
 #!/usr/bin/env python3
 """Measures the program on each kind of input of make.py, at a size and at twice that size, and prints a table.
 
-    python3 bench/run.py
+    python3 bench/run.py [RUNS]
+
+The two sizes are run in turn, RUNS times each (by default once). The processor seconds of a row are the least of its runs, and the
+memory is the most; the last column has by how much the seconds of the greater size are more.
 """
 
 import os
@@ -55,21 +58,28 @@ def main():
     # Builds the program where it is not built, outside what is measured: without words the status is 2.
     if subprocess.run([MVPN], stdout=subprocess.DEVNULL).returncode != 2:
         sys.exit('the program could not be built')
-    print('| input | size | octets | processor seconds | peak memory in MiB |')
-    print('|---|---|---|---|---|')
+    runs = int(sys.argv[1]) if len(sys.argv) > 1 else 1
+    print('| input | size | octets | processor seconds | peak memory in MiB | times |')
+    print('|---|---|---|---|---|---|')
     wrong = 0
     with tempfile.TemporaryDirectory() as folder:
         for kind, words, smaller, expected in INPUTS:
-            for size in (smaller, 2 * smaller):
-                file = os.path.join(folder, 'input')
+            sizes = (smaller, 2 * smaller)
+            files = [os.path.join(folder, str(size)) for size in sizes]
+            for size, file in zip(sizes, files):
                 with open(file, 'wb') as out:
                     subprocess.run([sys.executable, HERE / 'make.py', kind, str(size)], stdout=out, check=True)
-                octets = os.path.getsize(file)
-                status, seconds, memory = measure(words, file)
-                print('| %s | %s | %s | %.2f | %.0f |' % (kind, f'{size:,}', f'{octets:,}', seconds, memory), flush=True)
-                if status != expected:
+            measured = [[measure(words, file) for file in files] for _ in range(runs)]
+            least = None
+            for size, file, row in zip(sizes, files, zip(*measured)):
+                seconds, memory = min(run[1] for run in row), max(run[2] for run in row)
+                times = '%.1f' % (seconds / least) if least else ''
+                least = seconds
+                print('| %s | %s | %s | %.2f | %.0f | %s |' % (
+                    kind, f'{size:,}', f'{os.path.getsize(file):,}', seconds, memory, times), flush=True)
+                if any(run[0] != expected for run in row):
                     wrong = 1
-                    print('%s %d: status %d, and not %d' % (kind, size, status, expected), file=sys.stderr)
+                    print('%s %d: a status is not %d' % (kind, size, expected), file=sys.stderr)
     return wrong
 
 

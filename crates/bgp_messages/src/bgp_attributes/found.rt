@@ -96,8 +96,8 @@ fn adverts_of(
 ) -> Result<Adverts, NoMemory>
     ensures { IfOk result (λ adverts. adverts ≡ map (advert_of comms.now pmsi reachable.now.next_hop) reachable.now.keys) }
 {
-    let mut adverts = Adverts::new(alloc);
     let keys = reachable.keys.as_slice();
+    let mut adverts = Adverts::with_room(alloc, keys.len())?;
     for key in keys {
         adverts.push(Advert {
             key: *key,

@@ -58,7 +58,8 @@ pub(crate) fn read_keys(
     ensures value { Gives result (keys_at family place octets.now) }
     ensures within { IsWithin result (place + length octets.now) }
 {
-    let mut keys = Keys::new(alloc);
+    // Most messages have one route, and room for more of them would be too large for the lists that the allocator keeps at hand.
+    let mut keys = Keys::with_room(alloc, 1)?;
     let mut passed = 0;
     'keys: while passed < octets.len() {
         match read_key(family, &octets[passed..]) {

@@ -174,7 +174,7 @@ fn read_unreach(alloc: Global, place: usize, value: &[u8]) -> Result<Attribute, 
 fn comms_of(alloc: Global, chunks: &[[u8; 8]]) -> Result<Comms, NoMemory>
     ensures { IfOk result (λ comms. comms ≡ map comm chunks.now) }
 {
-    let mut comms = Comms::new(alloc);
+    let mut comms = Comms::with_room(alloc, chunks.len())?;
     for octets in chunks {
         comms.push(ExtComm(*octets))?;
     }

@@ -19,7 +19,7 @@ more_parts : (x : List ℕ) (parts : List (List ℕ)) → 0 < length parts → l
 more_parts x [] h = absurd (omega arith)
 more_parts x (y ∷ more) h = refl
 
--- Octets without a line feed, and one behind them, are the first line.
+-- Octets without a line feed, and one after them, are the first line.
 pub first_line : (line rest : List ℕ) → All (λ b. (b == 10) ≡ false) line → lines (line ++ 10 ∷ rest) ≡ strip_carriage_return line ∷ lines rest
 first_line line rest none =
     ap lines_of_parts (slice_split_at (λ b. b == 10) line 10 rest none refl)
@@ -55,11 +55,11 @@ line_found text place next number line h = (
     none : (a b : Bool) → a ≡ false → b ≡ false → (a || (b || false)) ≡ false
     none a b x y = cc
 
--- The line behind the place ends with a line feed.
-ended : (text : List ℕ) (place number i : ℕ) (line behind : List ℕ) → IsFront text place number → place < length text
-    → lines (drop place text) ≡ line ∷ lines behind → is_mark line ≡ false → position (λ octet. octet == 10) (drop place text) ≡ Some i
+-- The line after the place ends with a line feed.
+ended : (text : List ℕ) (place number i : ℕ) (line thereafter : List ℕ) → IsFront text place number → place < length text
+    → lines (drop place text) ≡ line ∷ lines thereafter → is_mark line ≡ false → position (λ octet. octet == 10) (drop place text) ≡ Some i
     → IsFront text (place + (i + 1)) (number + 1)
-ended text place number i line behind h some next other e =
+ended text place number i line thereafter h some next other e =
     let p : ℕ → Bool = λ octet. octet == 10 in
     let rest : List ℕ = drop place text in
     let found : (i < length rest) × (p (get_or rest i 0) ≡ true) × ((k : ℕ) → k < i → p (get_or rest k 0) ≡ false) = position-Some p rest i 0 e in
@@ -89,17 +89,17 @@ ended text place number i line behind h some next other e =
       count = omega (arith, h.count);
     }
 
--- The line behind the place is the last one, without a line feed.
-last : (text : List ℕ) (place number : ℕ) (line behind : List ℕ) → IsFront text place number → place < length text
-    → lines (drop place text) ≡ line ∷ lines behind → is_mark line ≡ false → position (λ octet. octet == 10) (drop place text) ≡ None
+-- The line after the place is the last one, without a line feed.
+last : (text : List ℕ) (place number : ℕ) (line thereafter : List ℕ) → IsFront text place number → place < length text
+    → lines (drop place text) ≡ line ∷ lines thereafter → is_mark line ≡ false → position (λ octet. octet == 10) (drop place text) ≡ None
     → IsFront text (place + length (drop place text)) (number + 1)
-last text place number line behind h some next other e =
+last text place number line thereafter h some next other e =
     let rest : List ℕ = drop place text in
     let lengths : length rest ≡ length text - place = grind (arith, common_steps) in
     let whole : take (place + length rest) text ≡ take place text ++ rest =
     take-add place (length rest) text ∙ ap (λ (l : List ℕ). take place text ++ l)
     (let t : take (length rest) rest ≡ rest = grind (arith, common_steps) in t) in
-    let is : rest ∷ [] ≡ line ∷ [] = let f : line ∷ lines behind ≡ rest ∷ [] = sym next ∙ lines-whole rest (omega (arith, some, lengths)) e in cc in
+    let is : rest ∷ [] ≡ line ∷ [] = let f : line ∷ lines thereafter ≡ rest ∷ [] = sym next ∙ lines-whole rest (omega (arith, some, lengths)) e in cc in
     let one : lines (take (place + length rest) text) ≡ lines (take place text) ++ line ∷ [] =
     ap lines whole ∙ h.cuts some rest ∙ ap (λ (l : List (List ℕ)). lines (take place text) ++ l)
     (lines-whole rest (omega (arith, some, lengths)) e ∙ is) in
@@ -113,9 +113,9 @@ last text place number line behind h some next other e =
     }
 
 -- A line more that is not `report`.
-next_front : (text : List ℕ) (place number : ℕ) (line behind : List ℕ) → IsFront text place number → place < length text
-    → lines (drop place text) ≡ line ∷ lines behind → is_mark line ≡ false → IsFront text (place + line_length (drop place text)) (number + 1)
-next_front text place number line behind h some next other = by_place (position (λ octet. octet == 10) (drop place text)) refl
+next_front : (text : List ℕ) (place number : ℕ) (line thereafter : List ℕ) → IsFront text place number → place < length text
+    → lines (drop place text) ≡ line ∷ lines thereafter → is_mark line ≡ false → IsFront text (place + line_length (drop place text)) (number + 1)
+next_front text place number line thereafter h some next other = by_place (position (λ octet. octet == 10) (drop place text)) refl
   where
     length_of : Option ℕ → ℕ
     length_of found = elim found [ None ↦ length (drop place text) | Some i ↦ i + 1 ]
@@ -123,16 +123,16 @@ next_front text place number line behind h some next other = by_place (position 
     by_place : (found : Option ℕ) → position (λ octet. octet == 10) (drop place text) ≡ found
         → IsFront text (place + line_length (drop place text)) (number + 1)
     by_place None e =
-        subst (λ (n : ℕ). IsFront text (place + n) (number + 1)) (sym (ap length_of e)) (last text place number line behind h some next other e)
+        subst (λ (n : ℕ). IsFront text (place + n) (number + 1)) (sym (ap length_of e)) (last text place number line thereafter h some next other e)
     by_place (Some i) e =
-        subst (λ (n : ℕ). IsFront text (place + n) (number + 1)) (sym (ap length_of e)) (ended text place number i line behind h some next other e)
+        subst (λ (n : ℕ). IsFront text (place + n) (number + 1)) (sym (ap length_of e)) (ended text place number i line thereafter h some next other e)
 
 -- The same, where the rest is that part of the text.
-pub next_rest : (text rest : List ℕ) (place number : ℕ) (line behind : List ℕ) → rest ≡ drop place text → IsFront text place number
-    → place < length text → lines rest ≡ line ∷ lines behind → is_mark line ≡ false → IsFront text (place + line_length rest) (number + 1)
-next_rest text rest place number line behind is h some next other =
+pub next_rest : (text rest : List ℕ) (place number : ℕ) (line thereafter : List ℕ) → rest ≡ drop place text → IsFront text place number
+    → place < length text → lines rest ≡ line ∷ lines thereafter → is_mark line ≡ false → IsFront text (place + line_length rest) (number + 1)
+next_rest text rest place number line thereafter is h some next other =
     subst (λ (l : List ℕ). IsFront text (place + line_length l) (number + 1)) (sym is)
-    (next_front text place number line behind h some (ap lines (sym is) ∙ next) other)
+    (next_front text place number line thereafter h some (ap lines (sym is) ∙ next) other)
 
 -- ---- where the walk ends
 
@@ -142,10 +142,10 @@ none_found text place number h past =
     let whole : take place text ≡ text = grind (arith, common_steps) in
     (subst (λ (l : List ℕ). list_any is_mark (lines l) ≡ false) whole h.first, subst (λ (l : List ℕ). number ≡ length (lines l) + 1) whole h.at)
 
-pub parts_found : (text : List ℕ) (place number : ℕ) (line behind : List ℕ) → IsFront text place number → place < length text
-    → lines (drop place text) ≡ line ∷ lines behind → length behind < length (drop place text) → is_mark line ≡ true
-    → AreParts text (take place text) behind number
-parts_found text place number line behind h some next shorter mark =
+pub parts_found : (text : List ℕ) (place number : ℕ) (line thereafter : List ℕ) → IsFront text place number → place < length text
+    → lines (drop place text) ≡ line ∷ lines thereafter → length thereafter < length (drop place text) → is_mark line ≡ true
+    → AreParts text (take place text) thereafter number
+parts_found text place number line thereafter h some next shorter mark =
     let lengths : length (drop place text) ≡ length text - place = grind (arith, common_steps) in
     record {
       cut = record {

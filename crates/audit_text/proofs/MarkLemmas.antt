@@ -38,10 +38,10 @@ spaces_placed column (octet ∷ more) h =
     let parts = and_parts (is_space octet) (list_all is_space more) h in
     ap (placed column) (slice_split-cons_yes is_space octet more parts.0) ∙ spaces_placed (column + 1) more parts.1
 
-behind_word : (column : ℕ) (rest : List ℕ) → list_all is_space rest ≡ true
+after_word : (column : ℕ) (rest : List ℕ) → list_all is_space rest ≡ true
     → placed column (slice_split is_space (codes "report" ++ rest)) ≡ report_at column
-behind_word column [] h = refl
-behind_word column (octet ∷ more) h =
+after_word column [] h = refl
+after_word column (octet ∷ more) h =
     let parts = and_parts (is_space octet) (list_all is_space more) h in
     subst (λ (b : ℕ). placed column (slice_split is_space (codes "report" ++ b ∷ more)) ≡ report_at column) (sym (eqb-true octet 32 parts.0))
     (ap (λ (l : List Placed). record { column = column; text = codes "report" } ∷ l) (spaces_placed (column + 7) more parts.1))
@@ -54,7 +54,7 @@ ended_word column octets h =
     let parts = and_parts (pointwise nat_eq (take 6 octets) (codes "report")) (list_all is_space (drop 6 octets)) h in
     let whole : codes "report" ++ drop 6 octets ≡ octets =
     ap (λ (l : List ℕ). l ++ drop 6 octets) (sym (text_is (take 6 octets) (codes "report") parts.0)) ∙ take-append-drop 6 octets in
-    subst (λ (l : List ℕ). placed column (slice_split is_space l) ≡ report_at column) whole (behind_word column (drop 6 octets) parts.1)
+    subst (λ (l : List ℕ). placed column (slice_split is_space l) ≡ report_at column) whole (after_word column (drop 6 octets) parts.1)
 
 mark_placed : (column : ℕ) (line : List ℕ) → is_mark line ≡ true → (at : ℕ) × (placed column (slice_split is_space line) ≡ report_at at)
 mark_placed column [] h = absurd cc

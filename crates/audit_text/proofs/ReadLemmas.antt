@@ -72,45 +72,45 @@ so_far_all scenario first number all here read h none =
 
 -- ---- a text by its parts
 
--- The part before the line `report` is a script, and the part behind it a report.
-pub parts_say : (text front behind : List ℕ) (number : ℕ) (script : Script) (report : ReportLines) → length text ≤ 16777216
-    → AreParts text front behind number → script_of front ≡ Ok script → AreWritten script.scenario (number + 1) (lines behind) report.lines
-    → report.end ≡ number + 1 + length (lines behind) → Says text script report
-parts_say text front behind number script report short parts said written end =
+-- The part before the line `report` is a script, and the part after it a report.
+pub parts_say : (text front thereafter : List ℕ) (number : ℕ) (script : Script) (report : ReportLines) → length text ≤ 16777216
+    → AreParts text front thereafter number → script_of front ≡ Ok script → AreWritten script.scenario (number + 1) (lines thereafter) report.lines
+    → report.end ≡ number + 1 + length (lines thereafter) → Says text script report
+parts_say text front thereafter number script report short parts said written end =
     let at : number + 1 ≡ length (lines front) + 2 = omega (arith, parts.at) in
     record {
       short = short;
       front = lines front;
-      behind = lines behind;
+      thereafter = lines thereafter;
       cut = parts.cut;
       scripted = sym (short_text front (omega (arith, parts.short, short))) ∙ said;
-      reported = subst (λ (n : ℕ). AreWritten script.scenario n (lines behind) report.lines) at written;
+      reported = subst (λ (n : ℕ). AreWritten script.scenario n (lines thereafter) report.lines) at written;
       end = omega (arith, end, at);
     }
 
-pub script_faulty : (text front behind : List ℕ) (number : ℕ) (fault : TextFault) → length text ≤ 16777216 → AreParts text front behind number
+pub script_faulty : (text front thereafter : List ℕ) (number : ℕ) (fault : TextFault) → length text ≤ 16777216 → AreParts text front thereafter number
     → script_of front ≡ Err fault → HasFault text fault
-script_faulty text front behind number fault short parts said =
-    OfScript short (lines front) (lines behind) parts.cut (sym (short_text front (omega (arith, parts.short, short))) ∙ said)
+script_faulty text front thereafter number fault short parts said =
+    OfScript short (lines front) (lines thereafter) parts.cut (sym (short_text front (omega (arith, parts.short, short))) ∙ said)
 
-pub report_faulty : (text front behind : List ℕ) (number : ℕ) (script : Script) (fault : TextFault) → length text ≤ 16777216
-    → AreParts text front behind number → script_of front ≡ Ok script → IsStray script.scenario (number + 1) (lines behind) fault.line
+pub report_faulty : (text front thereafter : List ℕ) (number : ℕ) (script : Script) (fault : TextFault) → length text ≤ 16777216
+    → AreParts text front thereafter number → script_of front ≡ Ok script → IsStray script.scenario (number + 1) (lines thereafter) fault.line
     → fault ≡ fault_of fault.line reasons.Report → HasFault text fault
-report_faulty text front behind number script fault short parts said stray is =
+report_faulty text front thereafter number script fault short parts said stray is =
     let at : number + 1 ≡ length (lines front) + 2 = omega (arith, parts.at) in
-    OfReport short (lines front) (lines behind) parts.cut script (sym (short_text front (omega (arith, parts.short, short))) ∙ said)
-    (subst (λ (n : ℕ). IsStray script.scenario n (lines behind) fault.line) at stray) is
+    OfReport short (lines front) (lines thereafter) parts.cut script (sym (short_text front (omega (arith, parts.short, short))) ∙ said)
+    (subst (λ (n : ℕ). IsStray script.scenario n (lines thereafter) fault.line) at stray) is
 
 -- ---- what stops the reading
 
-pub script_stops : (text front behind : List ℕ) (number : ℕ) (stop : ReadFault) → length text ≤ 16777216 → AreParts text front behind number
+pub script_stops : (text front thereafter : List ℕ) (number : ℕ) (stop : ReadFault) → length text ≤ 16777216 → AreParts text front thereafter number
     → Fails {Y = Script} stop (script_of front) → IsRead text (Err stop)
-script_stops text front behind number (faults.Text fault) short parts said = script_faulty text front behind number fault short parts said
-script_stops text front behind number faults.NoMemory short parts said = tt
+script_stops text front thereafter number (faults.Text fault) short parts said = script_faulty text front thereafter number fault short parts said
+script_stops text front thereafter number faults.NoMemory short parts said = tt
 
-pub report_stops : (text front behind : List ℕ) (number : ℕ) (script : Script) (stop : ReadFault) → length text ≤ 16777216
-    → AreParts text front behind number → script_of front ≡ Ok script → IsReadReport script.scenario (number + 1) (lines behind) (Err stop)
+pub report_stops : (text front thereafter : List ℕ) (number : ℕ) (script : Script) (stop : ReadFault) → length text ≤ 16777216
+    → AreParts text front thereafter number → script_of front ≡ Ok script → IsReadReport script.scenario (number + 1) (lines thereafter) (Err stop)
     → IsRead text (Err stop)
-report_stops text front behind number script (faults.Text fault) short parts said read =
-    report_faulty text front behind number script fault short parts said read.0 read.1
-report_stops text front behind number script faults.NoMemory short parts said read = tt
+report_stops text front thereafter number script (faults.Text fault) short parts said read =
+    report_faulty text front thereafter number script fault short parts said read.0 read.1
+report_stops text front thereafter number script faults.NoMemory short parts said read = tt

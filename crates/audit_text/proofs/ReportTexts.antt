@@ -1,4 +1,4 @@
--- The lines of a report, written one behind another, are read line by line; behind a script and the line `report` they are a text of an audit.
+-- The lines of a report, written one after another, are read line by line; after a script and the line `report` they are a text of an audit.
 use Rattle.std.proofs.Common.{rules, ◌≡◌, ℕ, zero, suc, ◌+◌, ◌-◌, ◌<◌, ◌≤◌, ◌==◌, ◌&&◌, ◌^◌, ◌/◌, ◌%◌, Bool, true, false, not, cond, List, [], ◌∷◌, ◌++◌, length, map, get_or, refl, sym, ap, subst, ◌∙◌, arith, append_assoc, append-nil, length-append, None, Some, Option, slice_get}
 use Rattle.std.specs.Prelude.{Ok, codes, decimal}
 use Rattle.std.specs.Char.{is_ascii_digit}
@@ -60,7 +60,7 @@ weaker p inner (octet ∷ more) h =
 data Inner (octets : List ℕ) : Type 0 where
   Plain : list_all is_inner octets ≡ true → Inner octets
 
--- Octets behind others.
+-- Octets after others.
 then_inner : {front rest : List ℕ} → Inner front → Inner rest → Inner (front ++ rest)
 then_inner {front} {rest} (Plain a) (Plain b) = Plain (list_all-append is_inner front rest ∙ and_from _ _ a b)
 
@@ -153,7 +153,7 @@ refusal_inner (refusals.Bytes place word) h =
 
 -- ---- a line
 
--- Octets of a line, and a line feed behind them.
+-- Octets of a line, and a line feed after them.
 record IsRow (text : List ℕ) : Type 0 where
   octets : List ℕ
   is : text ≡ octets ++ 10 ∷ []
@@ -190,7 +190,7 @@ line_row scenario kept (told.Land from to label number) h =
     row (then_inner (then_space (then_inner (then_space (then_inner (literal (codes "land ") refl) (ends_inner scenario kept from to)))
     (number_inner label (omega (arith, h.0))))) (number_inner number h.1))
 
--- ---- lines behind one another
+-- ---- lines after one another
 
 none_of : (other : ℕ) → ((octet : ℕ) → is_inner octet ≡ true → (octet == other) ≡ false) → (octets : List ℕ) → list_all is_inner octets ≡ true
     → All (λ octet. (octet == other) ≡ false) octets
@@ -243,7 +243,7 @@ ended_parts (part ∷ parts) more h =
     step [] s = absurd (omega arith)
     step (next ∷ rest) s = refl
 
--- Lines behind a text that ends with a line feed are behind its lines.
+-- Lines after a text that ends with a line feed are after its lines.
 ended_lines : (front rest : List ℕ) → lines (front ++ 10 ∷ rest) ≡ lines (front ++ 10 ∷ []) ++ lines rest
 ended_lines front rest =
     whole rest ∙ ap (λ (l : List (List ℕ)). l ++ lines rest) (sym (whole [] ∙ append-nil (map strip_carriage_return (slice_split is_feed front))))
@@ -274,7 +274,7 @@ report_read scenario kept number (line ∷ more) known =
     subst (λ (l : List (List ℕ)). AreWritten scenario number l (numbered_from number (line ∷ more))) (sym is)
     (refl, record { names = known.0.0; bounds = known.0.1; text = own.is }, report_read scenario kept (number + 1) more known.1)
 
--- A script that ends with a line feed, the line `report`, and lines of a report behind it are the text of an audit.
+-- A script that ends with a line feed, the line `report`, and lines of a report after it are the text of an audit.
 pub report_said : (front : List ℕ) (script : Script) (all : List ReportLine) → script_of (front ++ 10 ∷ []) ≡ Ok script
     → AllByRecursion (IsKnown script.scenario) all →
     length (with_report script.scenario (front ++ 10 ∷ []) all) ≤ 16777216 →
@@ -294,7 +294,7 @@ report_said front script all said known short =
       record {
         short = short;
         front = rows;
-        behind = lines body;
+        thereafter = lines body;
         cut = record { mark = codes "report"; is = refl; whole = is; first = said_unmarked empty_draft 1 rows script own };
         scripted = own;
         reported = report_read script.scenario (front_rules rows script own).0.scenario number all known;

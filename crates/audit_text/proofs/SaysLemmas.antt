@@ -35,32 +35,32 @@ no_mark line front mark is none same =
     (let n = neither (is_mark line) (list_any is_mark front) none in let e : is_mark mark ≡ is_mark line = ap is_mark same in let f = n.0 in
     absurd cc)
 
-cut_same : (front behind other_front other_behind : List (List ℕ)) (mark other : List ℕ) → is_mark mark ≡ true → is_mark other ≡ true
-    → list_any is_mark front ≡ false → list_any is_mark other_front ≡ false → front ++ mark ∷ behind ≡ other_front ++ other ∷ other_behind
-    → (front ≡ other_front) × (behind ≡ other_behind)
-cut_same [] behind [] other_behind mark other is other_is none other_none h = (refl, (heads mark other behind other_behind h).1)
-cut_same [] behind (line ∷ other_front) other_behind mark other is other_is none other_none h =
-    absurd (no_mark line other_front mark is other_none (heads mark line behind (other_front ++ other ∷ other_behind) h).0)
-cut_same (line ∷ front) behind [] other_behind mark other is other_is none other_none h =
-    absurd (no_mark line front other other_is none (sym (heads line other (front ++ mark ∷ behind) other_behind h).0))
-cut_same (line ∷ front) behind (next ∷ other_front) other_behind mark other is other_is none other_none h =
-    let parts = heads line next (front ++ mark ∷ behind) (other_front ++ other ∷ other_behind) h in
+cut_same : (front thereafter other_front other_after : List (List ℕ)) (mark other : List ℕ) → is_mark mark ≡ true → is_mark other ≡ true
+    → list_any is_mark front ≡ false → list_any is_mark other_front ≡ false → front ++ mark ∷ thereafter ≡ other_front ++ other ∷ other_after
+    → (front ≡ other_front) × (thereafter ≡ other_after)
+cut_same [] thereafter [] other_after mark other is other_is none other_none h = (refl, (heads mark other thereafter other_after h).1)
+cut_same [] thereafter (line ∷ other_front) other_after mark other is other_is none other_none h =
+    absurd (no_mark line other_front mark is other_none (heads mark line thereafter (other_front ++ other ∷ other_after) h).0)
+cut_same (line ∷ front) thereafter [] other_after mark other is other_is none other_none h =
+    absurd (no_mark line front other other_is none (sym (heads line other (front ++ mark ∷ thereafter) other_after h).0))
+cut_same (line ∷ front) thereafter (next ∷ other_front) other_after mark other is other_is none other_none h =
+    let parts = heads line next (front ++ mark ∷ thereafter) (other_front ++ other ∷ other_after) h in
     let again =
-    cut_same front behind other_front other_behind mark other is other_is (neither (is_mark line) (list_any is_mark front) none).1
+    cut_same front thereafter other_front other_after mark other is other_is (neither (is_mark line) (list_any is_mark front) none).1
     (neither (is_mark next) (list_any is_mark other_front) other_none).1 parts.1 in
     ((λ i. parts.0 i ∷ again.0 i), again.1)
 
-pub cut_once : (all front behind other_front other_behind : List (List ℕ)) → AreCut all front behind → AreCut all other_front other_behind
-    → (front ≡ other_front) × (behind ≡ other_behind)
-cut_once all front behind other_front other_behind h k =
-    cut_same front behind other_front other_behind h.mark k.mark h.is k.is h.first k.first (sym h.whole ∙ k.whole)
+pub cut_once : (all front thereafter other_front other_after : List (List ℕ)) → AreCut all front thereafter → AreCut all other_front other_after
+    → (front ≡ other_front) × (thereafter ≡ other_after)
+cut_once all front thereafter other_front other_after h k =
+    cut_same front thereafter other_front other_after h.mark k.mark h.is k.is h.first k.first (sym h.whole ∙ k.whole)
 
 -- Where lines are cut, one of them is the line `report`.
-pub cut_marked : (all front behind : List (List ℕ)) → AreCut all front behind → list_any is_mark all ≡ false → ⊥
-cut_marked all front behind h none =
-    (let some : (list_any is_mark front || (is_mark h.mark || list_any is_mark behind)) ≡ false =
-    sym (ap (list_any is_mark) h.whole ∙ list_any-append is_mark front (h.mark ∷ behind)) ∙ none in
-    let n = neither (is_mark h.mark) (list_any is_mark behind) (neither (list_any is_mark front) (is_mark h.mark || list_any is_mark behind) some).1
+pub cut_marked : (all front thereafter : List (List ℕ)) → AreCut all front thereafter → list_any is_mark all ≡ false → ⊥
+cut_marked all front thereafter h none =
+    (let some : (list_any is_mark front || (is_mark h.mark || list_any is_mark thereafter)) ≡ false =
+    sym (ap (list_any is_mark) h.whole ∙ list_any-append is_mark front (h.mark ∷ thereafter)) ∙ none in
+    let n = neither (is_mark h.mark) (list_any is_mark thereafter) (neither (list_any is_mark front) (is_mark h.mark || list_any is_mark thereafter) some).1
     in
     let is = h.is in let no = n.0 in absurd cc)
 
@@ -81,7 +81,7 @@ end_rules draft number script holds true begun e = (
 )
 end_rules draft number script holds false begun e = absurd cc
 
--- What lines say meets the rules, and ends behind them.
+-- What lines say meets the rules, and ends after them.
 lines_rules : (draft : Drafted) (number : ℕ) (rows : List (List ℕ)) (script : Script) → Holds draft number
     → script_from draft number rows ≡ said script → ScriptRules script × (script.end ≡ number + length rows)
 lines_rules draft number [] script holds e = let r = end_rules draft number script holds draft.begun refl e in (r.0, omega (arith, r.1))
@@ -144,15 +144,15 @@ one_report x y a b = λ i. record { lines = a i; end = b i }
 pub said_once : (text : List ℕ) (script other : Script) (report second : ReportLines) → Says text script report → Says text other second
     → (script ≡ other) × (report ≡ second)
 said_once text script other report second h k =
-    let cut = cut_once (lines text) h.front h.behind k.front k.behind h.cut k.cut in
+    let cut = cut_once (lines text) h.front h.thereafter k.front k.thereafter h.cut k.cut in
     let same : script ≡ other = one_said script other (sym h.scripted ∙ ap (script_from empty_draft 1) cut.0 ∙ k.scripted) in
     let rules : Rules script.scenario = (front_rules h.front script h.scripted).0.scenario in
-    let first : AreWritten script.scenario (length h.front + 2) h.behind second.lines =
-    subst (λ (s : Script). AreWritten s.scenario (length h.front + 2) h.behind second.lines) (sym same)
-    (subst (λ (l : List (List ℕ)). AreWritten other.scenario (length l + 2) h.behind second.lines) (sym cut.0)
+    let first : AreWritten script.scenario (length h.front + 2) h.thereafter second.lines =
+    subst (λ (s : Script). AreWritten s.scenario (length h.front + 2) h.thereafter second.lines) (sym same)
+    (subst (λ (l : List (List ℕ)). AreWritten other.scenario (length l + 2) h.thereafter second.lines) (sym cut.0)
     (subst (λ (l : List (List ℕ)). AreWritten other.scenario (length k.front + 2) l second.lines) (sym cut.1) k.reported)) in (
       same,
-      one_report report second (lines_once script.scenario (length h.front + 2) h.behind report.lines second.lines rules h.reported first)
+      one_report report second (lines_once script.scenario (length h.front + 2) h.thereafter report.lines second.lines rules h.reported first)
           (omega (arith, h.end, k.end, ap length cut.0, ap length cut.1)),
     )
 
@@ -164,15 +164,15 @@ stray_at scenario number line all read h s =
 -- A text that says something has no fault.
 pub said_whole : (text : List ℕ) (script : Script) (report : ReportLines) (wrong : TextFault) → Says text script report → HasFault text wrong → ⊥
 said_whole text script report wrong h (IsLong long is) = (let short = h.short in absurd (omega (arith, short, long)))
-said_whole text script report wrong h (IsUnmarked short none is) = cut_marked (lines text) h.front h.behind h.cut none
-said_whole text script report wrong h (OfScript short front behind cut e) =
-    (let same = cut_once (lines text) h.front h.behind front behind h.cut cut in
+said_whole text script report wrong h (IsUnmarked short none is) = cut_marked (lines text) h.front h.thereafter h.cut none
+said_whole text script report wrong h (OfScript short front thereafter cut e) =
+    (let same = cut_once (lines text) h.front h.thereafter front thereafter h.cut cut in
     let both : said script ≡ Err wrong = sym h.scripted ∙ ap (script_from empty_draft 1) same.0 ∙ e in absurd cc)
-said_whole text script report wrong h (OfReport short front behind cut other e stray is) =
-    let same = cut_once (lines text) h.front h.behind front behind h.cut cut in
+said_whole text script report wrong h (OfReport short front thereafter cut other e stray is) =
+    let same = cut_once (lines text) h.front h.thereafter front thereafter h.cut cut in
     let one : script ≡ other = one_said script other (sym h.scripted ∙ ap (script_from empty_draft 1) same.0 ∙ e) in
-    let reported : AreWritten other.scenario (length front + 2) behind report.lines =
-    subst (λ (s : Script). AreWritten s.scenario (length front + 2) behind report.lines) one
-    (subst (λ (l : List (List ℕ)). AreWritten script.scenario (length l + 2) behind report.lines) same.0
+    let reported : AreWritten other.scenario (length front + 2) thereafter report.lines =
+    subst (λ (s : Script). AreWritten s.scenario (length front + 2) thereafter report.lines) one
+    (subst (λ (l : List (List ℕ)). AreWritten script.scenario (length l + 2) thereafter report.lines) same.0
     (subst (λ (l : List (List ℕ)). AreWritten script.scenario (length h.front + 2) l report.lines) same.1 h.reported)) in
-    stray_at other.scenario (length front + 2) wrong.line behind report.lines reported stray
+    stray_at other.scenario (length front + 2) wrong.line thereafter report.lines reported stray

@@ -23,23 +23,23 @@ use Rattle.audit_text.specs.declared.reader.AuditText.{AuditText}
 
 -- ---- the line `report`
 
--- whether octets are `report` with nothing but spaces behind
+-- whether octets are `report` with nothing but spaces after
 abbrev pub is_ended : List ℕ → Bool
 is_ended octets = pointwise nat_eq (take 6 octets) (codes "report") && are_spaces (drop 6 octets)
 
--- whether the only word of a line is `report`: there may be spaces before and behind it
+-- whether the only word of a line is `report`: there may be spaces before and after it
 abbrev pub is_mark : List ℕ → Bool
 is_mark [] = false
 is_mark (octet ∷ more) = if octet == 32 then is_mark more else is_ended (octet ∷ more)
 
--- Lines are cut at the first one whose only word is `report`: those before it, and those behind it.
-pub record AreCut (all front behind : List (List ℕ)) : Type 0 where
+-- Lines are cut at the first one whose only word is `report`: those before it, and those after it.
+pub record AreCut (all front thereafter : List (List ℕ)) : Type 0 where
   pub mark : List ℕ
   pub is : is_mark mark ≡ true
-  pub whole : all ≡ front ++ mark ∷ behind
+  pub whole : all ≡ front ++ mark ∷ thereafter
   pub first : list_any is_mark front ≡ false
 
--- ---- the lines behind it
+-- ---- the lines after it
 
 -- The line is written so, without its LF, and what it names is of the scenario.
 pub record IsWritten (scenario : Scenario) (octets : List ℕ) (line : ReportLine) : Type 0 where
@@ -76,31 +76,31 @@ pub record IsStray (scenario : Scenario) (number : ℕ) (all : List (List ℕ)) 
 abbrev pub fault_of : ℕ → Reason → TextFault
 fault_of line reason = record { line = line; column = 1; reason = reason }
 
--- The text says this script and this report: the lines before the first line `report` say the script, and each line behind it is a
+-- The text says this script and this report: the lines before the first line `report` say the script, and each line after it is a
 -- line of a report. Lines are numbered from the first one of the text.
 pub record Says (text : List ℕ) (script : Script) (report : ReportLines) : Type 0 where
   pub short : length text ≤ 16777216
   pub front : List (List ℕ)
-  pub behind : List (List ℕ)
-  pub cut : AreCut (lines text) front behind
+  pub thereafter : List (List ℕ)
+  pub cut : AreCut (lines text) front thereafter
   pub scripted : script_from empty_draft 1 front ≡ Ok script
-  pub reported : AreWritten script.scenario (length front + 2) behind report.lines
-  pub end : report.end ≡ length front + 2 + length behind
+  pub reported : AreWritten script.scenario (length front + 2) thereafter report.lines
+  pub end : report.end ≡ length front + 2 + length thereafter
 
--- The first fault of the text: it is too long; there is no line `report`, which is told at the line behind the last one, whatever
--- the lines hold; the lines before the line `report` have a fault as a scenario and a script; or a line behind it is no line of a
+-- The first fault of the text: it is too long; there is no line `report`, which is told at the line after the last one, whatever
+-- the lines hold; the lines before the line `report` have a fault as a scenario and a script; or a line after it is no line of a
 -- report, which is told at its first column.
 pub data HasFault (text : List ℕ) (fault : TextFault) : Type 0 where
   IsLong : 16777216 < length text → fault ≡ fault_of 1 reasons.Long → HasFault text fault
   IsUnmarked : length text ≤ 16777216 → list_any is_mark (lines text) ≡ false → fault ≡ fault_of (length (lines text) + 1) reasons.Report
       → HasFault text fault
-  OfScript : length text ≤ 16777216 → (front behind : List (List ℕ)) → AreCut (lines text) front behind
+  OfScript : length text ≤ 16777216 → (front thereafter : List (List ℕ)) → AreCut (lines text) front thereafter
       → script_from empty_draft 1 front ≡ Err fault → HasFault text fault
-  OfReport : length text ≤ 16777216 → (front behind : List (List ℕ)) → AreCut (lines text) front behind
-      → (script : Script) → script_from empty_draft 1 front ≡ Ok script → IsStray script.scenario (length front + 2) behind fault.line
+  OfReport : length text ≤ 16777216 → (front thereafter : List (List ℕ)) → AreCut (lines text) front thereafter
+      → (script : Script) → script_from empty_draft 1 front ≡ Ok script → IsStray script.scenario (length front + 2) thereafter fault.line
       → fault ≡ fault_of fault.line reasons.Report → HasFault text fault
 
--- ---- a report behind its script
+-- ---- a report after its script
 
 -- What a line that is written meets: it names what is of the scenario, and its numbers and octets are within the bounds of their types.
 abbrev pub IsKnown : Scenario → ReportLine → Type 0

@@ -17,7 +17,7 @@ pub fn texts_say_one_thing()
         HasFault text fault → ⊥ }
 {}
 
-/// A script that ends with a line feed, with the line `report` and known lines of a report behind it, says that script and those lines.
+/// A script that ends with a line feed, with the line `report` and known lines of a report after it, says that script and those lines.
 pub fn reports_are_said()
     ensures { (front : List ℕ) (script : Script) (all : List ReportLine) → script_of (front ++ 10 ∷ []) ≡ Ok script →
         AllByRecursion (IsKnown script.scenario) all → length (with_report script.scenario (front ++ 10 ∷ []) all) ≤ 16777216 →

@@ -7,20 +7,20 @@ ghost use Rattle.audit_text.specs.Cutting.{line_length, AreParts};
 
 use line_words::{TEXT_LIMIT, are_spaces, split_line};
 
-/// The texts before and behind a line `report`, and the number of that line.
+/// The texts before and after a line `report`, and the number of that line.
 #[derive(Clone, Copy)]
 pub(crate) struct Parts<'a> {
     pub front: &'a [u8],
     pub number: u32,
-    pub behind: &'a [u8],
+    pub thereafter: &'a [u8],
 }
 
-/// Whether octets are `report` with nothing but spaces behind.
+/// Whether octets are `report` with nothing but spaces after.
 fn is_ended(octets: &[u8]) -> bool
     ensures { result ≡ is_ended octets.now }
 {
     match octets.strip_prefix(b"report".as_slice()) {
-        Some(behind) => are_spaces(behind),
+        Some(thereafter) => are_spaces(thereafter),
         None => false,
     }
 }
@@ -30,8 +30,8 @@ fn is_mark(line: &[u8]) -> bool
     ensures { result ≡ is_mark line.now }
 {
     let mut rest = line;
-    'spaces: while let [b' ', behind @ ..] = rest {
-        rest = behind;
+    'spaces: while let [b' ', thereafter @ ..] = rest {
+        rest = thereafter;
     }
     is_ended(rest)
 }
@@ -42,7 +42,7 @@ fn line_feed(text: &[u8]) -> Option<usize>
     text.iter().position(|octet| *octet == b'\n')
 }
 
-/// How many octets the first line of a text has, with the line feed behind it.
+/// How many octets the first line of a text has, with the line feed after it.
 fn line_length(text: &[u8]) -> usize
     ensures { result ≡ line_length text.now }
 {
@@ -52,23 +52,23 @@ fn line_length(text: &[u8]) -> usize
     }
 }
 
-/// The parts of a text before and behind its first line `report`. Where there is none, answers the number of the line behind the last.
+/// The parts of a text before and after its first line `report`. Where there is none, answers the number of the line after the last.
 pub(crate) fn parts_of(text: &[u8]) -> Result<Parts<'_>, u32>
     requires { length text.now ≤ TEXT_LIMIT }
-    ensures parts { IfOk result (λ parts. AreParts text.now parts.front.now parts.behind.now parts.number) }
+    ensures parts { IfOk result (λ parts. AreParts text.now parts.front.now parts.thereafter.now parts.number) }
     ensures none { IfErr result (λ number. (list_any is_mark (lines text.now) ≡ false) × (number ≡ length (lines text.now) + 1)) }
 {
     let mut place = 0;
     let mut number = 1;
     'lines: while place < text.len() {
         let rest = &text[place..];
-        let (line, behind) = split_line(rest);
+        let (line, thereafter) = split_line(rest);
         if is_mark(line) {
             let front = &text[..place];
             return Ok(Parts {
                 front,
                 number,
-                behind,
+                thereafter,
             });
         }
         number += 1;

@@ -58,11 +58,11 @@ fn read_report(
     let mut number = first;
     let mut rest = text;
     'lines: while !rest.is_empty() {
-        let (line, behind) = split_line(rest);
+        let (line, thereafter) = split_line(rest);
         let one = read_numbered(alloc, scenario, number, line)?;
         read.push(one)?;
         number += 1;
-        rest = behind;
+        rest = thereafter;
     }
     Ok(ReportLines {
         lines: read,
@@ -86,7 +86,7 @@ pub fn read_audit(alloc: Global, text: &[u8]) -> Result<AuditText, ReadFault>
         Ok(script) => script,
         Err(stop) => return Err(stop),
     };
-    match read_report(alloc, &script.scenario, parts.number + 1, parts.behind) {
+    match read_report(alloc, &script.scenario, parts.number + 1, parts.thereafter) {
         Ok(report) => Ok(AuditText { script, report }),
         Err(stop) => Err(stop),
     }

@@ -2,7 +2,7 @@
 --     el_out, el_in           the value in memory is a cell and what the value owns
 --     el_tells                what is owned of a value is one machine value, of its type
 --     block_out, block_in     a block by value is [the value in memory; the right to free it; the handle]
---     block_opens             the same behind a `&mut`: [the value; the right to free it with the handle; the word; the open borrow; obs; auth]
+--     block_opens             the same after a `&mut`: [the value; the right to free it with the handle; the word; the open borrow; obs; auth]
 use mathlib.Core.Path.{◌≡◌, refl, sym, ap, subst}
 use Prim.Native.Nat.{ℕ}
 use mathlib.Core.List.{List, [], ◌∷◌, ◌++◌}

@@ -213,7 +213,7 @@ module _ {A : Type 0} where
   held_past (b ∷ bs) zero h = absurd (omega (arith, h))
   held_past (b ∷ bs) (suc k) h = held_past bs k (omega (arith, h))
 
-  -- ---- the buffers behind each change
+  -- ---- the buffers after each change
 
   -- no name past the blocks is taken
   pub none_past : (bs : List (Block Node A)) → get (buffers 0 bs) (length bs) ≡ None
@@ -265,7 +265,7 @@ module _ {A : Type 0} where
   free_set bs k b (j ∷ js) h free =
       ((omega (arith, free.0.0, length-set bs k b), count_set_other bs k b j h.0 ∙ free.0.1), free_set bs k b js h.1 free.1)
 
-  -- ---- the table behind each change
+  -- ---- the table after each change
 
   count_inside : (bs : List (Block Node A)) (k : ℕ) → 0 < count_at bs k → k < length bs
   count_inside [] k h = absurd (omega (arith, h))

@@ -28,9 +28,9 @@ rising_heads x y xs ys r s (inl e) m = e
 rising_heads x y xs ys r s (inr n) (inl e) = sym e
 rising_heads x y xs ys r s (inr n) (inr m) = absurd (not_both addr_cmp_total x y (r.0 y m) (s.0 x n))
 
-behind : (x y : Addr) (xs ys : List Addr) → x ≡ y → AreRising (x ∷ xs) → ((a : Addr) → Among a (x ∷ xs) → Among a (y ∷ ys)) → (a : Addr) → Among a xs
+thereafter : (x y : Addr) (xs ys : List Addr) → x ≡ y → AreRising (x ∷ xs) → ((a : Addr) → Among a (x ∷ xs) → Among a (y ∷ ys)) → (a : Addr) → Among a xs
     → Among a ys
-behind x y xs ys e r same a m = elim (same a (inr m)) [
+thereafter x y xs ys e r same a m = elim (same a (inr m)) [
   | inl f ↦ absurd (not_itself addr_cmp_total x (subst (λ (b : Addr). IsLower x b) (f ∙ sym e) (r.0 a m)))
   | inr n ↦ n
 ]
@@ -42,7 +42,7 @@ one_rising [] (y ∷ ys) r s there back = absurd (back y (inl refl))
 one_rising (x ∷ xs) [] r s there back = absurd (there x (inl refl))
 one_rising (x ∷ xs) (y ∷ ys) r s there back =
     let heads = rising_heads x y xs ys r s (there x (inl refl)) (back y (inl refl)) in
-    let tails = one_rising xs ys r.1 s.1 (behind x y xs ys heads r there) (behind y x ys xs (sym heads) s back) in
+    let tails = one_rising xs ys r.1 s.1 (thereafter x y xs ys heads r there) (thereafter y x ys xs (sym heads) s back) in
     λ i. heads i ∷ tails i
 
 -- ---- one more edge

@@ -54,7 +54,7 @@ abbrev pub is_candidate : ℕ → Addr → KnownRoute → Bool
 is_candidate bits source route = covers route.prefix source && route.prefix.bits == bits
 
 -- an edge, the first one of others by rising address, how the address of the edge compares with that of the first one, and
--- what becomes of the others behind it
+-- what becomes of the others after it
 abbrev pub put_by : Ordering → NodeId × Addr → NodeId × Addr → List (NodeId × Addr) → List (NodeId × Addr) → List (NodeId × Addr)
 put_by Less edge first more put = edge ∷ first ∷ more
 put_by Equal edge first more put = first ∷ more
@@ -153,7 +153,7 @@ pub record IsEdgeOfCandidate (routes : List KnownRoute) (source address : Addr) 
   pub candidate : IsCandidate routes source route
   pub of_edge : route.origin ≡ Remote edge address rd
 
--- Each address is lower than all behind it.
+-- Each address is lower than all after it.
 abbrev pub AreRising : List Addr → Type 0
 AreRising [] = ⊤
 AreRising (address ∷ more) = ((other : Addr) → Among other more → IsLower address other) × AreRising more

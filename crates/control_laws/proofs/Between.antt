@@ -157,8 +157,8 @@ module _ (kept : Kept) (core : Core) (now : ℕ) (others : List TreeData) (zip :
   abbrev place : EdgePlace
   place = place_of kept.home core
 
-  abbrev behind : Kept
-  behind = record kept { trees = others }
+  abbrev thereafter : Kept
+  thereafter = record kept { trees = others }
 
   abbrev Refreshed : OwnTree → TreeData → Type 0
   Refreshed it new = IsRefreshed (core.cost kept.home.me) now it.tree new
@@ -167,93 +167,93 @@ module _ (kept : Kept) (core : Core) (now : ℕ) (others : List TreeData) (zip :
   by_trees = zip_map (IsRefreshed (core.cost kept.home.me) now) (λ (it : OwnTree). it.tree) (trees_of kept) others
       (subst (λ (trees : List TreeData). AllZip (IsRefreshed (core.cost kept.home.me) now) trees others) (sym full.full) zip)
 
-  abbrev refreshed_pairs : AllZip (Stands Refreshed) (trees_of kept) (trees_of behind)
+  abbrev refreshed_pairs : AllZip (Stands Refreshed) (trees_of kept) (trees_of thereafter)
   refreshed_pairs = zipped Refreshed (vrfs_from kept.home.me 0 kept.home.scenario.vrfs) kept.trees others by_trees
 
   is_with : (it new : OwnTree) → Stands Refreshed it new → with it (with_flows it.tree new.tree.vrf.flows) ≡ new
   is_with it new s = λ i. record { own = sym s.own i; tree = sym (s.is.rest) i }
 
-  refreshed_parts : AreParts kept → AreParts behind
+  refreshed_parts : AreParts kept → AreParts thereafter
   refreshed_parts parts new a =
-      let (it, among, s) = zip_back (Stands Refreshed) (trees_of kept) (trees_of behind) refreshed_pairs new a in
+      let (it, among, s) = zip_back (Stands Refreshed) (trees_of kept) (trees_of thereafter) refreshed_pairs new a in
       let part = parts it among in
       subst (IsPart kept.home kept.peers) (is_with it new s)
       (record { entries = part.entries; notes = part.notes; selections = part.selections; derived = part.derived })
 
-  refreshed_wants : AreWanting behind
+  refreshed_wants : AreWanting thereafter
   refreshed_wants new a =
-      let (it, among, s) = zip_back (Stands Refreshed) (trees_of kept) (trees_of behind) refreshed_pairs new a in
+      let (it, among, s) = zip_back (Stands Refreshed) (trees_of kept) (trees_of thereafter) refreshed_pairs new a in
       subst Wants (is_with it new s) refl
 
-  refreshed_full : AreFull behind
+  refreshed_full : AreFull thereafter
   refreshed_full = zip_full kept Refreshed others full by_trees
 
   module _ (parts : AreParts kept) (told : (it : OwnTree) → Among it (trees_of kept) → (flow : Flow)
       → tree_flows.flow_of it.tree.vrf (core.cost kept.home.me) now flow
       ≡ option_map choice_of (maps.get (flows_at place now (control_of kept)) (flow_in it.own.id flow))) where
     -- the flow of a VRF of the edge
-    flow_told : (new : OwnTree) → Among new (trees_of behind) → (flow : Flow)
-        → maps.get (control_of behind).flows (flow_in new.own.id flow) ≡ maps.get (flows_at place now (control_of kept)) (flow_in new.own.id flow)
+    flow_told : (new : OwnTree) → Among new (trees_of thereafter) → (flow : Flow)
+        → maps.get (control_of thereafter).flows (flow_in new.own.id flow) ≡ maps.get (flows_at place now (control_of kept)) (flow_in new.own.id flow)
     flow_told new a flow =
-        let (it, among, s) = zip_back (Stands Refreshed) (trees_of kept) (trees_of behind) refreshed_pairs new a in
-        flow_at behind (refreshed_parts parts) new a flow ∙ ap (option_map upstream_by) (s.is.flows flow ∙ told it among flow)
+        let (it, among, s) = zip_back (Stands Refreshed) (trees_of kept) (trees_of thereafter) refreshed_pairs new a in
+        flow_at thereafter (refreshed_parts parts) new a flow ∙ ap (option_map upstream_by) (s.is.flows flow ∙ told it among flow)
         ∙ upstream_again (maps.get (flows_at place now (control_of kept)) (flow_in it.own.id flow))
         ∙ ap (λ (own : OwnVrf). maps.get (flows_at place now (control_of kept)) (flow_in own.id flow)) (sym s.own)
 
     -- a flow of another VRF is none
-    none_at : (key : VrfFlow) → ((new : OwnTree) → Among new (trees_of behind) → (new.own.id.0 == key.vrf.0) ≡ false) → (o : Option (Option Upstream))
+    none_at : (key : VrfFlow) → ((new : OwnTree) → Among new (trees_of thereafter) → (new.own.id.0 == key.vrf.0) ≡ false) → (o : Option (Option Upstream))
         → maps.get (flows_at place now (control_of kept)) key ≡ o → o ≡ None
     none_at key h None e = refl
     none_at key h (Some up) e =
         let asked = is_asked place now (control_of kept) key up e in
         let (new, among, is) =
-        map_among (λ (it : OwnTree). it.own) asked.own (trees_of behind) (subst (Among asked.own) (sym refreshed_full.all) asked.of_edge) in
+        map_among (λ (it : OwnTree). it.own) asked.own (trees_of thereafter) (subst (Among asked.own) (sym refreshed_full.all) asked.of_edge) in
         absurd (not_both (new.own.id.0 == key.vrf.0)
         (eq-eqb new.own.id.0 key.vrf.0 (ap (λ (own : OwnVrf). own.id.0) (sym is) ∙ ap (λ (v : VrfId). v.0) asked.of_flow)) (h new among))
 
-    flows_are : (key : VrfFlow) → maps.get (control_of behind).flows key ≡ maps.get (flows_at place now (control_of kept)) key
-    flows_are key = by (or_not options (λ (own : OwnVrf). own.id.0 == key.vrf.0) (of_number key.vrf.0) (choice_in key) (trees_of behind))
+    flows_are : (key : VrfFlow) → maps.get (control_of thereafter).flows key ≡ maps.get (flows_at place now (control_of kept)) key
+    flows_are key = by (or_not options (λ (own : OwnVrf). own.id.0 == key.vrf.0) (of_number key.vrf.0) (choice_in key) (trees_of thereafter))
       where
-        by : ((new : OwnTree) × Among new (trees_of behind) × ((new.own.id.0 == key.vrf.0) ≡ true))
-            ⊎ ((new : OwnTree) → Among new (trees_of behind) → (new.own.id.0 == key.vrf.0) ≡ false)
-            → maps.get (control_of behind).flows key ≡ maps.get (flows_at place now (control_of kept)) key
+        by : ((new : OwnTree) × Among new (trees_of thereafter) × ((new.own.id.0 == key.vrf.0) ≡ true))
+            ⊎ ((new : OwnTree) → Among new (trees_of thereafter) → (new.own.id.0 == key.vrf.0) ≡ false)
+            → maps.get (control_of thereafter).flows key ≡ maps.get (flows_at place now (control_of kept)) key
         by (inl found) =
             let number = eqb-true found.0.own.id.0 key.vrf.0 found.2 in
             let here : flow_in found.0.own.id (flow_of key) ≡ key =
             λ i. record { vrf = record { 0 = number i }; source = key.source; group = key.group } in
-            subst (λ (k : VrfFlow). maps.get (control_of behind).flows k ≡ maps.get (flows_at place now (control_of kept)) k) here
+            subst (λ (k : VrfFlow). maps.get (control_of thereafter).flows k ≡ maps.get (flows_at place now (control_of kept)) k) here
             (flow_told found.0 found.1 (flow_of key))
         by (inr none) =
-            flow_nowhere behind (refreshed_parts parts) key none ∙ sym (none_at key none (maps.get (flows_at place now (control_of kept)) key) refl)
+            flow_nowhere thereafter (refreshed_parts parts) key none ∙ sym (none_at key none (maps.get (flows_at place now (control_of kept)) key) refl)
 
-    pub refreshed_makes : Makes behind (refreshed place now (control_of kept))
+    pub refreshed_makes : Makes thereafter (refreshed place now (control_of kept))
     refreshed_makes = record {
       is = same_control _ _
           (same_entries _ _ (λ at.
-          entries_gathered behind at
+          entries_gathered thereafter at
           ∙ gathered_zip None option_or (Stands Refreshed) (entry_in at) (entry_in at) (λ it new s i. maps.get ((s.is.rest i).vrf.entries) at)
-          (trees_of kept) (trees_of behind) refreshed_pairs
+          (trees_of kept) (trees_of thereafter) refreshed_pairs
           ∙ sym (entries_gathered kept at)))
           (same_notes _ _ (λ note.
-          notes_gathered behind note
+          notes_gathered thereafter note
           ∙ gathered_zip false (λ a b. a || b) (Stands Refreshed) (note_in (tree_note note)) (note_in (tree_note note))
-          (λ it new s i. sets.contains ((s.is.rest i).vrf.notes) (tree_note note)) (trees_of kept) (trees_of behind) refreshed_pairs
+          (λ it new s i. sets.contains ((s.is.rest i).vrf.notes) (tree_note note)) (trees_of kept) (trees_of thereafter) refreshed_pairs
           ∙ sym (notes_gathered kept note)))
           (same_selections _ _ (λ key.
-          selections_gathered behind key
+          selections_gathered thereafter key
           ∙ gathered_zip None option_or (Stands Refreshed) (selected_in key) (selected_in key)
           (λ it new s i. cond (((s.own i).id.0) == key.vrf.0) (option_map selected_of (find (is_of key.pattern) ((s.is.rest i).root.selections)))
-          None) (trees_of kept) (trees_of behind) refreshed_pairs
+          None) (trees_of kept) (trees_of thereafter) refreshed_pairs
           ∙ sym (selections_gathered kept key)))
           (same_flows _ _ flows_are)
           refl;
-      trees = trees_together behind refreshed_full (refreshed_parts parts) refreshed_wants;
+      trees = trees_together thereafter refreshed_full (refreshed_parts parts) refreshed_wants;
     }
 
   -- where the scenario meets its rules, the peers are nodes of it, and prefixes are whole
   pub trees_refreshed : AreTreesBetween kept → Rules kept.home.scenario → AreNodes place (control_of kept)
       → ((own : OwnVrf) → Among own (own_vrfs place) → AreWhole (known_routes place (control_of kept) own))
-      → Makes behind (refreshed place now (control_of kept))
+      → Makes thereafter (refreshed place now (control_of kept))
   trees_refreshed between rules nodes whole =
       refreshed_makes (parts_between kept between) (λ it a flow.
       let own = subst (Among it.own) full.all (among_map (λ (o : OwnTree). o.own) it (trees_of kept) a) in

@@ -7,7 +7,7 @@ use Rattle.mv_base.specs.declared.ids.NodeId.{NodeId}
 use Rattle.scenario_defs.specs.declared.scenario.Vrf.{Vrf}
 use Rattle.vrf_words.specs.tree_defs.Trees.{TreeData}
 use Rattle.edge_defs.specs.Place.{OwnVrf, vrfs_from}
-use Rattle.vrf_words.proofs.edge_words.calm_laws.Lists.{among_front, among_behind}
+use Rattle.vrf_words.proofs.edge_words.calm_laws.Lists.{among_front, among_after}
 use Rattle.control_laws.specs.Control.{OwnTree, own_trees}
 use Rattle.control_laws.proofs.Gathered.{gathered, HasNone, gathered_none, gathered_one, gathered_same}
 
@@ -22,7 +22,7 @@ later : (me : NodeId) (number : ℕ) (vrfs : List Vrf) (trees : List TreeData) (
     → number ≤ it.own.id.0
 later me number [] trees it a = absurd a
 later me number (vrf ∷ more) trees it a =
-    by (vrf.edge.0 == me.0) trees (λ others b. (let behind = later me (number + 1) more others it b in omega (arith, behind))) a
+    by (vrf.edge.0 == me.0) trees (λ others b. (let thereafter = later me (number + 1) more others it b in omega (arith, thereafter))) a
   where
     by : (b : Bool) (trees : List TreeData) → ((others : List TreeData) → Among it (own_trees (vrfs_from me (number + 1) more) others)
         → number ≤ it.own.id.0)
@@ -41,14 +41,14 @@ apart_from me number (vrf ∷ more) trees = by (vrf.edge.0 == me.0) trees (apart
         → AreApart (own_trees (cond b (record { id = record { 0 = number }; vrf = vrf } ∷ vrfs_from me (number + 1) more)
         (vrfs_from me (number + 1) more)) trees)
     by true [] rest = tt
-    by true (tree ∷ trees) rest = (λ other a e. (let behind = later me (number + 1) more trees other a in omega (arith, behind, e)), rest trees)
+    by true (tree ∷ trees) rest = (λ other a e. (let thereafter = later me (number + 1) more trees other a in omega (arith, thereafter, e)), rest trees)
     by false trees rest = rest trees
 
 pub apart_before : (before : List OwnTree) (it : OwnTree) (after : List OwnTree) → AreApart (before ++ it ∷ after) → (other : OwnTree)
     → Among other before → other.own.id.0 ≡ it.own.id.0 → ⊥
 apart_before [] it after h other a e = a
 apart_before (one ∷ before) it after h other (inl same) e =
-    h.0 it (among_behind it before (it ∷ after) (inl refl)) (sym e ∙ ap (λ (x : OwnTree). x.own.id.0) same)
+    h.0 it (among_after it before (it ∷ after) (inl refl)) (sym e ∙ ap (λ (x : OwnTree). x.own.id.0) same)
 apart_before (one ∷ before) it after h other (inr a) e = apart_before before it after h.1 other a e
 
 pub apart_after : (before : List OwnTree) (it : OwnTree) (after : List OwnTree) → AreApart (before ++ it ∷ after) → (other : OwnTree)
@@ -187,7 +187,7 @@ module _ {X : Type 0} {none : X} {or : X → X → X} (laws : HasNone none or) (
   all_at before it after apart owned h =
       gathered_one laws part before it after
       (λ other a. other_none it other h (owned other (among_front other before (it ∷ after) a)) (apart_before before it after apart other a))
-      (λ other a. other_none it other h (owned other (among_behind other before (it ∷ after) (inr a))) (apart_after before it after apart other a))
+      (λ other a. other_none it other h (owned other (among_after other before (it ∷ after) (inr a))) (apart_after before it after apart other a))
 
   -- what is of none of the VRFs is nowhere
   pub all_none : (its : List OwnTree) → ((other : OwnTree) → Among other its → IsOwned other)
@@ -207,8 +207,8 @@ module _ {X : Type 0} {none : X} {or : X → X → X} (laws : HasNone none or) (
           ≡ cond b (part (with it tree)) (gathered none or part (before ++ it ∷ after))
       by true h = all_at before (with it tree) after apart_then owned_then h
       by false h = gathered_same none or part before (with it tree) it after
-          (owned_then (with it tree) (among_behind (with it tree) before (with it tree ∷ after) (inl refl)) h
-          ∙ sym (owned it (among_behind it before (it ∷ after) (inl refl)) h))
+          (owned_then (with it tree) (among_after (with it tree) before (with it tree ∷ after) (inl refl)) h
+          ∙ sym (owned it (among_after it before (it ∷ after) (inl refl)) h))
 
   -- so for each of a list
   pub all_of : (its : List OwnTree) (it : OwnTree) → Among it its → AreApart its → ((other : OwnTree) → Among other its → IsOwned other)

@@ -42,12 +42,12 @@ use Rattle.label_defs.specs.Keys.{node_cmp}
 use Rattle.label_defs.proofs.KeyLemmas.{node_cmp_total, node_cmp_exact}
 use Rattle.mv_base.specs.Lists.{Among}
 use Rattle.vrf_words.specs.tree_laws.TreeOf.{flow_route, held_from}
-use Rattle.control_laws.specs.Peers.{AreWritable, IsTreeBetween, active_of, actives_with, joined_with, key_of, learned_with, left_with, pattern_of, route_behind, same_route, selective_with, selective_without, told_active, told_join, told_selective, told_unicast, tree_change, tree_taking, tree_updated, tree_with}
+use Rattle.control_laws.specs.Peers.{AreWritable, IsTreeBetween, active_of, actives_with, joined_with, key_of, learned_with, left_with, pattern_of, route_after, same_route, selective_with, selective_without, told_active, told_join, told_selective, told_unicast, tree_change, tree_taking, tree_updated, tree_with}
 use Rattle.control_laws.proofs.PeersKeys.{active_one, join_one, selective_one}
 use Rattle.control_laws.proofs.PeersKinds.{ActiveAt, active_where, join_where, selective_where, tables_of, tell_active, tell_join, tell_selective, tell_unicast, unicast_where}
 use Rattle.control_laws.proofs.PeersMaps.{at_actives, at_joined, at_learned, at_selective, itself_by, join_by, join_exact, join_total, one_by, route_by}
 use Rattle.control_laws.proofs.PeersParts.{Parts, customers_of, by_equal, flag, joins, parts_of, same_parts, tree_of}
-use Rattle.control_laws.proofs.PeersTables.{AreSpelled, IsBehind, changed, is_behind, still_spelled, with_table}
+use Rattle.control_laws.proofs.PeersTables.{AreSpelled, IsBehind, changed, is_after, still_spelled, with_table}
 use Rattle.control_laws.proofs.PeersTold.{Changes, Here, here_or_not, Tables, Told, dropped, first_covers, first_harmless, first_of, put, silent_stays, told_iff}
 
 -- ---- one route gives it
@@ -317,7 +317,7 @@ pub parts_changed : (place : EdgePlace) (own : OwnVrf) (before after : Tables) (
     → Changes before after peer key old new
     → IsBehind now old new → AreSpelled before → IsWritableKey key → (tree : TreeData) → Parts place own before tree
     → Parts place own after (tree_change place own peer now key old new tree)
-parts_changed place own before after peer now key old new changes behind spelled writable tree parts = by (same_route old new) refl
+parts_changed place own before after peer now key old new changes thereafter spelled writable tree parts = by (same_route old new) refl
   where
     unmoved : new ≡ old → (q : NodeId) (k : Key) → after q k ≡ before q k
     unmoved same q k = elim (here_or_not peer key q k) [
@@ -326,10 +326,10 @@ parts_changed place own before after peer now key old new changes behind spelled
     ]
 
     by : (b : Bool) → same_route old new ≡ b → Parts place own after (cond b tree (tree_with place own peer now key old new tree))
-    by true e = same_parts place own before after tree (unmoved (behind.same e)) parts
+    by true e = same_parts place own before after tree (unmoved (thereafter.same e)) parts
     by false e =
         parts_with place own before after peer now old new spelled (still_spelled before after peer key old new changes spelled writable) key changes
-        writable (behind.fresh e) tree parts
+        writable (thereafter.fresh e) tree parts
 
 -- the tree of a route that is put by kind has other routes alone
 between : (place : EdgePlace) (control : Control) (peers : FinMap _ Taken) (own : OwnVrf) (peer : NodeId) (now : ℕ) (key : Key)
@@ -376,10 +376,10 @@ pub change_keeps : (place : EdgePlace) (control : Control) (own : OwnVrf) (peer 
 change_keeps place control own peer taken now change tree up spelled writable is =
     let key = key_of change in
     let old = maps.get taken key in
-    let new = route_behind now change old in
+    let new = route_after now change old in
     between_changed place control (maps.insert control.peers peer (taken_change now taken change)) own peer now key old new tree is
     (parts_changed place own (tables_of control) (tables_of (with_table peer (taken_change now taken change) control)) peer now key old new
-    (changed control peer taken up now change) (is_behind now change old) spelled writable tree (parts_of place own control tree is))
+    (changed control peer taken up now change) (is_after now change old) spelled writable tree (parts_of place own control tree is))
 
 -- the keys still have spellings
 pub change_spelled : (control : Control) (peer : NodeId) (taken : Taken) (now : ℕ) (change : Change) → maps.get control.peers peer ≡ Some taken
@@ -388,7 +388,7 @@ pub change_spelled : (control : Control) (peer : NodeId) (taken : Taken) (now : 
 change_spelled control peer taken now change up spelled writable =
     still_spelled (tables_of control) (tables_of (with_table peer (taken_change now taken change) control)) peer (key_of change)
     (maps.get taken (key_of change))
-    (route_behind now change (maps.get taken (key_of change))) (changed control peer taken up now change) spelled writable
+    (route_after now change (maps.get taken (key_of change))) (changed control peer taken up now change) spelled writable
 
 -- flows and what they want stay as the last refresh left them
 pub change_leaves : (place : EdgePlace) (own : OwnVrf) (peer : NodeId) (now : ℕ) (key : Key) (old new : Option TakenRoute) (tree : TreeData)

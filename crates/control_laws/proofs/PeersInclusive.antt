@@ -27,7 +27,7 @@ use Rattle.edge_defs.specs.Steps.{taken_change}
 use Rattle.edge_defs.specs.Tunnels.{inclusive_tunnels}
 use Rattle.vrf_words.proofs.edge_words.calm_laws.Lists.{among_flat_map, among_found, flat_map_among, found_among}
 use Rattle.vrf_words.proofs.edge_words.Members.{table_of, taken_of}
-use Rattle.control_laws.specs.Peers.{inclusive_of, key_of, route_behind, told_inclusive}
+use Rattle.control_laws.specs.Peers.{inclusive_of, key_of, route_after, told_inclusive}
 use Rattle.control_laws.proofs.PeersKinds.{tables_of}
 use Rattle.control_laws.proofs.PeersTables.{changed, with_table}
 use Rattle.control_laws.proofs.PeersTold.{Changes, Loses, Told, came, news, went}
@@ -93,7 +93,7 @@ module _ (place : EdgePlace) (own : OwnVrf) where
     old = maps.get taken (key_of change)
 
     abbrev new : Option TakenRoute
-    new = route_behind now change (maps.get taken (key_of change))
+    new = route_after now change (maps.get taken (key_of change))
 
     abbrev tell : NodeId → Key → TakenRoute → Option (Fec × Unit {0})
     tell = tell_inclusive place own

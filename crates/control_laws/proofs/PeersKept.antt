@@ -19,7 +19,7 @@ use Rattle.vrf_words.proofs.edge_words.calm_laws.Lists.{among_map}
 use Rattle.control_laws.specs.Control.{Kept, OwnTree, control_of, trees_of}
 use Rattle.control_laws.specs.Between.{AreTreesBetween, HasRoutes, KeepsCustomers, MakesBetween}
 use Rattle.control_laws.proofs.Between.{between_at, routes_make}
-use Rattle.control_laws.specs.Peers.{AreWritable, IsTreeBetween, changed_trees, key_of, route_behind, tree_lost, tree_run, tree_taking, tree_updated}
+use Rattle.control_laws.specs.Peers.{AreWritable, IsTreeBetween, changed_trees, key_of, route_after, tree_lost, tree_run, tree_taking, tree_updated}
 use Rattle.control_laws.proofs.PeersChange.{change_customers, changes_keep}
 use Rattle.control_laws.proofs.PeersParts.{Customers, customers_of}
 use Rattle.control_laws.proofs.PeersLost.{lost_customers, raise_down, raise_keeps, removal_keeps}
@@ -90,7 +90,7 @@ updated_customers : (place : EdgePlace) (own : OwnVrf) (peer : NodeId) (now : �
 updated_customers place own peer now taken [] tree = refl
 updated_customers place own peer now taken (change ∷ more) tree =
     updated_customers place own peer now (taken_change now taken change) more (tree_taking place own peer now taken change tree)
-    ∙ change_customers place own peer now (key_of change) (maps.get taken (key_of change)) (route_behind now change (maps.get taken (key_of change)))
+    ∙ change_customers place own peer now (key_of change) (maps.get taken (key_of change)) (route_after now change (maps.get taken (key_of change)))
     tree
 
 module _ (kept : Kept) (between : AreTreesBetween kept) (peer : NodeId) (now : ℕ) (trees : List TreeData) where

@@ -14,7 +14,7 @@ use Rattle.edge_defs.specs.Steps.{learned, taken_change}
 use Rattle.edge_defs.proofs.KeyLemmas.{key_total, key_exact, value_exact}
 use Rattle.vrf_words.proofs.edge_words.edge_laws.Taken.{table_in, put_own, put_other}
 use Rattle.vrf_words.proofs.edge_words.calm_laws.Tables.{taken_is}
-use Rattle.control_laws.specs.Peers.{key_of, route_behind, same_route}
+use Rattle.control_laws.specs.Peers.{key_of, route_after, same_route}
 use Rattle.control_laws.proofs.PeersKinds.{tables_of}
 use Rattle.control_laws.proofs.PeersTold.{Tables, Changes, here_or_not}
 
@@ -36,7 +36,7 @@ module _ (control : Control) (peer : NodeId) (table : Taken) where
 -- ---- one change
 
 take_own : (now : ℕ) (taken : Taken) (change : Change)
-    → maps.get (taken_change now taken change) (key_of change) ≡ route_behind now change (maps.get taken (key_of change))
+    → maps.get (taken_change now taken change) (key_of change) ≡ route_after now change (maps.get taken (key_of change))
 take_own now taken (updates.Reach advert) =
     let value : Value = record { next_hop = advert.next_hop; comms = advert.comms; pmsi = advert.pmsi } in
     let next = learned now value (maps.get taken advert.key) in
@@ -56,20 +56,20 @@ take_other now taken (updates.Unreach own) key ne =
     maps.get-remove key_total taken own key ∙ ap (λ (b : Bool). cond b None (maps.get taken key)) (apart key_cmp key_exact key own ne)
 
 module _ (control : Control) (peer : NodeId) (taken : Taken) (up : maps.get control.peers peer ≡ Some taken) (now : ℕ) (change : Change) where
-  abbrev pub behind : Control
-  behind = with_table peer (taken_change now taken change) control
+  abbrev pub thereafter : Control
+  thereafter = with_table peer (taken_change now taken change) control
 
   was_taken : (key : Key) → tables_of control peer key ≡ maps.get taken key
   was_taken key = ap (λ (t : Taken). maps.get t key) (taken_is control peer taken up)
 
-  pub changed : Changes (tables_of control) (tables_of behind) peer (key_of change) (maps.get taken (key_of change))
-      (route_behind now change (maps.get taken (key_of change)))
+  pub changed : Changes (tables_of control) (tables_of thereafter) peer (key_of change) (maps.get taken (key_of change))
+      (route_after now change (maps.get taken (key_of change)))
   changed = record {
     was = was_taken (key_of change);
     is = at_own control peer (taken_change now taken change) (key_of change) ∙ take_own now taken change;
     rest = λ q k elsewhere. elim (node_cases q peer) [
       | inl same ↦
-          (λ i. tables_of behind (same i) k) ∙ at_own control peer (taken_change now taken change) k
+          (λ i. tables_of thereafter (same i) k) ∙ at_own control peer (taken_change now taken change) k
           ∙ take_other now taken change k (λ e. elsewhere (same, e)) ∙ sym (was_taken k) ∙ (λ i. tables_of control (sym same i) k)
       | inr ne ↦ at_other control peer (taken_change now taken change) q k ne
     ];
@@ -93,13 +93,13 @@ pub record IsBehind (now : ℕ) (old new : Option TakenRoute) : Type 0 where
 abbrev fresh_route : ℕ → Value → TakenRoute
 fresh_route now value = record { value = value; since = now; run = false }
 
-learned_behind : (now : ℕ) (value : Value) (old : Option TakenRoute) → IsBehind now old (Some (learned now value old))
-learned_behind now value None = record {
+learned_after : (now : ℕ) (value : Value) (old : Option TakenRoute) → IsBehind now old (Some (learned now value old))
+learned_after now value None = record {
   same = λ h. absurd cc;
   fresh = λ h route is. (let one = same_Some (fresh_route now value) route is in
       (ap (λ (r : TakenRoute). r.since) (sym one), ap (λ (r : TakenRoute). r.run) (sym one)));
 }
-learned_behind now value (Some old) = by (same_value old.value value) refl
+learned_after now value (Some old) = by (same_value old.value value) refl
   where
     by : (b : Bool) → same_value old.value value ≡ b → IsBehind now (Some old) (Some (cond b old (fresh_route now value)))
     by true e = record { same = λ h. refl; fresh = λ h. absurd (let itself = (value_exact old.value old.value).1 refl in cc) }
@@ -109,10 +109,10 @@ learned_behind now value (Some old) = by (same_value old.value value) refl
           (ap (λ (r : TakenRoute). r.since) (sym one), ap (λ (r : TakenRoute). r.run) (sym one)));
     }
 
-pub is_behind : (now : ℕ) (change : Change) (old : Option TakenRoute) → IsBehind now old (route_behind now change old)
-is_behind now (updates.Reach advert) old = learned_behind now (record { next_hop = advert.next_hop; comms = advert.comms; pmsi = advert.pmsi }) old
-is_behind now (updates.Unreach key) None = record { same = λ h. refl; fresh = λ h. absurd cc }
-is_behind now (updates.Unreach key) (Some old) = record { same = λ h. absurd cc; fresh = λ h route is. absurd cc }
+pub is_after : (now : ℕ) (change : Change) (old : Option TakenRoute) → IsBehind now old (route_after now change old)
+is_after now (updates.Reach advert) old = learned_after now (record { next_hop = advert.next_hop; comms = advert.comms; pmsi = advert.pmsi }) old
+is_after now (updates.Unreach key) None = record { same = λ h. refl; fresh = λ h. absurd cc }
+is_after now (updates.Unreach key) (Some old) = record { same = λ h. absurd cc; fresh = λ h route is. absurd cc }
 
 -- ---- what an advertisement brings
 

@@ -19,7 +19,7 @@ use Rattle.edge_defs.specs.Edge.{Note, VrfPattern, Selected, VrfFlow, Upstream, 
 use Rattle.edge_defs.specs.Originated.{is_iface_of}
 use Rattle.edge_defs.specs.Place.{OwnVrf, vrfs_from}
 use Rattle.edge_defs.proofs.KeyLemmas.{note_total, note_exact, pattern_total, pattern_exact, flow_total, flow_exact}
-use Rattle.vrf_words.proofs.edge_words.calm_laws.Lists.{among_behind, map_among}
+use Rattle.vrf_words.proofs.edge_words.calm_laws.Lists.{among_after, map_among}
 use Rattle.control_laws.specs.Control.{Kept, OwnTree, trees_of, upstream_by, control_of, AreTrees, with_tree, with_trees}
 use Rattle.control_laws.proofs.Gathered.{gathered, HasNone, gathered_same, gathered_alike, gathered_map, options, truths}
 use Rattle.control_laws.proofs.Owned.{AreApart, IsOneOf, one_of, paired, with, IsOfOne, of_number, IsOwned, all_changed, all_through, trees_map}
@@ -62,7 +62,7 @@ module _ (kept : Kept) (number : ℕ) (it : OwnTree) (at_number : slice_get (tre
   one = one_of (vrfs_from kept.home.me 0 kept.home.scenario.vrfs) kept.trees number it at_number
 
   pub it_among : Among it (trees_of kept)
-  it_among = subst (Among it) (sym one.is) (among_behind it one.before (it ∷ one.after) (inl refl))
+  it_among = subst (Among it) (sym one.is) (among_after it one.before (it ∷ one.after) (inl refl))
 
   module _ (tree : TreeData) where
     stays : {X : Type 0} (none : X) (or : X → X → X) (own : OwnTree → X) → own (with it tree) ≡ own it

@@ -63,10 +63,10 @@ module _ {K V : Type 0} (R : K → K → Ordering) where
       (none_below e.0 es (front_of (below_all R e.0 es) (is_sorted R es) h), sorted_once es (back_of (below_all R e.0 es) (is_sorted R es) h))
 
   pub once_both : (xs ys : List (K × V)) → StandOnce xs → StandOnce ys → ((e : K × V) → Among e xs → find R e.0 ys ≡ None) → StandOnce (xs ++ ys)
-  once_both [] ys once behind apart = behind
-  once_both (e ∷ xs) ys once behind apart = (
+  once_both [] ys once thereafter apart = thereafter
+  once_both (e ∷ xs) ys once thereafter apart = (
     find-append R e.0 xs ys ∙ ap (λ (o : Option V). option_or o (find R e.0 ys)) once.0 ∙ apart e (inl refl),
-    once_both xs ys once.1 behind (λ f a. apart f (inr a)),
+    once_both xs ys once.1 thereafter (λ f a. apart f (inr a)),
   )
 
 pub map_once : {K V : Type 0} {R : K → K → Ordering} (m : FinMap R V) → StandOnce R (maps.entries m)
@@ -143,10 +143,10 @@ module _ {K : Type 0} (R : K → K → Ordering) where
 
   listed_both : (xs ys : List K) → AreListedOnce xs → AreListedOnce ys → ((k : K) → Among k xs → list_any (eq_by_cmp R k) ys ≡ false)
       → AreListedOnce (xs ++ ys)
-  listed_both [] ys once behind apart = behind
-  listed_both (k ∷ xs) ys once behind apart = (
+  listed_both [] ys once thereafter apart = thereafter
+  listed_both (k ∷ xs) ys once thereafter apart = (
     list_any-append (eq_by_cmp R k) xs ys ∙ ap (λ (b : Bool). b || list_any (eq_by_cmp R k) ys) once.0 ∙ apart k (inl refl),
-    listed_both xs ys once.1 behind (λ q a. apart q (inr a)),
+    listed_both xs ys once.1 thereafter (λ q a. apart q (inr a)),
   )
 
   keys_once : {V : Type 0} (es : List (K × V)) → StandOnce R es → AreListedOnce (map (λ (e : K × V). e.0) es)

@@ -51,10 +51,10 @@ abbrev pub key_of : Change → Key
 key_of (updates.Reach advert) = advert.key
 key_of (updates.Unreach key) = key
 
-abbrev pub route_behind : ℕ → Change → Option TakenRoute → Option TakenRoute
-route_behind now (updates.Reach advert) old =
+abbrev pub route_after : ℕ → Change → Option TakenRoute → Option TakenRoute
+route_after now (updates.Reach advert) old =
     Some (learned now (record { next_hop = advert.next_hop; comms = advert.comms; pmsi = advert.pmsi }) old)
-route_behind now (updates.Unreach key) old = None
+route_after now (updates.Unreach key) old = None
 
 -- whether both say the same
 abbrev pub same_route : Option TakenRoute → Option TakenRoute → Bool
@@ -163,7 +163,7 @@ tree_change place own peer now key old new tree =
 abbrev pub tree_taking : EdgePlace → OwnVrf → NodeId → ℕ → Taken → Change → TreeData → TreeData
 tree_taking place own peer now taken change tree =
     tree_change place own peer now (key_of change) (maps.get taken (key_of change))
-    (route_behind now change (maps.get taken (key_of change))) tree
+    (route_after now change (maps.get taken (key_of change))) tree
 
 abbrev pub tree_updated : EdgePlace → OwnVrf → NodeId → ℕ → Taken → List Change → TreeData → TreeData
 tree_updated place own peer now taken [] tree = tree

@@ -19,7 +19,7 @@ ghost use Rattle.edge_routes.specs.edge_home.Home.{place_of};
 ghost use Rattle.control_laws.specs.Between.{AreTreesBetween, MakesBetween};
 ghost use Rattle.control_laws.specs.Control.{Kept, control_of};
 ghost use Rattle.control_laws.specs.Peers.{AreWritable, IsTreeBetween, changed_trees, inclusive_of, key_of};
-ghost use Rattle.control_laws.specs.Peers.{route_behind, told_inclusive, tree_change, tree_losses, tree_updates};
+ghost use Rattle.control_laws.specs.Peers.{route_after, told_inclusive, tree_change, tree_losses, tree_updates};
 ghost use Rattle.control_laws.specs.Peers.{tree_lost, tree_run, tree_taking, tree_updated};
 
 /// The tree that takes a change of one route of a peer keeps of its VRF what the edge keeps after the change, but for what its flows
@@ -92,7 +92,7 @@ pub fn inclusive_tunnels_come_and_go()
     ensures came { (place : EdgePlace) (own : OwnVrf) (control : Control) (peer : NodeId) (taken : Taken) →
         maps.get control.peers peer ≡ Some taken → (now : ℕ) (change : Change) (fec : Fec) →
         Among fec (inclusive_of place (record control { peers = maps.insert control.peers peer (taken_change now taken change) }) own) →
-        (told_inclusive place own peer (key_of change) (route_behind now change (maps.get taken (key_of change))) ≡ Some fec)
+        (told_inclusive place own peer (key_of change) (route_after now change (maps.get taken (key_of change))) ≡ Some fec)
         ⊎ Among fec (inclusive_of place control own) }
     ensures went { (place : EdgePlace) (own : OwnVrf) (control : Control) (peer : NodeId) (taken : Taken) →
         maps.get control.peers peer ≡ Some taken → (now : ℕ) (change : Change) (fec : Fec) →
@@ -101,7 +101,7 @@ pub fn inclusive_tunnels_come_and_go()
         ⊎ Among fec (inclusive_of place (record control { peers = maps.insert control.peers peer (taken_change now taken change) }) own) }
     ensures new { (place : EdgePlace) (own : OwnVrf) (control : Control) (peer : NodeId) (taken : Taken) →
         maps.get control.peers peer ≡ Some taken → (now : ℕ) (change : Change) (fec : Fec) →
-        told_inclusive place own peer (key_of change) (route_behind now change (maps.get taken (key_of change))) ≡ Some fec →
+        told_inclusive place own peer (key_of change) (route_after now change (maps.get taken (key_of change))) ≡ Some fec →
         Among fec (inclusive_of place (record control { peers = maps.insert control.peers peer (taken_change now taken change) }) own) }
     ensures same { (place : EdgePlace) (own : OwnVrf) (control : Control) (peer : NodeId) (taken : Taken) →
         maps.get control.peers peer ≡ Some taken → (now : ℕ) (change : Change) → imports.inclusive_of (key_of change) ≡ None → (fec : Fec) →

@@ -330,9 +330,9 @@ under_walk : (links : List Link) (nodes root : ℕ) (row : List ℕ) → IsTopol
 under_walk links nodes root row t h tight [] from cost within walk =
     let here : get_or row from 0 ≡ 0 = subst (λ (k : ℕ). get_or row k 0 ≡ 0) (sym walk.0) h.here in
     record { near = omega arith; below = omega arith }
-under_walk links nodes root row t h tight (next ∷ behind) from cost within walk =
+under_walk links nodes root row t h tight (next ∷ thereafter) from cost within walk =
     let g = good nodes links from next walk.0 t walk.2 in
-    let u = under_walk links nodes root row t h tight behind next walk.1 g.b_within walk.3 in
+    let u = under_walk links nodes root row t h tight thereafter next walk.1 g.b_within walk.3 in
     under_by (get_or row from 0) (get_or row next 0) walk.0 walk.1 cost nodes (reached row) (tight from next walk.0 walk.2) u
     (h.near next g.b_within u.near)
     (let size = h.size in omega (arith, known-le_length row)) t.few_nodes g.cheap walk.4

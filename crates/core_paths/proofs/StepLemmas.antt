@@ -152,7 +152,7 @@ step_of links nodes root row from next t h near within step =
     let g = good nodes links from next w.0 t w.2 in
     let own = h.least from within (near from within) in
     let others = h.least next g.b_within (near next g.b_within) in
-    let rest : get_or row next 0 ≤ w.1 = others.least step.behind w.1 w.3 in
+    let rest : get_or row next 0 ≤ w.1 = others.least step.thereafter w.1 w.3 in
     let way : get_or row from 0 ≤ w.0 + get_or row next 0 =
     own.least (next ∷ others.steps) (w.0 + get_or row next 0) (further links from next root w.0 (get_or row next 0) others.steps w.2 others.walk)
     in
@@ -169,7 +169,7 @@ first_of_step links nodes root row from next t h near within step =
     let others = h.least next g.b_within (near next g.b_within) in
     let e : step.first + get_or row next 0 ≡ get_or row from 0 = (let x = step.exact in omega arith) in
     record {
-      behind = others.steps;
+      thereafter = others.steps;
       cost = get_or row from 0;
       walk = subst (λ (x : ℕ). IsWalk links from (next ∷ others.steps) root x) e
           (further links from next root step.first (get_or row next 0) others.steps step.linked others.walk);
@@ -180,7 +180,7 @@ first_of_step links nodes root row from next t h near within step =
 some_first : (links : List Link) (from root cost : ℕ) (steps : List ℕ) → from ≢ root → IsWalk links from steps root cost
     → IsLeast links from root cost → (next : ℕ) × IsFirstStep links from root next
 some_first links from root cost [] n walk least = absurd (n walk.0)
-some_first links from root cost (next ∷ behind) n walk least = (next, record { behind = behind; cost = cost; walk = walk; least = least })
+some_first links from root cost (next ∷ thereafter) n walk least = (next, record { thereafter = thereafter; cost = cost; walk = walk; least = least })
 
 -- the entry is at most each step from its node
 lowest_at : (links : List Link) (row nexts : List ℕ) (from next : ℕ) → All (IsDone row nexts) links → IsStep links row from next
@@ -232,7 +232,7 @@ toward_at links nodes root row nexts t h near sound done from within n = by_entr
         absurd (omega (arith, lowest some.0 some.1))
     by_entry (inr step) = record { first = first_of_step links nodes root row from (get_or nexts from 0) t h near within step; lowest = lowest }
 
--- Behind a look at all links each entry is the lowest first step.
+-- After a look at all links each entry is the lowest first step.
 step_row : (links : List Link) (nodes root : ℕ) (row : List ℕ) → IsTopology nodes links → IsCostRow links nodes root row
     → ((k : ℕ) → k < nodes → get_or row k 0 < far) → IsStepRow links nodes root (noted_all row (replicate nodes 65535) links)
 step_row links nodes root row t h near =

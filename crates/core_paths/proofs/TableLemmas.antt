@@ -10,7 +10,7 @@ use Rattle.core_paths.specs.Rows.{far, IsCostRow, IsStepRow, IsFirstFar, IsNear}
 use Rattle.core_paths.specs.Tables.{IsCostTable, IsStepTable}
 use Rattle.mv_base.proofs.core_walks.WalkLemmas.{reaches_back, reaches_through}
 
--- An entry of the earlier rows, and one of the row behind them.
+-- An entry of the earlier rows, and one of the row after them.
 entry_before : (table row : List ℕ) (nodes upto from to : ℕ) → length table ≡ upto * nodes → from < nodes → to < upto
     → get_or (table ++ row) (to * nodes + from) 0 ≡ get_or table (to * nodes + from) 0
 entry_before table row nodes upto from to size within earlier =

@@ -8,7 +8,7 @@ use Rattle.mv_base.specs.core_walks.Walks.{Reaches, IsLeast, IsToward}
 abbrev pub far : ℕ
 far = 4294967295
 
--- the row behind a look at the link from `from` to `via`
+-- the row after a look at the link from `from` to `via`
 abbrev pub relaxed : List ℕ → ℕ → ℕ → ℕ → List ℕ
 relaxed row from via cost =
     if nat_lt (slice_index row via + cost) (slice_index row from) then slice_set row from (slice_index row via + cost) else row
@@ -16,7 +16,7 @@ relaxed row from via cost =
 abbrev pub relaxed_link : List ℕ → Link → List ℕ
 relaxed_link row link = relaxed (relaxed row link.a.0 link.b.0 link.cost) link.b.0 link.a.0 link.cost
 
--- the row behind a look at each link, in order
+-- the row after a look at each link, in order
 abbrev pub relaxed_all : List ℕ → List Link → List ℕ
 relaxed_all row links = fold relaxed_link row links
 
@@ -26,7 +26,7 @@ is_tight row link =
     nat_le (slice_index row link.a.0) (slice_index row link.b.0 + link.cost)
     && nat_le (slice_index row link.b.0) (slice_index row link.a.0 + link.cost)
 
--- the first steps behind a look at the link from `from` to `via`
+-- the first steps after a look at the link from `from` to `via`
 abbrev pub noted : List ℕ → List ℕ → ℕ → ℕ → ℕ → List ℕ
 noted row nexts from via cost =
     if (slice_index row via + cost == slice_index row from) && nat_lt via (slice_index nexts from) then slice_set nexts from via else nexts

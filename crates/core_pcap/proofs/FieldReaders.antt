@@ -6,7 +6,7 @@ use Rattle.std.proofs.lemmas.Bool.{eqb-true, eqb-false, eq-eqb, ne_eqb, ltb-fals
 use Rattle.std.proofs.lemmas.Nat.{le_bytes_2, le_bytes_4, from_le_bytes-to_le_bytes_2, from_le_bytes-to_le_bytes_4}
 use Rattle.mv_base.specs.Octets.{IsOctets}
 use Rattle.mv_base.specs.declared.ids.NodeId.{NodeId}
-use Rattle.mv_base.proofs.Fields.{wide16, wide32, octets_behind, chosen}
+use Rattle.mv_base.proofs.Fields.{wide16, wide32, octets_after, chosen}
 use Rattle.core_pcap.specs.declared.fault.PcapFault.{PcapFault}
 use Rattle.core_pcap.specs.declared.fault.PcapFault.TheVariants as faults
 use Rattle.core_pcap.specs.declared.order.ByteOrder.{ByteOrder}
@@ -219,7 +219,7 @@ node_told (a ∷ b ∷ c ∷ d ∷ e ∷ f ∷ []) x fits len h =
     let n = from_be_bytes w16 (e ∷ f ∷ []) in
     let t = when_some (eqb (from_be_bytes w32 (a ∷ b ∷ c ∷ d ∷ [])) 0x02000000) (node_named n) x h in
     let front = front_is a b c d (fits 0) (fits 1) (fits 2) (fits 3) (eqb-true _ _ t.0) in
-    let two : IsOctets (e ∷ f ∷ []) = octets_behind 4 (a ∷ b ∷ c ∷ d ∷ e ∷ f ∷ []) fits in
+    let two : IsOctets (e ∷ f ∷ []) = octets_after 4 (a ∷ b ∷ c ∷ d ∷ e ∷ f ∷ []) fits in
     let back : e ∷ f ∷ [] ≡ to_be_bytes w16 n = sym (wide16.back (e ∷ f ∷ []) refl two) in
     let whole : a ∷ b ∷ c ∷ d ∷ e ∷ f ∷ [] ≡ node_octets (node_named n) =
     rw (front.0, front.1, front.2, front.3) (ap (λ (t : List ℕ). 2 ∷ 0 ∷ 0 ∷ 0 ∷ t) back) in

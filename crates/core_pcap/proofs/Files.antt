@@ -66,7 +66,7 @@ shorter_by : (order : ByteOrder) (hop : CoreHop) (octets text rest : List ℕ) �
 shorter_by order hop octets text rest s parts =
     omega (arith, hop_long order hop, ap (λ (t : List ℕ). length t) s.octets, ap (λ (t : List ℕ). length t) parts, length-append text rest)
 
--- Fewer octets are left behind a record.
+-- Fewer octets are left after a record.
 pub shorter : (order : ByteOrder) (octets : List ℕ) (hop : CoreHop) (rest : List ℕ) → IsOctets octets
     → hop_at order octets ≡ read_hop (hop_read hop rest) → length rest < length octets
 shorter order octets hop rest fits e =
@@ -100,31 +100,31 @@ stops_one order len rest (Some f) (Some g) fits a b =
     some_fault p q x y e h = rw (e, h) refl
 
 -- Records are those of one list of hops.
-rows_one : (order : ByteOrder) (len : ℕ) (hops others : List CoreHop) (records rest behind : List ℕ) (fault other : Option (ℕ × PcapFault))
+rows_one : (order : ByteOrder) (len : ℕ) (hops others : List CoreHop) (records rest thereafter : List ℕ) (fault other : Option (ℕ × PcapFault))
     → IsOctets records
     → All IsHop hops → records ≡ flat_map (hop_text order) hops ++ rest → Stops order len rest fault
-    → All IsHop others → records ≡ flat_map (hop_text order) others ++ behind → Stops order len behind other
+    → All IsHop others → records ≡ flat_map (hop_text order) others ++ thereafter → Stops order len thereafter other
     → (hops ≡ others) × (fault ≡ other)
-rows_one order len [] [] records rest behind fault other fits each parts stops all whole ends = (
+rows_one order len [] [] records rest thereafter fault other fits each parts stops all whole ends = (
   refl,
   stops_one order len records fault other fits (subst (λ (t : List ℕ). Stops order len t fault) (sym parts) stops)
       (subst (λ (t : List ℕ). Stops order len t other) (sym whole) ends),
 )
-rows_one order len [] (y ∷ ys) records rest behind fault other fits each parts stops all whole ends =
-    absurd (goes_on order len records y (flat_map (hop_text order) ys ++ behind) fault fits (first_read order y ys records behind all whole)
+rows_one order len [] (y ∷ ys) records rest thereafter fault other fits each parts stops all whole ends =
+    absurd (goes_on order len records y (flat_map (hop_text order) ys ++ thereafter) fault fits (first_read order y ys records thereafter all whole)
     (subst (λ (t : List ℕ). Stops order len t fault) (sym parts) stops))
-rows_one order len (x ∷ xs) [] records rest behind fault other fits each parts stops all whole ends =
+rows_one order len (x ∷ xs) [] records rest thereafter fault other fits each parts stops all whole ends =
     absurd (goes_on order len records x (flat_map (hop_text order) xs ++ rest) other fits (first_read order x xs records rest each parts)
     (subst (λ (t : List ℕ). Stops order len t other) (sym whole) ends))
-rows_one order len (x ∷ xs) (y ∷ ys) records rest behind fault other fits each parts stops all whole ends =
+rows_one order len (x ∷ xs) (y ∷ ys) records rest thereafter fault other fits each parts stops all whole ends =
     let after = flat_map (hop_text order) xs ++ rest in
     let first = first_read order x xs records rest each parts in
-    let second = first_read order y ys records behind all whole in
-    let same : hop_read x after ≡ hop_read y (flat_map (hop_text order) ys ++ behind) =
-    same_hop (hop_read x after) (hop_read y (flat_map (hop_text order) ys ++ behind)) (sym first ∙ second) in
+    let second = first_read order y ys records thereafter all whole in
+    let same : hop_read x after ≡ hop_read y (flat_map (hop_text order) ys ++ thereafter) =
+    same_hop (hop_read x after) (hop_read y (flat_map (hop_text order) ys ++ thereafter)) (sym first ∙ second) in
     let left : IsOctets after = rest_octets records (hop_text order x) after fits (parts ∙ more_text order x xs rest) in
     let more =
-    rows_one order len xs ys after rest behind fault other left (All-tail IsHop x xs each) refl stops (All-tail IsHop y ys all)
+    rows_one order len xs ys after rest thereafter fault other left (All-tail IsHop x xs each) refl stops (All-tail IsHop y ys all)
     (ap (λ (p : CoreHop × List ℕ). p.1) same) ends in
     (cons_is x y xs ys (ap (λ (p : CoreHop × List ℕ). p.0) same) more.0, more.1)
   where
@@ -235,23 +235,23 @@ pub done_octets : (order : ByteOrder) (records : List ℕ) (hops : List CoreHop)
     → IsOctets rest
 done_octets order records hops rest fits d = rest_octets records (flat_map (hop_text order) hops) rest fits d.parts
 
-done_by : (order : ByteOrder) (records : List ℕ) (hops : List CoreHop) (hop : CoreHop) (rest text behind : List ℕ) → Done order records hops rest
-    → SpellsHop order hop text → rest ≡ text ++ behind → Done order records (hops ++ hop ∷ []) behind
-done_by order records hops hop rest text behind d s parts =
+done_by : (order : ByteOrder) (records : List ℕ) (hops : List CoreHop) (hop : CoreHop) (rest text thereafter : List ℕ) → Done order records hops rest
+    → SpellsHop order hop text → rest ≡ text ++ thereafter → Done order records (hops ++ hop ∷ []) thereafter
+done_by order records hops hop rest text thereafter d s parts =
     let before = flat_map (hop_text order) hops in
-    let whole : rest ≡ hop_text order hop ++ behind = parts ∙ ap (λ (t : List ℕ). t ++ behind) s.octets in
+    let whole : rest ≡ hop_text order hop ++ thereafter = parts ∙ ap (λ (t : List ℕ). t ++ thereafter) s.octets in
     record {
       each = All-push IsHop hops hop d.each s.is;
-      parts = d.parts ∙ ap (λ (t : List ℕ). before ++ t) whole ∙ sym (append_assoc before (hop_text order hop) behind)
-          ∙ ap (λ (t : List ℕ). t ++ behind) (flat_map_more (hop_text order) [] hops hop);
+      parts = d.parts ∙ ap (λ (t : List ℕ). before ++ t) whole ∙ sym (append_assoc before (hop_text order hop) thereafter)
+          ∙ ap (λ (t : List ℕ). t ++ thereafter) (flat_map_more (hop_text order) [] hops hop);
     }
 
-pub done_more : (order : ByteOrder) (records : List ℕ) (hops : List CoreHop) (hop : CoreHop) (rest behind : List ℕ) → IsOctets records
-    → Done order records hops rest → hop_at order rest ≡ read_hop (hop_read hop behind)
-    → Done order records (hops ++ hop ∷ []) behind
-done_more order records hops hop rest behind fits d e =
-    let t = (hop_reader order).taken rest (hop_read hop behind) (done_octets order records hops rest fits d) e in
-    done_by order records hops hop rest t.0 behind d t.1 t.2
+pub done_more : (order : ByteOrder) (records : List ℕ) (hops : List CoreHop) (hop : CoreHop) (rest thereafter : List ℕ) → IsOctets records
+    → Done order records hops rest → hop_at order rest ≡ read_hop (hop_read hop thereafter)
+    → Done order records (hops ++ hop ∷ []) thereafter
+done_more order records hops hop rest thereafter fits d e =
+    let t = (hop_reader order).taken rest (hop_read hop thereafter) (done_octets order records hops rest fits d) e in
+    done_by order records hops hop rest t.0 thereafter d t.1 t.2
 
 pub done_all : (order : ByteOrder) (len : ℕ) (records : List ℕ) (hops : List CoreHop) (rest : List ℕ) → Done order records hops rest → rest ≡ []
     → Rows order len records hops None

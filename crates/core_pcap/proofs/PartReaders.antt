@@ -72,8 +72,8 @@ passed_there x text b =
     let second = ap (λ (t : List ℕ). length t) c.first.1 in
     let third = ap (λ (t : List ℕ). length t) m.spells.1 in
     let whole = ap (λ (t : List ℕ). length t) b.parts ∙ length-append b.front b.back in
-    let behind = ap (λ (t : List ℕ). length t) c.parts ∙ length-append c.front c.back in
-    omega (arith, first, second, third, whole, behind, b.first.0, c.first.0, m.spells.0)
+    let thereafter = ap (λ (t : List ℕ). length t) c.parts ∙ length-append c.front c.back in
+    omega (arith, first, second, third, whole, thereafter, b.first.0, c.first.0, m.spells.0)
 
 passed_back : (x : ⊤) (text : List ℕ) → IsPassed x text → PassedText x text
 passed_back x text len =
@@ -121,13 +121,13 @@ HeaderText = Both IsMagic (λ order. Both (IsVersion order) (λ version. Both Is
 abbrev network_at : ByteOrder → List ℕ → Read ByteOrder
 network_at order = made_at (known_word_at order 1 faults.Network) (ordered order)
 
-abbrev behind_version : ByteOrder → List ℕ → Read ByteOrder
-behind_version order = then_at passed_at (λ passed. network_at order)
+abbrev after_version : ByteOrder → List ℕ → Read ByteOrder
+after_version order = then_at passed_at (λ passed. network_at order)
 
-abbrev behind_magic : ByteOrder → List ℕ → Read ByteOrder
-behind_magic order = then_at (version_at order) (λ version. behind_version order)
+abbrev after_magic : ByteOrder → List ℕ → Read ByteOrder
+after_magic order = then_at (version_at order) (λ version. after_version order)
 
-header_same : (octets : List ℕ) → header_at octets ≡ then_at magic_at behind_magic octets
+header_same : (octets : List ℕ) → header_at octets ≡ then_at magic_at after_magic octets
 unfolding header_at
 header_same octets = refl
 
@@ -136,8 +136,8 @@ header_there order text b =
     let c = b.second in
     let d = c.second in
     let m = d.second in
-    let behind = joined c.back d.front d.back d.front (word b.x 1) d.parts refl m.spells in
-    let middle = joined b.back c.front c.back (half b.x 2 ++ half b.x 4) (d.front ++ word b.x 1) c.parts c.first behind in
+    let thereafter = joined c.back d.front d.back d.front (word b.x 1) d.parts refl m.spells in
+    let middle = joined b.back c.front c.back (half b.x 2 ++ half b.x 4) (d.front ++ word b.x 1) c.parts c.first thereafter in
     let whole = joined text b.front b.back (word b.x magic) _ b.parts b.first middle in
     subst (λ (o : ByteOrder). SpellsHeader o text) (sym m.is) (record { passed = d.front; len = d.first; octets = whole })
 
@@ -161,11 +161,11 @@ header_back order text s =
 pub header_reader : IsReader header_at SpellsHeader HeaderFails
 header_reader =
     said_reader header_at HeaderText SpellsHeader HeaderFails header_there header_back
-    (same_reader (then_at magic_at behind_magic) header_at _ _ header_same
-    (then_reader magic_at IsMagic MagicFails behind_magic (λ order. Both (IsVersion order) (λ version. Both IsPassed (λ passed. NetworkText order)))
+    (same_reader (then_at magic_at after_magic) header_at _ _ header_same
+    (then_reader magic_at IsMagic MagicFails after_magic (λ order. Both (IsVersion order) (λ version. Both IsPassed (λ passed. NetworkText order)))
     (λ order. Then (IsVersion order) (VersionFails order) (λ version. Then IsPassed PassedFails (λ passed. NetworkFails order))) magic_reader
     (λ order front s.
-    then_reader (version_at order) (IsVersion order) (VersionFails order) (λ version. behind_version order)
+    then_reader (version_at order) (IsVersion order) (VersionFails order) (λ version. after_version order)
     (λ version. Both IsPassed (λ passed. NetworkText order)) (λ version. Then IsPassed PassedFails (λ passed. NetworkFails order))
     (version_reader order) (λ version front s.
     then_reader passed_at IsPassed PassedFails (λ passed. network_at order) (λ passed. NetworkText order) (λ passed. NetworkFails order) passed_reader
@@ -337,25 +337,25 @@ data_at tick len ends label = made_at (octets_at len) (hop_of tick ends label)
 abbrev BehindEnds : ℕ → ℕ → NodeId × NodeId → CoreHop → List ℕ → Type 0
 BehindEnds tick len ends = Both IsLabelled (DataText tick len ends)
 
-abbrev behind_ends : ℕ → ℕ → NodeId × NodeId → List ℕ → Read CoreHop
-behind_ends tick len ends = then_at label_at (data_at tick len ends)
+abbrev after_ends : ℕ → ℕ → NodeId × NodeId → List ℕ → Read CoreHop
+after_ends tick len ends = then_at label_at (data_at tick len ends)
 
 abbrev BehindLengths : ℕ → ℕ → CoreHop → List ℕ → Type 0
 BehindLengths tick len = Both AreEnds (BehindEnds tick len)
 
-abbrev behind_lengths : ℕ → ℕ → List ℕ → Read CoreHop
-behind_lengths tick len = then_at ends_at (behind_ends tick len)
+abbrev after_lengths : ℕ → ℕ → List ℕ → Read CoreHop
+after_lengths tick len = then_at ends_at (after_ends tick len)
 
 abbrev BehindTime : ByteOrder → ℕ → CoreHop → List ℕ → Type 0
 BehindTime order tick = Both (AreLengths order) (BehindLengths tick)
 
-abbrev behind_time : ByteOrder → ℕ → List ℕ → Read CoreHop
-behind_time order tick = then_at (lengths_at order) (behind_lengths tick)
+abbrev after_time : ByteOrder → ℕ → List ℕ → Read CoreHop
+after_time order tick = then_at (lengths_at order) (after_lengths tick)
 
 abbrev HopText : ByteOrder → CoreHop → List ℕ → Type 0
 HopText order = Both (IsTime order) (BehindTime order)
 
-hop_same : (order : ByteOrder) (octets : List ℕ) → hop_at order octets ≡ then_at (time_at order) (behind_time order) octets
+hop_same : (order : ByteOrder) (octets : List ℕ) → hop_at order octets ≡ then_at (time_at order) (after_time order) octets
 unfolding hop_at
 hop_same order octets = refl
 
@@ -371,8 +371,8 @@ hop_there order hop text b =
     let frame = joined c.back d.front d.back _ _ d.parts d.first.2 label in
     let sizes : c.front ≡ word order (18 + length m.x) ++ word order (18 + length m.x) =
     c.first.1 ∙ ap (λ (n : ℕ). word order (18 + n) ++ word order (18 + n)) len in
-    let behind = joined b.back c.front c.back _ _ c.parts sizes frame in
-    let whole = joined text b.front b.back _ _ b.parts b.first.1 behind in
+    let thereafter = joined b.back c.front c.back _ _ c.parts sizes frame in
+    let whole = joined text b.front b.back _ _ b.parts b.first.1 thereafter in
     let is : IsHop made =
     record { tick = b.first.0; from = d.first.1; to = d.first.0; label = e.first.0; ttl = e.first.1; few = omega (arith, len, c.first.0) } in
     subst (λ (h : CoreHop). SpellsHop order h text) (sym m.is) (record { is = is; octets = whole })
@@ -420,13 +420,13 @@ hop_back order hop text s =
 pub hop_reader : (order : ByteOrder) → IsReader (hop_at order) (SpellsHop order) (HopFails order)
 hop_reader order =
     said_reader (hop_at order) (HopText order) (SpellsHop order) (HopFails order) (hop_there order) (hop_back order)
-    (same_reader (then_at (time_at order) (behind_time order)) (hop_at order) _ _ (hop_same order)
-    (then_reader (time_at order) (IsTime order) (TimeFails order) (behind_time order) (BehindTime order)
+    (same_reader (then_at (time_at order) (after_time order)) (hop_at order) _ _ (hop_same order)
+    (then_reader (time_at order) (IsTime order) (TimeFails order) (after_time order) (BehindTime order)
     (λ tick. Then (AreLengths order) (LengthsFail order) (λ len. Then AreEnds EndsFail (λ ends. Then IsLabelled LabelFails (λ label. Lacks len))))
     (time_reader order) (λ tick front s.
-    then_reader (lengths_at order) (AreLengths order) (LengthsFail order) (behind_lengths tick) (BehindLengths tick)
+    then_reader (lengths_at order) (AreLengths order) (LengthsFail order) (after_lengths tick) (BehindLengths tick)
     (λ len. Then AreEnds EndsFail (λ ends. Then IsLabelled LabelFails (λ label. Lacks len))) (lengths_reader order) (λ len front s.
-    then_reader ends_at AreEnds EndsFail (behind_ends tick len) (BehindEnds tick len) (λ ends. Then IsLabelled LabelFails (λ label. Lacks len))
+    then_reader ends_at AreEnds EndsFail (after_ends tick len) (BehindEnds tick len) (λ ends. Then IsLabelled LabelFails (λ label. Lacks len))
     ends_reader (λ ends front s.
     then_reader label_at IsLabelled LabelFails (data_at tick len ends) (DataText tick len ends) (λ label. Lacks len) label_reader (λ label front s.
     made_reader (octets_at len) (AreOctets len) (Lacks len) (hop_of tick ends label) (octets_reader len)))))))

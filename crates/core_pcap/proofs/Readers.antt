@@ -4,10 +4,10 @@ use Rattle.std.proofs.lemmas.Bool.{ltb-false, ltb-true, le-ltb, lt-ltb}
 use Rattle.std.proofs.lemmas.List.{take_at, drop_at, take-append-drop, length-append, length-take-le}
 use Rattle.mv_base.specs.Octets.{IsOctets}
 use Rattle.mv_base.specs.Cursor.{◌>>=◌}
-use Rattle.mv_base.proofs.Fields.{octets_before, octets_behind, bind_ok, bind_err, ok_is, err_is}
+use Rattle.mv_base.proofs.Fields.{octets_before, octets_after, bind_ok, bind_err, ok_is, err_is}
 use Rattle.core_pcap.specs.declared.fault.PcapFault.{PcapFault}
 use Rattle.core_pcap.specs.declared.fault.PcapFault.TheVariants as faults
-use Rattle.core_pcap.specs.Fields.{Read, Lacks, Then, here, behind, FieldFails, missing, wrong}
+use Rattle.core_pcap.specs.Fields.{Read, Lacks, Then, here, thereafter, FieldFails, missing, wrong}
 use Rattle.core_pcap.specs.Reading.{octets_at, known_or, field_at}
 use Rattle.core_pcap.specs.Spelling.{AreOctets}
 
@@ -18,10 +18,10 @@ pub record IsReader {A : Type 0} (read : List ℕ → Read A) (Spells : A → Li
   pub fails : (octets : List ℕ) (left : ℕ) (fault : PcapFault) → IsOctets octets → read octets ≡ Err (left, fault) → Fails octets left fault
   pub faulty : (octets : List ℕ) (left : ℕ) (fault : PcapFault) → IsOctets octets → Fails octets left fault → read octets ≡ Err (left, fault)
 
--- What stands behind a text is octets, and so is what stands in front.
+-- What stands after a text is octets, and so is what stands in front.
 pub rest_octets : (octets text rest : List ℕ) → IsOctets octets → octets ≡ text ++ rest → IsOctets rest
 rest_octets octets text rest fits parts =
-    subst IsOctets (drop_at text rest (length text) refl) (octets_behind (length text) (text ++ rest) (subst IsOctets parts fits))
+    subst IsOctets (drop_at text rest (length text) refl) (octets_after (length text) (text ++ rest) (subst IsOctets parts fits))
 
 pub front_octets : (octets text rest : List ℕ) → IsOctets octets → octets ≡ text ++ rest → IsOctets text
 front_octets octets text rest fits parts =
@@ -101,13 +101,13 @@ then_reader {A} {B} r S F s T G one two = record { taken = taken; again = again;
           | inl first ↦ here (one.fails octets left fault fits first)
           | inr a ↦
               let p = one.taken octets a.0 fits a.1 in
-              behind a.0.0 p.0 a.0.1 p.1 p.2 ((two a.0.0 p.0 p.1).fails a.0.1 left fault (rest_octets octets p.0 a.0.1 fits p.2) a.2)
+              thereafter a.0.0 p.0 a.0.1 p.1 p.2 ((two a.0.0 p.0 p.1).fails a.0.1 left fault (rest_octets octets p.0 a.0.1 fits p.2) a.2)
         ]
 
     faulty : (octets : List ℕ) (left : ℕ) (fault : PcapFault) → IsOctets octets → Then S F G octets left fault
         → then_at r s octets ≡ Err (left, fault)
     faulty octets left fault fits (here first) = then_err r s octets (left, fault) (one.faulty octets left fault fits first)
-    faulty octets left fault fits (behind x text rest spells parts second) =
+    faulty octets left fault fits (thereafter x text rest spells parts second) =
         ap (then_at r s) parts ∙ then_ok r s (text ++ rest) x rest (one.again x text rest spells)
         ∙ (two x text spells).faulty rest left fault (rest_octets octets text rest fits parts) second
 

@@ -32,7 +32,7 @@ abbrev pub Stops : ByteOrder → ℕ → List ℕ → Option (ℕ × PcapFault) 
 Stops order len rest None = rest ≡ []
 Stops order len rest (Some f) = (rest ≢ []) × (left : ℕ) × HopFails order rest left f.1 × (f.0 ≡ len - left)
 
--- The hops stand at the front of the records, and behind them reading stops with that fault or at the end.
+-- The hops stand at the front of the records, and after them reading stops with that fault or at the end.
 pub record Rows (order : ByteOrder) (len : ℕ) (records : List ℕ) (hops : List CoreHop) (fault : Option (ℕ × PcapFault)) : Type 0 where
   pub rest : List ℕ
   pub each : All IsHop hops

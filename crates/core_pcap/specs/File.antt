@@ -11,7 +11,7 @@ use Rattle.core_pcap.specs.FirstFault.{HeaderFails, HopFails}
 abbrev pub IsAt : List ℕ → ℕ → ℕ → Type 0
 IsAt octets left place = place ≡ length octets - left
 
--- The header fails, or a record behind whole ones.
+-- The header fails, or a record after whole ones.
 pub data FirstFault (hops : List CoreHop) (octets : List ℕ) (place : ℕ) (fault : PcapFault) : Type 0 where
   in_header : (left : ℕ) → HeaderFails octets left fault → hops ≡ [] → IsAt octets left place → FirstFault hops octets place fault
   in_record : (order : ByteOrder) (header rest : List ℕ) (left : ℕ) → SpellsHeader order header → All IsHop hops →

@@ -1,4 +1,4 @@
-//! Fields at the front of octets. Each reader answers the field's value and the octets behind it, or the octets alone.
+//! Fields at the front of octets. Each reader answers the field's value and the octets after it, or the octets alone.
 ghost use Rattle.std.specs.Prelude.{◌≡◌, ◌+◌, ◌<◌, ◌^◌, length};
 ghost use Rattle.core_pcap.specs.Answers.{Gives};
 ghost use Rattle.core_pcap.specs.Reading.{octets_at, known_or, word_at, known_word_at, known_half_at};

@@ -33,9 +33,9 @@ fn read_records(
                 let fault = Some((len.saturating_sub(left) as u64, fault));
                 return Ok(PcapRead { hops, fault });
             }
-            Ok((hop, behind)) => {
+            Ok((hop, thereafter)) => {
                 hops.push(hop)?;
-                rest = behind;
+                rest = thereafter;
             }
         }
     }
@@ -44,7 +44,7 @@ fn read_records(
 
 /// The hops that a file spells, or those before its first fault, and that fault.
 pub fn read(alloc: Global, bytes: &[u8]) -> Result<PcapRead, NoMemory>
-    // The file spells them all, or has that first fault behind them.
+    // The file spells them all, or has that first fault after them.
     ensures told { IfOk result (λ file. Tells file.hops file.fault bytes.now) }
     // What a file tells is answered, unless memory runs out.
     ensures only { (hops : List CoreHop) (fault : Option (ℕ × PcapFault)) → Tells hops fault bytes.now → IsOnly result hops fault }

@@ -109,27 +109,27 @@ placed refused number (first ∷ more) zero timed datagram at accepted is =
     cond-true (is_accepted refused first) (sent_by number first.event) [] taken ∙ sent in
     record { place = 0; at = ap (λ (l : List Datagram). slice_get (l ++ datagrams refused (number + 1) more) 0) front }
 placed refused number (first ∷ more) (suc offset) timed datagram at accepted is =
-    behind (placed refused (number + 1) more offset timed datagram at accepted
+    thereafter (placed refused (number + 1) more offset timed datagram at accepted
     ((let sum : number + 1 + offset ≡ number + suc offset = omega arith in ap (λ n. sent_by n timed.event) sum) ∙ is))
     (is_accepted refused first) refl (sends number first.event)
   where
-    behind : Placed refused (number + 1) more datagram → (b : Bool) → is_accepted refused first ≡ b
+    thereafter : Placed refused (number + 1) more datagram → (b : Bool) → is_accepted refused first ≡ b
         → (sent_by number first.event ≡ []) ⊎ SendsOne number first.event →
         Placed refused number (first ∷ more) datagram
-    behind p false e s =
+    thereafter p false e s =
         record {
           place = p.place;
           at =
               ap (λ (b : Bool). slice_get (cond b (sent_by number first.event) [] ++ datagrams refused (number + 1) more) p.place) e ∙ p.at;
         }
-    behind p true e (inl none) =
+    thereafter p true e (inl none) =
         record {
           place = p.place;
           at =
               (λ i. slice_get (cond (e i) (sent_by number first.event) [] ++ datagrams refused (number + 1) more) p.place)
               ∙ ap (λ (l : List Datagram). slice_get (l ++ datagrams refused (number + 1) more) p.place) none ∙ p.at;
         }
-    behind p true e (inr one) =
+    thereafter p true e (inr one) =
         record {
           place = suc p.place;
           at = (λ i. slice_get (cond (e i) (sent_by number first.event) [] ++ datagrams refused (number + 1) more) (suc p.place))
@@ -205,8 +205,8 @@ found keep refused (first ∷ more) before own rest h =
         record { offset = 0; timed = first; at = refl; is = here; front = refl }
     by later true e (b ∷ bs) same =
         let here : answered refused first ≡ b = cc in
-        let behind : kept keep refused more ≡ bs ++ own ∷ rest = cc in
-        let f = later bs behind in
+        let thereafter : kept keep refused more ≡ bs ++ own ∷ rest = cc in
+        let f = later bs thereafter in
         record {
           offset = suc f.offset;
           timed = f.timed;

@@ -26,12 +26,12 @@ any_where p test number (iface ∷ more) zero own id at sum t h = found (test (r
     found true e = or_left (p (record { 0 = number })) (list_any p (ifaces_where test (number + 1) more)) (ap p (sym same_id) ∙ h)
     found false e = absurd (let bad : false ≡ true = e in cc)
 any_where p test number (iface ∷ more) (suc offset) own id at sum t h =
-    behind (any_where p test (number + 1) more offset own id at (omega (arith, sum)) t h) (test (record { 0 = number }) iface)
+    thereafter (any_where p test (number + 1) more offset own id at (omega (arith, sum)) t h) (test (record { 0 = number }) iface)
   where
-    behind : list_any p (ifaces_where test (number + 1) more) ≡ true → (b : Bool) →
+    thereafter : list_any p (ifaces_where test (number + 1) more) ≡ true → (b : Bool) →
         list_any p (cond b (record { 0 = number } ∷ ifaces_where test (number + 1) more) (ifaces_where test (number + 1) more)) ≡ true
-    behind rest true = or_right (p (record { 0 = number })) (list_any p (ifaces_where test (number + 1) more)) rest
-    behind rest false = rest
+    thereafter rest true = or_right (p (record { 0 = number })) (list_any p (ifaces_where test (number + 1) more)) rest
+    thereafter rest false = rest
 
 -- two tests that agree at each that is found pass one or both none
 pub any_alike : (p q : IfaceId → Bool) (test : IfaceId → Iface → Bool) (number : ℕ) (all : List Iface) →

@@ -152,9 +152,9 @@ pub same_interfaces : (scenario : Scenario) (one other : Reported) → Rules sce
     AreCounterparts scenario vrf one other datagram counterpart → (iface : IfaceId) →
     outs_at one.report (place + 1) iface ≡ outs_at other.report (number + 1) iface
 same_interfaces scenario one other rules once other_once vrf place number datagram counterpart lies other_lies attached are iface =
-    once lies.first lies.last lies.window place datagram lies.accepted lies.behind lies.upto iface
+    once lies.first lies.last lies.window place datagram lies.accepted lies.thereafter lies.upto iface
     ∙ ap (λ (all : List IfaceId). cond (list_any (λ (receiver : IfaceId). receiver.0 == iface.0) all) 1 0) same
-    ∙ sym (other_once other_lies.first other_lies.last other_lies.window number counterpart other_lies.accepted other_lies.behind other_lies.upto
+    ∙ sym (other_once other_lies.first other_lies.last other_lies.window number counterpart other_lies.accepted other_lies.thereafter other_lies.upto
     iface)
   where
     same : receivers (past_at scenario one.events one.refused datagram.event) datagram.site datagram.source datagram.group

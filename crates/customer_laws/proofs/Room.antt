@@ -161,14 +161,14 @@ module _ (scenario : Scenario) (vrf : VrfId) (refused : List ℕ) where
   own_answers [] sound old number trace new stays tells room run = refl
   own_answers (timed ∷ more) sound old number trace new stays tells room run =
       by (own_answers more sound.1 run.1 (number + 1) run.2 new (turned_stays scenario old stays timed sound.0 run.0 run.1 run.3)
-      (tells.1 run.0 run.1 run.3) behind run.5)
+      (tells.1 run.0 run.1 run.3) thereafter run.5)
       (concerns scenario vrf timed.event) refl
     where
       all_lines : lines_of (report_of trace) ≡ lines_in run.0 ++ lines_of (report_of run.2)
       all_lines = ap (λ (t : List Traced). lines_of (report_of t)) run.4 ∙ first_lines number run.0 run.2
 
-      behind : Room more run.2
-      behind place own at is =
+      thereafter : Room more run.2
+      thereafter place own at is =
           (or_parts (list_any (says_full own.line) (lines_in run.0)) (list_any (says_full own.line) (lines_of (report_of run.2)))
           (sym (list_any-append (says_full own.line) (lines_in run.0) (lines_of (report_of run.2)))
           ∙ sym (ap (list_any (says_full own.line)) all_lines)

@@ -24,7 +24,7 @@ pub record LiesInWindow (told : Reported) (place : ℕ) (datagram : Datagram) : 
   pub first : ℕ
   pub last : ℕ
   pub window : IsWindow told.events told.refused told.report first last
-  pub behind : first ≤ datagram.event
+  pub thereafter : first ≤ datagram.event
   pub upto : datagram.event ≤ last
 
 -- Two datagrams of two reports of one scenario are the same for the VRF's VPN: their sites and flows are the same, and what

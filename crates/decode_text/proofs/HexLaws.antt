@@ -17,7 +17,7 @@ use Rattle.mv_base.specs.Octets.{IsOctets}
 use Rattle.mv_base.proofs.Fields.{ok_is, ok_or_err, err_is}
 use Rattle.line_words.specs.declared.fault.TextFault.{TextFault}
 use Rattle.line_words.specs.declared.fault.Reason.TheVariants as reasons
-use Rattle.decode_text.specs.HexText.{is_digit_or_white, is_other, fault_behind, octets_of, octets_of_digits}
+use Rattle.decode_text.specs.HexText.{is_digit_or_white, is_other, fault_after, octets_of, octets_of_digits}
 use Rattle.decode_text.specs.HexLaws.{IsHexText, Writes, FirstFault}
 
 -- ---- digits
@@ -102,10 +102,10 @@ same_octets a b fits_a fits_b same =
 
 -- what is told where the first octet that is neither a digit nor white space was looked for
 abbrev pub told : List ℕ → Option ℕ → Result (List ℕ) TextFault
-told text found = elim found [ Some place ↦ Err (fault_behind (take place text) reasons.Hex) | None ↦ octets_of_digits text ]
+told text found = elim found [ Some place ↦ Err (fault_after (take place text) reasons.Hex) | None ↦ octets_of_digits text ]
 
 abbrev pub told_digits : List ℕ → Result (List ℕ) FromHexError → Result (List ℕ) TextFault
-told_digits text decoded = elim decoded [ Ok octets ↦ Ok octets | Err other ↦ Err (fault_behind text reasons.Hex) ]
+told_digits text decoded = elim decoded [ Ok octets ↦ Ok octets | Err other ↦ Err (fault_after text reasons.Hex) ]
 
 abbrev long_fault : TextFault
 long_fault = record { line = 1; column = 1; reason = reasons.Long }
@@ -168,7 +168,7 @@ fault_told text fault (FirstFault.other front b rest short parts clean not_b is)
     let found : position is_other text ≡ Some (length front) =
     ap (λ (xs : List ℕ). position is_other xs) parts ∙ first_other front b rest clean not_b in
     let before : take (length front) text ≡ front = ap (λ (xs : List ℕ). take (length front) xs) parts ∙ take-append_seam front (b ∷ rest) in
-    short_text text short ∙ ap (told text) found ∙ ap (λ (xs : List ℕ). Err (fault_behind xs reasons.Hex)) before
+    short_text text short ∙ ap (told text) found ∙ ap (λ (xs : List ℕ). Err (fault_after xs reasons.Hex)) before
     ∙ ap (λ (f : TextFault). Err f) (sym is)
 fault_told text fault (FirstFault.odd short clean odd is) =
     let odd_digits : length (filter is_hex_digit text) % 2 ≡ 1 = omega (arith, length-filter is_hex_digit text) in
@@ -202,7 +202,7 @@ Answered text = ((octets : List ℕ) × Writes text octets) ⊎ ((fault : TextFa
 clean_text : (text : List ℕ) → length text ≤ 16777216 → AllPass is_digit_or_white text → Answered text
 clean_text text short clean =
     elim (cases_eq (count_by is_hex_digit text % 2) 1) [
-      | inl odd ↦ inr (fault_behind text reasons.Hex, FirstFault.odd short clean odd refl)
+      | inl odd ↦ inr (fault_after text reasons.Hex, FirstFault.odd short clean odd refl)
       | inr even ↦ inl (even_text text (record { short = short; clean = clean; even = omega arith }))
     ]
 
@@ -214,7 +214,7 @@ answered text =
       | inr short ↦
           elim (clean_or_not text) [
             | inl clean ↦ clean_text text short clean
-            | inr o ↦ inr (fault_behind o.0 reasons.Hex, FirstFault.other o.0 o.1 o.2 short o.3 o.4 o.5 refl)
+            | inr o ↦ inr (fault_after o.0 reasons.Hex, FirstFault.other o.0 o.1 o.2 short o.3 o.4 o.5 refl)
           ]
     ]
 

@@ -9,14 +9,14 @@ use Rattle.hex.specs.declared.error.FromHexError.{FromHexError}
 use Rattle.hex.proofs.HexLemmas.{decode_of-even, decode_of-ok}
 use Rattle.hex.proofs.Pairs.{cons_byte, decode_pairs-err_pair, decode_pairs-ok_pair, prepend}
 use Rattle.line_words.specs.declared.fault.Reason.TheVariants as reasons
-use Rattle.decode_text.specs.HexText.{is_digit_or_white, is_white, fault_behind, octets_of}
+use Rattle.decode_text.specs.HexText.{is_digit_or_white, is_white, fault_after, octets_of}
 use Rattle.decode_text.specs.HexLaws.{FirstFault}
 use Rattle.decode_text.specs.HexReading.{TakesDigit, Waits, ReadsFront}
 use Rattle.decode_text.proofs.HexLaws.{digit_bounds, fault_told, none_other, pair_is, short_text, told, told_digits}
 
 -- ---- one more pair
 
--- the octets of some digits in front of those of the digits behind them
+-- the octets of some digits in front of those of the digits after them
 abbrev both : Result (List ℕ) FromHexError → Result (List ℕ) FromHexError → Result (List ℕ) FromHexError
 both front rest = front >>= (λ octets. prepend octets rest)
 
@@ -25,31 +25,31 @@ both_cons v (Ok xs) (Ok ys) = refl
 both_cons v (Ok xs) (Err e) = refl
 both_cons v (Err e) rest = refl
 
-behind_pair : (i x y : ℕ) (digits more : List ℕ) (rest : Result (List ℕ) FromHexError) (pair : Result ℕ FromHexError) → pair_value x y i ≡ pair
+after_pair : (i x y : ℕ) (digits more : List ℕ) (rest : Result (List ℕ) FromHexError) (pair : Result ℕ FromHexError) → pair_value x y i ≡ pair
     → decode_pairs (i + 2) (digits ++ more) ≡ both (decode_pairs (i + 2) digits) rest
     → decode_pairs i (x ∷ y ∷ (digits ++ more)) ≡ both (decode_pairs i (x ∷ y ∷ digits)) rest
-behind_pair i x y digits more rest (Ok v) is behind =
-    decode_pairs-ok_pair i x y v (digits ++ more) is ∙ ap (cons_byte v) behind ∙ sym (both_cons v (decode_pairs (i + 2) digits) rest)
+after_pair i x y digits more rest (Ok v) is thereafter =
+    decode_pairs-ok_pair i x y v (digits ++ more) is ∙ ap (cons_byte v) thereafter ∙ sym (both_cons v (decode_pairs (i + 2) digits) rest)
     ∙ ap (λ (r : Result (List ℕ) FromHexError). both r rest) (sym (decode_pairs-ok_pair i x y v digits is))
-behind_pair i x y digits more rest (Err e) is behind =
+after_pair i x y digits more rest (Err e) is thereafter =
     decode_pairs-err_pair i x y e (digits ++ more) is
     ∙ ap (λ (r : Result (List ℕ) FromHexError). both r rest) (sym (decode_pairs-err_pair i x y e digits is))
 
-pair_behind : (i : ℕ) (digits : List ℕ) (a b v w : ℕ) → hex_digit_value a ≡ Some v → hex_digit_value b ≡ Some w → length digits % 2 ≡ 0
+pair_after : (i : ℕ) (digits : List ℕ) (a b v w : ℕ) → hex_digit_value a ≡ Some v → hex_digit_value b ≡ Some w → length digits % 2 ≡ 0
     → decode_pairs i (digits ++ a ∷ b ∷ []) ≡ both (decode_pairs i digits) (Ok ((v * 16 + w) ∷ []))
 unfolding decode_pairs
-pair_behind i [] a b v w h k even = decode_pairs-ok_pair i a b (v * 16 + w) [] (pair_is a b i v w h k)
-pair_behind i (x ∷ []) a b v w h k even = absurd (omega arith)
-pair_behind i (x ∷ y ∷ digits) a b v w h k even =
-    behind_pair i x y digits (a ∷ b ∷ []) (Ok ((v * 16 + w) ∷ [])) (pair_value x y i) refl (pair_behind (i + 2) digits a b v w h k (omega arith))
+pair_after i [] a b v w h k even = decode_pairs-ok_pair i a b (v * 16 + w) [] (pair_is a b i v w h k)
+pair_after i (x ∷ []) a b v w h k even = absurd (omega arith)
+pair_after i (x ∷ y ∷ digits) a b v w h k even =
+    after_pair i x y digits (a ∷ b ∷ []) (Ok ((v * 16 + w) ∷ [])) (pair_value x y i) refl (pair_after (i + 2) digits a b v w h k (omega arith))
 
--- A pair behind digits that are those of octets is one octet more.
+-- A pair after digits that are those of octets is one octet more.
 pair_more : (digits octets : List ℕ) (a b v w : ℕ) → hex_digit_value a ≡ Some v → hex_digit_value b ≡ Some w → decode_of digits ≡ Ok octets
     → decode_of (digits ++ a ∷ b ∷ []) ≡ Ok (octets ++ (v * 16 + w) ∷ [])
 pair_more digits octets a b v w h k are =
     let even : length digits % 2 ≡ 0 = omega (arith, (decode_of-ok digits octets are).2) in
     let even_more : length (digits ++ a ∷ b ∷ []) % 2 ≡ 0 = omega (arith, length-append digits (a ∷ b ∷ [])) in
-    decode_of-even (digits ++ a ∷ b ∷ []) even_more ∙ pair_behind 0 digits a b v w h k even
+    decode_of-even (digits ++ a ∷ b ∷ []) even_more ∙ pair_after 0 digits a b v w h k even
     ∙ ap (λ (r : Result (List ℕ) FromHexError). both r (Ok ((v * 16 + w) ∷ []))) (sym (decode_of-even digits even) ∙ are)
 
 -- ---- one more octet
@@ -155,23 +155,23 @@ all_read text octets high short r none =
 
 -- A text at whose end a digit waits has its fault there.
 pub half_read : (text octets : List ℕ) (high : Option ℕ) (value : ℕ) → length text ≤ 16777216 → ReadsFront text octets high → high ≡ Some value
-    → octets_of text ≡ Err (fault_behind text reasons.Hex)
+    → octets_of text ≡ Err (fault_after text reasons.Hex)
 half_read text octets high value short r some =
     let waits : Waits (Some value) r.last = subst (λ (o : Option ℕ). Waits o r.last) some r.waits in
     let even = (decode_of-ok r.pairs octets r.decoded).2 in
     let size : length (filter is_hex_digit text) ≡ length r.pairs + 1 =
     ap (λ (xs : List ℕ). length xs) (r.digits ∙ ap (λ (xs : List ℕ). r.pairs ++ xs) waits.2) ∙ length-append r.pairs (waits.0 ∷ []) in
     let odd : count_by is_hex_digit text % 2 ≡ 1 = omega (arith, length-filter is_hex_digit text, size, even) in
-    fault_told text (fault_behind text reasons.Hex) (FirstFault.odd short r.clean odd refl)
+    fault_told text (fault_after text reasons.Hex) (FirstFault.odd short r.clean odd refl)
 
 -- A text has its fault at the first octet that is neither a digit nor white space.
 pub other_met : (text octets : List ℕ) (high : Option ℕ) (place : ℕ) → length text ≤ 16777216 → place < length text
     → ReadsFront (take place text) octets high → hex_digit_value (get_or text place 0) ≡ None → is_white (get_or text place 0) ≡ false
-    → octets_of text ≡ Err (fault_behind (take place text) reasons.Hex)
+    → octets_of text ≡ Err (fault_after (take place text) reasons.Hex)
 other_met text octets high place short more r h not_white =
     let b = get_or text place 0 in
     let front = take place text in
     let parts : text ≡ front ++ (b ∷ drop (place + 1) text) =
     sym (take-append-drop place text) ∙ ap (λ (xs : List ℕ). front ++ xs) (drop_more text place 0 more) in
     let other : is_digit_or_white b ≡ false = ap (λ (o : Option ℕ). is_some o || is_white b) h ∙ not_white in
-    fault_told text (fault_behind front reasons.Hex) (FirstFault.other front b (drop (place + 1) text) short parts r.clean other refl)
+    fault_told text (fault_after front reasons.Hex) (FirstFault.other front b (drop (place + 1) text) short parts r.clean other refl)

@@ -10,7 +10,7 @@ use Rattle.mv_base.specs.framing.Feed.{Fed, unfed, further}
 use Rattle.mv_base.specs.framing.Feeding.{Feeds, Adds, Stops, unfinished}
 use Rattle.mv_base.specs.declared.framing.fault.FeedFault.{FeedFault}
 use Rattle.mv_base.specs.declared.framing.fault.FeedFault.TheVariants as faults
-use Rattle.mv_base.proofs.framing.Cuts.{IsOctets-before, IsOctets-behind, begun_more, none_whole, nothing_begun}
+use Rattle.mv_base.proofs.framing.Cuts.{IsOctets-before, IsOctets-after, begun_more, none_whole, nothing_begun}
 use Rattle.mv_base.proofs.framing.Feedings.{IsFormat, no_fault, whole_rest, whole_fails}
 use Rattle.value_text.specs.ValueText.{refused_line}
 use Rattle.decode_text.specs.Sessions.{Session, AreUnits, StopsAt, TellsStop, TellsSession, IsSession, TellsFault, TellsEnd}
@@ -27,8 +27,8 @@ pub is_session : {M E : Type 0} (front : List ℕ → Front M E) (Spells : List 
     (limit : ℕ) → IsFormat front Spells Faulty limit → (P : M → Type 0) → ((ms : List M) (text : List ℕ) → Spells ms text → AllByRecursion P ms)
     → ((octets : List ℕ) (ms : List M) (offset : ℕ) (e : E) → Faulty octets ms offset e → AllByRecursion P ms) → IsSession Spells Faulty P
 is_session front Spells Faulty limit format P each before = record {
-  kept = λ octets behind ms offset e fits faulty. format.fails (octets ++ behind) ms offset e fits
-      (format.stream.kept octets behind ms offset e (format.faulty octets ms offset e (IsOctets-before octets behind fits) faulty));
+  kept = λ octets thereafter ms offset e fits faulty. format.fails (octets ++ thereafter) ms offset e fits
+      (format.stream.kept octets thereafter ms offset e (format.faulty octets ms offset e (IsOctets-before octets thereafter fits) faulty));
   no_unit = none_whole front Spells format.stream.framing [] format.stream.framing.empty;
   no_fault = no_fault front Spells Faulty limit format [] no_octets format.stream.framing.empty;
   tellable = each;
@@ -47,7 +47,7 @@ all_begun : {M : Type 0} (P : M → Type 0) (Spells : List M → List ℕ → Ty
     → (octets : List ℕ) (ms waiting : List M) (rest : List ℕ) → Begins Spells octets ms rest → waiting ≡ ms → AllByRecursion P waiting
 all_begun P Spells each octets ms waiting rest b e = subst (AllByRecursion P) (sym (e ∙ b.carried)) (all_carried P Spells each b.units b.each)
 
--- Where none waited, the messages that wait behind a feed can be told.
+-- Where none waited, the messages that wait after a feed can be told.
 pub waiting_meet : {X M E : Type 0} (P : M → Type 0) (Spells : List M → List ℕ → Type 0) (Faulty : List ℕ → List M → ℕ → E → Type 0) (limit : ℕ)
     → IsSession Spells Faulty P → (old : Fed M E) (piece : List ℕ) (fed : Result X (FeedFault E)) (new : Fed M E) → old.waiting ≡ []
     → Feeds Spells Faulty limit old piece fed new → AllByRecursion P new.waiting
@@ -67,7 +67,7 @@ waiting_meet {X} {M} {E} P Spells Faulty limit session old piece (Err faults.NoM
 
 -- ---- piece by piece
 
--- What was told of the front of octets: the lines of the messages of the units there. The octets held back stand behind
+-- What was told of the front of octets: the lines of the messages of the units there. The octets held back stand after
 -- these.
 pub record ToldSoFar {M E : Type 0} (s : Session M E) (front : List ℕ) (d : Fed M E) (told : List ℕ) : Type 0 where
   pub messages : List M
@@ -89,7 +89,7 @@ none_told {M} {E} s P session d told is empty = subst (λ (x : Fed M E). ToldSoF
   text = empty;
 })
 
--- units behind units
+-- units after units
 begun_on : {M : Type 0} (Spells : List M → List ℕ → Type 0) (front : List ℕ) (ms : List M) (held piece : List ℕ) (ns : List M) (rest : List ℕ)
     → Begins Spells front ms held → Begins Spells (held ++ piece) ns rest → Begins Spells (front ++ piece) (ms ++ ns) rest
 begun_on {M} Spells front ms held piece ns rest a b =
@@ -106,7 +106,7 @@ begun_on {M} Spells front ms held piece ns rest a b =
       carried = ap (λ (xs : List M). xs ++ ns) a.carried ∙ ap (λ (xs : List M). messages_of a.units ++ xs) b.carried ∙ sym carried;
     }
 
--- the octets behind whole units are no more than all
+-- the octets after whole units are no more than all
 held_le : {M : Type 0} (Spells : List M → List ℕ → Type 0) (octets : List ℕ) (ms : List M) (rest : List ℕ) → Begins Spells octets ms rest
     → length rest ≤ length octets
 held_le Spells octets ms rest b = omega (arith, ap (λ (xs : List ℕ). length xs) b.parts, length-append (octets_of b.units) rest)
@@ -115,7 +115,7 @@ held_le Spells octets ms rest b = omega (arith, ap (λ (xs : List ℕ). length x
 near_place : (place n : ℕ) → place + n < 2 ^ 64 → further place n ≡ place + n
 near_place place n lt = omega (arith, lt)
 
--- the text of what was told, with the messages that waited behind a feed
+-- the text of what was told, with the messages that waited after a feed
 text_more : {M : Type 0} (lines : M → List ℕ) (told new : List ℕ) (messages added old waiting : List M) → old ≡ [] → told ≡ flat_map lines messages
     → waiting ≡ old ++ added → new ≡ told ++ flat_map lines waiting → new ≡ flat_map lines (messages ++ added)
 text_more {M} lines told new messages added old waiting none text more is =
@@ -150,32 +150,32 @@ piece_told {M} {E} s limit front old told piece fed new text fits t a is more =
 
 -- Where a piece shows the first fault, the octets stop there.
 pub stop_in_piece : {M E : Type 0} (s : Session M E) (P : M → Type 0) → IsSession s.Spells s.Faulty P
-    → (octets front : List ℕ) (old : Fed M E) (told piece behind : List ℕ) (fed : Fed M E) (place : ℕ) (fault : E) (text new : List ℕ)
-    → length octets < 2 ^ 64 → IsOctets octets → octets ≡ (front ++ piece) ++ behind
+    → (octets front : List ℕ) (old : Fed M E) (told piece thereafter : List ℕ) (fed : Fed M E) (place : ℕ) (fault : E) (text new : List ℕ)
+    → length octets < 2 ^ 64 → IsOctets octets → octets ≡ (front ++ piece) ++ thereafter
     → ToldSoFar s front old told → Stops s.Spells s.Faulty old piece fed place fault → text ≡ told ++ flat_map s.lines fed.waiting
     → new ≡ text ++ refused_line place (s.word fault) → TellsStop s octets new
-stop_in_piece {M} {E} s P session octets front old told piece behind fed place fault text new fits are parts t f more is =
+stop_in_piece {M} {E} s P session octets front old told piece thereafter fed place fault text new fits are parts t f more is =
     let k = f.fails in
     let begins : Begins s.Spells (front ++ piece) (t.messages ++ k.first) k.rest =
     begun_on s.Spells front t.messages old.held piece k.first k.rest t.splits.begins k.begins in
-    let all : Begins s.Spells octets (t.messages ++ k.first) (k.rest ++ behind) =
-    subst (λ (xs : List ℕ). Begins s.Spells xs (t.messages ++ k.first) (k.rest ++ behind)) (sym parts)
-    (begun_more s.Spells (front ++ piece) (t.messages ++ k.first) k.rest behind begins) in
-    let rest_are : IsOctets (k.rest ++ behind) = IsOctets-behind (octets_of all.units) (k.rest ++ behind) (subst IsOctets all.parts are) in
-    let size : length octets ≡ length front + length piece + length behind =
-    ap (λ (xs : List ℕ). length xs) parts ∙ length-append (front ++ piece) behind
-    ∙ ap (λ (n : ℕ). n + length behind) (length-append front piece) in
+    let all : Begins s.Spells octets (t.messages ++ k.first) (k.rest ++ thereafter) =
+    subst (λ (xs : List ℕ). Begins s.Spells xs (t.messages ++ k.first) (k.rest ++ thereafter)) (sym parts)
+    (begun_more s.Spells (front ++ piece) (t.messages ++ k.first) k.rest thereafter begins) in
+    let rest_are : IsOctets (k.rest ++ thereafter) = IsOctets-after (octets_of all.units) (k.rest ++ thereafter) (subst IsOctets all.parts are) in
+    let size : length octets ≡ length front + length piece + length thereafter =
+    ap (λ (xs : List ℕ). length xs) parts ∙ length-append (front ++ piece) thereafter
+    ∙ ap (λ (n : ℕ). n + length thereafter) (length-append front piece) in
     let left = length-append old.held piece in
     let there : place ≡ old.before + f.offset = f.at ∙ near_place old.before f.offset (omega (arith, t.place, size, left, f.near, fits)) in
     let fails : Fails s.Spells s.Faulty octets (t.messages ++ f.added) place fault = record {
       first = t.messages ++ k.first;
       last = k.last;
-      rest = k.rest ++ behind;
+      rest = k.rest ++ thereafter;
       offset = k.offset;
       begins = all;
-      faulty = session.kept k.rest behind k.last k.offset fault rest_are k.faulty;
+      faulty = session.kept k.rest thereafter k.last k.offset fault rest_are k.faulty;
       messages = ap (λ (ms : List M). t.messages ++ ms) k.messages ∙ sym (append_assoc t.messages k.first k.last);
-      at = omega (arith, there, k.at, t.place, size, left, length-append k.rest behind);
+      at = omega (arith, there, k.at, t.place, size, left, length-append k.rest thereafter);
     } in
     record {
       messages = t.messages ++ f.added;
@@ -187,26 +187,26 @@ stop_in_piece {M} {E} s P session octets front old told piece behind fed place f
     }
 
 -- the octets in front of a rest that is cut in two
-pub cut_more : (octets front rest piece behind : List ℕ) (n : ℕ) → octets ≡ front ++ rest → piece ≡ take n rest → behind ≡ drop n rest
-    → octets ≡ (front ++ piece) ++ behind
-cut_more octets front rest piece behind n parts first last =
+pub cut_more : (octets front rest piece thereafter : List ℕ) (n : ℕ) → octets ≡ front ++ rest → piece ≡ take n rest → thereafter ≡ drop n rest
+    → octets ≡ (front ++ piece) ++ thereafter
+cut_more octets front rest piece thereafter n parts first last =
     parts ∙ ap (λ (xs : List ℕ). front ++ xs) (sym (take-append-drop n rest) ∙ ap (λ (xs : List ℕ). xs ++ drop n rest) (sym first)
-    ∙ ap (λ (xs : List ℕ). piece ++ xs) (sym last)) ∙ sym (append_assoc front piece behind)
+    ∙ ap (λ (xs : List ℕ). piece ++ xs) (sym last)) ∙ sym (append_assoc front piece thereafter)
 
-pub front_fits : (octets front behind : List ℕ) → octets ≡ front ++ behind → length octets < 2 ^ 64 → length front < 2 ^ 64
-front_fits octets front behind parts fits = omega (arith, ap (λ (xs : List ℕ). length xs) parts, length-append front behind, fits)
+pub front_fits : (octets front thereafter : List ℕ) → octets ≡ front ++ thereafter → length octets < 2 ^ 64 → length front < 2 ^ 64
+front_fits octets front thereafter parts fits = omega (arith, ap (λ (xs : List ℕ). length xs) parts, length-append front thereafter, fits)
 
 -- Where a piece shows the first fault, and its line is told, the octets are.
 pub fault_told : (X : Type 0) {M E : Type 0} (s : Session M E) (P : M → Type 0) → IsSession s.Spells s.Faulty P
-    → (limit : ℕ) (octets front : List ℕ) (old : Fed M E) (told piece behind : List ℕ) (fed : Fed M E) (fault : FeedFault E) (text : List ℕ)
-    (refused : Bool) (new : List ℕ) → length octets < 2 ^ 64 → IsOctets octets → octets ≡ (front ++ piece) ++ behind
+    → (limit : ℕ) (octets front : List ℕ) (old : Fed M E) (told piece thereafter : List ℕ) (fed : Fed M E) (fault : FeedFault E) (text : List ℕ)
+    (refused : Bool) (new : List ℕ) → length octets < 2 ^ 64 → IsOctets octets → octets ≡ (front ++ piece) ++ thereafter
     → ToldSoFar s front old told → Feeds {X = X} s.Spells s.Faulty limit old piece (Err fault) fed → text ≡ told ++ flat_map s.lines fed.waiting
     → TellsFault s.word fault refused text new → TellsSession s refused octets new
-fault_told X s P session limit octets front old told piece behind fed (faults.First place e) text refused new fits are parts t f more (is, line) =
+fault_told X s P session limit octets front old told piece thereafter fed (faults.First place e) text refused new fits are parts t f more (is, line) =
     subst (λ (b : Bool). TellsSession s b octets new) (sym is)
-    (stop_in_piece s P session octets front old told piece behind fed place e text new fits are parts t f more line)
-fault_told X s P session limit octets front old told piece behind fed faults.Failed text refused new fits are parts t f more tells = absurd tells
-fault_told X s P session limit octets front old told piece behind fed faults.NoMemory text refused new fits are parts t f more tells = absurd tells
+    (stop_in_piece s P session octets front old told piece thereafter fed place e text new fits are parts t f more line)
+fault_told X s P session limit octets front old told piece thereafter fed faults.Failed text refused new fits are parts t f more tells = absurd tells
+fault_told X s P session limit octets front old told piece thereafter fed faults.NoMemory text refused new fits are parts t f more tells = absurd tells
 
 -- what is told of all octets, by what is held back
 end_by : {M E : Type 0} (s : Session M E) (octets : List ℕ) (d : Fed M E) (told : List ℕ) (refused : Bool) (text : List ℕ) (held : List ℕ)
@@ -241,7 +241,7 @@ end_told s octets d told refused text t e = end_by s octets d told refused text 
 
 -- ---- octets are whole, or they stop
 
--- Octets that are whole units do not stop behind some.
+-- Octets that are whole units do not stop after some.
 pub units_apart : {M E : Type 0} (front : List ℕ → Front M E) (s : Session M E) (limit : ℕ) → IsFormat front s.Spells s.Faulty limit
     → (octets : List ℕ) (ms ns : List M) (place : ℕ) (word : List ℕ) → IsOctets octets → AreUnits s octets ms → StopsAt s octets ns place word → ⊥
 units_apart front s limit format octets ms ns place word fits units (faulty e fails is) =

@@ -5,7 +5,7 @@ use Rattle.std.proofs.lemmas.List.{append-nil, append_cancel_left, drop_at, drop
 use Rattle.std.proofs.lemmas.List.Concat.{flat_map-cons}
 use Rattle.std.proofs.lemmas.Grind.{flat_map-append}
 use Rattle.mv_base.specs.Octets.{IsOctets}
-use Rattle.mv_base.proofs.Fields.{octets_behind}
+use Rattle.mv_base.proofs.Fields.{octets_after}
 use Rattle.decode_text.specs.Values.{Telling, Stands, Whole, Stop, TellsWhole, TellsStop, TellsEach}
 
 -- No text of a value begins another's, and no value stands where octets have a first fault.
@@ -35,14 +35,14 @@ one_more : {T : Type 0} (f : T → List ℕ) (xs : List T) (x : T) → flat_map 
 one_more f xs x =
     flat_map-append f xs (x ∷ []) ∙ ap (λ (ys : List ℕ). flat_map f xs ++ ys) (flat_map-cons f x [] ∙ append-nil (f x))
 
--- A value that stands behind what is passed is passed too.
+-- A value that stands after what is passed is passed too.
 pub one_passed : {T F : Type 0} (t : Telling T F) (octets told : List ℕ) (place : ℕ) (value : T) (len : ℕ) → Passed t octets told place
     → Stands t (drop place octets) value len → Passed t octets (told ++ t.line value) (place + len)
 one_passed t octets told place value len p s =
     let rest = drop place octets in
-    let behind : drop len rest ≡ drop (place + len) octets = drop-drop len place octets in
+    let thereafter : drop len rest ≡ drop (place + len) octets = drop-drop len place octets in
     let parts : rest ≡ t.text value ++ drop (place + len) octets =
-    sym (take-append-drop len rest) ∙ ap (λ (xs : List ℕ). xs ++ drop len rest) s.text ∙ ap (λ (xs : List ℕ). t.text value ++ xs) behind in
+    sym (take-append-drop len rest) ∙ ap (λ (xs : List ℕ). xs ++ drop len rest) s.text ∙ ap (λ (xs : List ℕ). t.text value ++ xs) thereafter in
     let whole : octets ≡ flat_map t.text (p.values ++ value ∷ []) ++ drop (place + len) octets =
     p.front ∙ ap (λ (xs : List ℕ). flat_map t.text p.values ++ xs) parts
     ∙ sym (append_assoc (flat_map t.text p.values) (t.text value) (drop (place + len) octets))
@@ -71,7 +71,7 @@ all_passed t octets told place p ends = record {
   lines = p.lines;
 }
 
--- Where a fault stands behind what is passed, the octets stop there.
+-- Where a fault stands after what is passed, the octets stop there.
 pub fault_passed : {T F : Type 0} (t : Telling T F) (octets told : List ℕ) (place : ℕ) (fault : F) → Passed t octets told place
     → place < length octets
     → t.First (drop place octets) fault → TellsStop t octets (told ++ t.refusal place fault)
@@ -89,7 +89,7 @@ fault_passed t octets told place fault p more first = record {
   lines = ap (λ (xs : List ℕ). xs ++ t.refusal place fault) p.lines ∙ ap (λ (n : ℕ). flat_map t.line p.values ++ t.refusal n fault) p.passed;
 }
 
--- Octets that are values end to end have no fault behind some.
+-- Octets that are values end to end have no fault after some.
 pub apart : {T F : Type 0} (t : Telling T F) → IsApart t → (octets : List ℕ) (values others : List T) (fault : F) → IsOctets octets
     → Whole t octets values → Stop t octets others fault → ⊥
 apart t laws octets [] others fault fits are stop =
@@ -105,9 +105,9 @@ apart t laws octets (v ∷ vs) (w ∷ ws) fault fits are stop =
     let same : t.text v ≡ t.text w = laws.one v w (flat_map t.text vs) after are.spelled.0 stop.spelled.0 (sym left ∙ right) in
     let rest : flat_map t.text vs ≡ after =
     append_cancel_left (t.text v) (flat_map t.text vs) after (sym left ∙ right ∙ ap (λ (xs : List ℕ). xs ++ after) (sym same)) in
-    let behind : drop (length (t.text v)) octets ≡ flat_map t.text vs =
+    let thereafter : drop (length (t.text v)) octets ≡ flat_map t.text vs =
     ap (λ (xs : List ℕ). drop (length (t.text v)) xs) left ∙ drop_at (t.text v) (flat_map t.text vs) (length (t.text v)) refl in
-    let rest_fits : IsOctets (flat_map t.text vs) = subst IsOctets behind (octets_behind (length (t.text v)) octets fits) in
+    let rest_fits : IsOctets (flat_map t.text vs) = subst IsOctets thereafter (octets_after (length (t.text v)) octets fits) in
     apart t laws (flat_map t.text vs) vs ws fault rest_fits (record { spelled = are.spelled.1; whole = refl })
     (record { spelled = stop.spelled.1; rest = stop.rest; whole = rest; more = stop.more; first = stop.first })
 

@@ -42,7 +42,7 @@ of_fecs = record {
   Is = λ fec. fecs.Spells fec (fecs.written fec);
   First = λ octets fault. fec_faults.FirstFault (start octets) fault;
   line = fec_line;
-  refusal = λ behind fault. refused_line (behind + fault.place) (fec_word fault.reason);
+  refusal = λ thereafter fault. refused_line (thereafter + fault.place) (fec_word fault.reason);
 }
 
 -- routes of AFI 1
@@ -52,7 +52,7 @@ of_routes = record {
   Is = λ route. routes.IsRoute Ipv4 route;
   First = λ octets fault. route_faults.FirstFault Ipv4 octets fault;
   line = route_line;
-  refusal = λ behind fault. refused_line (behind + fault.place) (route_word fault.reason);
+  refusal = λ thereafter fault. refused_line (thereafter + fault.place) (route_word fault.reason);
 }
 
 -- one tunnel attribute
@@ -91,7 +91,7 @@ IsWhole formats.Bgp octets = (messages : List Message) × AreUnits of_bgp octets
 IsWhole formats.Ldp octets = (messages : List LabelMessage) × AreUnits of_ldp octets messages
 IsWhole formats.Pim octets = (message : JoinPrune) × joinprunes.Spells message octets
 
--- The octets have a first fault, behind the values before it; those of a session may also end inside a message or PDU.
+-- The octets have a first fault, after the values before it; those of a session may also end inside a message or PDU.
 abbrev pub HasFault : Format → List ℕ → Type 0
 HasFault formats.Fec octets = (values : List Fec) × (fault : FecFault) × Stop of_fecs octets values fault
 HasFault formats.Pmsi octets = (fault : PmsiFault) × pmsi_faults.FirstFault octets fault

@@ -10,13 +10,13 @@ abbrev pub TakesDigit : List ℕ → Option ℕ → ℕ → List ℕ → Option 
 TakesDigit old None value new waiting = (new ≡ old) × (waiting ≡ Some value)
 TakesDigit old (Some high) value new waiting = (new ≡ old ++ (high * 16 + value) ∷ []) × (waiting ≡ None)
 
--- the digits behind the pairs that were read: none, or one of that value
+-- the digits after the pairs that were read: none, or one of that value
 abbrev pub Waits : Option ℕ → List ℕ → Type 0
 Waits None digits = digits ≡ []
 Waits (Some value) digits = (digit : ℕ) × (hex_digit_value digit ≡ Some value) × (digits ≡ digit ∷ [])
 
 -- The front of a text was read: it has digits and white space alone, and its digits are those of the octets, with the one
--- that waits behind them.
+-- that waits after them.
 pub record ReadsFront (front octets : List ℕ) (high : Option ℕ) : Type 0 where
   pub clean : AllPass is_digit_or_white front
   pub pairs : List ℕ

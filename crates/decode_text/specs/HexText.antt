@@ -23,17 +23,17 @@ is_other b = not (is_digit_or_white b)
 abbrev pub is_lf : ℕ → Bool
 is_lf b = b == 10
 
--- the fault behind the front of a text: lines and columns count from 1, and a line begins behind each LF
-abbrev pub fault_behind : List ℕ → Reason → TextFault
-fault_behind front reason = record { line = count_by is_lf front + 1; column = length (after_last is_lf front) + 1; reason = reason }
+-- the fault after the front of a text: lines and columns count from 1, and a line begins after each LF
+abbrev pub fault_after : List ℕ → Reason → TextFault
+fault_after front reason = record { line = count_by is_lf front + 1; column = length (after_last is_lf front) + 1; reason = reason }
 
--- the octets of the digits, or else the fault behind the last octet of the text
+-- the octets of the digits, or else the fault after the last octet of the text
 abbrev pub octets_of_digits : List ℕ → Result (List ℕ) TextFault
 octets_of_digits text =
-    elim (decode_of (filter is_hex_digit text)) [ Ok octets ↦ Ok octets | Err other ↦ Err (fault_behind text reasons.Hex) ]
+    elim (decode_of (filter is_hex_digit text)) [ Ok octets ↦ Ok octets | Err other ↦ Err (fault_after text reasons.Hex) ]
 
 -- the octets that a text writes, or its first fault: it has at most 16,777,216 octets itself
 abbrev pub octets_of : List ℕ → Result (List ℕ) TextFault
 octets_of text =
     if nat_lt 16777216 (length text) then Err (record { line = 1; column = 1; reason = reasons.Long }) else
-    elim (position is_other text) [ Some place ↦ Err (fault_behind (take place text) reasons.Hex) | None ↦ octets_of_digits text ]
+    elim (position is_other text) [ Some place ↦ Err (fault_after (take place text) reasons.Hex) | None ↦ octets_of_digits text ]

@@ -1,4 +1,4 @@
--- Octets that are the units of a session end to end, or units behind which one at fault stands or the octets end; and the
+-- Octets that are the units of a session end to end, or units after which one at fault stands or the octets end; and the
 -- lines of both.
 use Rattle.std.specs.Prelude.{◌≡◌, ℕ, ◌+◌, ◌<◌, Bool, true, false, List, [], ◌++◌, length, codes, Option, None, Some}
 use Rattle.std.specs.List.{flat_map, AllByRecursion}
@@ -25,7 +25,7 @@ session_of Spells Faulty lines word = record { Spells = Spells; Faulty = Faulty;
 abbrev pub AreUnits : {M E : Type 0} → Session M E → List ℕ → List M → Type 0
 AreUnits s octets ms = Begins s.Spells octets ms []
 
--- Behind whole units the octets end inside a unit, which begins at the place and has no fault so far.
+-- After whole units the octets end inside a unit, which begins at the place and has no fault so far.
 pub record EndsInside {M E : Type 0} (s : Session M E) (octets : List ℕ) (ms : List M) (place : ℕ) : Type 0 where
   pub rest : List ℕ
   pub splits : Splits s.Spells octets ms rest
@@ -33,7 +33,7 @@ pub record EndsInside {M E : Type 0} (s : Session M E) (octets : List ℕ) (ms :
   pub sound : NoFault s.Faulty rest
   pub at : place + length rest ≡ length octets
 
--- The octets stop at the place behind these messages, for the reason of that word: a first fault, or that they end inside
+-- The octets stop at the place after these messages, for the reason of that word: a first fault, or that they end inside
 -- a unit.
 pub data StopsAt {M E : Type 0} (s : Session M E) (octets : List ℕ) (ms : List M) (place : ℕ) (word : List ℕ) : Type 0 where
   faulty : (e : E) → Fails s.Spells s.Faulty octets ms place e → word ≡ s.word e → StopsAt s octets ms place word
@@ -60,24 +60,24 @@ TellsSession s true octets told = TellsStop s octets told
 
 -- ---- what is told of a stream that is fed piece by piece
 
--- What the words of a session meet: a first fault stays whatever comes behind it, no octets are no unit and have no
+-- What the words of a session meet: a first fault stays whatever comes after it, no octets are no unit and have no
 -- fault, and the messages of units and those before a fault can be told.
 pub record IsSession {M E : Type 0} (Spells : List M → List ℕ → Type 0) (Faulty : List ℕ → List M → ℕ → E → Type 0) (IsTellable : M → Type 0) : Type 0
   where
-    pub kept : (octets behind : List ℕ) (ms : List M) (offset : ℕ) (e : E) → IsOctets (octets ++ behind) → Faulty octets ms offset e
-        → Faulty (octets ++ behind) ms offset e
+    pub kept : (octets thereafter : List ℕ) (ms : List M) (offset : ℕ) (e : E) → IsOctets (octets ++ thereafter) → Faulty octets ms offset e
+        → Faulty (octets ++ thereafter) ms offset e
     pub no_unit : NoUnit Spells []
     pub no_fault : NoFault Faulty []
     pub tellable : (ms : List M) (text : List ℕ) → Spells ms text → AllByRecursion IsTellable ms
     pub tellable_before : (octets : List ℕ) (ms : List M) (offset : ℕ) (e : E) → Faulty octets ms offset e → AllByRecursion IsTellable ms
 
--- the text before, and behind it the line of the first fault
+-- the text before, and after it the line of the first fault
 abbrev pub TellsFault : {E : Type 0} → (E → List ℕ) → FeedFault E → Bool → List ℕ → List ℕ → Type 0
 TellsFault word (faults.First place fault) refused old new = (refused ≡ true) × (new ≡ old ++ refused_line place (word fault))
 TellsFault word faults.Failed refused old new = ⊥
 TellsFault word faults.NoMemory refused old new = ⊥
 
--- the text before, and behind it the line of an end inside a unit that begins at the place, if there is one
+-- the text before, and after it the line of an end inside a unit that begins at the place, if there is one
 abbrev pub TellsEnd : Option ℕ → Bool → List ℕ → List ℕ → Type 0
 TellsEnd None refused old new = (refused ≡ false) × (new ≡ old)
 TellsEnd (Some place) refused old new = (refused ≡ true) × (new ≡ old ++ refused_line place (codes "short"))

@@ -3,7 +3,7 @@ use Rattle.std.specs.Prelude.{◌≡◌, ℕ, ◌<◌, ◌≤◌, Bool, true, fa
 use Rattle.std.specs.List.{flat_map, AllByRecursion}
 
 -- How values of a format are spelled and told: the octets and the condition of each, the first fault of octets, the
--- line of each, and the line of a fault behind so many octets.
+-- line of each, and the line of a fault after so many octets.
 pub record Telling (T F : Type 0) : Type 1 where
   pub text : T → List ℕ
   pub Is : T → Type 0

@@ -4,7 +4,7 @@ ghost use Rattle.std.specs.List.{count_by, after_last};
 ghost use Rattle.hex.specs.Hex.{hex_digit_value};
 ghost use Rattle.line_words.specs.Answers.{Gives};
 ghost use Rattle.line_words.specs.declared.fault.Reason.TheVariants as reasons;
-ghost use Rattle.decode_text.specs.HexText.{is_white, is_lf, fault_behind, octets_of};
+ghost use Rattle.decode_text.specs.HexText.{is_white, is_lf, fault_after, octets_of};
 ghost use Rattle.decode_text.specs.HexReading.{TakesDigit};
 
 use line_words::{ReadFault, Reason, TEXT_LIMIT, TextFault};
@@ -68,22 +68,22 @@ fn last_lf(front: &[u8]) -> Option<usize>
     front.iter().rev().position(|b| *b == b'\n')
 }
 
-/// How many octets stand behind the last LF.
-#[tactic(auto, using(crate::proofs::HexLemmas::octets_behind_lf))]
-fn count_behind_lf(front: &[u8]) -> usize
+/// How many octets stand after the last LF.
+#[tactic(auto, using(crate::proofs::HexLemmas::octets_after_lf))]
+fn count_after_lf(front: &[u8]) -> usize
     ensures { result ≡ length (after_last is_lf front.now) }
 {
     last_lf(front).unwrap_or(front.len())
 }
 
-/// The fault behind the front of a text.
-fn fault_behind(front: &[u8]) -> TextFault
+/// The fault after the front of a text.
+fn fault_after(front: &[u8]) -> TextFault
     requires { length front.now ≤ TEXT_LIMIT }
-    ensures { result ≡ fault_behind front.now reasons.Hex }
+    ensures { result ≡ fault_after front.now reasons.Hex }
 {
     TextFault {
         line: count_lines(front) as u32 + 1,
-        column: count_behind_lf(front) as u32 + 1,
+        column: count_after_lf(front) as u32 + 1,
         reason: Reason::Hex,
     }
 }
@@ -110,20 +110,20 @@ fn read_pairs(alloc: Global, text: &[u8]) -> Result<Bytes, ReadFault>
             Some(value) => high = take_digit(&mut octets, high, value)?,
             None => {
                 if !is_white(*b) {
-                    return Err(ReadFault::Text(fault_behind(&text[..place])));
+                    return Err(ReadFault::Text(fault_after(&text[..place])));
                 }
             }
         }
     }
     match high {
         None => Ok(octets),
-        Some(_) => Err(ReadFault::Text(fault_behind(text))),
+        Some(_) => Err(ReadFault::Text(fault_after(text))),
     }
 }
 
 /// The octets that a text writes, two hexadecimal digits each, with white space between digits left out; or its first
 /// fault. A text of more than 16,777,216 octets is `Long`. `Hex` stands at the first octet that is neither a digit nor
-/// white space, or behind the last octet where the number of digits is odd.
+/// white space, or after the last octet where the number of digits is odd.
 pub fn read_octets(alloc: Global, text: &[u8]) -> Result<Bytes, ReadFault>
     ensures { Gives result (octets_of text.now) }
 {

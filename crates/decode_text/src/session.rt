@@ -27,7 +27,7 @@ fn put_waiting<S: SessionStream>(text: &mut Bytes, stream: &mut S) -> Result<(),
     Ok(())
 }
 
-/// The text, and behind it the line of the first fault.
+/// The text, and after it the line of the first fault.
 fn tell_fault<E: Worded + Copy + Drop>(
     mut text: Bytes,
     fault: FeedFault<E>,
@@ -48,7 +48,7 @@ fn tell_fault<E: Worded + Copy + Drop>(
     }
 }
 
-/// The text, and behind it the line of an end inside a unit, if there is one.
+/// The text, and after it the line of an end inside a unit, if there is one.
 fn tell_end(mut text: Bytes, unfinished: Option<u64>) -> Result<Told, NoMemory>
     ensures { IfOk result (λ told. TellsEnd unfinished told.refused text told.text) }
 {
@@ -67,7 +67,7 @@ fn tell_end(mut text: Bytes, unfinished: Option<u64>) -> Result<Told, NoMemory>
     }
 }
 
-/// The lines of the messages of a stream that is fed the octets piece by piece, and behind them that of its first fault
+/// The lines of the messages of a stream that is fed the octets piece by piece, and after them that of its first fault
 /// or of the end inside a unit.
 fn tell_session<S: SessionStream>(
     alloc: Global,
@@ -82,13 +82,13 @@ fn tell_session<S: SessionStream>(
     let mut text = Bytes::new(alloc);
     let mut rest = octets;
     while !rest.is_empty() {
-        let (piece, behind) = rest.split_at(rest.len().min(PIECE));
+        let (piece, thereafter) = rest.split_at(rest.len().min(PIECE));
         let fed = stream.feed(piece);
         put_waiting(&mut text, &mut stream)?;
         if let Err(fault) = fed {
             return tell_fault(text, fault);
         }
-        rest = behind;
+        rest = thereafter;
     }
     tell_end(text, stream.unfinished())
 }

@@ -21,8 +21,8 @@ pub trait Value: Drop {
     fn put_line(&self, out: &mut Bytes) -> Result<(), NoMemory>
         ensures { OnOk result (out.new ≡ out.old ++ telling.line self.now) };
 
-    /// Appends the line of a fault that was met behind so many octets.
-    fn put_fault(out: &mut Bytes, behind: usize, fault: &Self::Fault) -> Result<(), NoMemory>
-        requires { behind < 2 ^ 63 }
-        ensures { OnOk result (out.new ≡ out.old ++ telling.refusal behind fault.now) };
+    /// Appends the line of a fault that was met after so many octets.
+    fn put_fault(out: &mut Bytes, thereafter: usize, fault: &Self::Fault) -> Result<(), NoMemory>
+        requires { thereafter < 2 ^ 63 }
+        ensures { OnOk result (out.new ≡ out.old ++ telling.refusal thereafter fault.now) };
 }

@@ -20,8 +20,8 @@ impl Value for Fec {
         put_fec_line(out, self)
     }
 
-    fn put_fault(out: &mut Bytes, behind: usize, fault: &FecFault) -> Result<(), NoMemory> {
-        put_fec_fault(out, behind, fault)
+    fn put_fault(out: &mut Bytes, thereafter: usize, fault: &FecFault) -> Result<(), NoMemory> {
+        put_fec_fault(out, thereafter, fault)
     }
 }
 
@@ -40,7 +40,7 @@ impl Value for Route {
         put_route_line(out, self)
     }
 
-    fn put_fault(out: &mut Bytes, behind: usize, fault: &RouteFault) -> Result<(), NoMemory> {
-        put_route_fault(out, behind, fault)
+    fn put_fault(out: &mut Bytes, thereafter: usize, fault: &RouteFault) -> Result<(), NoMemory> {
+        put_route_fault(out, thereafter, fault)
     }
 }

@@ -129,7 +129,7 @@ hops_write_nothing number iface node ttl own (branch ∷ more) =
 
 -- ---- a fate
 
--- What is written and what is owed behind a fate: what was before, and what the fate writes and owes.
+-- What is written and what is owed after a fate: what was before, and what the fate writes and owes.
 pub fated_flow : (fates : Fates) (ways : List (NodeId × NodeId)) (number : ℕ) (iface : IfaceId) (world : World) (node : NodeId) (ttl own : ℕ)
     (octets : List ℕ) (before : List ReportLine) (fate : Fate)
     → AllByRecursion (λ branch. count_by (is_way node branch.node) ways ≡ 1) fate.branches

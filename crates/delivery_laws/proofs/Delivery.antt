@@ -175,7 +175,7 @@ came old timed acts next e = by (refusal old timed.event) e
         let first : List Happened = record { act = None; lines = lines.Refused timed.line reason ∷ [] } ∷ [] in
         record { is = inr (reason, (let same : first ≡ acts = cc in same), (let world : old ≡ next = cc in world)) }
 
--- the datagrams behind an event
+-- the datagrams after an event
 pub done_sends : (old : World) (event : Event) (acts : List Happened) (next : World) → done old event ≡ Done acts next
     → next.datagrams ≡ old.datagrams ++ brought_by event
 done_sends old event acts next e =
@@ -284,7 +284,7 @@ delivered_once receives cores script before within after trace calm last new run
     let flow =
     w.flow number datagram iface (omega arith) (λ x. numbered_at last.datagrams number (omega arith) ∙ ap (slice_get last.datagrams) here ∙ at) in
     let none_before = owes_nothing network number datagram iface calm empty in
-    let none_behind = owes_nothing network number datagram iface last gone in
+    let none_after = owes_nothing network number datagram iface last gone in
     let not_yet : had network number datagram iface calm.datagrams ≡ 0 =
     cond-false (nat_le number (length calm.datagrams)) (written_of network datagram iface) 0
     (elim (cases_Bool (nat_le number (length calm.datagrams))) [
@@ -302,4 +302,4 @@ delivered_once receives cores script before within after trace calm last new run
     (record { no_copy = no_copies last gone (λ u n copy. copy.number ≢ number) }) (inl (omega (arith, within_last))) run.later in
     let written = flow_writes network (receives datagram.site datagram.source datagram.group) datagram (run.is_calm.flows datagram) iface in
     let split = ap (λ (t : List Traced). outs_at (report_of t) number iface) run.whole ∙ outs_both run.first (run.middle ++ run.rest) number iface in
-    omega (arith, split, outs_both run.middle run.rest number iface, flow, none_before, none_behind, not_yet, all_of_it, early, late, written)
+    omega (arith, split, outs_both run.middle run.rest number iface, flow, none_before, none_after, not_yet, all_of_it, early, late, written)

@@ -22,7 +22,7 @@ use Rattle.network_laws.proofs.Lists.{each_weaker, each_append}
 
 -- ---- one direction
 
--- of a list with more behind, what is left of the list, and more
+-- of a list with more after, what is left of the list, and more
 drop_both : {X : Type 0} (P : X → Type 0) (count : ℕ) (xs ys : List X) → AllByRecursion P (drop count xs) → AllByRecursion P ys
     → AllByRecursion P (drop count (xs ++ ys))
 drop_both P zero xs ys h k = each_append P xs ys h k
@@ -48,16 +48,16 @@ module _ (limit : ℕ) (u n : NodeId) where
   -- Each copy has at most one more than that TTL; on this direction all but the first ones have at most that TTL.
   pub record Mixed (first : ℕ) (world : World) : Type 0 where
     pub each : EachAtMost (suc limit) world
-    pub behind : AllByRecursion (AtMost limit) (drop first (world.copies u n))
+    pub thereafter : AllByRecursion (AtMost limit) (drop first (world.copies u n))
 
-  branches_behind : (first : ℕ) (node : NodeId) (ttl number : ℕ) → ttl ≤ limit → (list : List Branch) (world : World)
+  branches_after : (first : ℕ) (node : NodeId) (ttl number : ℕ) → ttl ≤ limit → (list : List Branch) (world : World)
       → AllByRecursion (AtMost limit) (drop first (world.copies u n))
       → AllByRecursion (AtMost limit) (drop first ((with_branches node ttl number list world).copies u n))
-  branches_behind first node ttl number le [] world h = h
-  branches_behind first node ttl number le (branch ∷ more) world h =
+  branches_after first node ttl number le [] world h = h
+  branches_after first node ttl number le (branch ∷ more) world h =
       let old = world.copies node branch.node in
       let new = old ++ copy_on world ttl number branch ∷ [] in
-      branches_behind first node ttl number le more (with_copies node branch.node new world)
+      branches_after first node ttl number le more (with_copies node branch.node new world)
       (cond_both ((u.0 == node.0) && (n.0 == branch.node.0)) new (world.copies u n)
       (λ (l : List LinkCopy). AllByRecursion (AtMost limit) (drop first l))
       (λ t.
@@ -67,7 +67,7 @@ module _ (limit : ℕ) (u n : NodeId) where
       (subst (λ (l : List LinkCopy). AllByRecursion (AtMost limit) (drop first l)) here h) (le, tt))
       (λ f. h))
 
-  -- how many first ones are left behind a landing
+  -- how many first ones are left after a landing
   abbrev left_by : ℕ → NodeId → NodeId → ℕ
   left_by first from to = cond ((u.0 == from.0) && (n.0 == to.0)) (first - 1) first
 
@@ -87,15 +87,15 @@ module _ (limit : ℕ) (u n : NodeId) where
   without_first first from to world m = record {
     each = each_replaced (λ a b. AtMost (suc limit)) from to (remove (world.copies from to) 0) world.copies
         (all_but_one (AtMost (suc limit)) (world.copies from to) 0 (m.each from to)) m.each;
-    behind = elim (cases_Bool ((u.0 == from.0) && (n.0 == to.0))) [
+    thereafter = elim (cases_Bool ((u.0 == from.0) && (n.0 == to.0))) [
       | inl t ↦
           let parts = and_parts (u.0 == from.0) (n.0 == to.0) t in
           let here : world.copies u n ≡ world.copies from to = λ i. world.copies (node_equal u from parts.0 i) (node_equal n to parts.1 i) in
           subst (λ (b : Bool). AllByRecursion (AtMost limit)
           (drop (cond b (first - 1) first) (cond b (remove (world.copies from to) 0) (world.copies u n)))) (sym t)
-          (first_gone first (world.copies from to) (subst (λ (l : List LinkCopy). AllByRecursion (AtMost limit) (drop first l)) here m.behind))
+          (first_gone first (world.copies from to) (subst (λ (l : List LinkCopy). AllByRecursion (AtMost limit) (drop first l)) here m.thereafter))
       | inr f ↦ subst (λ (b : Bool). AllByRecursion (AtMost limit)
-          (drop (cond b (first - 1) first) (cond b (remove (world.copies from to) 0) (world.copies u n)))) (sym f) m.behind
+          (drop (cond b (first - 1) first) (cond b (remove (world.copies from to) 0) (world.copies u n)))) (sym f) m.thereafter
     ];
   }
 
@@ -103,13 +103,13 @@ module _ (limit : ℕ) (u n : NodeId) where
       → Mixed (left_by first from to) world
   empty_first first from to world e m = record {
     each = m.each;
-    behind = elim (cases_Bool ((u.0 == from.0) && (n.0 == to.0))) [
+    thereafter = elim (cases_Bool ((u.0 == from.0) && (n.0 == to.0))) [
       | inl t ↦
           let parts = and_parts (u.0 == from.0) (n.0 == to.0) t in
           let here : world.copies from to ≡ world.copies u n =
           λ i. world.copies (sym (node_equal u from parts.0) i) (sym (node_equal n to parts.1) i) in
           nothing (left_by first from to) (world.copies u n) (subst (λ (l : List LinkCopy). slice_get l 0 ≡ None) here e)
-      | inr f ↦ subst (λ (b : Bool). AllByRecursion (AtMost limit) (drop (cond b (first - 1) first) (world.copies u n))) (sym f) m.behind
+      | inr f ↦ subst (λ (b : Bool). AllByRecursion (AtMost limit) (drop (cond b (first - 1) first) (world.copies u n))) (sym f) m.thereafter
     ];
   }
     where
@@ -129,7 +129,7 @@ module _ (limit : ℕ) (u n : NodeId) where
       record {
         each = branches_each (λ a b. AtMost (suc limit)) to (copy.ttl - 1) copy.number fate.branches before
             (every fate.branches (omega (arith, less))) w.each;
-        behind = branches_behind (left_by first from to) to (copy.ttl - 1) copy.number less fate.branches before w.behind;
+        thereafter = branches_after (left_by first from to) to (copy.ttl - 1) copy.number less fate.branches before w.thereafter;
       }
     where
       every : (list : List Branch) → copy.ttl - 1 ≤ suc limit
@@ -196,7 +196,7 @@ module _ (limit : ℕ) (u n : NodeId) where
   left_ways world [] h first le = absurd (omega (arith, h))
   left_ways world (way ∷ more) h first le =
       let here = landings world way in
-      let behind = flat_map (landings world) more in
+      let thereafter = flat_map (landings world) more in
       elim (cases_Bool (is_way u n way)) [
         | inl t ↦
             let parts = and_parts (way.0.0 == u.0) (way.1.0 == n.0) t in
@@ -204,13 +204,13 @@ module _ (limit : ℕ) (u n : NodeId) where
             let far : n ≡ way.1 = sym (node_equal way.1 n parts.1) in
             let long : length (world.copies u n) ≡ length (world.copies way.0 way.1) = λ i. length (world.copies (near i) (far i)) in
             let gone = left_copies way.0 way.1 near far (length (world.copies way.0 way.1)) first in
-            omega (arith, left_both here behind first, left_less behind (left_over first here), gone, long, le)
+            omega (arith, left_both here thereafter first, left_less thereafter (left_over first here), gone, long, le)
         | inr f ↦
             let none : cond {A = ℕ} (is_way u n way) 1 0 ≡ 0 = cond-false (is_way u n way) 1 0 f in
             let rest =
             left_ways world more (omega (arith, count-cons (is_way u n) way more, none, h)) (left_over first here)
             (omega (arith, left_less here first, le)) in
-            left_both here behind first ∙ rest
+            left_both here thereafter first ∙ rest
       ]
 
   are_first : (world : World) (ways : List (NodeId × NodeId)) → AllByRecursion IsFirst (flat_map (landings world) ways)
@@ -222,13 +222,13 @@ module _ (limit : ℕ) (u n : NodeId) where
       copies zero = tt
       copies (suc count) = (refl, copies count)
 
-  -- Behind a round each copy on this direction has at most that TTL.
+  -- After a round each copy on this direction has at most that TTL.
   round_mixed : (world : World) (ways : List (NodeId × NodeId)) → count_by (is_way u n) ways ≡ 1 → EachAtMost (suc limit) world
       → Leads (λ all. ⊤) (Mixed 0) (row (flat_map (landings world) ways) world)
   round_mixed world ways h each =
       let first = length (world.copies u n) in
       subst (λ k. Leads (λ all. ⊤) (Mixed k) (row (flat_map (landings world) ways) world)) (left_ways world ways h first (omega arith))
-      (row_mixed (flat_map (landings world) ways) (are_first world ways) first world (record { each = each; behind = gone (world.copies u n) }))
+      (row_mixed (flat_map (landings world) ways) (are_first world ways) first world (record { each = each; thereafter = gone (world.copies u n) }))
     where
       gone : (list : List LinkCopy) → AllByRecursion (AtMost limit) (drop (length list) list)
       gone [] = tt
@@ -247,7 +247,7 @@ module _ (network : OctetNetwork Nodes) (datagrams : List Datagram) (links : OnL
   nobody : Datagram
   nobody = record { site = record { 0 = 0 }; source = V4 []; group = V4 []; octets = [] }
 
-  -- Behind a round each copy has one less.
+  -- After a round each copy has one less.
   round_bounded : (limit : ℕ) (world : World) → Bounded (suc limit) world → Leads (λ all. ⊤) (Bounded limit) (drain_round world)
   round_bounded limit world b =
       let ways : List (NodeId × NodeId) = link_ways (scenario_of world) in
@@ -268,7 +268,7 @@ module _ (network : OctetNetwork Nodes) (datagrams : List Datagram) (links : OnL
           → ((u n : NodeId) → count_by (is_way u n) (link_ways network.state.scenario) ≡ 1 → Leads (λ all. ⊤) (Mixed limit u n 0) o)
           → Leads (λ all. ⊤) (Bounded limit) o
       by (Halted done node) c m = tt
-      by (Done done new) c m = (tt, (c.ready, λ u n. each u n (new.copies u n) (c.ready.sound u n) (λ h. (m u n h).1.behind)))
+      by (Done done new) c m = (tt, (c.ready, λ u n. each u n (new.copies u n) (c.ready.sound u n) (λ h. (m u n h).1.thereafter)))
 
   rounds_bounded : (count : ℕ) (world : World) → Bounded count world → Leads (λ all. ⊤) (Bounded 0) (times drain_round count world)
   rounds_bounded zero world b = (tt, b)
@@ -284,7 +284,7 @@ module _ (network : OctetNetwork Nodes) (datagrams : List Datagram) (links : OnL
       by [] s h = refl
       by (copy ∷ more) s h = (let alive = s.0.alive in let low = h.0 in absurd (omega (arith, alive, low)))
 
-  -- Behind a drain no copy is on a link.
+  -- After a drain no copy is on a link.
   pub drain_empties : (world : World) → Ready network datagrams world → (acts : List Happened) (next : World) → drained world ≡ Done acts next
       → IsEmpty next
   drain_empties world r acts next e =

@@ -107,7 +107,7 @@ lands_below fates iface (suc ttl) from to label =
     ap (λ (l : List IfaceId). times_at iface l + below (suc ttl - 1)) (ttl_outs (suc ttl) (fates from to label))
     ∙ ap (λ t. times_at iface (fates from to label).outs + below t) less
 
--- ---- the network behind an act
+-- ---- the network after an act
 
 -- The network and the datagrams are as before, each copy is sound, and what was written and what is owed has grown by so much.
 pub record Moved (number : ℕ) (datagram : Datagram) (iface : IfaceId) (old : World) (gain : ℕ) (all : List ReportLine) (new : World) : Type 0 where

@@ -225,7 +225,7 @@ start_linked scenario cores = record {
   sound = λ u n. tt;
 }
 
--- Behind every run branches lead along links, and copies are sound.
+-- After every run branches lead along links, and copies are sound.
 pub run_is_linked : (cores : Cores) (script : Script) (events : List Timed) (trace : List Traced) (new : World) → LinksOnce script.scenario
     → Run cores script events trace new → Linked script.scenario new
 run_is_linked cores script events trace new once run =

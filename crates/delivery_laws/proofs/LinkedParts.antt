@@ -90,10 +90,10 @@ module _ (scenario : Scenario) (n : NodeId) where
   row_has place now (call ∷ more) part w h =
       let at = label_place place.scenario place.core place.me in
       holds_then (λ (new : Stepped). Has new.part) (λ (row : List LabelStep). Has (part_after part row)) (label_step at now part call)
-      (λ new. label_row place now new.part more >>? λ behind. Some (record { old = part; call = call; new = new } ∷ behind))
+      (λ new. label_row place now new.part more >>? λ thereafter. Some (record { old = part; call = call; new = new } ∷ thereafter))
       (step_has at now part call w.0 h)
       (λ new k. holds_then (λ (row : List LabelStep). Has (part_after new.part row)) (λ (row : List LabelStep). Has (part_after part row))
-      (label_row place now new.part more) (λ behind. Some (record { old = part; call = call; new = new } ∷ behind))
+      (label_row place now new.part more) (λ thereafter. Some (record { old = part; call = call; new = new } ∷ thereafter))
       (row_has place now more new.part w.1 k) (λ row p. p))
 
   -- ---- a node

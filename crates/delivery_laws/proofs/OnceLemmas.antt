@@ -36,7 +36,7 @@ use Rattle.delivery_laws.proofs.Copies.{all_at, all_take, EachCopy}
 use Rattle.delivery_laws.proofs.Rows.{Ready}
 use Rattle.delivery_laws.proofs.Drains.{IsEmpty, drain_empties}
 use Rattle.delivery_laws.proofs.Accepted.{TellsAccepted, tells_accepted}
-use Rattle.delivery_laws.proofs.Splits.{cut_at, take_to, get_first, get_behind, all_from_places, runs_split, runs_join, long_take, take_two, cut_in_two}
+use Rattle.delivery_laws.proofs.Splits.{cut_at, take_to, get_first, get_after, all_from_places, runs_split, runs_join, long_take, take_two, cut_in_two}
 use Rattle.delivery_laws.proofs.Sendings.{in_networks, runs_send, IsWithin, datagrams_within, datagrams_both, tells_first, tells_later, IsWindowIf, are_of_window, tell_same, window_standing, window_noted, same_receivers}
 use Rattle.delivery_laws.proofs.Told.{state_acts, state_at}
 use Rattle.delivery_laws.proofs.Delivery.{drained_empty, ready_calm, windowed, delivered_once}
@@ -71,7 +71,7 @@ end_at events trace last (inl (line, at)) = (record { line = line; event = event
 end_at events trace last (inr (bytes, buffers, due, unready, tells)) = (record { line = tells.line; event = event.State }, tells.at)
 
 module _ (cores : Cores) (script : Script) (events : List Timed) (trace : List Traced) (new : World) (run : Run cores script events trace new) where
-  -- Behind the event that ends a window no copy is on a link.
+  -- After the event that ends a window no copy is on a link.
   end_drains : (last : ℕ) (closes : EndsWindow events (report_of trace) last) (early : List Traced) (world next : World) (acts : List Happened)
       → Run cores script (take last events) early world → (network : OctetNetwork Nodes) → OnLinks network → Ready network world.datagrams world
       → outcome world (end_at events trace last closes).0 ≡ Done acts next → IsDrained next
@@ -82,7 +82,7 @@ module _ (cores : Cores) (script : Script) (events : List Timed) (trace : List T
       (told_copies world bytes buffers due unready
       (state_at cores script events trace new run last bytes 0 buffers due unready tells early world before))
 
-  -- What is needed of a window: its worlds, and the runs before it, in it and behind it.
+  -- What is needed of a window: its worlds, and the runs before it, in it and after it.
   record Cut (first last : ℕ) : Type 0 where
     within : List Timed
     after : List Timed
@@ -154,7 +154,7 @@ module _ (cores : Cores) (script : Script) (events : List Timed) (trace : List T
     abbrev receives : SiteId → Addr → Addr → IfaceId → Bool
     receives = receives_by (record { scenario = script.scenario; events = before; refused = early_refused })
 
-    -- the network behind the calm line is calm
+    -- the network after the calm line is calm
     calm_zeros : state_line c.calm ≡ lines.State 0 0 0 0 0
     calm_zeros =
         let told = window.is_calm in
@@ -194,7 +194,7 @@ module _ (cores : Cores) (script : Script) (events : List Timed) (trace : List T
         let long = c.long in
         let here : first + place - length before ≡ place = omega (arith, long) in
         ap (λ (l : List Timed). slice_get l (first + place)) c.events_are
-        ∙ get_behind before (c.within ++ c.after) (first + place) (omega (arith, long))
+        ∙ get_after before (c.within ++ c.after) (first + place) (omega (arith, long))
         ∙ ap (slice_get (c.within ++ c.after)) here
         ∙ get_first c.within c.after place lt
         ∙ e
@@ -213,8 +213,8 @@ module _ (cores : Cores) (script : Script) (events : List Timed) (trace : List T
     steps : ℕ
     steps = last - first
 
-    drained_behind : IsDrained c.end
-    drained_behind =
+    drained_after : IsDrained c.end
+    drained_after =
         let n = last - first in
         let e = end_at events trace last window.closes in
         let count = c.count in
@@ -223,7 +223,7 @@ module _ (cores : Cores) (script : Script) (events : List Timed) (trace : List T
         let here : last - length before ≡ n = omega (arith, long) in
         let last_one : slice_get c.within n ≡ Some e.0 =
         sym (get_first c.within c.after n (omega (arith, size))) ∙ ap (slice_get (c.within ++ c.after)) (sym here)
-        ∙ sym (get_behind before (c.within ++ c.after) last (omega (arith, long, some)))
+        ∙ sym (get_after before (c.within ++ c.after) last (omega (arith, long, some)))
         ∙ ap (λ (l : List Timed). slice_get l last) (sym c.events_are) ∙ e.1 in
         let shape : c.within ≡ take n c.within ++ (e.0 ∷ drop (suc n) c.within) = cut_at c.within n e.0 last_one in
         let few : length (take n c.within) ≡ n = long_take n c.within (omega (arith, size)) in
@@ -263,7 +263,7 @@ module _ (cores : Cores) (script : Script) (events : List Timed) (trace : List T
           is_calm = is_calm;
           of_window = are_of_window all_refused c.within c.calm tells_within all_window;
           window = subst (λ n. Runs c.calm n c.within c.middle c.end) (sym long) c.goes_on;
-          drained = drained_behind;
+          drained = drained_after;
           later = subst (λ n. Runs c.end (n + length c.within) c.after c.late new) (sym long) c.ends;
         }
 
@@ -305,21 +305,21 @@ module _ (cores : Cores) (script : Script) (events : List Timed) (trace : List T
               let early = in_first.1 in
               absurd (omega (arith, early, low))
           | inr le ↦
-              let behind : slice_get (s1 ++ s2) (place - length s0) ≡ Some accepted = sym (get_behind s0 (s1 ++ s2) place le) ∙ whole in
+              let thereafter : slice_get (s1 ++ s2) (place - length s0) ≡ Some accepted = sym (get_after s0 (s1 ++ s2) place le) ∙ whole in
               elim (cases_lt (place - length s0) (length s1)) [
                 | inl lt ↦
-                    let own : slice_get s1 (place - length s0) ≡ Some accepted = sym (get_first s1 s2 (place - length s0) lt) ∙ behind in
+                    let own : slice_get s1 (place - length s0) ≡ Some accepted = sym (get_first s1 s2 (place - length s0) lt) ∙ thereafter in
                     let shift : place - length c.calm.datagrams ≡ place - length s0 = ap (λ n. place - n) sizes in (
                       omega (arith, sizes, le),
                       ap (λ (l : List Datagram). slice_get l place) end_datagrams
-                          ∙ get_behind c.calm.datagrams (in_networks s1) place (omega (arith, sizes, le))
+                          ∙ get_after c.calm.datagrams (in_networks s1) place (omega (arith, sizes, le))
                           ∙ ap (slice_get (in_networks s1)) shift
                           ∙ slice_get-map (λ (s : Accepted). in_network s) s1 (place - length s0)
                           ∙ ap (option_map (λ (s : Accepted). in_network s)) own,
                     )
                 | inr more ↦
                     let late : slice_get s2 (place - length s0 - length s1) ≡ Some accepted =
-                    sym (get_behind s1 s2 (place - length s0) more) ∙ behind in
+                    sym (get_after s1 s2 (place - length s0) more) ∙ thereafter in
                     let in_last =
                     all_at (IsWithin (first + length c.within) (first + length c.within + length c.after)) s2 (place - length s0 - length s1)
                     accepted (datagrams_within all_refused c.after (first + length c.within) (first + length c.within)

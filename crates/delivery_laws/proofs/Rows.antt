@@ -80,9 +80,9 @@ module _ (network : OctetNetwork Nodes) (datagrams : List Datagram) (links : OnL
   then_comes old g h (Done acts world) next p k = by (next world) (k world p.ready)
     where
       by : (o : Outcome) → Comes world h o → Comes old (g + h)
-          (elim o [ Done behind new ↦ Done (acts ++ behind) new | Halted behind node ↦ Halted (acts ++ behind) node ])
-      by (Halted behind node) q = tt
-      by (Done behind new) q = step_then old world new g h acts behind p q
+          (elim o [ Done thereafter new ↦ Done (acts ++ thereafter) new | Halted thereafter node ↦ Halted (acts ++ thereafter) node ])
+      by (Halted thereafter node) q = tt
+      by (Done thereafter new) q = step_then old world new g h acts thereafter p q
 
   nothing_comes : (world : World) → Ready network datagrams world → Comes world 0 (Done [] world)
   nothing_comes world r = record { ready = r; flow = omega arith }

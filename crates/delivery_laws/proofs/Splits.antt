@@ -1,4 +1,4 @@
--- Runs, one behind another; and where a list is cut.
+-- Runs, one after another; and where a list is cut.
 use Rattle.std.specs.Prelude.{slice_get}
 use Rattle.std.proofs.Common.{◌≡◌, ℕ, zero, suc, ◌+◌, ◌-◌, ◌<◌, ◌≤◌, ◌++◌, take, drop, length, List, [], ◌∷◌, Some, is_some, refl, sym, ap, subst, ◌∙◌, append_assoc, arith}
 use Rattle.std.specs.List.{AllByRecursion}
@@ -26,12 +26,12 @@ get_first [] ys place h = absurd (omega (arith, h))
 get_first (x ∷ xs) ys zero h = refl
 get_first (x ∷ xs) ys (suc place) h = get_first xs ys place (omega (arith, h))
 
-pub get_behind : {X : Type 0} (xs ys : List X) (place : ℕ) → length xs ≤ place → slice_get (xs ++ ys) place ≡ slice_get ys (place - length xs)
-get_behind [] ys place h = (let same : place - 0 ≡ place = omega arith in ap (slice_get ys) (sym same))
-get_behind (x ∷ xs) ys zero h = absurd (omega (arith, h))
-get_behind (x ∷ xs) ys (suc place) h =
+pub get_after : {X : Type 0} (xs ys : List X) (place : ℕ) → length xs ≤ place → slice_get (xs ++ ys) place ≡ slice_get ys (place - length xs)
+get_after [] ys place h = (let same : place - 0 ≡ place = omega arith in ap (slice_get ys) (sym same))
+get_after (x ∷ xs) ys zero h = absurd (omega (arith, h))
+get_after (x ∷ xs) ys (suc place) h =
     (let same : suc place - suc (length xs) ≡ place - length xs = omega arith in
-    get_behind xs ys place (omega (arith, h)) ∙ ap (slice_get ys) (sym same))
+    get_after xs ys place (omega (arith, h)) ∙ ap (slice_get ys) (sym same))
 
 pub all_from_places : {X : Type 0} (P : X → Type 0) (xs : List X) → ((place : ℕ) (x : X) → slice_get xs place ≡ Some x → P x) → AllByRecursion P xs
 all_from_places P [] h = tt
@@ -106,7 +106,7 @@ run_numbers (timed ∷ more) old number trace new run low high a b =
     (traced_numbers low high number run.0 a (omega (arith, b)))
     (run_numbers more run.1 (number + 1) run.2 new run.5 low high (omega (arith, a)) (omega (arith, b))))
 
--- two runs, one behind the other
+-- two runs, one after the other
 pub runs_join : (first more : List Timed) (old middle new : World) (number : ℕ) (early late : List Traced) → Runs old number first early middle
     → (place : ℕ) → place ≡ number + length first → Runs middle place more late new → Runs old number (first ++ more) (early ++ late) new
 runs_join [] more old middle new number early late run place e later =

@@ -38,7 +38,7 @@ entries : (P : Entry → Type 0) (trace : List Traced) → AllByRecursion (λ st
 entries P [] h = tt
 entries P (step ∷ more) h = (h.0, entries P more h.1)
 
--- The line tells of the network behind the events before it.
+-- The line tells of the network after the events before it.
 pub state_at : (cores : Cores) (script : Script) (events : List Timed) (trace : List Traced) (new : World) → Run cores script events trace new
     → (place bytes copies buffers due unready : ℕ) → TellsState events (report_of trace) place bytes copies buffers due unready
     → (early : List Traced) (world : World) → Run cores script (take place events) early world

@@ -38,7 +38,7 @@ had network number datagram iface all = cond (nat_le number (length all)) (writt
 abbrev pub IsAmong : ℕ → Datagram → List Datagram → Type 0
 IsAmong number datagram all = number ≤ length all → numbered all number ≡ Some datagram
 
--- Behind an event the nodes are as before, more datagrams may have been sent, each copy is sound, and of each datagram what was
+-- After an event the nodes are as before, more datagrams may have been sent, each copy is sound, and of each datagram what was
 -- written and what is owed has grown by what it is to be written, if it was sent.
 pub record EventStep (network : OctetNetwork Nodes) (old : World) (all : List ReportLine) (next : World) : Type 0 where
   pub more : List Datagram

@@ -39,7 +39,7 @@ receives_by past site source group iface = list_any (λ receiver. receiver.0 == 
 abbrev pub receives_datagram : Past → Datagram → IfaceId → Bool
 receives_datagram past datagram = receives_by past datagram.site datagram.source datagram.group
 
--- Behind the first events of a run, wherever `state` would tell of zeros alone, the network is calm, by the receivers of those events.
+-- After the first events of a run, wherever `state` would tell of zeros alone, the network is calm, by the receivers of those events.
 abbrev pub ZerosAreCalm : Cores → Script → List Timed → Type 0
 ZerosAreCalm cores script events =
     (count : ℕ) (trace : List Traced) (world : World) →

@@ -1,4 +1,4 @@
--- Windows of a run: the events behind a calm network that send, land, drain or ask for the state.
+-- Windows of a run: the events after a calm network that send, land, drain or ask for the state.
 use Rattle.std.specs.Prelude.{◌≡◌, ⊤, ℕ, ◌+◌, ◌≤◌, Bool, List, [], ◌∷◌, ◌++◌, None, Some, length, slice_get, if◌then◌else◌}
 use Rattle.mv_base.specs.declared.addr.Addr.{Addr}
 use Rattle.mv_base.specs.declared.ids.IfaceId.{IfaceId}
@@ -21,7 +21,7 @@ AreOfWindow world (timed ∷ more) =
     (refusal world timed.event ≡ None → IsOfWindow timed.event)
     × ((acts : List Happened) (next : World) → outcome world timed ≡ Done acts next → AreOfWindow next more)
 
--- A run with a window: its events up to a calm network, those of the window, behind which no copy is on a link, and later ones.
+-- A run with a window: its events up to a calm network, those of the window, after which no copy is on a link, and later ones.
 pub record WindowRun (receives : SiteId → Addr → Addr → IfaceId → Bool) (cores : Cores) (script : Script)
     (before within after : List Timed) (trace : List Traced) (calm last new : World) : Type 0 where
   pub first : List Traced

@@ -29,7 +29,7 @@ pub fn calm_flows_are_written_once()
         (iface : IfaceId) → written_of network datagram iface ≡ (if receives iface then 1 else 0) }
 {}
 
-/// From a calm network on, and through a window in which datagrams are sent and copies land, and behind which no copy is on a link: each
+/// From a calm network on, and through a window in which datagrams are sent and copies land, and after which no copy is on a link: each
 /// datagram that is sent in the window leaves once at each interface that receives it, and nowhere else, over the whole report.
 pub fn windows_deliver_once()
     ensures { (receives : SiteId → Addr → Addr → IfaceId → Bool) (cores : Cores) (script : Script) (before within after : List Timed) →

@@ -72,8 +72,8 @@ module _ (kept : Kept) (sound : IsSound kept) (place : ℕ) (test : OwnVrf → B
     abbrev new : Kept
     new = with_tree place (change it.tree) kept
 
-    behind : with_trees as_wanted new ≡ with_tree place (change (as_wanted it.tree)) wanted
-    behind =
+    thereafter : with_trees as_wanted new ≡ with_tree place (change (as_wanted it.tree)) wanted
+    thereafter =
         let trees = map_set as_wanted kept.trees place (change it.tree) ∙ ap (slice_set (map as_wanted kept.trees) place) (same it.tree) in
         λ i. record { home = kept.home; trees = trees i; peers = kept.peers }
 
@@ -82,12 +82,12 @@ module _ (kept : Kept) (sound : IsSound kept) (place : ℕ) (test : OwnVrf → B
     made_new control makes single = record {
       sound = record {
         home = sound.home;
-        trees = subst AreTrees (sym behind) makes.trees;
+        trees = subst AreTrees (sym thereafter) makes.trees;
         single = all_set IsSingle kept.trees place (change it.tree) sound.single single;
         spelled = sound.spelled;
         peers = sound.peers;
       };
-      is = sym (wanted_control new) ∙ ap control_of behind ∙ makes.is;
+      is = sym (wanted_control new) ∙ ap control_of thereafter ∙ makes.is;
     }
 
     pub made : (control : Control) → Makes (with_tree place (change (as_wanted it.tree)) wanted) control → IsSingle (change it.tree)
@@ -172,10 +172,10 @@ module _ (kept : Kept) (sound : IsSound kept) (place : ℕ) (iface : IfaceId)
         sym (get_at kept.trees place tree (is_there kept sound place its is)) ∙ tree_here kept sound place its is in cc) in
         subst (λ (t : TreeData). size t ≤ sum_by size kept.trees) at (get_or-le-sum_by size kept.trees place tree (is_there kept sound place its is))
 
-    pub over_is : (first second : TreeData) (all own behind : ℕ) → first ≡ get_or kept.trees place first → second ≡ get_or kept.trees place second
+    pub over_is : (first second : TreeData) (all own thereafter : ℕ) → first ≡ get_or kept.trees place first → second ≡ get_or kept.trees place second
         → all ≡ min (sum_by size kept.trees) most
-        → own ≡ maps.len second.vrf.entries → own ≤ 1024 → behind ≡ maps.len (applied first.vrf.entries iface message now)
-        → nat_lt (own + 1024) (all + behind) ≡ are_too_many (applied (control_of kept).entries iface message now)
+        → own ≡ maps.len second.vrf.entries → own ≤ 1024 → thereafter ≡ maps.len (applied first.vrf.entries iface message now)
+        → nat_lt (own + 1024) (all + thereafter) ≡ are_too_many (applied (control_of kept).entries iface message now)
     over_is first second all own part one two is_all is_own few is_part =
         let own_is : own ≡ maps.len tree.vrf.entries = is_own ∙ ap size (is_it kept sound place its is second two) in
         let part_is : part ≡ maps.len (applied tree.vrf.entries iface message now) =

@@ -18,11 +18,11 @@ count_more f xs i d count size lt h k =
     (λ j. min (h j + k j) most) ∙ min_more (sum_by f (take i xs)) (f (get_or xs i d)) ∙ ap (λ (n : ℕ). min n most) (sym (sum_by_more f xs i d lt))
 
 -- whether they are too many after a change of one part
-pub over_told : (sum behind own part all : ℕ) → behind + own ≡ sum + part → own ≤ sum → own ≤ 1024 → all ≡ min sum most
-    → nat_lt (own + 1024) (all + part) ≡ nat_lt 1024 behind
-over_told sum behind own part all total le few is =
-    both_ways _ _ (λ h. let lt = ltb-true (own + 1024) (all + part) h in lt-ltb 1024 behind (omega (arith, lt, total, le, few, is)))
-    (λ h. let lt = ltb-true 1024 behind h in lt-ltb (own + 1024) (all + part) (omega (arith, lt, total, le, few, is)))
+pub over_told : (sum thereafter own part all : ℕ) → thereafter + own ≡ sum + part → own ≤ sum → own ≤ 1024 → all ≡ min sum most
+    → nat_lt (own + 1024) (all + part) ≡ nat_lt 1024 thereafter
+over_told sum thereafter own part all total le few is =
+    both_ways _ _ (λ h. let lt = ltb-true (own + 1024) (all + part) h in lt-ltb 1024 thereafter (omega (arith, lt, total, le, few, is)))
+    (λ h. let lt = ltb-true 1024 thereafter h in lt-ltb (own + 1024) (all + part) (omega (arith, lt, total, le, few, is)))
 
 -- whether there are so many, where more than the greatest number are not counted
 pub at_least : (limit count sum : ℕ) → count ≡ min sum most → limit ≤ most → nat_le limit count ≡ nat_le limit sum

@@ -26,7 +26,7 @@ use Rattle.edge_tables.proofs.taken_tables.MapLemmas.{put_itself}
 use Rattle.control_laws.specs.Between.{MakesBetween}
 use Rattle.control_laws.specs.Control.{Kept, control_of}
 use Rattle.control_laws.specs.Customers.{AreSingle}
-use Rattle.control_laws.specs.Peers.{key_of, route_behind, tree_change, tree_with}
+use Rattle.control_laws.specs.Peers.{key_of, route_after, tree_change, tree_with}
 use Rattle.control_laws.proofs.Parts.{no_core}
 use Rattle.control_laws.proofs.PeersChange.{change_customers, change_spelled}
 use Rattle.control_laws.proofs.PeersKept.{update_makes}
@@ -93,8 +93,8 @@ module _ (tables : FinMap node_cmp Taken) (peer : NodeId) (key : Key) (value : V
   abbrev route_in : Option Taken → Option TakenRoute
   route_in o = o >>? λ taken. maps.get taken key
 
-  abbrev behind : (Taken → Taken) → Option Taken → FinMap node_cmp Taken
-  behind change o = elim o as (λ x. FinMap node_cmp Taken) [ None ↦ tables | Some taken ↦ maps.insert tables peer (change taken) ]
+  abbrev thereafter : (Taken → Taken) → Option Taken → FinMap node_cmp Taken
+  thereafter change o = elim o as (λ x. FinMap node_cmp Taken) [ None ↦ tables | Some taken ↦ maps.insert tables peer (change taken) ]
 
   same_taken : (taken : Taken) (r : Option TakenRoute) → maps.get taken key ≡ r → is_news value r ≡ false
       → maps.insert taken key (learned now value r) ≡ taken
@@ -113,7 +113,7 @@ module _ (tables : FinMap node_cmp Taken) (peer : NodeId) (key : Key) (value : V
       by true e = absurd (let bad : false ≡ true = e in cc)
       by false e = refl
 
-  stays_of : (o : Option Taken) → maps.get tables peer ≡ o → is_news value (route_in o) ≡ false → behind reached o ≡ tables
+  stays_of : (o : Option Taken) → maps.get tables peer ≡ o → is_news value (route_in o) ≡ false → thereafter reached o ≡ tables
   stays_of None up h = refl
   stays_of (Some taken) up h =
       ap (maps.insert tables peer) (same_taken taken (maps.get taken key) refl h) ∙ put_itself node_cmp_total node_cmp_exact tables peer taken up
@@ -123,8 +123,8 @@ module _ (tables : FinMap node_cmp Taken) (peer : NodeId) (key : Key) (value : V
   table_stays = stays_of (maps.get tables peer) refl
 
   anew_of : (o : Option Taken) → maps.get tables peer ≡ o → is_news value (route_in o) ≡ true
-      → changed_at peer reached (behind unreached o) ≡ behind reached o
-  anew_of None up h = ap (behind reached) up
+      → changed_at peer reached (thereafter unreached o) ≡ thereafter reached o
+  anew_of None up h = ap (thereafter reached) up
   anew_of (Some taken) up h =
       changed_put tables peer reached (maps.remove taken key)
       ∙ ap (maps.insert tables peer)
@@ -136,15 +136,15 @@ module _ (tables : FinMap node_cmp Taken) (peer : NodeId) (key : Key) (value : V
       → changed_at peer reached (changed_at peer unreached tables) ≡ changed_at peer reached tables
   table_anew = anew_of (maps.get tables peer) refl
 
-  left_of : (o : Option Taken) → maps.get tables peer ≡ o → route_at (behind unreached o) peer key ≡ None
+  left_of : (o : Option Taken) → maps.get tables peer ≡ o → route_at (thereafter unreached o) peer key ≡ None
   left_of None up = ap route_in up
   left_of (Some taken) up = ap route_in (own_table tables peer (maps.remove taken key)) ∙ no_route taken key
 
   pub none_left : route_at (changed_at peer unreached tables) peer key ≡ None
   none_left = left_of (maps.get tables peer) refl
 
-  back_of : (o : Option Taken) → maps.get tables peer ≡ o → route_in o ≡ None → changed_at peer unreached (behind reached o) ≡ tables
-  back_of None up none = ap (behind unreached) up
+  back_of : (o : Option Taken) → maps.get tables peer ≡ o → route_in o ≡ None → changed_at peer unreached (thereafter reached o) ≡ tables
+  back_of None up none = ap (thereafter unreached) up
   back_of (Some taken) up none =
       changed_put tables peer unreached (reached taken)
       ∙ ap (maps.insert tables peer) (absent taken key (learned now value (maps.get taken key)) none)
@@ -191,7 +191,7 @@ module _ (kept : Kept) (sound : IsSound kept) (peer : NodeId) (key : Key) (writa
       came_made = update_makes kept (sound_between kept sound) peer now trees taken (reach key value ∷ []) up sound.spelled one_writable
           (λ core. are core
           ∙ ap (λ (o : Option TakenRoute). turned_all
-          (λ own tree. tree_change (place_of kept.home core) own peer now key o (route_behind now (reach key value) o) tree) owns kept.trees)
+          (λ own tree. tree_change (place_of kept.home core) own peer now key o (route_after now (reach key value) o) tree) owns kept.trees)
           (sym none))
 
       came_single : AllByRecursion IsSingle trees
@@ -232,7 +232,7 @@ module _ (kept : Kept) (sound : IsSound kept) (peer : NodeId) (key : Key) (writa
           (λ own tree. dropping kept.home core peer now key o own (coming kept.home core peer now key (Some anew) own tree)) owns kept.trees)
           (sym there)
           ∙ ap (λ (o : Option TakenRoute). turned_all (λ own tree. dropping kept.home core peer now key (maps.get with_it key) own
-          (tree_change (place_of kept.home core) own peer now key o (route_behind now (reach key value) o) tree)) owns kept.trees) (sym none))
+          (tree_change (place_of kept.home core) own peer now key o (route_after now (reach key value) o) tree)) owns kept.trees) (sym none))
 
       went_single : AllByRecursion IsSingle trees
       went_single = subst (AllByRecursion IsSingle) (sym (are no_core))

@@ -76,8 +76,8 @@ module _ (kept : Kept) (sound : IsSound kept) (peer : NodeId) (key : Key) (writa
   Withdrawn tables =
       IsSound (kept_of kept.home trees tables) × (control_of (kept_of kept.home trees tables) ≡ record (control_of kept) { peers = tables })
 
-  abbrev table_behind : Option Taken → FinMap node_cmp Taken
-  table_behind o =
+  abbrev table_after : Option Taken → FinMap node_cmp Taken
+  table_after o =
       elim o as (λ x. FinMap node_cmp Taken) [ None ↦ kept.peers | Some taken ↦ maps.insert kept.peers peer (taken_change now taken (Unreach key)) ]
 
   abbrev route_in : Option Taken → Option TakenRoute
@@ -85,7 +85,7 @@ module _ (kept : Kept) (sound : IsSound kept) (peer : NodeId) (key : Key) (writa
 
   of_table : (o : Option Taken) → maps.get kept.peers peer ≡ o
       → ((core : Core) → trees ≡ turned_all (dropping kept.home core peer now key (route_in o)) owns kept.trees) → length kept.trees ≡ length owns
-      → Withdrawn (table_behind o)
+      → Withdrawn (table_after o)
   of_table (Some taken) up are many = (gone_sound taken up are, gone_control taken up are)
   of_table None up are many =
       let same : trees ≡ kept.trees = are some_core ∙ none_turned owns kept.trees many in

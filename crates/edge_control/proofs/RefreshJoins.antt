@@ -20,7 +20,7 @@ use Rattle.vrf_trees.specs.declared.changes.TreeJoin.{TreeJoin}
 use Rattle.vrf_trees.specs.Changes.{AreJoins, AreNew, flow_in, join_of, joined_at, up_in}
 use Rattle.vrf_trees.specs.Wants.{is_in}
 use Rattle.vrf_trees.proofs.TableLemmas.{fec_ties}
-use Rattle.control_laws.proofs.edge_words.calm_laws.Lists.{among_behind, among_front, among_map}
+use Rattle.control_laws.proofs.edge_words.calm_laws.Lists.{among_after, among_front, among_map}
 use Rattle.control_laws.proofs.Owned.{of_each}
 use Rattle.edge_control.specs.Refreshing.{AreMoved, tree_join}
 
@@ -111,11 +111,11 @@ module _ (old new : TreeData) (after : Flow → Option Choice) (flows : (q : Flo
   moved_here all = record {
     made = λ flow join h. elim (moved flow (up_before flow) (up_then flow) joins (told_made flow) join h) [
       | inl e ↦ inl e
-      | inr a ↦ inr (among_front join (all ++ joins) leaves (among_behind join all joins a))
+      | inr a ↦ inr (among_front join (all ++ joins) leaves (among_after join all joins a))
     ];
     left = λ flow join h. elim (moved flow (up_then flow) (up_before flow) leaves (told_left flow) join h) [
       | inl e ↦ inl e
-      | inr a ↦ inr (among_behind join (all ++ joins) leaves a)
+      | inr a ↦ inr (among_after join (all ++ joins) leaves a)
     ];
   }
 

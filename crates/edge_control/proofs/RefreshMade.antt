@@ -124,33 +124,33 @@ module _ (kept : Kept) (full : AreFull kept) (R : TreeData → TreeData → Type
   pairs = zipped By (owns_of kept) kept.trees others by_trees
 
 module _ (kept : Kept) (sound : IsSound kept) (others : List TreeData) (zip : AllZip IsRestOf kept.trees others) where
-  abbrev pub behind : Kept
-  behind = record kept { trees = others }
+  abbrev pub thereafter : Kept
+  thereafter = record kept { trees = others }
 
   abbrev Rest : OwnTree → OwnTree → Type 0
   Rest = Stands (By kept (sound_full kept sound) IsRestOf others zip)
 
-  abbrev rest_pairs : AllZip Rest (trees_of kept) (trees_of behind)
+  abbrev rest_pairs : AllZip Rest (trees_of kept) (trees_of thereafter)
   rest_pairs = pairs kept (sound_full kept sound) IsRestOf others zip
 
   is_with : (it new : OwnTree) → Rest it new
       → record { own = it.own; tree = record it.tree { vrf = record it.tree.vrf { flows = new.tree.vrf.flows }; wants = new.tree.wants } } ≡ new
   is_with it new s = λ i. record { own = sym s.own i; tree = sym s.is i }
 
-  behind_full : AreFull behind
-  behind_full = still_full kept (sound_full kept sound) IsRestOf others zip
+  after_full : AreFull thereafter
+  after_full = still_full kept (sound_full kept sound) IsRestOf others zip
 
-  behind_parts : AreParts behind
-  behind_parts new a =
-      let (it, among, s) = zip_back Rest (trees_of kept) (trees_of behind) rest_pairs new a in
+  after_parts : AreParts thereafter
+  after_parts new a =
+      let (it, among, s) = zip_back Rest (trees_of kept) (trees_of thereafter) rest_pairs new a in
       let part = sound_parts kept sound it among in
       subst (IsPart kept.home kept.peers) (is_with it new s)
       (record { entries = part.entries; notes = part.notes; selections = part.selections; derived = part.derived })
 
-  pub behind_sound : IsSound behind
-  behind_sound = record {
+  pub after_sound : IsSound thereafter
+  after_sound = record {
     home = sound.home;
-    trees = wanted_of behind (between_together behind behind_full behind_parts);
+    trees = wanted_of thereafter (between_together thereafter after_full after_parts);
     single = zip_each IsRestOf IsSingle (λ old new is h. subst AreSingle (sym (ap (λ (t : TreeData). t.root.selections) is)) h) kept.trees others zip
         sound.single;
     spelled = sound.spelled;
@@ -158,23 +158,23 @@ module _ (kept : Kept) (sound : IsSound kept) (others : List TreeData) (zip : Al
   }
 
   -- all but the flows is as before
-  pub behind_rest : control_of behind ≡ record (control_of kept) { flows = (control_of behind).flows }
-  behind_rest = same_control _ _
+  pub after_rest : control_of thereafter ≡ record (control_of kept) { flows = (control_of thereafter).flows }
+  after_rest = same_control _ _
       (same_entries _ _ (λ at.
-      entries_gathered behind at
+      entries_gathered thereafter at
       ∙ gathered_zip None option_or Rest (entry_in at) (entry_in at) (λ it new s i. maps.get ((s.is i).vrf.entries) at) (trees_of kept)
-      (trees_of behind) rest_pairs
+      (trees_of thereafter) rest_pairs
       ∙ sym (entries_gathered kept at)))
       (same_notes _ _ (λ note.
-      notes_gathered behind note
+      notes_gathered thereafter note
       ∙ gathered_zip false (λ a b. a || b) Rest (note_in (tree_note note)) (note_in (tree_note note))
-      (λ it new s i. sets.contains ((s.is i).vrf.notes) (tree_note note)) (trees_of kept) (trees_of behind) rest_pairs
+      (λ it new s i. sets.contains ((s.is i).vrf.notes) (tree_note note)) (trees_of kept) (trees_of thereafter) rest_pairs
       ∙ sym (notes_gathered kept note)))
       (same_selections _ _ (λ key.
-      selections_gathered behind key
+      selections_gathered thereafter key
       ∙ gathered_zip None option_or Rest (selected_in key) (selected_in key)
       (λ it new s i. cond (((s.own i).id.0) == key.vrf.0) (option_map selected_of (find (is_of key.pattern) ((s.is i).root.selections))) None)
-      (trees_of kept) (trees_of behind) rest_pairs
+      (trees_of kept) (trees_of thereafter) rest_pairs
       ∙ sym (selections_gathered kept key)))
       refl
       refl
@@ -219,10 +219,10 @@ record IsNoFlow (old new : Control) (key : VrfFlow) : Type 0 where
 module _ (kept : Kept) (sound : IsSound kept) (others : List TreeData) (zip : AllZip IsRestOf kept.trees others) (joins : List TreeJoin)
     (all : AreAllMoved kept.trees others joins) where
   abbrev then_kept : Kept
-  then_kept = behind kept sound others zip
+  then_kept = thereafter kept sound others zip
 
   abbrev parts_then : AreParts then_kept
-  parts_then = behind_parts kept sound others zip
+  parts_then = after_parts kept sound others zip
 
   abbrev Moved : OwnTree → OwnTree → Type 0
   Moved = Stands (By kept (sound_full kept sound) (AreMoved joins) others all.moved)
@@ -246,7 +246,7 @@ module _ (kept : Kept) (sound : IsSound kept) (others : List TreeData) (zip : Al
             then_tree = new.tree;
             moved = s.is;
             is_before = own_join kept (sound_full kept sound) (sound_parts kept sound) it among key (same_ids it new s ∙ number);
-            is_then = own_join then_kept (behind_full kept sound others zip) parts_then new a key number;
+            is_then = own_join then_kept (after_full kept sound others zip) parts_then new a key number;
           }
 
       by : ((new : OwnTree) × Among new (trees_of then_kept) × ((new.own.id.0 == key.vrf.0) ≡ true))
@@ -275,7 +275,7 @@ module _ (kept : Kept) (sound : IsSound kept) (others : List TreeData) (zip : Al
     ];
     each = λ join a. elim (all.each join a) [
       | inl h ↦ let found = has_flow kept (sound_full kept sound) (sound_parts kept sound) join h in (found.0, inl found.1)
-      | inr h ↦ let found = has_flow then_kept (behind_full kept sound others zip) parts_then join h in (found.0, inr found.1)
+      | inr h ↦ let found = has_flow then_kept (after_full kept sound others zip) parts_then join h in (found.0, inr found.1)
     ];
   }
 

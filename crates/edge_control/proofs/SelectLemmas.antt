@@ -27,7 +27,7 @@ use Rattle.control_laws.proofs.Parts.{apart, find_is, is_found, no_core, selecti
 use Rattle.control_laws.proofs.Replaced.{it_among}
 use Rattle.control_laws.proofs.Together.{selected_of}
 use Rattle.edge_control.specs.Sound.{IsSound}
-use Rattle.edge_control.specs.Places.{IsPlace, changed_at, is_selection_too_many, number_behind, vrfs_of}
+use Rattle.edge_control.specs.Places.{IsPlace, changed_at, is_selection_too_many, number_after, vrfs_of}
 use Rattle.edge_control.proofs.PlaceLemmas.{get_at}
 use Rattle.edge_control.proofs.CallLemmas.{IsMade, here, is_it, is_there, it, made, single_here, tree_here, wanted_at, wanted_it}
 use Rattle.edge_control.proofs.SoundLemmas.{sound_full, sound_parts, wanted_control}
@@ -148,7 +148,7 @@ module _ (kept : Kept) (sound : IsSound kept) (place : ℕ) (vrf : VrfId) (is : 
   -- the number of the tunnel is that of the definitions
   pub number_told : (pattern : Pattern) (now lsp : ℕ) (vrf_own : OwnVrf) → Among vrf_own (vrfs_of kept.home) → vrf_own.id ≡ vrf
       → ((tree : TreeData) → slice_get kept.trees place ≡ Some tree → lsp ≡ lsp_number tree.root.number (next_number tree.root.selections))
-      → lsp ≡ tunnel_number vrf_own.vrf (number_behind (control_of kept) vrf)
+      → lsp ≡ tunnel_number vrf_own.vrf (number_after (control_of kept) vrf)
   number_told pattern now lsp vrf_own a e told =
       let (other, other_among, other_is) =
       map_among (λ (one : OwnTree). one.own) vrf_own (trees_of kept) (subst (Among vrf_own) (sym (sound_full kept sound).all) a) in
@@ -157,7 +157,7 @@ module _ (kept : Kept) (sound : IsSound kept) (place : ℕ) (vrf : VrfId) (is : 
       let vrf_is : own.own ≡ vrf_own = ap (λ (o : OwnTree). o.own) same ∙ sym other_is in
       let number : own.tree.root.number ≡ vrf_own.vrf.number =
       ((sound_parts kept sound own among).derived no_core).number ∙ ap (λ (o : OwnVrf). o.vrf.number) vrf_is in
-      let next : number_behind (control_of kept) vrf ≡ next_number selections =
+      let next : number_after (control_of kept) vrf ≡ next_number selections =
       same_number (control_of kept) vrf selections distinct chosen now pattern in
       told own.tree (tree_here kept sound place its is) ∙ (λ i. lsp_number (number i) (sym next i))
 
@@ -165,6 +165,6 @@ module _ (kept : Kept) (sound : IsSound kept) (place : ℕ) (vrf : VrfId) (is : 
       → vrf_own.id ≡ vrf
       → ((tree : TreeData) → slice_get kept.trees place ≡ Some tree
       → IfOk result (λ lsp. lsp ≡ lsp_number tree.root.number (next_number tree.root.selections)))
-      → IfOk result (λ lsp. lsp ≡ tunnel_number vrf_own.vrf (number_behind (control_of kept) vrf))
+      → IfOk result (λ lsp. lsp ≡ tunnel_number vrf_own.vrf (number_after (control_of kept) vrf))
   number_of pattern now (Ok lsp) vrf_own a e told = number_told pattern now lsp vrf_own a e told
   number_of pattern now (Err fault) vrf_own a e told = tt

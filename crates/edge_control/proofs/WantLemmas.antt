@@ -9,9 +9,9 @@ use Rattle.edge_control.specs.Sound.{wants_of}
 use Rattle.edge_control.specs.Taking.{turned_all}
 
 -- one of them changes
-changed_behind : (change : TreeData → TreeData) (n : ℕ) (tree : TreeData) (trees : List TreeData)
+changed_after : (change : TreeData → TreeData) (n : ℕ) (tree : TreeData) (trees : List TreeData)
     → changed_at (suc n) change (tree ∷ trees) ≡ tree ∷ changed_at n change trees
-changed_behind change n tree trees = by (slice_get trees n)
+changed_after change n tree trees = by (slice_get trees n)
   where
     by : (o : Option TreeData) → elim o as (λ _. List TreeData) [ None ↦ tree ∷ trees | Some other ↦ tree ∷ slice_set trees n (change other) ]
         ≡ tree ∷ elim o as (λ _. List TreeData) [ None ↦ trees | Some other ↦ slice_set trees n (change other) ]
@@ -24,7 +24,7 @@ changed_wants change keeps zero [] = refl
 changed_wants change keeps zero (tree ∷ trees) = ap (λ (w : FinSet fec_cmp). w ∷ wants_of trees) (keeps tree)
 changed_wants change keeps (suc n) [] = refl
 changed_wants change keeps (suc n) (tree ∷ trees) =
-    ap wants_of (changed_behind change n tree trees) ∙ ap (λ (ws : List (FinSet fec_cmp)). tree.wants ∷ ws) (changed_wants change keeps n trees)
+    ap wants_of (changed_after change n tree trees) ∙ ap (λ (ws : List (FinSet fec_cmp)). tree.wants ∷ ws) (changed_wants change keeps n trees)
 
 -- where the call is made, and as before otherwise
 pub wants_either : {X E : Type 0} (result : Result X E) (old trees next : List TreeData) → OnOk result (trees ≡ next) → OnErr result (trees ≡ old)

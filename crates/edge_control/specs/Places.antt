@@ -64,6 +64,6 @@ abbrev pub is_selection_too_many : Control → Bool
 is_selection_too_many control = nat_le selection_limit (maps.len control.selections)
 
 -- the number that a new selection of the VRF gets
-abbrev pub number_behind : Control → VrfId → ℕ
-number_behind control vrf =
+abbrev pub number_after : Control → VrfId → ℕ
+number_after control vrf =
     free_number (λ number. list_any (is_used vrf number) (maps.entries control.selections)) (maps.len control.selections) 1

@@ -43,8 +43,8 @@ pub(crate) fn selections_in(trees: &[VrfTree]) -> u32
 }
 
 /// Whether the entries of all trees are more than an edge holds, where one tree has these in the place of its own.
-pub(crate) fn is_over(all: u32, own: u32, behind: u32) -> bool
-    ensures { result ≡ nat_lt (own + 1024) (all + behind) }
+pub(crate) fn is_over(all: u32, own: u32, thereafter: u32) -> bool
+    ensures { result ≡ nat_lt (own + 1024) (all + thereafter) }
 {
-    u64::from(own) + 1024 < u64::from(all) + u64::from(behind)
+    u64::from(own) + 1024 < u64::from(all) + u64::from(thereafter)
 }

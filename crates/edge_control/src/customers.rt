@@ -31,7 +31,7 @@ fn is_one_too_many(noted: bool, count: u32) -> bool
 
 impl EdgeControl {
     /// Whether the entries would be too many after the message, which the tree at that place takes.
-    fn is_over_behind(
+    fn is_over_after(
         &self,
         place: usize,
         iface: IfaceId,
@@ -42,9 +42,9 @@ impl EdgeControl {
         requires now { now < 2 ^ 63 }
         ensures { IfOk result (λ over. over ≡ are_too_many (applied (control_of self.now).entries iface message.now now)) }
     {
-        let behind = self.trees[place].pim_entries_after(self.alloc, iface, message, now)?;
+        let thereafter = self.trees[place].pim_entries_after(self.alloc, iface, message, now)?;
         let own = self.trees[place].pim_entries();
-        Ok(is_over(entries_in(&self.trees), own, behind))
+        Ok(is_over(entries_in(&self.trees), own, thereafter))
     }
 
     /// Takes a Join/Prune message at the interface, which is one of a VRF of the edge (RFC 7761 section 4.5).
@@ -66,7 +66,7 @@ impl EdgeControl {
         ensures unchanged { OnErr result (self.new ≡ self.old) }
     {
         let place = place_of_iface(&self.home, iface);
-        match self.is_over_behind(place, iface, message, now) {
+        match self.is_over_after(place, iface, message, now) {
             Err(NoMemory) => Err(ControlFault::NoMemory),
             Ok(true) => Err(ControlFault::Full),
             Ok(false) => {

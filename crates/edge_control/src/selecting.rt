@@ -7,7 +7,7 @@ ghost use Rattle.edge_defs.specs.Place.{OwnVrf, tunnel_number};
 ghost use Rattle.edge_defs.specs.Steps.{Customer, Select, Unselect, effect};
 ghost use Rattle.edge_routes.specs.edge_home.Home.{place_of};
 ghost use Rattle.control_laws.specs.Control.{control_of};
-ghost use Rattle.edge_control.specs.Places.{IsPlace, is_own_vrf, is_selection_too_many, number_behind, selection_limit, vrfs_of};
+ghost use Rattle.edge_control.specs.Places.{IsPlace, is_own_vrf, is_selection_too_many, number_after, selection_limit, vrfs_of};
 ghost use Rattle.edge_control.specs.Sound.{wants_of};
 ghost use Rattle.edge_control.specs.declared.fault.ControlFault.TheVariants as ControlFault;
 
@@ -67,7 +67,7 @@ impl EdgeControl {
         ensures selected { (core : Core) → OnOk result (control_of self.new
             ≡ effect (place_of self.old.home core) now (control_of self.old) (Customer (Select vrf pattern))) }
         ensures number { (own : OwnVrf) → Among own (vrfs_of self.old.home) → own.id ≡ vrf →
-            IfOk result (λ lsp. lsp ≡ tunnel_number own.vrf (number_behind (control_of self.old) vrf)) }
+            IfOk result (λ lsp. lsp ≡ tunnel_number own.vrf (number_after (control_of self.old) vrf)) }
         ensures home { self.new.home ≡ self.old.home }
         ensures wants { wants_of self.new.trees ≡ wants_of self.old.trees }
         ensures memory { OnErr result (result ≡ Err ControlFault.NoMemory) }
@@ -85,7 +85,7 @@ impl EdgeControl {
         ensures selected { (core : Core) → OnOk result (control_of self.new
             ≡ effect (place_of self.old.home core) now (control_of self.old) (Customer (Select vrf pattern))) }
         ensures number { (own : OwnVrf) → Among own (vrfs_of self.old.home) → own.id ≡ vrf →
-            IfOk result (λ lsp. lsp ≡ tunnel_number own.vrf (number_behind (control_of self.old) vrf)) }
+            IfOk result (λ lsp. lsp ≡ tunnel_number own.vrf (number_after (control_of self.old) vrf)) }
         ensures home { self.new.home ≡ self.old.home }
         ensures wants { wants_of self.new.trees ≡ wants_of self.old.trees }
         ensures fits { OnOk result (is_selection_too_many (control_of self.old) ≡ false) }

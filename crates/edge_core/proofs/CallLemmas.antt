@@ -14,7 +14,7 @@ use Rattle.edge_core.specs.declared.fault.EdgeFault.{EdgeFault}
 use Rattle.edge_core.specs.declared.fault.EdgeFault.TheVariants as faults
 use Rattle.edge_core.specs.declared.parts.Parts.{Parts}
 use Rattle.edge_core.specs.Answers.{IsOneOf, OnTaken, fault_of, spent_by}
-use Rattle.edge_core.specs.Called.{SettlesCall, behind, going, seen, spent_after}
+use Rattle.edge_core.specs.Called.{SettlesCall, thereafter, going, seen, spent_after}
 use Rattle.edge_core.specs.Calls.{AnswersCall, IsToward, MakesCall, is_full, refusals_of}
 use Rattle.edge_core.specs.State.{IsLive, data_of}
 use Rattle.edge_core.specs.View.{EdgeView}
@@ -25,9 +25,9 @@ abbrev pub any_topology : Topology
 any_topology = record { nodes = 0; links = [] }
 
 -- why an edge is spent, as it is kept and as it is seen
-seen_behind : (parts : Parts) (spent : Option NodeFault) (result : Result (Unit {0}) EdgeFault) → option_map cause spent ≡ spent_after result
-    → behind parts result ≡ seen parts spent
-seen_behind parts spent result e =
+seen_after : (parts : Parts) (spent : Option NodeFault) (result : Result (Unit {0}) EdgeFault) → option_map cause spent ≡ spent_after result
+    → thereafter parts result ≡ seen parts spent
+seen_after parts spent result e =
     λ i. record { routing = parts.routing; labels = parts.labels; streams = parts.streams; raised = parts.raised; spent = sym e i }
 
 pub none_after : (spent : Option NodeFault) (result : Result (Unit {0}) EdgeFault) → option_map cause spent ≡ spent_after result → spent ≡ None
@@ -41,13 +41,13 @@ pub call_seen : (core : Topology) (now : ℕ) (call : Call) (parts new : Parts) 
     → AnswersCall core now call edge (seen new new_spent) result
 call_seen core now call parts new spent new_spent edge result none is e made =
     subst (λ (old : EdgeView). AnswersCall core now call old (seen new new_spent) result) ((λ i. seen parts (sym none i)) ∙ is)
-    (subst (λ (v : EdgeView). AnswersCall core now call (going parts) v result) (seen_behind new new_spent result e) (record {
+    (subst (λ (v : EdgeView). AnswersCall core now call (going parts) v result) (seen_after new new_spent result e) (record {
       answers = made.settles.answers;
       only = made.only;
       fits = λ unspent. made.fits;
       full = λ full. (
         (made.full full).0,
-        ap (λ (r : Result (Unit {0}) EdgeFault). behind new r) full ∙ ap (λ (p : Parts). going p) (made.full full).1,
+        ap (λ (r : Result (Unit {0}) EdgeFault). thereafter new r) full ∙ ap (λ (p : Parts). going p) (made.full full).1,
       );
       toward = made.toward;
     }))

@@ -25,7 +25,7 @@ use Rattle.edge_routing.specs.declared.routing.EdgeRouting.{EdgeRouting}
 use Rattle.edge_routing.specs.declared.routing.LeafCandidates.{LeafCandidates}
 use Rattle.edge_routing.specs.Routing.{IsStepped}
 use Rattle.edge_core.specs.declared.parts.Parts.{Parts}
-use Rattle.edge_core.specs.Answers.{streams_behind}
+use Rattle.edge_core.specs.Answers.{streams_after}
 use Rattle.edge_core.specs.Called.{IsMidway, going}
 use Rattle.edge_core.specs.State.{IsLive}
 
@@ -50,7 +50,7 @@ pub midway_raised : (core : Topology) (now : ℕ) (own : OwnCall) (call : Call) 
     (raised : FinMap node_cmp ℕ)
     (told : Result LeafCandidates NoMemory) → raised ≡ raised_after now old.raised call → IsLive old.routing old.labels old.streams
     → core.nodes ≡ length old.routing.control.home.scenario.nodes
-    → own_call own ≡ own_label_call call → MayMake old.labels own → streams ≡ streams_behind call old.streams
+    → own_call own ≡ own_label_call call → MayMake old.labels own → streams ≡ streams_after call old.streams
     → routing.control.home ≡ old.routing.control.home → IfOk told (IsStepped core now call old.routing routing)
     → IsMidway core now own call (going old) told (record old { routing = routing; streams = streams; raised = raised })
 midway_raised core now own call old routing streams raised told clocks live nodes is_own may are home stepped = record {
@@ -70,7 +70,7 @@ midway_raised core now own call old routing streams raised told clocks live node
 pub midway : (core : Topology) (now : ℕ) (own : OwnCall) (call : Call) (old : Parts) (routing : EdgeRouting) (streams : FinMap peer_cmp Stream)
     (told : Result LeafCandidates NoMemory) → old.raised ≡ raised_after now old.raised call → IsLive old.routing old.labels old.streams
     → core.nodes ≡ length old.routing.control.home.scenario.nodes
-    → own_call own ≡ own_label_call call → MayMake old.labels own → streams ≡ streams_behind call old.streams
+    → own_call own ≡ own_label_call call → MayMake old.labels own → streams ≡ streams_after call old.streams
     → routing.control.home ≡ old.routing.control.home → IfOk told (IsStepped core now call old.routing routing)
     → IsMidway core now own call (going old) told (record old { routing = routing; streams = streams })
 midway core now own call old routing streams told = midway_raised core now own call old routing streams old.raised told

@@ -1,4 +1,4 @@
--- The label steps of a call, and what the edge is behind them.
+-- The label steps of a call, and what the edge is after them.
 use Rattle.std.proofs.Common.{◌≡◌, ◌≢◌, ◌∙◌, refl, sym, ap, subst, arith, ℕ, zero, suc, ◌<◌, Bool, true, false, cond, inl, inr, List, [], ◌∷◌, ◌++◌, map, length, All, Option, None, Some, Result, Ok, Err, OnOk, is_some, slice_index_or, if◌then◌else◌}
 use Rattle.std.specs.Ordering.{eq_by_cmp}
 use Rattle.std.specs.FinMap as maps
@@ -53,7 +53,7 @@ use Rattle.edge_routing.proofs.PeerNumbers.{is_node}
 use Rattle.edge_core.specs.declared.fault.EdgeFault.{EdgeFault}
 use Rattle.edge_core.specs.declared.fault.EdgeFault.TheVariants as faults
 use Rattle.edge_core.specs.declared.parts.Parts.{Parts}
-use Rattle.edge_core.specs.Answers.{IsOneOf, fault_of, spent_by, streams_behind}
+use Rattle.edge_core.specs.Answers.{IsOneOf, fault_of, spent_by, streams_after}
 use Rattle.edge_core.specs.Called.{IsMidway, SettlesCall, going, spent_after}
 use Rattle.edge_core.specs.State.{IsIn, IsLive, home_of, is_up_in}
 use Rattle.edge_core.specs.View.{EdgeView}
@@ -114,7 +114,7 @@ either false o p e f = f
 
 -- a session that comes up or is lost has nothing that waits in its stream
 still_quiet : (call : Call) (streams : FinMap peer_cmp Stream) → ((own : PeerSession) → (stream_at streams own).waiting ≡ []) → (own : PeerSession)
-    → (stream_at (streams_behind call streams) own).waiting ≡ []
+    → (stream_at (streams_after call streams) own).waiting ≡ []
 still_quiet (Raised kind peer) streams quiet own =
     let raised : PeerSession = record { kind = kind; peer = peer } in
     ap waiting_of (maps.get-insert peer_total streams raised unfed own)
@@ -253,9 +253,9 @@ module _ (core : Topology) (now : ℕ) (own : OwnCall) (call : Call) (old : Edge
       streams_made : (place : EdgePlace) (state : EdgeState) → IsIn state old → state.spent ≡ None
           → (called place now state call).streams ≡ parts.streams
       streams_made place state in_old unspent =
-          unspent_streams place now call state unspent ∙ (by_call call ∙ (ap (streams_behind call) in_old.streams ∙ sym mid.streams))
+          unspent_streams place now call state unspent ∙ (by_call call ∙ (ap (streams_after call) in_old.streams ∙ sym mid.streams))
         where
-          by_call : (c : Call) → (prepared c state).streams ≡ streams_behind c state.streams
+          by_call : (c : Call) → (prepared c state).streams ≡ streams_after c state.streams
           by_call (Update peer message) = refl
           by_call (Label peer message) = refl
           by_call (Customer call) = refl

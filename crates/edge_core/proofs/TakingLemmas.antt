@@ -23,7 +23,7 @@ use Rattle.edge_core.specs.declared.fault.EdgeFault.{EdgeFault}
 use Rattle.edge_core.specs.declared.fault.EdgeFault.TheVariants as faults
 use Rattle.edge_core.specs.declared.parts.Parts.{Parts}
 use Rattle.edge_core.specs.Answers.{Makes, spent_by}
-use Rattle.edge_core.specs.Called.{Settles, SettlesCall, behind, going, spent_after}
+use Rattle.edge_core.specs.Called.{Settles, SettlesCall, thereafter, going, spent_after}
 use Rattle.edge_core.specs.State.{IsIn, IsLive, is_up}
 use Rattle.edge_core.specs.Taking.{AnswersOctets, IsSessionFault, taken_by, took_by}
 use Rattle.edge_routing.proofs.edge_streams.DrainLemmas.{put_same}
@@ -71,8 +71,8 @@ module _ (core : Topology) (now : ℕ) (peer : NodeId) (message : SessionMessage
       home = k.answers.home ∙ h.answers.home;
       before = λ spent e. absurd (none-some spent e);
       unspent = give_ok result refl;
-      made = map_ok result (λ (made : Makes core (taken_by (going mid) now peer more) (going mid) (behind new result)) is told_so state in_old.
-          subst (λ (s : EdgeState). IsIn s (behind new result)) (along is state)
+      made = map_ok result (λ (made : Makes core (taken_by (going mid) now peer more) (going mid) (thereafter new result)) is told_so state in_old.
+          subst (λ (s : EdgeState). IsIn s (thereafter new result)) (along is state)
           (made is told_so (called (place_of parts.routing.control.home is) now state (call_of peer message))
           (h.answers.made is told_so state in_old))) k.answers.made;
       goes_on = k.answers.goes_on;
@@ -261,7 +261,7 @@ module _ (core : Topology) (now : ℕ) (kind : Kind) (peer : NodeId) (octets : L
     -- a message made the edge spent
     pub octets_stopped : (fault : EdgeFault) → Among fault (faults.NoLabel ∷ faults.NoMemory ∷ [])
         → Settles core (taken_by (going mid) now peer messages) (going mid) new (Err fault)
-        → AnswersOctets core now own octets (going old) (behind new (Err fault)) (Err fault)
+        → AnswersOctets core now own octets (going old) (thereafter new (Err fault)) (Err fault)
     octets_stopped fault one h =
         let k = settled_whole (Err fault) h in
         record {
@@ -287,7 +287,7 @@ module _ (core : Topology) (now : ℕ) (kind : Kind) (peer : NodeId) (octets : L
     pub octets_taken : (result : Result (Unit {0}) EdgeFault) → OnOk result (fault_at new.streams own ≡ None)
         → ((fault : EdgeFault) → result ≡ Err fault → IsSessionFault own (going new) fault)
         → Settles core (taken_by (going mid) now peer messages) (going mid) new (Ok tt)
-        → AnswersOctets core now own octets (going old) (behind new result) result
+        → AnswersOctets core now own octets (going old) (thereafter new result) result
     octets_taken (Ok done) sound faulty h =
         let k = settled_whole (Ok tt) h in
         record {
@@ -328,5 +328,5 @@ module _ (core : Topology) (now : ℕ) (kind : Kind) (peer : NodeId) (octets : L
         no_label : (f : EdgeFault) → IsSessionFault own (going new) f → f ≡ faults.NoLabel → ⊥
         no_label f is e = absurd (let k = sym is.2 ∙ e in cc)
 
-        told_fault_is : (f other : EdgeFault) → f ≡ other → IsSessionFault own (going new) f → IsSessionFault own (behind new (Err f)) other
+        told_fault_is : (f other : EdgeFault) → f ≡ other → IsSessionFault own (going new) f → IsSessionFault own (thereafter new (Err f)) other
         told_fault_is f other e is = (is.0, is.1, sym e ∙ is.2, is.3)

@@ -1,4 +1,4 @@
--- Which ends of sessions are up behind a call, and which sessions have a stream.
+-- Which ends of sessions are up after a call, and which sessions have a stream.
 use Rattle.std.proofs.Common.{◌≡◌, ◌∙◌, refl, sym, ap, ℕ, ◌&&◌, ◌++◌, not, Bool, true, false, cond, List, [], ◌∷◌, map, fold, Option, None, Some, option_map, is_some, if◌then◌else◌}
 use Rattle.std.specs.Ordering.{eq_by_cmp}
 use Rattle.std.specs.List.{filter}
@@ -39,11 +39,11 @@ use Rattle.edge_routing.proofs.edge_words.edge_laws.Taken.{get-peers_run, table_
 use Rattle.node_laws.specs.Places.{node_place}
 use Rattle.node_laws.specs.Rows.{all_called}
 use Rattle.node_laws.proofs.OctetLemmas.{peer_total, then_equal}
-use Rattle.node_laws.proofs.RowLemmas.{lacks_behind, part_behind}
+use Rattle.node_laws.proofs.RowLemmas.{lacks_after, part_thereafter}
 use Rattle.edge_routing.specs.edge_streams.Kept.{session}
-use Rattle.edge_core.specs.Answers.{streams_behind}
+use Rattle.edge_core.specs.Answers.{streams_after}
 
--- whether an end is up behind a call, by whether it was so before
+-- whether an end is up after a call, by whether it was so before
 abbrev pub up_by : Kind → Call → NodeId → Bool → Bool
 up_by kind (Raised own peer) q was = cond (same_kind kind own && eq_by_cmp node_cmp q peer) true was
 up_by kind (Noticed own peer) q was = cond (same_kind kind own && eq_by_cmp node_cmp q peer) false was
@@ -66,7 +66,7 @@ session_tie kinds.Bgp kinds.Ldp q peer = refl
 session_tie kinds.Ldp kinds.Bgp q peer = refl
 
 pub streams_up : (kind : Kind) (call : Call) (streams : FinMap peer_cmp Stream) (q : NodeId)
-    → is_some (maps.get (streams_behind call streams) (session kind q)) ≡ up_by kind call q (is_some (maps.get streams (session kind q)))
+    → is_some (maps.get (streams_after call streams) (session kind q)) ≡ up_by kind call q (is_some (maps.get streams (session kind q)))
 streams_up kind (Raised own peer) streams q =
     ap (λ (o : Option Stream). is_some o) (maps.get-insert peer_total streams (session own peer) unfed (session kind q))
     ∙ some_either (eq_by_cmp peer_cmp (session kind q) (session own peer)) unfed (maps.get streams (session kind q))
@@ -134,7 +134,7 @@ peers_up place now control Rerouted q = refl
 
 -- ---- LDP
 
--- whether the end is up behind a label step
+-- whether the end is up after a label step
 abbrev up_in : steps.Call → NodeId → Bool → Bool
 up_in (steps.Raised peer) q was = cond (eq_by_cmp node_cmp q peer) true was
 up_in (steps.Noticed peer) q was = cond (eq_by_cmp node_cmp q peer) false was
@@ -177,10 +177,10 @@ row_up place now part [] row q e = ap (λ (r : List LabelStep). is_some (maps.ge
 row_up place now part (call ∷ more) row q e =
     let own = label_place place.scenario place.core place.me in
     let first =
-    bind_some (label_step own now part call) (λ new. label_row place now new.part more >>? λ behind. Some
-    (record { old = part; call = call; new = new } ∷ behind)) row e in
+    bind_some (label_step own now part call) (λ new. label_row place now new.part more >>? λ thereafter. Some
+    (record { old = part; call = call; new = new } ∷ thereafter)) row e in
     let rest =
-    bind_some (label_row place now first.0.part more) (λ behind. Some (record { old = part; call = call; new = first.0 } ∷ behind)) row first.2 in
+    bind_some (label_row place now first.0.part more) (λ thereafter. Some (record { old = part; call = call; new = first.0 } ∷ thereafter)) row first.2 in
     let whole : record { old = part; call = call; new = first.0 } ∷ rest.0 ≡ row =
     same_Some (record { old = part; call = call; new = first.0 } ∷ rest.0) row rest.2 in
     ap (λ (r : List LabelStep). is_some (maps.get (part_after part r).ends q)) (sym whole)
@@ -209,7 +209,7 @@ own_up (Customer call) changes q was none = none was
 own_up Timers changes q was none = none was
 own_up Rerouted changes q was none = none was
 
--- the ends of a label node behind the calls of a step
+-- the ends of a label node after the calls of a step
 pub ends_up : (place : EdgePlace) (now : ℕ) (call : Call) (old new : FinSet fec_cmp) (node : LabelNode) (q : NodeId) → node.spent ≡ None
     → (all_called (node_place place.scenario place.me) place.core now node (one_call (own_label_call call) ++ changed_leaves old new)).spent ≡ None
     → is_some (maps.get (all_called (node_place place.scenario place.me) place.core now node
@@ -223,9 +223,9 @@ ends_up place now call old new node q e goes = by (label_row place now node.part
     by : (o : Option (List LabelStep)) → label_row place now node.part calls ≡ o
         → is_some (maps.get (all_called (node_place place.scenario place.me) place.core now node calls).part.ends q)
         ≡ up_by kinds.Ldp call q (is_some (maps.get node.part.ends q))
-    by None h = absurd (none-some LacksLabel (sym goes ∙ lacks_behind place now node calls e h))
+    by None h = absurd (none-some LacksLabel (sym goes ∙ lacks_after place now node calls e h))
     by (Some row) h =
-        ap (λ (part : LabelData). is_some (maps.get part.ends q)) (part_behind place now node calls row e h).part
+        ap (λ (part : LabelData). is_some (maps.get part.ends q)) (part_thereafter place now node calls row e h).part
         ∙ (row_up place now node.part calls row q h
         ∙ own_up call (changed_leaves old new) q (is_some (maps.get node.part.ends q))
         (leaves_up new (filter (λ fec. not (sets.contains old fec && sets.contains new fec)) (in_order (sets.union old new))) q))

@@ -23,24 +23,24 @@ abbrev pub fault_of : Spent → EdgeFault
 fault_of LacksLabel = faults.NoLabel
 fault_of LacksMemory = faults.NoMemory
 
--- why an edge is spent behind an answer, if it is
+-- why an edge is spent after an answer, if it is
 abbrev pub spent_by : EdgeFault → Option Spent
 spent_by faults.NoLabel = Some LacksLabel
 spent_by faults.NoMemory = Some LacksMemory
 spent_by other = None
 
--- the streams behind a call: an end that comes up has a fresh one, and one that notices a loss has none
-abbrev pub streams_behind : Call → FinMap peer_cmp Stream → FinMap peer_cmp Stream
-streams_behind (Raised kind peer) streams = maps.insert streams (record { kind = kind; peer = peer }) unfed
-streams_behind (Noticed kind peer) streams = maps.remove streams (record { kind = kind; peer = peer })
-streams_behind other streams = streams
+-- the streams after a call: an end that comes up has a fresh one, and one that notices a loss has none
+abbrev pub streams_after : Call → FinMap peer_cmp Stream → FinMap peer_cmp Stream
+streams_after (Raised kind peer) streams = maps.insert streams (record { kind = kind; peer = peer }) unfed
+streams_after (Noticed kind peer) streams = maps.remove streams (record { kind = kind; peer = peer })
+streams_after other streams = streams
 
 -- each edge that it is in the definitions becomes this one by the step, whichever way the core is told
 abbrev pub Makes : Topology → (Core → EdgeState → EdgeState) → EdgeView → EdgeView → Type 0
 Makes core step old new =
     (own : Core) → IsCoreOf core.nodes core.links own → (state : EdgeState) → IsIn state old → IsIn (step own state) new
 
--- each edge that it is in the definitions lacks a label behind the step
+-- each edge that it is in the definitions lacks a label after the step
 abbrev pub Lacks : Topology → (Core → EdgeState → EdgeState) → EdgeView → Type 0
 Lacks core step old =
     (own : Core) → IsCoreOf core.nodes core.links own → (state : EdgeState) → IsIn state old → (step own state).spent ≡ Some LacksLabel

@@ -1,4 +1,4 @@
--- An edge in the midst of a call: its customers' and its peers' part and its streams are behind it, and its label part is not.
+-- An edge in the midst of a call: its customers' and its peers' part and its streams are after it, and its label part is not.
 use Rattle.std.specs.Prelude.{◌≡◌, ℕ, length, Option, None, Result, Ok, Err, IfOk, option_map}
 use Rattle.mv_base.specs.declared.memory.NoMemory.{NoMemory}
 use Rattle.mv_base.specs.core_walks.Core.{Core}
@@ -14,7 +14,7 @@ use Rattle.edge_routing.specs.declared.routing.LeafCandidates.{LeafCandidates}
 use Rattle.edge_routing.specs.Routing.{IsStepped}
 use Rattle.edge_core.specs.declared.parts.Parts.{Parts}
 use Rattle.edge_core.specs.declared.fault.EdgeFault.{EdgeFault}
-use Rattle.edge_core.specs.Answers.{Answers, spent_by, step_of, streams_behind}
+use Rattle.edge_core.specs.Answers.{Answers, spent_by, step_of, streams_after}
 use Rattle.edge_core.specs.State.{IsLive, home_of}
 use Rattle.edge_core.specs.View.{EdgeView}
 
@@ -36,7 +36,7 @@ pub record IsMidway (core : Topology) (now : ℕ) (own : OwnCall) (call : Call) 
   pub is_own : own_call own ≡ own_label_call call
   pub may : MayMake old.labels own
   pub labels : parts.labels ≡ old.labels
-  pub streams : parts.streams ≡ streams_behind call old.streams
+  pub streams : parts.streams ≡ streams_after call old.streams
   pub raised : parts.raised ≡ raised_after now old.raised call
   pub home : parts.routing.control.home ≡ home_of old
   pub stepped : IfOk told (IsStepped core now call old.routing parts.routing)
@@ -47,19 +47,19 @@ pub record IsCalled (core : Topology) (now : ℕ) (own : OwnCall) (told : Result
   pub old : EdgeView
   pub is : IsMidway core now own call old told parts
 
--- an edge of these parts behind an answer
+-- an edge of these parts after an answer
 abbrev pub spent_after : Result (Unit {0}) EdgeFault → Option Spent
 spent_after (Ok done) = None
 spent_after (Err fault) = spent_by fault
 
-abbrev pub behind : Parts → Result (Unit {0}) EdgeFault → EdgeView
-behind parts result = record (going parts) { spent = spent_after result }
+abbrev pub thereafter : Parts → Result (Unit {0}) EdgeFault → EdgeView
+thereafter parts result = record (going parts) { spent = spent_after result }
 
--- What is answered and left where the edge is to make that step, by the parts behind it. An edge that is not spent by the answer holds
+-- What is answered and left where the edge is to make that step, by the parts after it. An edge that is not spent by the answer holds
 -- together still.
 pub record Settles (core : Topology) (step : Core → EdgeState → EdgeState) (old : EdgeView) (parts : Parts)
     (result : Result (Unit {0}) EdgeFault) : Type 0 where
-  pub answers : Answers core step old (behind parts result) result
+  pub answers : Answers core step old (thereafter parts result) result
   pub live : spent_after result ≡ None → IsLive parts.routing parts.labels parts.streams
 
 -- the same of a call

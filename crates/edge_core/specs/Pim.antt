@@ -21,7 +21,7 @@ use Rattle.edge_core.specs.View.{EdgeView}
 abbrev pub is_ours : Scenario → IfaceId → JoinPrune → Bool
 is_ours scenario iface message = same_addr message.neighbour (own_addr scenario iface)
 
--- whether the edge would hold too many entries behind the message
+-- whether the edge would hold too many entries after the message
 abbrev pub is_over : EdgeView → ℕ → IfaceId → JoinPrune → Bool
 is_over edge now iface message = are_too_many (applied (data_of edge).control.entries iface message now)
 

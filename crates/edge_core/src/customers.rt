@@ -8,7 +8,7 @@ ghost use Rattle.edge_routing.specs.control_laws.Control.{control_of};
 ghost use Rattle.edge_routing.specs.edge_control.Places.{is_note_too_many, is_own_iface};
 ghost use Rattle.edge_routing.specs.control_laws.group_laws.Groups.{HasGroups};
 ghost use Rattle.edge_core.specs.Answers.{IsOneOf, OnTaken};
-ghost use Rattle.edge_core.specs.Called.{SettlesCall, behind, going, spent_after};
+ghost use Rattle.edge_core.specs.Called.{SettlesCall, thereafter, going, spent_after};
 ghost use Rattle.edge_core.specs.Pim.{AnswersPim, IsPimFault, is_ours};
 ghost use Rattle.edge_core.specs.State.{IsLive};
 ghost use Rattle.edge_core.specs.declared.fault.EdgeFault.{EdgeFault as EdgeFaults};
@@ -59,7 +59,7 @@ impl Parts {
         requires nodes { core.now.nodes ≡ length self.old.routing.control.home.scenario.nodes }
         requires own { is_own_iface self.old.routing.control.home iface ≡ true }
         requires now { now < 2 ^ 63 }
-        ensures answers { AnswersPim core.now now iface bytes.now (going self.old) (behind self.new result) result }
+        ensures answers { AnswersPim core.now now iface bytes.now (going self.old) (thereafter self.new result) result }
         ensures live { spent_after result ≡ None → IsLive self.new.routing self.new.labels self.new.streams }
     {
         let message = read(self.alloc, bytes)?;

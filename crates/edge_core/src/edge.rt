@@ -53,7 +53,7 @@ impl Model for Edge {
     ghost invariant = { λ e. e.spent ≡ None → IsLive e.parts.routing e.parts.labels e.parts.streams };
 }
 
-/// Why an edge is spent behind the answer, if it is.
+/// Why an edge is spent after the answer, if it is.
 pub(crate) fn spent_by(answer: &Result<(), EdgeFault>) -> Option<NodeFault>
     ensures { option_map cause result ≡ spent_after answer.now }
 {

@@ -7,7 +7,7 @@ ghost use Rattle.edge_defs.specs.Steps.{Label as LabelCall, Update};
 ghost use Rattle.edge_routing.specs.edge_streams.Kept.{session};
 ghost use Rattle.edge_routing.specs.edge_streams.Spelled.{SaysWritable, SaysWritableLabel};
 ghost use Rattle.edge_core.specs.Answers.{IsOneOf};
-ghost use Rattle.edge_core.specs.Called.{Settles, SettlesCall, behind, going, spent_after};
+ghost use Rattle.edge_core.specs.Called.{Settles, SettlesCall, thereafter, going, spent_after};
 ghost use Rattle.edge_core.specs.State.{IsLive, is_up};
 ghost use Rattle.edge_core.specs.Taking.{AnswersOctets, IsSessionFault, taken_by};
 ghost use Rattle.edge_core.specs.declared.fault.EdgeFault.{EdgeFault as EdgeFaults};
@@ -137,7 +137,7 @@ impl Parts {
         requires nodes { core.now.nodes ≡ length self.old.routing.control.home.scenario.nodes }
         requires now { now < 2 ^ 63 }
         requires up { is_up (going self.old) kinds.Bgp peer ≡ true }
-        ensures answers { AnswersOctets core.now now (session kinds.Bgp peer) bytes.now (going self.old) (behind self.new result) result }
+        ensures answers { AnswersOctets core.now now (session kinds.Bgp peer) bytes.now (going self.old) (thereafter self.new result) result }
         ensures live { spent_after result ≡ None → IsLive self.new.routing self.new.labels self.new.streams }
     {
         self.streams.feed_bgp(peer, bytes)?;
@@ -161,7 +161,7 @@ impl Parts {
         requires nodes { core.now.nodes ≡ length self.old.routing.control.home.scenario.nodes }
         requires now { now < 2 ^ 63 }
         requires up { is_up (going self.old) kinds.Ldp peer ≡ true }
-        ensures answers { AnswersOctets core.now now (session kinds.Ldp peer) bytes.now (going self.old) (behind self.new result) result }
+        ensures answers { AnswersOctets core.now now (session kinds.Ldp peer) bytes.now (going self.old) (thereafter self.new result) result }
         ensures live { spent_after result ≡ None → IsLive self.new.routing self.new.labels self.new.streams }
     {
         self.streams.feed_ldp(peer, bytes)?;

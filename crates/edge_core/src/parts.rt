@@ -26,7 +26,7 @@ pub(crate) struct Parts {
 }
 
 impl Parts {
-    /// The rest of a call, once what the edge keeps of customers and of peers is behind it: the label step of the call itself, if it has
+    /// The rest of a call, once what the edge keeps of customers and of peers is after it: the label step of the call itself, if it has
     /// one, and then one for each tree of which the edge becomes or stops being a leaf.
     pub(crate) fn settle(
         &mut self,

@@ -1,4 +1,4 @@
--- The trees of which the label part is a leaf are, behind each step, those that the edge wants.
+-- The trees of which the label part is a leaf are, after each step, those that the edge wants.
 use Rattle.std.proofs.Common.{◌≡◌, ℕ, ◌+◌, ◌==◌, ◌⊎◌, Bool, true, false, cond, not, ◌&&◌, ◌||◌, inl, inr, List, [], ◌∷◌, ◌++◌, map, Option, Some, None, refl, sym, ap, subst, ◌∙◌}
 use Rattle.std.specs.List.{filter, flat_map, list_any}
 use Rattle.std.specs.Ordering.{eq_by_cmp}
@@ -113,11 +113,11 @@ row_leaves place now old new (next ∷ more) part row same e fec =
     let own : Place = label_place place.scenario place.core place.me in
     let call : labels.Call = call_for old new next in
     let first =
-    bind_some (label_step own now part call) (λ (step : Stepped). label_row place now step.part (map (call_for old new) more) >>? λ behind. Some
-    (record { old = part; call = call; new = step } ∷ behind)) row e in
+    bind_some (label_step own now part call) (λ (step : Stepped). label_row place now step.part (map (call_for old new) more) >>? λ thereafter. Some
+    (record { old = part; call = call; new = step } ∷ thereafter)) row e in
     let rest =
     bind_some (label_row place now first.0.part (map (call_for old new) more))
-    (λ behind. Some (record { old = part; call = call; new = first.0 } ∷ behind)) row first.2 in
+    (λ thereafter. Some (record { old = part; call = call; new = first.0 } ∷ thereafter)) row first.2 in
     let is : (other : Fec) → sets.contains first.0.part.leaves other ≡ sets.contains (labels.effect own now part call).0.part.leaves other =
     λ other. ap (λ (s : FinSet fec_cmp). sets.contains s other) (same_leaves own now part call first.0 first.1) in
     subst (λ (made : List LabelStep). sets.contains (part_after part made).leaves fec ≡ sets.contains new fec)
@@ -185,11 +185,11 @@ step_row place now old new None part row is keeps e = changed_row place now old 
 step_row place now old new (Some call) part row is keeps e =
     let own : Place = label_place place.scenario place.core place.me in
     let first =
-    bind_some (label_step own now part call) (λ (step : Stepped). label_row place now step.part (changed_leaves old new) >>? λ behind. Some
-    (record { old = part; call = call; new = step } ∷ behind)) row e in
+    bind_some (label_step own now part call) (λ (step : Stepped). label_row place now step.part (changed_leaves old new) >>? λ thereafter. Some
+    (record { old = part; call = call; new = step } ∷ thereafter)) row e in
     let rest =
     bind_some (label_row place now first.0.part (changed_leaves old new))
-    (λ behind. Some (record { old = part; call = call; new = first.0 } ∷ behind)) row first.2 in
+    (λ thereafter. Some (record { old = part; call = call; new = first.0 } ∷ thereafter)) row first.2 in
     subst (λ (made : List LabelStep). (fec : Fec) → sets.contains (part_after part made).leaves fec ≡ sets.contains new fec)
     (same_Some (record { old = part; call = call; new = first.0 } ∷ rest.0) row rest.2)
     (changed_row place now old new first.0.part rest.0 (same_leaves own now part call first.0 first.1 ∙ keeps ∙ is) rest.1)
@@ -206,7 +206,7 @@ leaves_follow place now old call new is e =
       row =
           row;
     })) new e in
-    subst (λ (behind : EdgeStepped). behind.edge.part.leaves ≡ leaves place behind.edge.control)
+    subst (λ (thereafter : EdgeStepped). thereafter.edge.part.leaves ≡ leaves place thereafter.edge.control)
     (same_Some (record {
       edge = record { control = control; part = part_after old.part made.0; raised = raised_after now old.raised call };
       row =

@@ -16,7 +16,7 @@ use Rattle.bgp_messages.specs.bgp_values.declared.mvpn_nlri.route.Route.TheVaria
 use Rattle.mv_base.specs.declared.route_targets.communities.ExtComm.{ExtComm}
 use Rattle.bgp_messages.specs.declared.bgp_attributes.key.Key.{Key}
 use Rattle.bgp_messages.specs.declared.bgp_attributes.key.Key.TheVariants.{Mcast, Unicast}
-use Rattle.selective_defs.proofs.PartLemmas.{first, behind, addr_back, addr_again, word_back, word_again}
+use Rattle.selective_defs.proofs.PartLemmas.{first, thereafter, addr_back, addr_again, word_back, word_again}
 use Rattle.edge_defs.specs.Keys.{Value, leaf_parts, route_parts, key_parts, flag_number, label_part, kind_number, tunnel_parts, pmsi_parts, value_parts}
 
 -- ---- lists
@@ -36,7 +36,7 @@ leaf_back parts =
     let kind = first (front parts) in
     let rd : Rd = record { 0 = front (more parts) } in
     let rest = more (more parts) in
-    cond (kind == 2) (leaf_keys.Inter rd (first (behind (front parts))))
+    cond (kind == 2) (leaf_keys.Inter rd (first (thereafter (front parts))))
     (leaf_keys.Selective rd (word_back (front rest)) (word_back (front (more rest))) (addr_back (front (more (more rest)))))
 
 leaf_again : (key : LeafKey) → leaf_back (leaf_parts key) ≡ key
@@ -47,7 +47,7 @@ leaf_again (leaf_keys.Selective rd source group originator) =
 abbrev route_back : List (List ℕ) → Route
 route_back parts =
     let kind = first (front parts) in
-    let number = first (behind (front parts)) in
+    let number = first (thereafter (front parts)) in
     let rd : Rd = record { 0 = front (more parts) } in
     let one = front (more (more parts)) in
     let two = front (more (more (more parts))) in
@@ -77,7 +77,7 @@ route_again (routes.Other kind octets) = refl
 abbrev afi_back : ℕ → Afi
 afi_back number = cond (number == 1) Ipv4 Ipv6
 
-afi_again : (afi : Afi) (route : Route) → afi_back (first (behind (front (key_parts (Mcast afi route))))) ≡ afi
+afi_again : (afi : Afi) (route : Route) → afi_back (first (thereafter (front (key_parts (Mcast afi route))))) ≡ afi
 afi_again Ipv4 route = refl
 afi_again Ipv6 route = refl
 
@@ -86,7 +86,7 @@ key_back parts =
     let rest = more (more parts) in
     cond (first (front parts) == 0) (Unicast (record { 0 = front rest })
     (record { addr = addr_back (front (more rest)); bits = first (front (more (more rest))) }))
-    (Mcast (afi_back (first (behind (front parts)))) (route_back rest))
+    (Mcast (afi_back (first (thereafter (front parts)))) (route_back rest))
 
 key_again : (key : Key) → key_back (key_parts key) ≡ key
 key_again (Unicast rd prefix) = λ i. Unicast rd (record { addr = addr_again prefix.addr i; bits = prefix.bits })
@@ -121,9 +121,9 @@ abbrev tunnel_back : List ℕ → List ℕ → Tunnel
 tunnel_back own other =
     let kind = first own in
     cond (kind == 0) tunnels.None
-    (cond (kind == 2) (tunnels.Mldp (record { kind = kind_back (first (behind own)); root = addr_back (behind (behind own)); opaque = other }))
-    (cond (kind == 6) (tunnels.Ingress (addr_back (behind own)))
-    (tunnels.Other (first (behind own)) other)))
+    (cond (kind == 2) (tunnels.Mldp (record { kind = kind_back (first (thereafter own)); root = addr_back (thereafter (thereafter own)); opaque = other }))
+    (cond (kind == 6) (tunnels.Ingress (addr_back (thereafter own)))
+    (tunnels.Other (first (thereafter own)) other)))
 
 tunnel_again : (tunnel : Tunnel) → tunnel_back (front (tunnel_parts tunnel)) (front (more (tunnel_parts tunnel))) ≡ tunnel
 tunnel_again tunnels.None = refl
@@ -133,9 +133,9 @@ tunnel_again (tunnels.Other kind ident) = refl
 
 abbrev pmsi_back : List ℕ → List ℕ → List ℕ → Option Pmsi
 pmsi_back [] own other = None
-pmsi_back (number ∷ rest) own other = Some (record { leaf_info = first rest == 1; tunnel = tunnel_back own other; label = label_back (behind rest) })
+pmsi_back (number ∷ rest) own other = Some (record { leaf_info = first rest == 1; tunnel = tunnel_back own other; label = label_back (thereafter rest) })
 
--- the three parts of a tunnel, whatever stands behind them
+-- the three parts of a tunnel, whatever stands after them
 abbrev pmsi_front : List (List ℕ) → Option Pmsi
 pmsi_front parts = pmsi_back (front parts) (front (more parts)) (front (more (more parts)))
 
@@ -146,20 +146,20 @@ tunnel_front (tunnels.Mldp fec) rest = tunnel_again (tunnels.Mldp fec)
 tunnel_front (tunnels.Ingress addr) rest = tunnel_again (tunnels.Ingress addr)
 tunnel_front (tunnels.Other kind ident) rest = refl
 
-tunnel_behind : (tunnel : Tunnel) (rest : List (List ℕ)) → more (more (tunnel_parts tunnel ++ rest)) ≡ rest
-tunnel_behind tunnels.None rest = refl
-tunnel_behind (tunnels.Mldp fec) rest = refl
-tunnel_behind (tunnels.Ingress addr) rest = refl
-tunnel_behind (tunnels.Other kind ident) rest = refl
+tunnel_after : (tunnel : Tunnel) (rest : List (List ℕ)) → more (more (tunnel_parts tunnel ++ rest)) ≡ rest
+tunnel_after tunnels.None rest = refl
+tunnel_after (tunnels.Mldp fec) rest = refl
+tunnel_after (tunnels.Ingress addr) rest = refl
+tunnel_after (tunnels.Other kind ident) rest = refl
 
 pmsi_again : (pmsi : Option Pmsi) (rest : List (List ℕ)) → pmsi_front (pmsi_parts pmsi ++ rest) ≡ pmsi
 pmsi_again None rest = refl
 pmsi_again (Some pmsi) rest =
     λ i. Some (record { leaf_info = flag_again pmsi.leaf_info i; tunnel = tunnel_front pmsi.tunnel rest i; label = label_again pmsi.label i })
 
-pmsi_behind : (pmsi : Option Pmsi) (rest : List (List ℕ)) → more (more (more (pmsi_parts pmsi ++ rest))) ≡ rest
-pmsi_behind None rest = refl
-pmsi_behind (Some pmsi) rest = tunnel_behind pmsi.tunnel rest
+pmsi_after : (pmsi : Option Pmsi) (rest : List (List ℕ)) → more (more (more (pmsi_parts pmsi ++ rest))) ≡ rest
+pmsi_after None rest = refl
+pmsi_after (Some pmsi) rest = tunnel_after pmsi.tunnel rest
 
 abbrev comm_of : List ℕ → ExtComm
 comm_of octets = record { 0 = octets }
@@ -178,7 +178,7 @@ octets_of value = map (λ (comm : ExtComm). comm.0) value.comms
 value_again : (value : Value) → value_back (value_parts value) ≡ value
 value_again value =
     let comms : map comm_of (more (more (more (pmsi_parts value.pmsi ++ octets_of value)))) ≡ value.comms =
-    ap (map comm_of) (pmsi_behind value.pmsi (octets_of value)) ∙ comms_again value.comms in
+    ap (map comm_of) (pmsi_after value.pmsi (octets_of value)) ∙ comms_again value.comms in
     λ i. record { next_hop = addr_again value.next_hop i; comms = comms i; pmsi = pmsi_again value.pmsi (octets_of value) i }
 
 pub one_value : (a b : Value) → value_parts a ≡ value_parts b → a ≡ b

@@ -39,7 +39,7 @@ held_for place control peer = maps.from_entries (originated place control ++ joi
 abbrev pub told : EdgePlace → Control → NodeId → Table
 told place control peer = if is_some (maps.get control.peers peer) then held_for place control peer else maps.empty
 
--- The changes that a step puts to a peer: from what was told before it to what is told behind it. At a raise that is the whole table,
+-- The changes that a step puts to a peer: from what was told before it to what is told after it. At a raise that is the whole table,
 -- and to an end that is down nothing is put.
 abbrev pub put_to : EdgePlace → Control → Control → NodeId → List (Change Key Value)
 put_to place old new peer = if is_some (maps.get new.peers peer) then changes same_value (told place old peer) (told place new peer) else []

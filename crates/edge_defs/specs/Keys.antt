@@ -47,7 +47,7 @@ route_parts (routes.SourceJoin rd source_as source group) = (7 ∷ source_as ∷
 route_parts (routes.Other kind octets) = (8 ∷ kind ∷ []) ∷ octets ∷ []
 
 -- What keys are ordered by: unicast keys before multicast keys, in each kind those of AFI 1 before those of AFI 2, and then the octets
--- that spell them, the label of a unicast route aside. The parts of the key stand behind, so that no two keys tie.
+-- that spell them, the label of a unicast route aside. The parts of the key stand after, so that no two keys tie.
 abbrev pub key_parts : Key → List (List ℕ)
 key_parts (Unicast rd prefix) =
     (0 ∷ afi_number (afi_of prefix.addr) ∷ []) ∷ vpn_text [] rd prefix ∷ rd.0 ∷ addr_key prefix.addr ∷ (prefix.bits ∷ []) ∷ []

@@ -58,7 +58,7 @@ pub data Call : Type 0 where
 
 -- ---- routes that are taken
 
--- A route behind an advertisement at the clock. One that changes counts as forgotten and learned again; an equal one keeps its time.
+-- A route after an advertisement at the clock. One that changes counts as forgotten and learned again; an equal one keeps its time.
 abbrev pub learned : ℕ → Value → Option TakenRoute → TakenRoute
 learned now value None = record { value = value; since = now; run = false }
 learned now value (Some old) = if same_value old.value value then old else record { value = value; since = now; run = false }
@@ -194,11 +194,11 @@ refreshed place now control = record control { flows = flows_at place now contro
 abbrev pub refreshed_if : Bool → EdgePlace → ℕ → Control → Control
 refreshed_if vrfs place now control = record control { flows = if vrfs then flows_at place now control else control.flows }
 
--- what the edge keeps of its customers and of BGP behind a call
+-- what the edge keeps of its customers and of BGP after a call
 abbrev pub control_step : EdgePlace → ℕ → Control → Call → Control
 control_step place now old call = refreshed_if (is_vrf_step call) place now (effect place now old call)
 
--- when the end of each BGP session that is up came up, behind a call
+-- when the end of each BGP session that is up came up, after a call
 abbrev pub raised_after : ℕ → FinMap node_cmp ℕ → Call → FinMap node_cmp ℕ
 raised_after now old (Raised kinds.Bgp peer) = maps.insert old peer now
 raised_after now old (Noticed kinds.Bgp peer) = maps.remove old peer
@@ -225,7 +225,7 @@ abbrev pub one_call : Option labels.Call → List labels.Call
 one_call None = []
 one_call (Some call) = call ∷ []
 
--- A label step that was made: what the node was before it, the call, and what is behind it.
+-- A label step that was made: what the node was before it, the call, and what is after it.
 pub record LabelStep : Type 0 where
   pub old : LabelData
   pub call : labels.Call
@@ -236,15 +236,15 @@ abbrev pub label_row : EdgePlace → ℕ → LabelData → List labels.Call → 
 label_row place now part [] = Some []
 label_row place now part (call ∷ more) =
     label_step (label_place place.scenario place.core place.me) now part call >>? λ new.
-    label_row place now new.part more >>? λ behind.
-    Some (record { old = part; call = call; new = new } ∷ behind)
+    label_row place now new.part more >>? λ thereafter.
+    Some (record { old = part; call = call; new = new } ∷ thereafter)
 
--- the label part behind the row
+-- the label part after the row
 abbrev pub part_after : LabelData → List LabelStep → LabelData
 part_after part [] = part
 part_after part (step ∷ more) = part_after step.new.part more
 
--- An edge behind a step, with the label steps that it made.
+-- An edge after a step, with the label steps that it made.
 pub record EdgeStepped : Type 0 where
   pub edge : EdgeData
   pub row : List LabelStep

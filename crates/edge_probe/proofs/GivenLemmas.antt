@@ -37,7 +37,7 @@ use Rattle.edge_core.specs.Answers.{Lacks, Makes, step_of}
 use Rattle.edge_core.specs.Pim.{is_over}
 use Rattle.edge_core.specs.State.{IsIn, data_of, home_of, is_up}
 use Rattle.edge_core.specs.View.{EdgeView}
-use Rattle.probe_defs.specs.Given.{behind, begun, fault_in, given, messages_in, peer_session}
+use Rattle.probe_defs.specs.Given.{thereafter, begun, fault_in, given, messages_in, peer_session}
 use Rattle.probe_defs.specs.Lines.{joins_of, octets_of}
 use Rattle.probe_defs.specs.Probed.{edge_with, joined, table_of, taken_at_once}
 use Rattle.probe_defs.specs.declared.probe.ProbeLine.{ProbeLine}
@@ -109,9 +109,9 @@ module _ (core : Topology) (peer : NodeId) (done : List ProbeLine) (old : EdgeVi
   at own = place_of (home_of old) own
 
   abbrev before : Core → EdgeState
-  before own = behind (at own) peer done
+  before own = thereafter (at own) peer done
 
-  more : (own : Core) (line : ProbeLine) → behind (at own) peer (done ++ line ∷ []) ≡ given (at own) peer (before own) line
+  more : (own : Core) (line : ProbeLine) → thereafter (at own) peer (done ++ line ∷ []) ≡ given (at own) peer (before own) line
   more own line = fold_snoc (given (at own) peer) (begun (at own) peer) done line
 
   pub control_at : (own : Core) → IsCoreOf core.nodes core.links own
@@ -139,7 +139,7 @@ module _ (core : Topology) (peer : NodeId) (done : List ProbeLine) (old : EdgeVi
     in_core = in_core_still core old new same g.in_core;
     unspent = unspent;
     octets = fits;
-    is = λ own is. subst (λ (home : Home). IsIn (behind (place_of home own) peer (done ++ line ∷ [])) new) (sym same)
+    is = λ own is. subst (λ (home : Home). IsIn (thereafter (place_of home own) peer (done ++ line ∷ [])) new) (sym same)
         (subst (λ (state : EdgeState). IsIn state new) (sym (more own line)) (makes own is (before own) (g.is own is)));
   }
 

@@ -15,7 +15,7 @@ use Rattle.probe_defs.specs.Probed.{admitted}
 use Rattle.probe_defs.specs.declared.probe.Import.{Import}
 use Rattle.edge_routes.specs.edge_home.Home.{Home, place_of}
 use Rattle.network_defs.specs.node_defs.EdgeState.{fresh_state}
-use Rattle.probe_defs.specs.Given.{behind, fault_in}
+use Rattle.probe_defs.specs.Given.{thereafter, fault_in}
 use Rattle.probe_defs.specs.Lines.{IsJoinAt, IsLineAt, join_limit, joins_of, octets_of}
 use Rattle.probe_defs.specs.declared.probe.ProbeLine.{ProbeLine}
 use Rattle.probe_defs.specs.declared.probe.ProbeLine.TheVariants.{Join, Piece}
@@ -43,7 +43,7 @@ pub record IsGiven (core : Topology) (peer : NodeId) (lines : List ProbeLine) (e
   pub in_core : IsInCore core edge
   pub unspent : edge.spent ≡ None
   pub octets : IsOctets (octets_of lines)
-  pub is : (own : Core) → IsCoreOf core.nodes core.links own → IsIn (behind (place_of (home_of edge) own) peer lines) edge
+  pub is : (own : Core) → IsCoreOf core.nodes core.links own → IsIn (thereafter (place_of (home_of edge) own) peer lines) edge
 
 -- and this is the first fault of the octets
 pub record IsTold (core : Topology) (peer : NodeId) (lines : List ProbeLine) (fault : Option (ℕ × StreamFault)) (edge : EdgeView) :

@@ -61,13 +61,13 @@ comms_append : (xs : List ExtComm) (x : ExtComm) → AreComms xs → length x.0 
 comms_append [] x h eight = (eight, tt)
 comms_append (y ∷ xs) x h eight = (h.0, comms_append xs x h.1 eight)
 
--- One community more, behind the first ones.
-pub put_behind : (places : List ExtComm) (i : ℕ) (x : ExtComm) → i < length places → take (i + 1) (set places i x) ≡ take i places ++ x ∷ []
-put_behind places i x less = rw add-one (take-suc-set places i x less)
+-- One community more, after the first ones.
+pub put_after : (places : List ExtComm) (i : ℕ) (x : ExtComm) → i < length places → take (i + 1) (set places i x) ≡ take i places ++ x ∷ []
+put_after places i x less = rw add-one (take-suc-set places i x less)
 
 pub put_octets : (places : List ExtComm) (i : ℕ) (x : ExtComm) → i < length places → length x.0 ≡ 8 → AreComms (take i places)
     → AreComms (take (i + 1) (set places i x))
-put_octets places i x less eight h = subst AreComms (sym (put_behind places i x less)) (comms_append (take i places) x h eight)
+put_octets places i x less eight h = subst AreComms (sym (put_after places i x less)) (comms_append (take i places) x h eight)
 
 -- One target more, as a community.
 pub targets_more : (front : List ExtComm) (list : List Target) (i : ℕ) (d : Target) → i < length list → front ≡ map (λ target. target.0) (take i list)

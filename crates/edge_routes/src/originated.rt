@@ -153,7 +153,7 @@ fn source_as_comm(number: u16) -> ExtComm
     ExtComm([0x00, 0x09, high, low, 0, 0, 0, 0])
 }
 
-/// Puts a community behind the first `count` ones.
+/// Puts a community after the first `count` ones.
 fn put_comm(places: &mut [ExtComm; 10], count: usize, comm: ExtComm)
     requires { count < 10 }
     ensures comms { take (count + 1) places.new ≡ take count places.old ++ comm ∷ [] }
@@ -198,7 +198,7 @@ pub fn plain_value(own: &LocalVrf) -> TableValue
     own_value(own.addr(), &places[..targets.as_slice().len()], None)
 }
 
-/// The value of the VRF's unicast routes: behind its targets stand its VRF Route Import and its Source AS.
+/// The value of the VRF's unicast routes: after its targets stand its VRF Route Import and its Source AS.
 pub fn unicast_value(own: &LocalVrf) -> TableValue
     ensures { (place : EdgePlace) → IsAt place own.now → result ≡ unicast_value place own.now.vrf }
 {

@@ -7,7 +7,7 @@ use Rattle.edge_defs.specs.Edge.{Control}
 use Rattle.edge_defs.specs.Held.{held_for, put_to, told}
 use Rattle.edge_defs.specs.Keys.{Table, same_value}
 use Rattle.edge_defs.specs.Place.{EdgePlace}
-use Rattle.edge_control.specs.edge_tables.Tables.{Both, EachPeer, IsBetween, PeerTable, Tables, put_behind, texts, waiting_at, waiting_of}
+use Rattle.edge_control.specs.edge_tables.Tables.{Both, EachPeer, IsBetween, PeerTable, Tables, put_after, texts, waiting_at, waiting_of}
 use Rattle.held_tables.specs.Holding.{AreToldAlike, HoldAll, IsToldAlike}
 use Rattle.edge_routing.specs.Routing.{AreBetween}
 
@@ -60,15 +60,15 @@ module _ (before after : Tables) (alike : AreToldAlike before after) where
 -- ---- tables that are put
 
 module _ (place : EdgePlace) (old new : Control) (before after : Tables) (are : AreBetween place old new before)
-    (put : EachPeer (λ o n. n ≡ put_behind o) before after) where
+    (put : EachPeer (λ o n. n ≡ put_after o) before after) where
   put_at : (peer : NodeId) (table : PeerTable) → maps.get after peer ≡ Some table
-      → (t : PeerTable) × (maps.get before peer ≡ Some t) × (table ≡ put_behind t)
+      → (t : PeerTable) × (maps.get before peer ≡ Some t) × (table ≡ put_after t)
   put_at peer table at = by (maps.get before peer) refl (put peer)
     where
-      by : (o : Option PeerTable) → maps.get before peer ≡ o → Both (λ o n. n ≡ put_behind o) o (maps.get after peer)
-          → (t : PeerTable) × (maps.get before peer ≡ Some t) × (table ≡ put_behind t)
-      by None e b = absurd (subst (λ (p : Option PeerTable). Both (λ o n. n ≡ put_behind o) None p) at b)
-      by (Some t) e b = (t, e, subst (λ (p : Option PeerTable). Both (λ o n. n ≡ put_behind o) (Some t) p) at b)
+      by : (o : Option PeerTable) → maps.get before peer ≡ o → Both (λ o n. n ≡ put_after o) o (maps.get after peer)
+          → (t : PeerTable) × (maps.get before peer ≡ Some t) × (table ≡ put_after t)
+      by None e b = absurd (subst (λ (p : Option PeerTable). Both (λ o n. n ≡ put_after o) None p) at b)
+      by (Some t) e b = (t, e, subst (λ (p : Option PeerTable). Both (λ o n. n ≡ put_after o) (Some t) p) at b)
 
   told_now : (up : Bool) (set was : Table) (peer : NodeId) → up ≡ is_some (maps.get new.peers peer) → set ≡ held_for place new peer
       → was ≡ cond up (told place old peer) maps.empty
@@ -97,7 +97,7 @@ module _ (place : EdgePlace) (old new : Control) (before after : Tables) (are : 
   pub put_keys : (peer : NodeId) → is_some (maps.get after peer) ≡ is_some (maps.get before peer)
   put_keys peer = by (maps.get before peer) (maps.get after peer) (put peer)
     where
-      by : (o p : Option PeerTable) → Both (λ o n. n ≡ put_behind o) o p → is_some p ≡ is_some o
+      by : (o p : Option PeerTable) → Both (λ o n. n ≡ put_after o) o p → is_some p ≡ is_some o
       by None None b = refl
       by None (Some t) b = absurd b
       by (Some t) None b = absurd b
@@ -107,7 +107,7 @@ module _ (place : EdgePlace) (old new : Control) (before after : Tables) (are : 
       → waiting_at after peer ≡ waiting_at before peer ++ texts (put_to place old new peer)
   put_waits peer there = by (maps.get before peer) (maps.get after peer) refl there (put peer)
     where
-      by : (o p : Option PeerTable) → maps.get before peer ≡ o → is_some o ≡ true → Both (λ o n. n ≡ put_behind o) o p
+      by : (o p : Option PeerTable) → maps.get before peer ≡ o → is_some o ≡ true → Both (λ o n. n ≡ put_after o) o p
           → waiting_of p ≡ waiting_of o ++ texts (put_to place old new peer)
       by None p e h b = absurd cc
       by (Some t) None e h b = absurd b

@@ -16,7 +16,7 @@ use Rattle.edge_defs.specs.Steps.{Call, control_step, effect, is_vrf_step, refre
 use Rattle.edge_defs.specs.Tunnels.{leaves}
 use Rattle.edge_words.specs.Leaf.{IsInclusive}
 use Rattle.edge_routes.specs.edge_home.Home.{Home, peers_of, place_of}
-use Rattle.edge_control.specs.edge_tables.Tables.{EachPeer, Tables, put_behind, texts, waiting_at}
+use Rattle.edge_control.specs.edge_tables.Tables.{EachPeer, Tables, put_after, texts, waiting_at}
 use Rattle.held_tables.specs.Holding.{AreToldAlike, HoldAll}
 use Rattle.vrf_words.specs.tree_laws.Joins.{AreOfVrfs}
 use Rattle.vrf_words.specs.tree_laws.Wanting.{AreTreesOf}
@@ -76,7 +76,7 @@ module _ (core : Topology) (now : ℕ) (call : Call) (old between new : EdgeRout
     (is_core : IsCoreOf core.nodes core.links own) (vrf : is_vrf_step call ≡ true) (step : IsInStep old) (way : IsOnWay call now old between tunnels)
     (is : IsRefreshedTo core now between.control new.control) (trees : AreTrees new.control) (groups : HaveGroups (control_of new.control))
     (hold : (any : Core) → HoldAll (place_of between.control.home any) (control_of new.control) middle) (alike : AreToldAlike between.tables middle)
-    (put : EachPeer (λ o n. n ≡ put_behind o) middle new.tables) (wants : AreTold between.control.trees new.control.trees changed)
+    (put : EachPeer (λ o n. n ≡ put_after o) middle new.tables) (wants : AreTold between.control.trees new.control.trees changed)
     (all : told.candidates.items ≡ tunnels ++ changed)
     (listed : (any : Core) (fec : Fec) → list_any (same_fec fec) told.candidates.items ≡ true
     → list_any (same_fec fec) told.leaves.items ≡ sets.contains (leaves (place_of new.control.home any) (control_of new.control)) fec) where
@@ -181,7 +181,7 @@ module _ (core : Topology) (now : ℕ) (call : Call) (old between new : EdgeRout
 pub rest_of : (core : Topology) (now : ℕ) (call : Call) (old between refreshed_to new : EdgeRouting) (tunnels changed : List Fec)
     (told : LeafCandidates) → is_vrf_step call ≡ true → IsInStep old
     → IsOnWay call now old between tunnels → HasRefreshed core now between refreshed_to changed → new.control ≡ refreshed_to.control
-    → EachPeer (λ o n. n ≡ put_behind o) refreshed_to.tables new.tables → told.candidates.items ≡ tunnels ++ changed
+    → EachPeer (λ o n. n ≡ put_after o) refreshed_to.tables new.tables → told.candidates.items ≡ tunnels ++ changed
     → ((any : Core) (fec : Fec) → list_any (same_fec fec) told.candidates.items ≡ true
     → list_any (same_fec fec) told.leaves.items ≡ sets.contains (leaves (place_of new.control.home any) (control_of new.control)) fec)
     → IsStepped core now call old new told

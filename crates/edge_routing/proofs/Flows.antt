@@ -69,21 +69,21 @@ join_groups old new joins old_have new_have changed =
     by join (flow, inr h) = flow_group new new_have flow join h
 
 -- The groups after a refresh.
-pub groups_behind : (now : ℕ) (old new : Kept) (own : Core) → HaveGroups (control_of old) → IsSound old
+pub groups_after : (now : ℕ) (old new : Kept) (own : Core) → HaveGroups (control_of old) → IsSound old
     → control_of new ≡ refreshed (place_of old.home own) now (control_of old) → HaveGroups (control_of new)
-groups_behind now old new own have sound is =
+groups_after now old new own have sound is =
     subst HaveGroups (sym is) (refreshed_groups (place_of old.home own) now (control_of old) have sound.spelled)
 
 -- ---- joins
 
 -- Tables that held the joins of the flows before a refresh hold those of the flows after it, once the joins that it lists were gone through.
-pub held_behind : (old new : Kept) (own any : Core) (now : ℕ) (joins gone_through : List TreeJoin) (before after : Tables) → new.home ≡ old.home
+pub held_after : (old new : Kept) (own any : Core) (now : ℕ) (joins gone_through : List TreeJoin) (before after : Tables) → new.home ≡ old.home
     → control_of new ≡ refreshed (place_of old.home own) now (control_of old) → AreOfVrfs (place_of old.home any) (control_of old)
     → AreChanged (control_of old).flows (control_of new).flows joins → HoldAll (place_of old.home any) (control_of old) before → gone_through ≡ joins
     → (AreOfVrfs (place_of new.home any) (control_of new) → HaveIpv4Imports (control_of new)
     → HoldAllBut (place_of new.home any) (control_of new) (keys_of gone_through) before
     → HoldAll (place_of new.home any) (control_of new) after) → HoldAll (place_of old.home any) (control_of new) after
-held_behind old new own any now joins gone before after home is vrfs changed hold all turns =
+held_after old new own any now joins gone before after home is vrfs changed hold all turns =
     subst (λ (h : Home). HoldAll (place_of h any) (control_of new) after) home
     (turns (subst (λ (h : Home). AreOfVrfs (place_of h any) (control_of new)) (sym home) vrfs_new) ipv4
     (subst (λ (h : Home). HoldAllBut (place_of h any) (control_of new) (keys_of gone) before) (sym home)

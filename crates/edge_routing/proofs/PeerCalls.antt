@@ -69,16 +69,16 @@ module _ (call : Call) (now : ℕ) (old : EdgeRouting) (control : Kept) (tunnels
     (home : control.home ≡ old.control.home)
     (made : (core : Core) → control_of control ≡ effect (place_of old.control.home core) now (control_of old.control) call)
     (wants : wants_of control.trees ≡ wants_of old.control.trees) where
-  abbrev behind : Core → Control
-  behind core = effect (place_of old.control.home core) now (control_of old.control) call
+  abbrev thereafter : Core → Control
+  thereafter core = effect (place_of old.control.home core) now (control_of old.control) call
 
   -- where each peer is to have what it was to have
-  pub silent_made : IsAllowed call → ((core : Core) → (behind core).flows ≡ (control_of old.control).flows)
-      → ((core : Core) (peer : NodeId) → is_some (maps.get (behind core).peers peer) ≡ is_some (maps.get old.control.peers peer))
-      → ((core : Core) (peer : NodeId) → held_for (place_of old.control.home core) (behind core) peer
+  pub silent_made : IsAllowed call → ((core : Core) → (thereafter core).flows ≡ (control_of old.control).flows)
+      → ((core : Core) (peer : NodeId) → is_some (maps.get (thereafter core).peers peer) ≡ is_some (maps.get old.control.peers peer))
+      → ((core : Core) (peer : NodeId) → held_for (place_of old.control.home core) (thereafter core) peer
       ≡ held_for (place_of old.control.home core) (control_of old.control) peer)
       → ((peer : NodeId) (octets : List ℕ) → kept_for call peer octets ≡ octets)
-      → ((core : Core) → AreTunnels (place_of old.control.home core) (control_of old.control) (behind core) tunnels)
+      → ((core : Core) → AreTunnels (place_of old.control.home core) (control_of old.control) (thereafter core) tunnels)
       → HasMade call now old control old.tables tunnels
   silent_made allowed flows up held keeps told = record {
     home = home;

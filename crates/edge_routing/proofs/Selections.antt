@@ -18,13 +18,13 @@ use Rattle.edge_defs.specs.Steps.{Call, Customer, Select, Unselect, control_step
 use Rattle.edge_defs.specs.Tunnels.{leaves}
 use Rattle.edge_routes.specs.edge_home.Home.{Home, as_own, peers_of, place_of}
 use Rattle.edge_routes.specs.declared.edge_home.own_vrf.OwnVrf as homes
-use Rattle.edge_control.specs.edge_tables.Tables.{EachPeer, Tables, put_behind, texts, waiting_at}
+use Rattle.edge_control.specs.edge_tables.Tables.{EachPeer, Tables, put_after, texts, waiting_at}
 use Rattle.edge_words.specs.held_laws.Held.{with_selected, without_selected}
 use Rattle.held_tables.specs.Holding.{AreToldAlike, HoldAll}
 use Rattle.vrf_words.specs.tree_laws.Wanting.{AreTreesOf}
 use Rattle.control_laws.specs.Control.{AreTrees, Kept, control_of}
 use Rattle.control_laws.proofs.Parts.{no_core}
-use Rattle.edge_control.specs.Places.{number_behind, vrfs_of}
+use Rattle.edge_control.specs.Places.{number_after, vrfs_of}
 use Rattle.edge_control.specs.Sound.{IsSound, wants_of}
 use Rattle.edge_routing.proofs.edge_updates.TunnelLemmas.{alike_tunnels}
 use Rattle.edge_labels.specs.Changes.{AreCandidates}
@@ -43,7 +43,7 @@ use Rattle.edge_routing.proofs.StillTrees.{still_trees}
 module _ (core : Topology) (now : ℕ) (call : Call) (old : EdgeRouting) (control : Kept) (tables after : Tables) (told : LeafCandidates)
     (step : IsInStep old) (other : is_vrf_step call ≡ false)
     (has : HasMade call now old control tables []) (peers : control.peers ≡ old.control.peers) (sound : IsSound control)
-    (put : EachPeer (λ o n. n ≡ put_behind o) tables after)
+    (put : EachPeer (λ o n. n ≡ put_after o) tables after)
     (none : told.candidates.items ≡ []) where
   abbrev between : EdgeRouting
   between = record { control = control; tables = tables }
@@ -83,8 +83,8 @@ module _ (core : Topology) (now : ℕ) (call : Call) (old : EdgeRouting) (contro
 
   step_control : (any : Core) → control_of control ≡ control_step (place_of old.control.home any) now (control_of old.control) call
   step_control any =
-      let behind : Control = effect (place_of old.control.home any) now (control_of old.control) call in
-      has.made any ∙ ap (λ (b : Bool). refreshed_if b (place_of old.control.home any) now behind) (sym other)
+      let thereafter : Control = effect (place_of old.control.home any) now (control_of old.control) call in
+      has.made any ∙ ap (λ (b : Bool). refreshed_if b (place_of old.control.home any) now thereafter) (sym other)
 
   waiting : (any : Core) (peer : NodeId) → Among peer (peers_of old.control.home)
       → waiting_at after peer ≡ kept_for call peer (waiting_at old.tables peer)
@@ -126,7 +126,7 @@ module _ (core : Topology) (now : ℕ) (call : Call) (old : EdgeRouting) (contro
 
 -- the selection that a new pattern of the VRF gets at the clock
 abbrev pub selected_now : Control → VrfId → ℕ → Selected
-selected_now control vrf now = record { number = number_behind control vrf; since = now; run = false }
+selected_now control vrf now = record { number = number_after control vrf; since = now; run = false }
 
 pub select_made : (vrf : VrfId) (pattern : Pattern) (now : ℕ) (old : EdgeRouting) (control : Kept) (tables : Tables) → control.home ≡ old.control.home
     → ((core : Core) → control_of control ≡ effect (place_of old.control.home core) now (control_of old.control) (Customer (Select vrf pattern)))
@@ -173,8 +173,8 @@ unselect_made vrf pattern now old control tables home made wants hold alike = re
 
 pub lsp_is : (vrf : VrfId) (old kept : Kept) (shown : Home) (own : homes.OwnVrf) (lsp : ℕ) → shown ≡ kept.home → kept.home ≡ old.home
     → ((core : Core) → Among (as_own own) (own_vrfs (place_of shown core))) → own.id ≡ vrf
-    → ((one : OwnVrf) → Among one (vrfs_of old.home) → one.id ≡ vrf → lsp ≡ tunnel_number one.vrf (number_behind (control_of old) vrf))
-    → tunnel_number own.local.vrf (number_behind (control_of old) vrf) ≡ lsp
+    → ((one : OwnVrf) → Among one (vrfs_of old.home) → one.id ≡ vrf → lsp ≡ tunnel_number one.vrf (number_after (control_of old) vrf))
+    → tunnel_number own.local.vrf (number_after (control_of old) vrf) ≡ lsp
 lsp_is vrf old kept shown own lsp same home among of number =
     sym (number (as_own own) (subst (λ (h : Home). Among (as_own own) (vrfs_of h)) (same ∙ home) (among no_core)) of)
 

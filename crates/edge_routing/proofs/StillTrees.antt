@@ -39,12 +39,12 @@ module _ (place : EdgePlace) (old new : Control) (flows : new.flows ≡ old.flow
   same_route : (key : RouteKey) → maps.get was.leaf.routes key ≡ maps.get is.leaf.routes key
   same_route key =
       let before = (derived_of place old own was was_of).selective key in
-      let behind = (derived_of place new own (as_wanted is) is_of).selective key in
+      let thereafter = (derived_of place new own (as_wanted is) is_of).selective key in
       one_option (maps.get was.leaf.routes key) (maps.get is.leaf.routes key) (λ learned. (
-        λ h. (behind learned).1 (subst (λ (p : FinMap node_cmp Taken). IsSelectiveAt place (only_peers p) own key learned) (sym peers)
+        λ h. (thereafter learned).1 (subst (λ (p : FinMap node_cmp Taken). IsSelectiveAt place (only_peers p) own key learned) (sym peers)
             ((before learned).0 h)),
         λ h. (before learned).1 (subst (λ (p : FinMap node_cmp Taken). IsSelectiveAt place (only_peers p) own key learned) peers
-            ((behind learned).0 h)),
+            ((thereafter learned).0 h)),
       ))
 
   same_leaf : was.leaf ≡ is.leaf
@@ -66,13 +66,13 @@ all_want : (place : EdgePlace) (old new : Control) → new.flows ≡ old.flows �
     → AllByRecursion (λ it. IsTreeOf place old it.own it.tree) (own_trees owns was)
     → AllByRecursion (λ it. IsTreeBetween place new it.own it.tree) (own_trees owns is)
     → AllByRecursion Wants (own_trees owns is)
-all_want place old new flows peers [] was is same before behind = tt
-all_want place old new flows peers (own ∷ owns) was [] same before behind = tt
-all_want place old new flows peers (own ∷ owns) [] (tree ∷ is) same before behind = absurd cc
-all_want place old new flows peers (own ∷ owns) (one ∷ was) (tree ∷ is) same before behind =
+all_want place old new flows peers [] was is same before thereafter = tt
+all_want place old new flows peers (own ∷ owns) was [] same before thereafter = tt
+all_want place old new flows peers (own ∷ owns) [] (tree ∷ is) same before thereafter = absurd cc
+all_want place old new flows peers (own ∷ owns) (one ∷ was) (tree ∷ is) same before thereafter =
     let both = one_wants tree.wants one.wants (wants_of is) (wants_of was) same in (
-      wants_still place old new flows peers own one tree before.0 behind.0 both.0,
-      all_want place old new flows peers owns was is both.1 before.1 behind.1,
+      wants_still place old new flows peers own one tree before.0 thereafter.0 both.0,
+      all_want place old new flows peers owns was is both.1 before.1 thereafter.1,
     )
 
 -- where no flow and no route changed, the trees want what their flows want, as before

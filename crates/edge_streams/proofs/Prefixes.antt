@@ -1,4 +1,4 @@
--- The prefix that the octets of a VPN route spell has no bit set behind it.
+-- The prefix that the octets of a VPN route spell has no bit set after it.
 use Rattle.std.proofs.Common.{◌≡◌, ℕ, zero, suc, ◌+◌, ◌-◌, ◌*◌, ◌/◌, ◌%◌, ◌^◌, ◌<◌, ◌≤◌, List, [], ◌∷◌, length, refl, sym, ap, ◌∙◌, arith}
 use Rattle.std.specs.Int.{w32, w128, to_be_bytes, from_be_bytes, byte_at, bytes_high_first}
 use Rattle.std.proofs.Math.Nat.{div-one, mod-one, mul-mod_left}
@@ -54,9 +54,9 @@ number_128 n =
     (byte_at 6 n) (byte_at 5 n) (byte_at 4 n) (byte_at 3 n) (byte_at 2 n) (byte_at 1 n) (byte_at 0 n)
     ∙ value_high 16 n
 
--- no bit behind the first ones is left
-none_behind : (all bits number : ℕ) → bits ≤ all → cleared all bits number % 2 ^ all % 2 ^ (all - bits) ≡ 0
-none_behind all bits number le =
+-- no bit after the first ones is left
+none_after : (all bits number : ℕ) → bits ≤ all → cleared all bits number % 2 ^ all % 2 ^ (all - bits) ≡ 0
+none_after all bits number le =
     let sum : all ≡ bits + (all - bits) = omega (arith, le) in
     let unit : ℕ = 2 ^ (all - bits) in
     ap (λ (n : ℕ). cleared all bits number % 2 ^ n % unit) sum ∙ mod-mod-pow (cleared all bits number) bits (all - bits)
@@ -66,10 +66,10 @@ pub is_prefix : (afi : Afi) (bits : ℕ) (octets : List ℕ) → bits ≤ addr_b
 unfolding address
 is_prefix Ipv4 bits octets le =
     let number : ℕ = from_be_bytes w32 (padded 4 octets) in
-    (refl, (le, ap (λ (n : ℕ). n % 2 ^ (32 - bits)) (number_32 (cleared 32 bits number)) ∙ none_behind 32 bits number le))
+    (refl, (le, ap (λ (n : ℕ). n % 2 ^ (32 - bits)) (number_32 (cleared 32 bits number)) ∙ none_after 32 bits number le))
 is_prefix Ipv6 bits octets le =
     let number : ℕ = from_be_bytes w128 (padded 16 octets) in
-    (refl, (le, ap (λ (n : ℕ). n % 2 ^ (128 - bits)) (number_128 (cleared 128 bits number)) ∙ none_behind 128 bits number le))
+    (refl, (le, ap (λ (n : ℕ). n % 2 ^ (128 - bits)) (number_128 (cleared 128 bits number)) ∙ none_after 128 bits number le))
 
 pub own_afi : (afi : Afi) (bits : ℕ) (octets : List ℕ) → afi_of (address afi bits octets) ≡ afi
 unfolding address

@@ -73,20 +73,20 @@ pull : {X Y : Type 0} (f : X → Y) (b : Bool) (x : X) (o : Option X) → cond b
 pull f true x o = refl
 pull f false x o = refl
 
--- behind entries of the other protocol
+-- after entries of the other protocol
 past : {X : Type 0} (kind other : Kind) (stream : X → Stream) → ((q a : NodeId) → eq_by_cmp peer_cmp (session kind q) (session other a) ≡ false)
-    → (es : List (NodeId × X)) (behind : List (PeerSession × Stream)) (q : NodeId)
-    → find peer_cmp (session kind q) (entries_as other stream es ++ behind) ≡ find peer_cmp (session kind q) behind
-past kind other stream differ [] behind q = refl
-past kind other stream differ (e ∷ es) behind q = λ i. cond (differ q e.0 i) (Some (stream e.1)) (past kind other stream differ es behind q i)
+    → (es : List (NodeId × X)) (thereafter : List (PeerSession × Stream)) (q : NodeId)
+    → find peer_cmp (session kind q) (entries_as other stream es ++ thereafter) ≡ find peer_cmp (session kind q) thereafter
+past kind other stream differ [] thereafter q = refl
+past kind other stream differ (e ∷ es) thereafter q = λ i. cond (differ q e.0 i) (Some (stream e.1)) (past kind other stream differ es thereafter q i)
 
 -- in front of entries of which none is the session's
-own : {X : Type 0} (kind : Kind) (stream : X → Stream) (es : List (NodeId × X)) (behind : List (PeerSession × Stream)) (q : NodeId)
-    → find peer_cmp (session kind q) behind ≡ None
-    → find peer_cmp (session kind q) (entries_as kind stream es ++ behind) ≡ option_map stream (lookup (is_node q) es)
-own kind stream [] behind q none = none
-own kind stream (e ∷ es) behind q none =
-    (λ i. cond (tied_own kind q e.0 i) (Some (stream e.1)) (own kind stream es behind q none i))
+own : {X : Type 0} (kind : Kind) (stream : X → Stream) (es : List (NodeId × X)) (thereafter : List (PeerSession × Stream)) (q : NodeId)
+    → find peer_cmp (session kind q) thereafter ≡ None
+    → find peer_cmp (session kind q) (entries_as kind stream es ++ thereafter) ≡ option_map stream (lookup (is_node q) es)
+own kind stream [] thereafter q none = none
+own kind stream (e ∷ es) thereafter q none =
+    (λ i. cond (tied_own kind q e.0 i) (Some (stream e.1)) (own kind stream es thereafter q none i))
     ∙ pull stream (is_node q e.0) e.1 (lookup (is_node q) es)
 
 pub bgp_seen : (bgp : NodeMap (Fed Message StreamFault)) (ldp : NodeMap (Fed LabelMessage LdpFault)) (q : NodeId)

@@ -23,7 +23,7 @@ use Rattle.network_defs.specs.session_defs.PeerSession.{PeerSession, peer_cmp, s
 use Rattle.edge_streams.specs.declared.reason.SessionReason.{SessionReason}
 use Rattle.edge_streams.specs.declared.reason.SessionReason.TheVariants as reasons
 
--- the streams behind octets of a session, which go to its stream where it has one
+-- the streams after octets of a session, which go to its stream where it has one
 abbrev pub with_octets : PeerSession → List ℕ → FinMap peer_cmp Stream → FinMap peer_cmp Stream
 with_octets session octets old =
     elim (maps.get old session) [

@@ -50,7 +50,7 @@ impl BgpStream {
         }
     }
 
-    /// Takes the next octets. Behind the first fault it takes none.
+    /// Takes the next octets. After the first fault it takes none.
     fn feed(&mut self, bytes: &[u8]) -> Result<(), NoMemory>
         ensures fed { OnOk result (self.new ≡ fed message_front self.old bytes.now) }
         ensures same { OnErr result (self.new ≡ self.old) }

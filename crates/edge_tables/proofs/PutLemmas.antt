@@ -10,7 +10,7 @@ use Rattle.edge_tables.specs.rib_sync.Ribs.{RibOut, flushed}
 use Rattle.edge_tables.specs.rib_sync.Ribs as ribs
 use Rattle.edge_defs.specs.Keys.{Value, key_cmp, same_value}
 use Rattle.edge_defs.specs.Messages.{as_update}
-use Rattle.edge_tables.specs.Tables.{IsFront, IsPutPart, PeerTable, pending, put_behind, texts}
+use Rattle.edge_tables.specs.Tables.{IsFront, IsPutPart, PeerTable, pending, put_after, texts}
 use Rattle.edge_tables.specs.Slots.{of_rib}
 
 -- ---- change by change
@@ -52,11 +52,11 @@ all_put list old out left way none =
 
 -- ---- table by table
 
-told_behind : (rib : RibOut key_cmp Value) (b : Bool) (out : List ℕ) → rib.up ≡ b
+told_after : (rib : RibOut key_cmp Value) (b : Bool) (out : List ℕ) → rib.up ≡ b
     → let new : PeerTable = record { up = rib.up; set = rib.set; told = if b then rib.set else rib.told; waiting = out } in
     of_rib (if b then record rib { told = rib.set } else rib) out ≡ new
-told_behind rib true out e = refl
-told_behind rib false out e = refl
+told_after rib true out e = refl
+told_after rib false out e = refl
 
 pub put_part : (rib after : RibOut key_cmp Value) (waiting out : List ℕ) (list : List (Change Key Value)) → list ≡ ribs.pending same_value rib
     → after ≡ flushed rib
@@ -66,11 +66,11 @@ put_part rib after waiting out list is told front =
       out,
       subst (λ (l : List (Change Key Value)). IsFront l waiting out) is front,
       ap (λ (r : RibOut key_cmp Value). of_rib r out) told
-          ∙ told_behind rib rib.up out refl,
+          ∙ told_after rib rib.up out refl,
     )
 
-pub part_of_all : (old new : PeerTable) → new ≡ put_behind old → IsPutPart old new
+pub part_of_all : (old new : PeerTable) → new ≡ put_after old → IsPutPart old new
 part_of_all old new is =
     let list : List (Change Key Value) = pending old in
     let every : take (length list) list ≡ list = take_all (length list) list (omega arith) in
-    inr ((put_behind old).waiting, (length list, ap (λ (l : List (Change Key Value)). old.waiting ++ texts l) (sym every)), is)
+    inr ((put_after old).waiting, (length list, ap (λ (l : List (Change Key Value)). old.waiting ++ texts l) (sym every)), is)

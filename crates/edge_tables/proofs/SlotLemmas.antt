@@ -66,10 +66,10 @@ module _ (Is : PeerTable → PeerTable → Type 0) where
 whole : {Z : Type 0} (slots : Vec Slot Z) (new : List Slot) → length new ≡ length slots.items → (with_items slots new).items ≡ new
 whole slots new same = take_at new (drop (length new) slots.items) slots.len (same ∙ sym slots.ok.0)
 
-pub each_behind : {Z : Type 0} (Is : PeerTable → PeerTable → Type 0) (slots : Vec Slot Z) (lent new : List Slot) (tables : Tables)
+pub each_after : {Z : Type 0} (Is : PeerTable → PeerTable → Type 0) (slots : Vec Slot Z) (lent new : List Slot) (tables : Tables)
     → tables_of slots.items ≡ tables
     → lent ≡ slots.items → AllZip (Becomes Is) lent new → EachPeer Is tables (tables_of (with_items slots new).items)
-each_behind Is slots lent new tables view same h =
+each_after Is slots lent new tables view same h =
     let long : length new ≡ length slots.items = AllZip-long (Becomes Is) lent new h ∙ ap length same in
     subst (λ (ws : List Slot). EachPeer Is tables (tables_of ws)) (sym (whole slots new long))
     (subst (λ (t : Tables). EachPeer Is t (tables_of new)) view

@@ -21,6 +21,6 @@ is_of peer slot = peer.0 == slot.peer.0
 abbrev pub tables_of : List Slot → Tables
 tables_of slots = from_entries (map (λ slot. (slot.peer, peer_table slot)) slots)
 
--- a slot before and behind
+-- a slot before and after
 abbrev pub Becomes : (PeerTable → PeerTable → Type 0) → Slot → Slot → Type 0
 Becomes Is old new = (new.peer ≡ old.peer) × Is (peer_table old) (peer_table new)

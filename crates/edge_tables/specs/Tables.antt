@@ -66,8 +66,8 @@ abbrev pub texts : List (Change Key Value) → List ℕ
 texts list = flat_map (λ change. written (as_update change)) list
 
 -- once the peer is told them
-abbrev pub put_behind : PeerTable → PeerTable
-put_behind table = record table {
+abbrev pub put_after : PeerTable → PeerTable
+put_after table = record table {
   told = if table.up then table.set else table.told;
   waiting = table.waiting ++ texts (pending table);
 }
@@ -79,9 +79,9 @@ IsFront list old new = (count : ℕ) × (new ≡ old ++ texts (take count list))
 -- nothing was put, or what was pending is told, with the messages of some first ones of these changes
 abbrev pub IsPutPart : PeerTable → PeerTable → Type 0
 IsPutPart old new =
-    (new ≡ old) ⊎ ((octets : List ℕ) × IsFront (pending old) old.waiting octets × (new ≡ record (put_behind old) { waiting = octets }))
+    (new ≡ old) ⊎ ((octets : List ℕ) × IsFront (pending old) old.waiting octets × (new ≡ record (put_after old) { waiting = octets }))
 
--- ---- before and behind
+-- ---- before and after
 
 -- both are there and related, or neither is there
 abbrev pub Both : {A B : Type 0} → (A → B → Type 0) → Option A → Option B → Type 0
@@ -90,7 +90,7 @@ Both Is None (Some new) = ⊥
 Both Is (Some old) None = ⊥
 Both Is (Some old) (Some new) = Is old new
 
--- the tables of each peer before and behind are so related
+-- the tables of each peer before and after are so related
 abbrev pub EachPeer : (PeerTable → PeerTable → Type 0) → Tables → Tables → Type 0
 EachPeer Is old new = (peer : NodeId) → Both Is (get old peer) (get new peer)
 

@@ -1,6 +1,6 @@
 //! What is kept towards one peer.
 ghost use Rattle.std.specs.Prelude.{◌≡◌, [], OnOk, OnErr};
-ghost use Rattle.edge_tables.specs.Tables.{IsPutPart, downed, fresh, put_behind, raised, with_route, without_route};
+ghost use Rattle.edge_tables.specs.Tables.{IsPutPart, downed, fresh, put_after, raised, with_route, without_route};
 ghost use Rattle.edge_tables.specs.Slots.{peer_table};
 
 use crate::rib_sync::Outbox;
@@ -75,7 +75,7 @@ impl Slot {
     #[tactic(auto, using(edge_defs::proofs::KeyLemmas::key_exact, edge_defs::proofs::KeyLemmas::value_exact))]
     pub(crate) fn put(&mut self) -> Result<(), NoMemory>
         ensures peer { self.new.peer ≡ self.old.peer }
-        ensures put { OnOk result (peer_table self.new ≡ put_behind (peer_table self.old)) }
+        ensures put { OnOk result (peer_table self.new ≡ put_after (peer_table self.old)) }
         ensures partly { OnErr result (IsPutPart (peer_table self.old) (peer_table self.new)) }
     {
         if self.table.is_flushed() {

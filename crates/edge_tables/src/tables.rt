@@ -2,7 +2,7 @@
 ghost use Rattle.std.specs.Prelude.{◌≡◌, ◌<◌, ◌⊎◌, [], length, map, position, IfOk, IfSome, OnOk, OnErr};
 ghost use Rattle.std.specs.List.{AllZip};
 ghost use Rattle.std.specs.FinMap.{from_entries};
-ghost use Rattle.edge_tables.specs.Tables.{AtPeer, EachPeer, IsPutPart, downed, fresh, is_up_at, put_behind, raised, waiting_at};
+ghost use Rattle.edge_tables.specs.Tables.{AtPeer, EachPeer, IsPutPart, downed, fresh, is_up_at, put_after, raised, waiting_at};
 ghost use Rattle.edge_tables.specs.Tables.{with_route, without_route};
 ghost use Rattle.edge_tables.specs.Slots.{Becomes, is_of, peer_table};
 
@@ -70,7 +70,7 @@ fn unset_each(slots: &mut [Slot], key: &TableKey) -> Result<(), NoMemory>
 
 /// Puts to each peer what changed.
 fn put_each(slots: &mut [Slot]) -> Result<(), NoMemory>
-    ensures put { OnOk result (AllZip (Becomes (λ old new. new ≡ put_behind old)) slots.old slots.new) }
+    ensures put { OnOk result (AllZip (Becomes (λ old new. new ≡ put_after old)) slots.old slots.new) }
     ensures partly { OnErr result (AllZip (Becomes IsPutPart) slots.old slots.new) }
 {
     for slot in slots.iter_mut() {
@@ -178,10 +178,10 @@ impl EdgeTables {
         }
     }
 
-    /// Puts to each peer whose end is up the changes since it was told last, behind what waits: withdrawals first, each kind in
+    /// Puts to each peer whose end is up the changes since it was told last, after what waits: withdrawals first, each kind in
     /// the order of keys, each change in an UPDATE message of its own (RFC 4271 section 4.3). It costs what is pending.
     pub fn put(&mut self) -> Result<(), NoMemory>
-        ensures put { OnOk result (EachPeer (λ old new. new ≡ put_behind old) self.old self.new) }
+        ensures put { OnOk result (EachPeer (λ old new. new ≡ put_after old) self.old self.new) }
         // Where memory runs out each peer is as before, or was told all with some first messages waiting.
         ensures partly { OnErr result (EachPeer IsPutPart self.old self.new) }
     {

@@ -25,7 +25,7 @@ use Rattle.edge_defs.specs.Originated.{is_iface_of, notes_of}
 use Rattle.edge_defs.specs.Place.{EdgePlace, OwnVrf, own_vrfs}
 use Rattle.edge_defs.specs.Upstream.{upstream_for}
 use Rattle.edge_defs.proofs.KeyLemmas.{note_total, note_exact, flow_total, flow_exact}
-use Rattle.edge_words.proofs.calm_laws.Lists.{passes, among_front, among_behind, among_either, among_map, map_among, among_flat_map, flat_map_among, filter_among, among_filter, any_from, any_among, among_found, found_among}
+use Rattle.edge_words.proofs.calm_laws.Lists.{passes, among_front, among_after, among_either, among_map, map_among, among_flat_map, flat_map_among, filter_among, among_filter, any_from, any_among, among_found, found_among}
 use Rattle.edge_words.proofs.calm_laws.Maps.{some_found, found_stands, get_entry}
 use Rattle.edge_words.proofs.calm_laws.Upstreams.{chained}
 use Rattle.edge_words.proofs.calm_laws.Vrfs.{one_number}
@@ -91,7 +91,7 @@ module _ (place : EdgePlace) (control : Control) (own : OwnVrf) where
       among_front (flow source group) (map noted_flow (notes_of place control own.id)) (flat_map (active_from own) (maps.entries control.peers))
       (noted_is source group is)
   among_active source group (inr is) =
-      among_behind (flow source group) (map noted_flow (notes_of place control own.id)) (flat_map (active_from own) (maps.entries control.peers))
+      among_after (flow source group) (map noted_flow (notes_of place control own.id)) (flat_map (active_from own) (maps.entries control.peers))
       (told_is source group is)
 
   pub is_known : (source group : Addr) → is_active place control own source group ≡ true → IsKnown place control own source group
@@ -169,7 +169,7 @@ module _ (place : EdgePlace) (now : ℕ) (control : Control) where
       (among_found (joined_by place own) key (flow source group) (maps.keys control.entries) listed
       (ap (λ (b : Bool). cond b (Some (flow source group)) None) (of_iface place.scenario own.id iface at)))
   possible own source group iface at (inr tree) =
-      among_behind (flow source group) (found_in (joined_by place own) (maps.keys control.entries)) (active_flows place control own)
+      among_after (flow source group) (found_in (joined_by place own) (maps.keys control.entries)) (active_flows place control own)
       (among_active place control own source group tree.2)
 
   abbrev all : List (VrfFlow × Option Upstream)

@@ -17,7 +17,7 @@ use Rattle.edge_defs.specs.Imported.{ImportedSelective, taken_from, imported_inc
 use Rattle.edge_defs.specs.Place.{EdgePlace, OwnVrf, addr_of, own_vrfs}
 use Rattle.edge_defs.specs.Tunnels.{learned_route, learned_routes, inclusive_tunnels, flow_tunnels, flows_of, tunnels_of, leaves}
 use Rattle.edge_defs.proofs.KeyLemmas.{flow_total, flow_exact, key_total, key_exact}
-use Rattle.edge_words.proofs.calm_laws.Lists.{among_front, among_behind, among_either, among_map, map_among, among_flat_map, flat_map_among, filter_among, among_filter, among_found, found_among}
+use Rattle.edge_words.proofs.calm_laws.Lists.{among_front, among_after, among_either, among_map, map_among, among_flat_map, flat_map_among, filter_among, among_filter, among_found, found_among}
 use Rattle.edge_words.proofs.calm_laws.Maps.{entry_get, get_entry}
 use Rattle.edge_words.specs.Leaf.{IsInclusive, IsSelective, IsLearned}
 use Rattle.edge_words.proofs.Members.{from_list, to_list, taken_of, table_of}
@@ -94,7 +94,7 @@ module _ (place : EdgePlace) (control : Control) where
       let there = among_map (λ (route : LearnedRoute). route.fec) is.route (wanted learned is.flow.source is.flow.group) want in
       let of_vrf = among_filter (λ (e : VrfFlow × Option Upstream). e.0.vrf.0 == own.id.0) (is.flow, up) (maps.entries control.flows)
       (eq-eqb is.flow.vrf.0 own.id.0 (ap (λ (v : VrfId). v.0) (sym is.of_vrf))) (get_entry flow_exact control.flows is.flow up is.upstream) in
-      among_behind fec (flat_map (inclusive_tunnels place own) (maps.entries control.peers))
+      among_after fec (flat_map (inclusive_tunnels place own) (maps.entries control.peers))
       (flat_map (flow_tunnels place control own) (flows_of control own.id))
       (among_flat_map (flow_tunnels place control own) (is.flow, up) fec (flows_of control own.id) of_vrf
       (subst (λ (f : Fec). Among f (flow_tunnels place control own (is.flow, up))) is.of_tunnel there))

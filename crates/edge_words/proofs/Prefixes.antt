@@ -72,7 +72,7 @@ route_of passes number (site ∷ more) route a =
 
 -- ---- prefixes
 
--- numbers with one front and nothing behind it are one
+-- numbers with one front and nothing after it are one
 one_number : (unit a b : ℕ) → a / unit ≡ b / unit → a % unit ≡ 0 → b % unit ≡ 0 → a ≡ b
 one_number unit a b e ra rb = sym (div-add-mod' a unit) ∙ (λ i. e i * unit + (ra ∙ sym rb) i) ∙ div-add-mod' b unit
 

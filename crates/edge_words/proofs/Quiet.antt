@@ -244,9 +244,9 @@ module _ (place : EdgePlace) (now : ℕ) (edge : EdgeData) where
 -- ---- a run of the timers
 
 module _ (place : EdgePlace) (now : ℕ) (edge : EdgeData) where
-  -- the edge behind its timers, before its trees settle
-  abbrev behind : EdgeData
-  behind = record edge {
+  -- the edge after its timers, before its trees settle
+  abbrev thereafter : EdgeData
+  thereafter = record edge {
     control = timed place now edge.control;
     part =
         label_steps.timed (label_place place.scenario place.core place.me) now edge.part;
@@ -302,7 +302,7 @@ module _ (place : EdgePlace) (now : ℕ) (edge : EdgeData) where
       subst (λ (b : Bool). ((old.run || (b && nat_le (old.since + place.scenario.delay) now)) ≡ true) ⊎ (now < old.since + place.scenario.delay))
       (sym t) (run_over old.run (old.since + place.scenario.delay))
 
-  pub none_left : NoneDue place now behind
+  pub none_left : NoneDue place now thereafter
   none_left = record {
     labels = λ number until at. woken_at edge.part.labels number until at;
     holds = λ node end at. (let by = mapped_from (hold_run place.scenario.life now) (maps.get edge.part.ends node) end
@@ -315,7 +315,7 @@ module _ (place : EdgePlace) (now : ℕ) (edge : EdgeData) where
         subst (λ (s : Selected). (s.run ≡ true) ⊎ (now < s.since + place.scenario.delay)) (sym by.2)
         (run_over by.0.run (by.0.since + place.scenario.delay)));
     routes = λ peer key route own imported at a is. (
-        let got : maps.get (taken_from behind.control peer) key
+        let got : maps.get (taken_from thereafter.control peer) key
         ≡ option_map (run_at place now peer key) (maps.get (taken_from edge.control peer) key) =
         ap (λ (o : Option Taken). maps.get (table_in o) key) (get-peers_run place now edge.control.peers peer)
         ∙ run_taken place now peer key (maps.get edge.control.peers peer) in

@@ -22,8 +22,8 @@ fn mapping() -> Option<LabelMessage> {
     Some(LabelMessage::Mapping(lsp()?, 16))
 }
 
-/// Whether the label 16 is mapped behind the message.
-fn is_mapped_behind(message: Option<LabelMessage>) -> Option<bool> {
+/// Whether the label 16 is mapped after the message.
+fn is_mapped_after(message: Option<LabelMessage>) -> Option<bool> {
     Some(is_mapped(&[message?], &lsp()?, 16))
 }
 
@@ -62,5 +62,5 @@ fn writes(rt: HostRuntime) -> Result<(), Fail> {
 
 #[test]
 fn maps(rt: HostRuntime) {
-    assert_eq!(rt; is_mapped_behind(mapping()), Some(true));
+    assert_eq!(rt; is_mapped_after(mapping()), Some(true));
 }

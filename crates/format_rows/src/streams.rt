@@ -33,7 +33,7 @@ fn is_mapping(message: Option<LabelMessage>) -> bool {
     }
 }
 
-/// A message is cut in two, and behind it stands no marker. The fault stays until the session comes up again.
+/// A message is cut in two, and after it stands no marker. The fault stays until the session comes up again.
 #[test]
 fn messages(rt: HostRuntime) -> Result<(), Fail> {
     let mut streams = EdgeStreams::of(rt.alloc());
@@ -55,7 +55,7 @@ fn messages(rt: HostRuntime) -> Result<(), Fail> {
     Ok(())
 }
 
-/// A PDU is cut in two, and behind it stands one of another version.
+/// A PDU is cut in two, and after it stands one of another version.
 #[test]
 fn label_messages(rt: HostRuntime) -> Result<(), Fail> {
     let mut streams = EdgeStreams::of(rt.alloc());

@@ -1,9 +1,9 @@
--- Texts that are appended one behind another.
+-- Texts that are appended one after another.
 use Rattle.std.proofs.Common.{◌≡◌, ℕ, suc, ◌+◌, List, ◌++◌, refl, sym, ap, subst, ◌∙◌, arith}
 use Rattle.std.proofs.lemmas.List.{append_assoc}
 use Rattle.generator.specs.Made.{each}
 
--- one text more behind some
+-- one text more after some
 pub more : (old first second middle new : List ℕ) → middle ≡ old ++ first → new ≡ middle ++ second → new ≡ old ++ (first ++ second)
 more old first second middle new a b = b ∙ ap (λ (x : List ℕ). x ++ second) a ∙ append_assoc old first second
 

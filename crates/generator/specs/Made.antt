@@ -1,5 +1,5 @@
 -- The scenario and script of a number: 32 edges over a ring of 16 core nodes, with eight VPNs that have a site at every edge. In each VPN
--- a quarter of the edges join one flow; each flow is sent over the inclusive tunnel, behind a selection, and on the selected tunnel.
+-- a quarter of the edges join one flow; each flow is sent over the inclusive tunnel, after a selection, and on the selected tunnel.
 use Rattle.std.specs.Prelude.{ℕ, zero, suc, ◌+◌, ◌*◌, ◌-◌, ◌%◌, ◌==◌, ◌&&◌, not, List, [], ◌++◌, codes, if◌then◌else◌}
 use Rattle.std.specs.Fmt.{decimal}
 
@@ -95,7 +95,7 @@ first_part number =
     codes "events\nheal\nsettle\ntick 3\nsettle\n" ++ joins number
     ++ codes "settle\nstate\n" ++ sends number (codes "01") ++ codes "drain\n"
 
--- the selections, and a datagram of each flow before and behind their delay
+-- the selections, and a datagram of each flow before and after their delay
 abbrev pub last_part : ℕ → List ℕ
 last_part number =
     selects number ++ codes "settle\nstate\n" ++ sends number (codes "02")

@@ -120,7 +120,7 @@ fn put_first_sends(out: &mut Bytes, number: u32) -> Result<(), NoMemory>
     Ok(())
 }
 
-/// The selections, and a datagram of each flow before and behind their delay.
+/// The selections, and a datagram of each flow before and after their delay.
 fn put_last_sends(out: &mut Bytes, number: u32) -> Result<(), NoMemory>
     ensures { OnOk result (out.new ≡ out.old ++ made.last_part number) }
 {

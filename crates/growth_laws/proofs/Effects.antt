@@ -31,7 +31,7 @@ use Rattle.edge_defs.specs.Steps as steps
 use Rattle.edge_defs.specs.Steps.{learned, taken_change, with_update, selection_run, selections_run, peers_run, effect}
 use Rattle.edge_defs.proofs.KeyLemmas.{pattern_total, pattern_exact}
 use Rattle.edge_words.specs.edge_laws.Acts.{message_of}
-use Rattle.edge_words.proofs.edge_laws.Local.{taken_behind}
+use Rattle.edge_words.proofs.edge_laws.Local.{taken_after}
 use Rattle.edge_words.proofs.edge_laws.Taken.{change_taken, table_run, run_at, get-peers_run, table_in, run_taken, put_own, put_other}
 use Rattle.edge_words.specs.held_laws.Held.{IsJoinKey, Originates}
 use Rattle.edge_words.proofs.held_laws.Originated.{one_value}
@@ -122,7 +122,7 @@ module _ (horizon : ℕ) (trees : List Fec) (at : NodeId → EdgePlace) (kept : 
 
     route_stays : (own : Change Key Value) → IsTrue (at peer) (kept peer) own → (key : Key) (route : TakenRoute) → (IsJoinKey key → ⊥)
         → maps.get table key ≡ Some route → (b : Bool) → eq_by_cmp key_cmp key (key_of own) ≡ b
-        → (next : TakenRoute) × (cond b (taken_behind clock (value_of own) (maps.get table key)) (maps.get table key) ≡ Some next)
+        → (next : TakenRoute) × (cond b (taken_after clock (value_of own) (maps.get table key)) (maps.get table key) ≡ Some next)
         × (next.value ≡ route.value)
     route_stays own true_own key route not h false e = (route, h, refl)
     route_stays (Unreach gone) true_own key route not h true e = absurd (not (subst IsJoinKey (sym (one_key key_exact key gone e)) true_own))
@@ -146,7 +146,7 @@ module _ (horizon : ℕ) (trees : List Fec) (at : NodeId → EdgePlace) (kept : 
 
     route_told : (own : Change Key Value) → IsTrue (at peer) (kept peer) own → (key : Key) (route : TakenRoute) → (IsJoinKey key → ⊥) → (b : Bool)
         → eq_by_cmp key_cmp key (key_of own) ≡ b
-        → cond b (taken_behind clock (value_of own) (maps.get table key)) (maps.get table key) ≡ Some route
+        → cond b (taken_after clock (value_of own) (maps.get table key)) (maps.get table key) ≡ Some route
         → Originates (at peer) (kept peer) key route.value
     route_told own true_own key route not false e h = told key route not h
     route_told (Unreach gone) true_own key route not true e h = absurd (none-some route h)

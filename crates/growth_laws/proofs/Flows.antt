@@ -35,7 +35,7 @@ use Rattle.edge_defs.specs.Upstream.{known_route, known_from, known_routes, upst
 use Rattle.pim_defs.proofs.KeyLemmas.{entry_cmp_exact}
 use Rattle.edge_defs.proofs.KeyLemmas.{key_total, key_exact, flow_total, flow_exact}
 use Rattle.edge_words.proofs.Members.{ifaces_from, of_iface}
-use Rattle.edge_words.proofs.calm_laws.Lists.{among_choice, any_from, any_among, among_front, among_behind, among_either, among_map, map_among, among_flat_map, flat_map_among, filter_among, among_filter, found_among, among_found}
+use Rattle.edge_words.proofs.calm_laws.Lists.{among_choice, any_from, any_among, among_front, among_after, among_either, among_map, map_among, among_flat_map, flat_map_among, filter_among, among_filter, found_among, among_found}
 use Rattle.edge_words.proofs.calm_laws.Maps.{entry_get, get_entry, some_found, found_stands}
 use Rattle.edge_words.proofs.calm_laws.Tables.{among_peers, peer_table}
 use Rattle.edge_words.proofs.calm_laws.Upstreams.{chained}
@@ -145,7 +145,7 @@ module _ (place : EdgePlace) (old new : Control) (taken : TakenStays old new) (o
             let got : maps.get (taken_from old peer) key ≡ Some found.0.1 =
             ap (λ (t : Taken). maps.get t key) (peer_table old peer table at.1) ∙ entry_get key_total table key found.0.1 found.1 in
             let next = taken peer key found.0.1 (not_join place own.vrf peer key found.0.1 route found.2) got in
-            among_behind route (map of_site (local_routes place.scenario own.id)) (flat_map (known_from place own.vrf) (maps.entries new.peers))
+            among_after route (map of_site (local_routes place.scenario own.id)) (flat_map (known_from place own.vrf) (maps.entries new.peers))
             (among_flat_map (known_from place own.vrf) (peer, taken_from new peer) route (maps.entries new.peers)
             (among_peers new peer (peer_up new peer key next.0 next.1))
             (among_found (known_route place own.vrf peer) (key, next.0) route (maps.entries (taken_from new peer))

@@ -28,7 +28,7 @@ use Rattle.edge_defs.specs.Keys.{key_cmp, Value}
 use Rattle.edge_defs.specs.Place.{EdgePlace, OwnVrf, addr_of, own_vrfs}
 use Rattle.edge_defs.specs.Tunnels.{learned_route, learned_routes, inclusive_tunnels, flow_tunnels, flows_of, tunnels_of, leaves}
 use Rattle.edge_defs.proofs.KeyLemmas.{key_total, key_exact, flow_total, flow_exact}
-use Rattle.edge_words.proofs.calm_laws.Lists.{any_from, any_among, among_front, among_behind, among_either, among_map, map_among, among_flat_map, flat_map_among, filter_among, among_filter, found_among, among_found}
+use Rattle.edge_words.proofs.calm_laws.Lists.{any_from, any_among, among_front, among_after, among_either, among_map, map_among, among_flat_map, flat_map_among, filter_among, among_filter, found_among, among_found}
 use Rattle.edge_words.proofs.calm_laws.Maps.{entry_get, get_entry}
 use Rattle.edge_words.proofs.calm_laws.Imports.{learned_of}
 use Rattle.edge_words.proofs.calm_laws.Tables.{among_peers, peer_table}
@@ -239,7 +239,7 @@ module _ (place : EdgePlace) (old new : Control) (taken : TakenStays old new) (f
           | inr b ↦
               let by = flat_map_among (flow_tunnels place old own) fec (flows_of old own.id) b in
               let of = filter_among (λ (entry : VrfFlow × Option Upstream). entry.0.vrf.0 == own.id.0) by.0 (maps.entries old.flows) by.1 in
-              among_behind fec (flat_map (inclusive_tunnels place own) (maps.entries new.peers))
+              among_after fec (flat_map (inclusive_tunnels place own) (maps.entries new.peers))
               (flat_map (flow_tunnels place new own) (flows_of new own.id))
               (flow_stays by.0.0 by.0.1 fec of.1 (entry_get flow_total old.flows by.0.0 by.0.1 of.0) by.2)
         ]

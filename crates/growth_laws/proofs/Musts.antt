@@ -23,9 +23,9 @@ then_comes P Q (Halted acts node) next p h = p
 then_comes P Q (Done acts world) next p h = by (next world) (h world p)
   where
     by : (o : Outcome) → Comes Q o → Comes Q (elim o
-        [ Done behind new ↦ Done (acts ++ behind) new | Halted behind node ↦ Halted (acts ++ behind) node ])
-    by (Halted behind node) q = q
-    by (Done behind new) q = q
+        [ Done thereafter new ↦ Done (acts ++ thereafter) new | Halted thereafter node ↦ Halted (acts ++ thereafter) node ])
+    by (Halted thereafter node) q = q
+    by (Done thereafter new) q = q
 
 pub one_comes : (P : World → Type 0) (world : World) (first : Act) → Must P (act world first) → Comes P (one_act world first)
 one_comes P world first g = by (act world first) g

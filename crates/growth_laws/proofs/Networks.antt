@@ -289,15 +289,15 @@ left_grown horizon clock trees network over rest g all = record {
 
 pub record DeliversOn (scenario : Scenario) (horizon clock : ℕ) (trees : List Fec) (network : MessageNetwork Nodes) (over : Direction)
     (first : List SessionMessage) : Type 0 where
-  pub behind : Behind (MessageNetwork Nodes)
-  pub is : message_run (sound_system scenario) network (deliveries over first) ≡ Some behind
-  pub grown : NetworkGrown horizon clock trees behind.network
+  pub thereafter : Behind (MessageNetwork Nodes)
+  pub is : message_run (sound_system scenario) network (deliveries over first) ≡ Some thereafter
+  pub grown : NetworkGrown horizon clock trees thereafter.network
 
 pub delivers_on : (scenario : Scenario) (horizon clock : ℕ) (trees : List Fec) (over : Direction) (first : List SessionMessage)
     (network : MessageNetwork Nodes) (rest : List SessionMessage) → NetworkGrown horizon clock trees network → network.joined over ≡ true
     → network.transit over ≡ first ++ rest → DeliversOn scenario horizon clock trees network over first
 delivers_on scenario horizon clock trees over [] network rest g joined waiting =
-    record { behind = record { network = network; puts = [] }; is = refl; grown = g }
+    record { thereafter = record { network = network; puts = [] }; is = refl; grown = g }
 delivers_on scenario horizon clock trees over (message ∷ more) network rest g joined waiting =
     let own : System Nodes (SoundCall scenario) = sound_system scenario in
     let all : AllByRecursion (IsGrownMessage trees (place_of network.state over.from) (kept network.state over.from)) (message ∷ (more ++ rest)) =
@@ -315,7 +315,7 @@ delivers_on scenario horizon clock trees over (message ∷ more) network rest g 
     let further =
     delivers_on scenario horizon clock trees over more (with_messages gone x.new) (rest ++ messages_over over x.new.puts) after joined still in
     record {
-      behind = record { network = further.behind.network; puts = x.new.puts ++ further.behind.puts };
+      thereafter = record { network = further.thereafter.network; puts = x.new.puts ++ further.thereafter.puts };
       is =
           ap (λ (ms : List SessionMessage). delivered own network over ms >>? λ next. with_earlier next.puts
           (message_run own next.network (deliveries over more))) waiting

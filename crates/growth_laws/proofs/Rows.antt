@@ -86,9 +86,9 @@ row_grows place now trees (call ∷ more) part all g =
     record {
       row = first ∷ rest.row;
       made =
-          ap (λ (o : Option Stepped). o >>? λ new. label_row place now new.part more >>? λ behind. Some
-          (record { old = part; call = call; new = new } ∷ behind)) step.stepped
-          ∙ ap (λ (o : Option (List LabelStep)). o >>? λ behind. Some (first ∷ behind)) rest.made;
+          ap (λ (o : Option Stepped). o >>? λ new. label_row place now new.part more >>? λ thereafter. Some
+          (record { old = part; call = call; new = new } ∷ thereafter)) step.stepped
+          ∙ ap (λ (o : Option (List LabelStep)). o >>? λ thereafter. Some (first ∷ thereafter)) rest.made;
       growing = rest.growing;
       many = rest.many ∙ step.many;
       puts = (step.puts, rest.puts);

@@ -391,10 +391,10 @@ runs_grow scenario horizon short [] rest number now trees old trace world s l ru
 runs_grow scenario horizon short (first ∷ events) rest number now trees old trace world s l run =
     let fits = first_left scenario horizon now trees first (events ++ rest) l in
     let x = event_comes scenario old horizon now trees short s first l.adds.0 l.sound.0 fits.0 fits.1 in
-    let behind = runs_grow scenario horizon short events rest (number + 1) x.later x.more run.1 run.2 world
+    let thereafter = runs_grow scenario horizon short events rest (number + 1) x.later x.more run.1 run.2 world
     (turned (WorldGrown scenario horizon x.later x.more) (outcome old first) run.0 run.1 run.3 x.comes)
     (rest_left scenario horizon now x.later trees x.more first (events ++ rest) l x.soon x.few) run.5 in
     let picks = sum_by-cons (λ (one : Timed). cond {A = ℕ} (is_selection one.event) 1 0) first events in
     let own = x.few in
-    let few = behind.few in
-    record { now = behind.now; more = behind.more; few = omega (arith, own, few, picks); grown = behind.grown }
+    let few = thereafter.few in
+    record { now = thereafter.now; more = thereafter.more; few = omega (arith, own, few, picks); grown = thereafter.grown }

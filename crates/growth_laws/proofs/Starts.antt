@@ -203,12 +203,12 @@ growing_holds_few cores script count trace world node rules octets grows run =
     let scenario : Scenario = script.scenario in
     let horizon : ℕ = sum_by (λ (timed : Timed). ticks_of timed.event) script.events in
     let trees : List Fec = inclusive_trees scenario in
-    let behind =
+    let thereafter =
     runs_grow scenario horizon grows.short (take count script.events) (drop count script.events) 0 0 trees (start scenario cores) trace world
     (script_starts cores script horizon rules octets grows)
     (subst (Left scenario horizon 0 trees) (sym (take-append-drop count script.events)) (all_left script rules octets grows)) run in
-    let held = few_held _ behind.more (part_of (world.network.state.node node)) (behind.grown.3.nodes.labels node) in
-    let few = behind.few in
+    let held = few_held _ thereafter.more (part_of (world.network.state.node node)) (thereafter.grown.3.nodes.labels node) in
+    let few = thereafter.few in
     let long : length trees ≡ length scenario.vrfs = length-map scenario.vrfs (inclusive_of scenario) in
     omega (arith, held, few, long)
 

@@ -28,7 +28,7 @@ use Rattle.scenario_defs.specs.declared.scenario.Scenario.{Scenario}
 use Rattle.scenario_defs.specs.declared.scenario.Site.{Site}
 use Rattle.scenario_defs.specs.declared.scenario.Vrf.{Vrf}
 use Rattle.edge_words.proofs.calm_laws.Comms.{all_of}
-use Rattle.edge_words.proofs.calm_laws.Lists.{any_from, any_among, among_front, among_behind, among_either, among_map}
+use Rattle.edge_words.proofs.calm_laws.Lists.{any_from, any_among, among_front, among_after, among_either, among_map}
 use Rattle.edge_words.proofs.calm_laws.Targets.{same_back}
 use Rattle.growth_laws.specs.Edges.{IsSourceEntry}
 use Rattle.growth_laws.specs.Scripts.{HasOneHome, OnlyAdds, ticks_of, is_selection, OnlyGrows}
@@ -142,7 +142,7 @@ home_at scenario (vrf ∷ more) number zero id route e lt a =
     (subst (λ (k : ℕ). Among (home id route) (homes_of scenario k)) same
     (among_map (λ (own : Route). home id own) route (local_routes scenario id) a))
 home_at scenario (vrf ∷ more) number (suc place) id route e lt a =
-    among_behind (home id route) (homes_of scenario number) (homes_from scenario (number + 1) more)
+    among_after (home id route) (homes_of scenario number) (homes_from scenario (number + 1) more)
     (home_at scenario more (number + 1) place id route (omega (arith, e))
     (let long : length (vrf ∷ more) ≡ suc (length more) = refl in omega (arith, lt, long)) a)
 

@@ -158,11 +158,11 @@ settles place trees (fec ∷ more) old g m =
     by (Some next) e rest =
         let put = put_by fec (change_of place old.part fec) in
         let grows = turn_grows place trees old.part fec next put g (turn place old.part fec next e) in
-        let behind = rest next grows.0 (mappings_append trees old.puts put m grows.1) in
+        let thereafter = rest next grows.0 (mappings_append trees old.puts put m grows.1) in
         record {
-          new = behind.new;
-          is = ap (λ (o : Option LabelData). o >>? λ new. settle_all place more (record { part = new; puts = old.puts ++ put })) e ∙ behind.is;
-          growing = behind.growing;
-          many = behind.many ∙ grows.2;
-          puts = behind.puts;
+          new = thereafter.new;
+          is = ap (λ (o : Option LabelData). o >>? λ new. settle_all place more (record { part = new; puts = old.puts ++ put })) e ∙ thereafter.is;
+          growing = thereafter.growing;
+          many = thereafter.many ∙ grows.2;
+          puts = thereafter.puts;
         }

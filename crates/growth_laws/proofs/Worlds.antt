@@ -104,11 +104,11 @@ call_must scenario horizon now trees old pending are sound g n call is joined x 
 -- ---- a move
 
 seen_must : (scenario : Scenario) (horizon now : ℕ) (trees : List Fec) (o : Option (Behind (OctetNetwork Nodes)))
-    (found : Option (Behind (MessageNetwork Nodes))) (behind : Behind (MessageNetwork Nodes)) → IsSeen (Sound scenario) o found → found ≡ Some behind
-    → NetworkGrown horizon now trees behind.network → MustBe (OctetsGrown scenario horizon now trees) o
-seen_must scenario horizon now trees None found behind is e g = none-some behind (sym is ∙ e)
-seen_must scenario horizon now trees (Some new) found behind is e g =
-    let same : behind ≡ record { network = seen new.network is.0; puts = new.puts } = same_Some behind _ (sym e ∙ is.2) in
+    (found : Option (Behind (MessageNetwork Nodes))) (thereafter : Behind (MessageNetwork Nodes)) → IsSeen (Sound scenario) o found → found ≡ Some thereafter
+    → NetworkGrown horizon now trees thereafter.network → MustBe (OctetsGrown scenario horizon now trees) o
+seen_must scenario horizon now trees None found thereafter is e g = none-some thereafter (sym is ∙ e)
+seen_must scenario horizon now trees (Some new) found thereafter is e g =
+    let same : thereafter ≡ record { network = seen new.network is.0; puts = new.puts } = same_Some thereafter _ (sym e ∙ is.2) in
     (is.0, is.1, is.3, subst (λ (b : Behind (MessageNetwork Nodes)). NetworkGrown horizon now trees b.network) same g)
 
 pub move_must : (scenario : Scenario) (horizon now : ℕ) (trees : List Fec) (old : OctetNetwork Nodes) (over : Direction) (count : ℕ)
@@ -136,7 +136,7 @@ move_must scenario horizon now trees old over count (pending, are, sound, g) = b
         (o >>? λ next. with_earlier next.puts (Some (record { network = next.network; puts = [] })))) (taken_alike scenario over new.waiting gone)
         (alone_must (OctetsGrown scenario horizon now trees) (moved (sound_system scenario) old over count)
         (seen_must scenario horizon now trees (moved (sound_system scenario) old over count)
-        (message_run (sound_system scenario) (seen old pending) (deliveries over m.first)) d.behind m.outcome d.is d.grown))
+        (message_run (sound_system scenario) (seen old pending) (deliveries over m.first)) d.thereafter m.outcome d.is d.grown))
 
 -- ---- time
 

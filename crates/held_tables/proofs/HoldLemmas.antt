@@ -11,15 +11,15 @@ use Rattle.edge_tables.specs.Tables.{AtPeer, Both, EachPeer, PeerTable, Tables, 
 use Rattle.held_tables.specs.Holding.{HavePartly, HoldAll, IsToldAlike}
 
 -- each table is changed in one way, and so is what the edge holds for each peer
-pub hold_each : (change : Table → Table) (place : EdgePlace) (control behind : Control) (old new : Tables)
+pub hold_each : (change : Table → Table) (place : EdgePlace) (control thereafter : Control) (old new : Tables)
     → EachPeer (λ before after. after ≡ record before { set = change before.set }) old new
-    → ((peer : NodeId) → held_for place behind peer ≡ change (held_for place control peer))
-    → HoldAll place control old → HoldAll place behind new
-hold_each change place control behind old new each law hold peer table at = by (get old peer) (get new peer) refl at (each peer)
+    → ((peer : NodeId) → held_for place thereafter peer ≡ change (held_for place control peer))
+    → HoldAll place control old → HoldAll place thereafter new
+hold_each change place control thereafter old new each law hold peer table at = by (get old peer) (get new peer) refl at (each peer)
   where
     by : (before after : Option PeerTable) → get old peer ≡ before → after ≡ Some table
         → Both {A = PeerTable} {B = PeerTable} (λ before after. after ≡ record before { set = change before.set }) before after
-        → table.set ≡ held_for place behind peer
+        → table.set ≡ held_for place thereafter peer
     by None None e f h = absurd cc
     by None (Some own) e f h = absurd h
     by (Some before) None e f h = absurd h

@@ -27,7 +27,7 @@ use Rattle.edge_defs.specs.Place.{EdgePlace, own_vrfs}
 use Rattle.edge_defs.proofs.KeyLemmas.{flow_exact, flow_total, key_exact, key_total}
 use Rattle.edge_tables.specs.Tables.{AtPeer, Both, PeerTable, Tables}
 use Rattle.vrf_words.proofs.edge_words.calm_laws.Entries.{Entry, join_kind, kind_of}
-use Rattle.vrf_words.proofs.edge_words.calm_laws.Lists.{among_behind, among_flat_map, among_front, any_among, any_from}
+use Rattle.vrf_words.proofs.edge_words.calm_laws.Lists.{among_after, among_flat_map, among_front, any_among, any_from}
 use Rattle.vrf_words.specs.edge_words.held_laws.Held.{IsJoinKey}
 use Rattle.vrf_words.proofs.edge_words.held_laws.Originated.{no_join}
 use Rattle.vrf_words.specs.tree_laws.Joins.{AreOfVrfs, join_key}
@@ -148,12 +148,12 @@ same_node : (own other : NodeId) → own.0 ≡ other.0 → own ≡ other
 same_node own other h = λ i. record { 0 = h i }
 
 module _ (place : EdgePlace) (control : Control) (but : List (NodeId × Key)) (peer : NodeId) (key : Key) (change : Table → Table) (old new : Tables)
-    (at : AtPeer peer (λ before behind. behind ≡ record before { set = change before.set }) old new)
+    (at : AtPeer peer (λ before thereafter. thereafter ≡ record before { set = change before.set }) old new)
     (here : (before : Table) → maps.get (change before) key ≡ maps.get (held_for place control peer) key)
     (apart : (before : Table) (other : Key) → other ≢ key → maps.get (change before) other ≡ maps.get before other)
     (hold : HoldAllBut place control ((peer, key) ∷ but) old) where
   at_peer : (table : PeerTable) (q : Key) → (Among (peer, q) but → ⊥) → (before after : Option PeerTable) → get old peer ≡ before → after ≡ Some table
-      → Both {A = PeerTable} {B = PeerTable} (λ before behind. behind ≡ record before { set = change before.set }) before after
+      → Both {A = PeerTable} {B = PeerTable} (λ before thereafter. thereafter ≡ record before { set = change before.set }) before after
       → maps.get table.set q ≡ maps.get (held_for place control peer) q
   at_peer table q f None None e g h = absurd cc
   at_peer table q f None (Some own) e g h = absurd h
@@ -255,7 +255,7 @@ changed_alike place old new changed same peer rd source_as flow apart vrf = elim
       let here : Among at changed = subst (λ (f : VrfFlow). Among f changed) (sym one) found.1 in
       silent place peer rd source_as flow vrf (get new.flows at)
       (λ a. apart (among_flat_map touched at join changed here
-      (among_behind join (joins_at at (get old.flows at)) (joins_at at (get new.flows at)) a)))
+      (among_after join (joins_at at (get old.flows at)) (joins_at at (get new.flows at)) a)))
       ∙ sym (silent place peer rd source_as flow vrf (get old.flows at)
       (λ a. apart (among_flat_map touched at join changed here
       (among_front join (joins_at at (get old.flows at)) (joins_at at (get new.flows at)) a)))))

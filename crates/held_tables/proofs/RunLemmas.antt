@@ -64,16 +64,16 @@ module _ (place : EdgePlace) (own : OwnVrf) where
       ]
 
 module _ (place : EdgePlace) (control : Control) (delay now : ℕ) where
-  abbrev behind : Control
-  behind = record control { selections = selections_run delay now control.selections }
+  abbrev thereafter : Control
+  thereafter = record control { selections = selections_run delay now control.selections }
 
-  selective_run : (own : OwnVrf) → selective_routes place behind own ≡ selective_routes place control own
+  selective_run : (own : OwnVrf) → selective_routes place thereafter own ≡ selective_routes place control own
   selective_run own =
       ap (λ (es : List (VrfPattern × Selected)). map (route place own) (filter (is_own place own) es))
       (entries-changed pattern_cmp (selection_run delay now) pattern_total pattern_exact control.selections)
       ∙ run_routes place own delay now (maps.entries control.selections)
 
-  pub held_run : (peer : NodeId) → held_for place behind peer ≡ held_for place control peer
+  pub held_run : (peer : NodeId) → held_for place thereafter peer ≡ held_for place control peer
   held_run peer = λ i. maps.from_entries
       (flat_map (λ own. inclusive_route place own ∷ (unicast_routes place own ++ (selective_run own i ++ active_routes place control own)))
       (own_vrfs place)

@@ -63,7 +63,7 @@ each_itself P f t peer = both_itself P f (get t peer)
 -- ---- routes one after another
 
 abbrev pub Given : List Entry → PeerTable → PeerTable → Type 0
-Given list before behind = behind ≡ with_routes list before
+Given list before thereafter = thereafter ≡ with_routes list before
 
 with_both : (xs ys : List Entry) (table : PeerTable) → with_routes (xs ++ ys) table ≡ with_routes ys (with_routes xs table)
 with_both [] ys table = refl

@@ -36,8 +36,8 @@ AreToldAlike old new = EachPeer IsToldAlike old new
 
 -- some of the peers are to have the route besides, and the others are as before
 abbrev pub HavePartly : Key → Value → Tables → Tables → Type 0
-HavePartly key value old new = EachPeer (λ before behind. (behind ≡ before) ⊎ (behind ≡ with_route key value before)) old new
+HavePartly key value old new = EachPeer (λ before thereafter. (thereafter ≡ before) ⊎ (thereafter ≡ with_route key value before)) old new
 
 -- some of the peers are to have no route of the key, and the others are as before
 abbrev pub LackPartly : Key → Tables → Tables → Type 0
-LackPartly key old new = EachPeer (λ before behind. (behind ≡ before) ⊎ (behind ≡ without_route key before)) old new
+LackPartly key old new = EachPeer (λ before thereafter. (thereafter ≡ before) ⊎ (thereafter ≡ without_route key before)) old new

@@ -33,7 +33,7 @@ pub fn hold_join(
     ensures set { OnOk result ((place : EdgePlace) → IsAt place own.now.local →
         let key : Key = Mcast (afi_of source) (routes.SourceJoin upstream.now.rd upstream.now.source_as source group) in
         let value = value_towards place (as_import upstream.now.import) in
-        AtPeer peer (λ before behind. behind ≡ with_route key value before) tables.old tables.new) }
+        AtPeer peer (λ before thereafter. thereafter ≡ with_route key value before) tables.old tables.new) }
     // Where the edge holds that join, one key less is still to be changed.
     ensures held { OnOk result ((place : EdgePlace) (control : Control) (but : List (NodeId × Key)) → IsAt place own.now.local →
         let key : Key = Mcast (afi_of source) (routes.SourceJoin upstream.now.rd upstream.now.source_as source group) in
@@ -58,7 +58,7 @@ pub fn drop_join(
     requires { IsGroup (afi_of source) group }
     ensures unset { OnOk result (
         let key : Key = Mcast (afi_of source) (routes.SourceJoin rd source_as source group) in
-        AtPeer peer (λ before behind. behind ≡ without_route key before) tables.old tables.new) }
+        AtPeer peer (λ before thereafter. thereafter ≡ without_route key before) tables.old tables.new) }
     // Where the edge holds no such join, one key less is still to be changed.
     ensures held { OnOk result ((place : EdgePlace) (control : Control) (but : List (NodeId × Key)) →
         let key : Key = Mcast (afi_of source) (routes.SourceJoin rd source_as source group) in

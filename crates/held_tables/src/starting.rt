@@ -38,8 +38,8 @@ fn hold_prefixes(
     routes: &[Route],
 ) -> Result<(), NoMemory>
     requires { All (λ route. IsSitePrefix route.prefix) routes.now }
-    ensures set { OnOk result (EachPeer (λ before behind.
-        behind ≡ with_routes (prefix_routes own.now.vrf.rd value.now routes.now) before) tables.old tables.new) }
+    ensures set { OnOk result (EachPeer (λ before thereafter.
+        thereafter ≡ with_routes (prefix_routes own.now.vrf.rd value.now routes.now) before) tables.old tables.new) }
     ensures partly { OnErr result (
         EachPeer (HasFront (prefix_routes own.now.vrf.rd value.now routes.now)) tables.old tables.new) }
 {
@@ -53,8 +53,8 @@ fn hold_prefixes(
 /// Each peer is to have the inclusive route of the VRF.
 fn hold_inclusive(tables: &mut EdgeTables, home: &EdgeHome, own: &OwnVrf) -> Result<(), NoMemory>
     requires { IsAt (home_place home.now) own.now.local }
-    ensures set { OnOk result (EachPeer (λ before behind.
-        behind ≡ with_routes (inclusive_routes (home_place home.now) (as_own own.now)) before) tables.old tables.new) }
+    ensures set { OnOk result (EachPeer (λ before thereafter.
+        thereafter ≡ with_routes (inclusive_routes (home_place home.now) (as_own own.now)) before) tables.old tables.new) }
     ensures partly { OnErr result (
         EachPeer (HasFront (inclusive_routes (home_place home.now) (as_own own.now))) tables.old tables.new) }
 {
@@ -71,8 +71,8 @@ fn hold_sites(
     own: &OwnVrf,
 ) -> Result<(), NoMemory>
     requires { IsAt (home_place home.now) own.now.local }
-    ensures set { OnOk result (EachPeer (λ before behind.
-        behind ≡ with_routes (unicast_routes (home_place home.now) (as_own own.now)) before) tables.old tables.new) }
+    ensures set { OnOk result (EachPeer (λ before thereafter.
+        thereafter ≡ with_routes (unicast_routes (home_place home.now) (as_own own.now)) before) tables.old tables.new) }
     ensures partly { OnErr result (
         EachPeer (HasFront (unicast_routes (home_place home.now) (as_own own.now))) tables.old tables.new) }
 {
@@ -89,8 +89,8 @@ fn hold_vrf(
     own: &OwnVrf,
 ) -> Result<(), NoMemory>
     requires { IsAt (home_place home.now) own.now.local }
-    ensures set { OnOk result (EachPeer (λ before behind.
-        behind ≡ with_routes (start_routes (home_place home.now) (as_own own.now)) before) tables.old tables.new) }
+    ensures set { OnOk result (EachPeer (λ before thereafter.
+        thereafter ≡ with_routes (start_routes (home_place home.now) (as_own own.now)) before) tables.old tables.new) }
     ensures partly { OnErr result (
         EachPeer (HasFront (start_routes (home_place home.now) (as_own own.now))) tables.old tables.new) }
 {
@@ -106,8 +106,8 @@ fn hold_vrfs(
     vrfs: &[OwnVrf],
 ) -> Result<(), NoMemory>
     requires { All (λ own. IsAt (home_place home.now) own.local) vrfs.now }
-    ensures set { OnOk result (EachPeer (λ before behind.
-        behind ≡ with_routes (flat_map (start_routes (home_place home.now)) (map as_own vrfs.now)) before) tables.old tables.new) }
+    ensures set { OnOk result (EachPeer (λ before thereafter.
+        thereafter ≡ with_routes (flat_map (start_routes (home_place home.now)) (map as_own vrfs.now)) before) tables.old tables.new) }
     ensures partly { OnErr result (
         EachPeer (HasFront (flat_map (start_routes (home_place home.now)) (map as_own vrfs.now))) tables.old tables.new) }
 {

@@ -173,12 +173,12 @@ module _ (cores : Cores) (script : Script) (count : ℕ) (trace : List Traced) (
     -- The acts of an event that runs out of labels, and the line of the halt, have no hops.
     pub hops_at_halt : hops_of script.events (report_of (trace ++ traced count acts) ++ halt ∷ []) ≡ hops_of script.events (report_of trace)
     hops_at_halt =
-        let behind : List Entry = report_of (traced count acts) ++ halt ∷ [] in
-        let parts : report_of (trace ++ traced count acts) ++ halt ∷ [] ≡ report_of trace ++ behind =
+        let thereafter : List Entry = report_of (traced count acts) ++ halt ∷ [] in
+        let parts : report_of (trace ++ traced count acts) ++ halt ∷ [] ≡ report_of trace ++ thereafter =
         ap (λ (l : List Entry). l ++ halt ∷ []) (report-append trace (traced count acts))
         ∙ append_assoc (report_of trace) (report_of (traced count acts)) (halt ∷ []) in
         ap (λ (l : List ℕ). flat_map (hops_in script.events l) (report_of (trace ++ traced count acts) ++ halt ∷ [])) (same_refused _ parts)
         ∙ ap (flat_map (hops_in script.events refused)) parts
-        ∙ flat_map-append (hops_in script.events refused) (report_of trace) behind
+        ∙ flat_map-append (hops_in script.events refused) (report_of trace) thereafter
         ∙ ap (λ (hops : List CoreHop). flat_map (hops_in script.events refused) (report_of trace) ++ hops) no_hops
         ∙ append-nil (flat_map (hops_in script.events refused) (report_of trace))

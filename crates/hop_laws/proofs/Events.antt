@@ -31,45 +31,45 @@ alive_kept count world a = subst (λ (n : ℕ). EachCopy (IsCopy n) world.copies
 
 module _ (old : World) (k : IsKept old) where
   -- the datagrams after an event
-  abbrev behind : Event → ℕ
-  behind event = length (old.datagrams ++ brought_by event)
+  abbrev thereafter : Event → ℕ
+  thereafter event = length (old.datagrams ++ brought_by event)
 
-  more_copies : (event : Event) → EachCopy (IsCopy (behind event)) old.copies
+  more_copies : (event : Event) → EachCopy (IsCopy (thereafter event)) old.copies
   more_copies event =
       let more = length (brought_by event) in
       subst (λ (count : ℕ). EachCopy (IsCopy count) old.copies) (sym (length-append old.datagrams (brought_by event)))
       (λ u n. each_weaker (IsCopy (length old.datagrams) u n) (IsCopy (length old.datagrams + more) u n)
       (λ copy a. more_known (length old.datagrams) more copy.ttl copy.number a) (old.copies u n) (k u n))
 
-  entering : (event : Event) → length (brought_by event) ≡ 1 → Entering (behind event) (record old { datagrams = old.datagrams ++ brought_by event })
+  entering : (event : Event) → length (brought_by event) ≡ 1 → Entering (thereafter event) (record old { datagrams = old.datagrams ++ brought_by event })
   entering event one = record {
     alive = record { datagrams = refl; copies = more_copies event };
     some = (let long = length-append old.datagrams (brought_by event) in omega (arith, long, one));
   }
 
-  still : (event : Event) → length (brought_by event) ≡ 0 → Alive (behind event) old
+  still : (event : Event) → length (brought_by event) ≡ 0 → Alive (thereafter event) old
   still event none = record {
     datagrams = (let long = length-append old.datagrams (brought_by event) in omega (arith, long, none));
     copies = more_copies event;
   }
 
-  before : (event : Event) → Before (ArePut (behind event)) (puts_are (behind event)) (Alive (behind event)) (Entering (behind event))
-      (act_puts (behind event)) (entry_puts (behind event)) (λ world e. e.alive) old event
+  before : (event : Event) → Before (ArePut (thereafter event)) (puts_are (thereafter event)) (Alive (thereafter event)) (Entering (thereafter event))
+      (act_puts (thereafter event)) (entry_puts (thereafter event)) (λ world e. e.alive) old event
   before (events.Send site source group payload) = entering (events.Send site source group payload) refl
   before (events.Packet site octets) = entering (events.Packet site octets) refl
   before other = still other refl
 
-  done_puts : (event : Event) → Leads (ArePut (behind event)) (Alive (behind event)) (done old event)
+  done_puts : (event : Event) → Leads (ArePut (thereafter event)) (Alive (thereafter event)) (done old event)
   done_puts event =
-      event_leads (ArePut (behind event)) (puts_are (behind event)) (Alive (behind event)) (Entering (behind event)) (act_puts (behind event))
-      (entry_puts (behind event)) (λ world e. e.alive) old event (before event)
+      event_leads (ArePut (thereafter event)) (puts_are (thereafter event)) (Alive (thereafter event)) (Entering (thereafter event)) (act_puts (thereafter event))
+      (entry_puts (thereafter event)) (λ world e. e.alive) old event (before event)
 
   -- What an event leaves, and its lines.
   pub event_puts : (timed : Timed) (acts : List Happened) (next : World) → outcome old timed ≡ Done acts next
       → ArePut (length next.datagrams) (lines_in acts) × IsKept next
   event_puts timed acts next is = elim (came old timed acts next is).is [
     | inl done_is ↦
-        let l = subst (Leads (ArePut (behind timed.event)) (Alive (behind timed.event))) done_is (done_puts timed.event) in
-        (subst (λ (count : ℕ). ArePut count (lines_in acts)) (sym l.1.datagrams) l.0, alive_kept (behind timed.event) next l.1)
+        let l = subst (Leads (ArePut (thereafter timed.event)) (Alive (thereafter timed.event))) done_is (done_puts timed.event) in
+        (subst (λ (count : ℕ). ArePut count (lines_in acts)) (sym l.1.datagrams) l.0, alive_kept (thereafter timed.event) next l.1)
     | inr refused ↦ (subst (λ (all : List Happened). ArePut (length next.datagrams) (lines_in all)) refused.1 (tt, tt), subst IsKept refused.2 k)
   ]

@@ -26,7 +26,7 @@ use Rattle.delivery_laws.proofs.Sendings.{in_networks, runs_send, tells_first}
 use Rattle.delivery_laws.proofs.Splits.{runs_one_more}
 use Rattle.delivery_laws.proofs.OnceLemmas.{rises_first}
 use Rattle.delivery_laws.proofs.network_laws.Lists.{each_append, each_front, length_map}
-use Rattle.run_laws.proofs.rule_laws.Halting.{each_behind}
+use Rattle.run_laws.proofs.rule_laws.Halting.{each_after}
 use Rattle.run_laws.proofs.line_laws.Events.{done_names}
 use Rattle.license_laws.specs.Hops.{HopsMay}
 use Rattle.hop_laws.specs.Hops.{NamesDatagram, NameDatagrams, hop_by, hops_in, hops_of, sent_in}
@@ -54,7 +54,7 @@ acts_said : (script : Script) (refused : List ℕ) (number : ℕ) (acts : List H
 acts_said script refused number [] all = tt
 acts_said script refused number (happened ∷ more) all = (
   each_front (IsSaid script refused number) happened.lines (lines_in more) all,
-  acts_said script refused number more (each_behind (IsSaid script refused number) happened.lines (lines_in more) all),
+  acts_said script refused number more (each_after (IsSaid script refused number) happened.lines (lines_in more) all),
 )
 
 module _ (cores : Cores) (script : Script) (sound : SoundScenario script.scenario) (of_scenario : AreCoresOf script.scenario cores) (refused : List ℕ)
@@ -107,7 +107,7 @@ module _ (cores : Cores) (script : Script) (sound : SoundScenario script.scenari
           run = first;
         } in
         let here : IsSoundEvent script.scenario timed.event =
-        (each_behind (λ (t : Timed). IsSoundEvent script.scenario t.event) before (timed ∷ more) events_sound).0 in
+        (each_after (λ (t : Timed). IsSoundEvent script.scenario t.event) before (timed ∷ more) events_sound).0 in
         let names =
         recursion_from_All (IsLineOf script.scenario) (lines_in run.0)
         (done_names cores script before early old sound_first timed here run.0 run.1 run.3) in

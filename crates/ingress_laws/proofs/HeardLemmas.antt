@@ -1,4 +1,4 @@
--- What is kept of a peer, behind all octets that came of it.
+-- What is kept of a peer, after all octets that came of it.
 use Rattle.std.proofs.Common.{arith, slice_index, ◌<◌, ◌≡◌, ◌∙◌, ap, sym, subst, refl, ℕ, zero, suc, Bool, true, false, cond, List, [], ◌∷◌, ◌++◌, length, fold, Option, None, Some, unwrap_or, nat_cmp, append_assoc}
 use Rattle.std.specs.Int.{w32, to_be_bytes}
 use Rattle.std.specs.List.{AllByRecursion}
@@ -23,7 +23,7 @@ use Rattle.ingress_text.specs.Rooted.{Rooted}
 use Rattle.ingress_text.specs.declared.input.Line.{Line}
 use Rattle.ingress_text.specs.declared.peers.Peer.{Peer}
 use Rattle.ingress_text.specs.Drafted.{number_by, peer_of}
-use Rattle.ingress_text.specs.Telling.{after, answer_by, before, behind, fresh, nobody, octets_by, peers_from, taken, Peers}
+use Rattle.ingress_text.specs.Telling.{after, answer_by, before, thereafter, fresh, nobody, octets_by, peers_from, taken, Peers}
 use Rattle.ingress_laws.specs.Answered.{brought, octets_of, IsAddress, IsSaid}
 
 abbrev emptied : {M E : Type 0} → Fed M E → Fed M E
@@ -47,7 +47,7 @@ module _ (request : Request) (leaf : List ℕ) where
   abbrev stream_of : List ℕ → Fed Message StreamFault
   stream_of octets = at_once (length octets) (cut message_front octets)
 
-  -- a peer behind so many octets
+  -- a peer after so many octets
   abbrev pub heard : List ℕ → Peer
   heard octets = record { stream = emptied (stream_of octets); answer = fold (answer_by request leaf) None (messages_in octets) }
 
@@ -95,7 +95,7 @@ module _ (root : Rooted) (n : ℕ) where
   abbrev pub own : List ℕ → Peer
   own octets = heard root.request (to_be_bytes w32 n) octets
 
-  -- the peer of that number is behind so many octets
+  -- the peer of that number is after so many octets
   pub record IsBehind (peers : Peers) (octets : List ℕ) : Type 0 where
     pub known : (peer : Peer) → peers n ≡ Some peer → peer ≡ own octets
     pub unknown : peers n ≡ None → octets ≡ []
@@ -117,17 +117,17 @@ module _ (root : Rooted) (n : ℕ) where
 
   one_line : (peers : Peers) (so : List ℕ) (line : Line) → IsBehind peers so → IsAddress (peer_of line.said) → (b : Bool)
       → is_at (nat_cmp (number_by line)) n ≡ b
-      → IsOctets (so ++ cond b (octets_by root line.said) []) → IsBehind (behind root peers line) (so ++ cond b (octets_by root line.said) [])
+      → IsOctets (so ++ cond b (octets_by root line.said) []) → IsBehind (thereafter root peers line) (so ++ cond b (octets_by root line.said) [])
   one_line peers so line is address true e fits =
       let same : number_by line ≡ n = one_key nat_cmp-IsAntisymmetric (number_by line) n e in
-      let put : behind root peers line n ≡ Some (after root peers line) = ap (λ (b : Bool). cond b (Some (after root peers line)) (peers n)) e in
+      let put : thereafter root peers line n ≡ Some (after root peers line) = ap (λ (b : Bool). cond b (Some (after root peers line)) (peers n)) e in
       record {
         known = λ peer k. (let own_is : after root peers line ≡ peer = (let h = sym put ∙ k in cc) in
             sym own_is ∙ after_is peers so line is same address fits);
         unknown = λ k. (let h = sym put ∙ k in absurd cc);
       }
   one_line peers so line is address false e fits =
-      let stays : behind root peers line n ≡ peers n = ap (λ (b : Bool). cond b (Some (after root peers line)) (peers n)) e in
+      let stays : thereafter root peers line n ≡ peers n = ap (λ (b : Bool). cond b (Some (after root peers line)) (peers n)) e in
       let none : so ++ [] ≡ so = append-nil so in
       record {
         known = λ peer k. is.known peer (sym stays ∙ k) ∙ ap own (sym none);
@@ -143,10 +143,10 @@ module _ (root : Rooted) (n : ℕ) where
       let rest : List ℕ = octets_of root n more in
       let grouped : so ++ (own_part ++ rest) ≡ (so ++ own_part) ++ rest = sym (append_assoc so own_part rest) in
       let fits' : IsOctets ((so ++ own_part) ++ rest) = subst IsOctets grouped fits in
-      let one : IsBehind (behind root peers line) (so ++ own_part) =
+      let one : IsBehind (thereafter root peers line) (so ++ own_part) =
       one_line peers so line is addresses.0 (is_at (nat_cmp (number_by line)) n) refl (IsOctets-before (so ++ own_part) rest fits') in
-      subst (IsBehind (peers_from root (behind root peers line) more)) (sym grouped)
-      (all_lines more (behind root peers line) (so ++ own_part) addresses.1 fits' one)
+      subst (IsBehind (peers_from root (thereafter root peers line) more)) (sym grouped)
+      (all_lines more (thereafter root peers line) (so ++ own_part) addresses.1 fits' one)
 
   pub at_end : (lines : List Line) → AllByRecursion (λ (line : Line). IsAddress (peer_of line.said)) lines → IsOctets (octets_of root n lines)
       → IsBehind (peers_from root nobody lines) (octets_of root n lines)

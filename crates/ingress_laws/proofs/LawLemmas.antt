@@ -259,14 +259,14 @@ module _ (request : Request) (leaf : Addr) where
       }
   first_by advert table found false e is rest =
       let step : find tests (advert ∷ table) ≡ find tests table = (λ i. cond (e i) (Some advert) (find tests table)) in
-      let behind = rest (sym step ∙ is) in
+      let thereafter = rest (sym step ∙ is) in
       record {
-        before = advert ∷ behind.before;
-        after = behind.after;
-        parts = ap (λ (xs : List Advert). advert ∷ xs) behind.parts;
+        before = advert ∷ thereafter.before;
+        after = thereafter.after;
+        parts = ap (λ (xs : List Advert). advert ∷ xs) thereafter.parts;
         same =
-            behind.same;
-        first = (other_key advert.key e, behind.first);
+            thereafter.same;
+        first = (other_key advert.key e, thereafter.first);
       }
 
   first_from : (table : List Advert) (found : Advert) → answer_in request leaf table ≡ Some found → IsFirst table (answer_key request leaf) found
@@ -280,17 +280,17 @@ module _ (request : Request) (leaf : Addr) where
       by true e = absurd (other (answer_is request leaf advert.key e))
       by false e = e
 
-  find_behind : (before : List Advert) (advert : Advert) (after : List Advert)
+  find_after : (before : List Advert) (advert : Advert) (after : List Advert)
       → AllByRecursion (λ (other : Advert). other.key ≢ answer_key request leaf) before → advert.key ≡ answer_key request leaf
       → find tests (before ++ (advert ∷ after)) ≡ Some advert
-  find_behind [] advert after none is =
+  find_after [] advert after none is =
       ap (λ (b : Bool). cond b (Some advert) (find tests after)) (ap (is_answer request leaf) is ∙ answer_own request leaf)
-  find_behind (other ∷ before) advert after none is =
+  find_after (other ∷ before) advert after none is =
       ap (λ (b : Bool). cond b (Some other) (find tests (before ++ (advert ∷ after)))) (not_tested other none.0)
-      ∙ find_behind before advert after none.1 is
+      ∙ find_after before advert after none.1 is
 
   first_to : (table : List Advert) (found : Advert) → IsFirst table (answer_key request leaf) found → answer_in request leaf table ≡ Some found
-  first_to table found f = ap (find tests) f.parts ∙ find_behind f.before found f.after f.first f.same
+  first_to table found f = ap (find tests) f.parts ∙ find_after f.before found f.after f.first f.same
 
 -- ---- communities
 
@@ -302,24 +302,24 @@ among_by : (comm first : ExtComm) (comms : List ExtComm) (b : Bool) → same_com
 among_by comm first comms true e any rest =
     record { before = []; after = comms; parts = ap (λ (c : ExtComm). c ∷ comms) (sym (comm_is comm first e)) }
 among_by comm first comms false e any rest =
-    let behind = rest (sym (ap (λ (b : Bool). b || list_any (same_comm comm) comms) e) ∙ any) in
-    record { before = first ∷ behind.before; after = behind.after; parts = ap (λ (xs : List ExtComm). first ∷ xs) behind.parts }
+    let thereafter = rest (sym (ap (λ (b : Bool). b || list_any (same_comm comm) comms) e) ∙ any) in
+    record { before = first ∷ thereafter.before; after = thereafter.after; parts = ap (λ (xs : List ExtComm). first ∷ xs) thereafter.parts }
 
 among_from : (comm : ExtComm) (comms : List ExtComm) → list_any (same_comm comm) comms ≡ true → IsAmong comms comm
 among_from comm [] any = absurd cc
 among_from comm (first ∷ comms) any = among_by comm first comms (same_comm comm first) refl any (among_from comm comms)
 
-any_behind : (comm : ExtComm) (before after : List ExtComm) → list_any (same_comm comm) (before ++ (comm ∷ after)) ≡ true
-any_behind comm [] after = ap (λ (b : Bool). b || list_any (same_comm comm) after) (nat_list_eq_equiv.refl comm.0)
-any_behind comm (first ∷ before) after =
-    or_right (same_comm comm first) (list_any (same_comm comm) (before ++ (comm ∷ after))) (any_behind comm before after)
+any_after : (comm : ExtComm) (before after : List ExtComm) → list_any (same_comm comm) (before ++ (comm ∷ after)) ≡ true
+any_after comm [] after = ap (λ (b : Bool). b || list_any (same_comm comm) after) (nat_list_eq_equiv.refl comm.0)
+any_after comm (first ∷ before) after =
+    or_right (same_comm comm first) (list_any (same_comm comm) (before ++ (comm ∷ after))) (any_after comm before after)
   where
     or_right : (x y : Bool) → y ≡ true → (x || y) ≡ true
     or_right true y e = refl
     or_right false y e = e
 
 among_to : (comm : ExtComm) (comms : List ExtComm) → IsAmong comms comm → list_any (same_comm comm) comms ≡ true
-among_to comm comms a = ap (list_any (same_comm comm)) a.parts ∙ any_behind comm a.before a.after
+among_to comm comms a = ap (list_any (same_comm comm)) a.parts ∙ any_after comm a.before a.after
 
 -- ---- labels
 

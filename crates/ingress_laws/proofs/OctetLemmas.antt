@@ -10,7 +10,7 @@ use Rattle.mv_base.specs.declared.addr.Addr.TheVariants.{V4}
 use Rattle.mv_base.specs.declared.route_targets.communities.ExtComm.{ExtComm}
 use Rattle.mv_base.specs.framing.Parts.{ArePartsAfter}
 use Rattle.mv_base.specs.framing.Units.{octets_of, messages_of, AreUnits, Begins, Spelled}
-use Rattle.mv_base.proofs.framing.Cuts.{IsOctets-before, IsOctets-behind}
+use Rattle.mv_base.proofs.framing.Cuts.{IsOctets-before, IsOctets-after}
 use Rattle.bgp_values.specs.declared.mvpn_nlri.route.Afi.{Afi}
 use Rattle.bgp_values.specs.declared.mvpn_nlri.route.Afi.TheVariants.{Ipv4, Ipv6}
 use Rattle.bgp_values.specs.declared.mvpn_nlri.route.LeafKey.{LeafKey}
@@ -48,9 +48,9 @@ both_hold : {M : Type 0} (P : M → Type 0) (ms ns : List M) → AllByRecursion 
 both_hold P [] ns all more = more
 both_hold P (m ∷ ms) ns all more = (all.0, both_hold P ms ns all.1 more)
 
--- octets behind the first one
-behind_one : (x : ℕ) (xs : List ℕ) → IsOctets (x ∷ xs) → IsOctets xs
-behind_one x xs fits i = fits (suc i)
+-- octets after the first one
+thereafter_one : (x : ℕ) (xs : List ℕ) → IsOctets (x ∷ xs) → IsOctets xs
+thereafter_one x xs fits i = fits (suc i)
 
 module _ {M : Type 0} (Spells : List M → List ℕ → Type 0) (P : M → Type 0)
     (each : (ms : List M) (text : List ℕ) → Spells ms text → IsOctets text → AllByRecursion P ms) where
@@ -60,7 +60,7 @@ module _ {M : Type 0} (Spells : List M → List ℕ → Type 0) (P : M → Type 
   units_hold (u ∷ units) rest are fits =
       let whole : IsOctets (u.octets ++ (octets_of units ++ rest)) = subst IsOctets (append_assoc u.octets (octets_of units) rest) fits in
       both_hold P u.messages (messages_of units) (each u.messages u.octets are.0 (IsOctets-before u.octets (octets_of units ++ rest) whole))
-      (units_hold units rest are.1 (IsOctets-behind u.octets (octets_of units ++ rest) whole))
+      (units_hold units rest are.1 (IsOctets-after u.octets (octets_of units ++ rest) whole))
 
   pub begun_hold : (stream : List ℕ) (ms : List M) (rest : List ℕ) → Begins Spells stream ms rest → IsOctets stream → AllByRecursion P ms
   begun_hold stream ms rest b fits = subst (AllByRecursion P) (sym b.carried) (units_hold b.units rest b.each (subst IsOctets b.parts fits))
@@ -72,7 +72,7 @@ module _ {M : Type 0} (Spells : M → List ℕ → Type 0) (Fits : List M → M 
   parts_hold before octets [] rest are fits = tt
   parts_hold before octets (m ∷ ms) rest are fits =
       let whole : IsOctets (are.0 ++ are.1) = subst IsOctets are.4 fits in
-      (each m are.0 are.2 (IsOctets-before are.0 are.1 whole), parts_hold (before ++ m ∷ []) are.1 ms rest are.5 (IsOctets-behind are.0 are.1 whole))
+      (each m are.0 are.2 (IsOctets-before are.0 are.1 whole), parts_hold (before ++ m ∷ []) are.1 ms rest are.5 (IsOctets-after are.0 are.1 whole))
 
 -- ---- routes
 
@@ -103,12 +103,12 @@ attribute_has (Reach (Some r)) text s fits =
     let m = s.means in
     let field : List ℕ = len_field s.flags (length s.value) in
     let value : IsOctets s.value =
-    IsOctets-behind field s.value (behind_one 14 (field ++ s.value) (behind_one s.flags (14 ∷ (field ++ s.value)) (subst IsOctets s.parts fits)))
+    IsOctets-after field s.value (thereafter_one 14 (field ++ s.value) (thereafter_one s.flags (14 ∷ (field ++ s.value)) (subst IsOctets s.parts fits)))
     in
     let hop : IsOctets (m.hop ++ (m.reserved ∷ m.nlri)) =
-    behind_one (length m.hop) (m.hop ++ (m.reserved ∷ m.nlri))
-    (IsOctets-behind (pair m.family) (length m.hop ∷ (m.hop ++ (m.reserved ∷ m.nlri))) (subst IsOctets m.parts value)) in
-    let nlri : IsOctets m.nlri = behind_one m.reserved m.nlri (IsOctets-behind m.hop (m.reserved ∷ m.nlri) hop) in
+    thereafter_one (length m.hop) (m.hop ++ (m.reserved ∷ m.nlri))
+    (IsOctets-after (pair m.family) (length m.hop ∷ (m.hop ++ (m.reserved ∷ m.nlri))) (subst IsOctets m.parts value)) in
+    let nlri : IsOctets m.nlri = thereafter_one m.reserved m.nlri (IsOctets-after m.hop (m.reserved ∷ m.nlri) hop) in
     begun_hold (SpellsUnit m.family) HasRoute (unit_has m.family) m.nlri r.keys [] m.routes nlri
 attribute_has (Reach None) text s fits = tt
 attribute_has (Unreach ks) text s fits = tt
@@ -152,8 +152,8 @@ means_has (messages.Update u) kind body means fits =
     let len : List ℕ = to_be_bytes w16 (length b.withdrawn) in
     let whole : IsOctets (len ++ (b.withdrawn ++ (list_len ++ last))) = subst IsOctets b.parts fits in
     let list : IsOctets b.list =
-    IsOctets-before b.list b.rest (IsOctets-behind list_len last
-    (IsOctets-behind b.withdrawn (list_len ++ last) (IsOctets-behind len (b.withdrawn ++ (list_len ++ last)) whole))) in
+    IsOctets-before b.list b.rest (IsOctets-after list_len last
+    (IsOctets-after b.withdrawn (list_len ++ last) (IsOctets-after len (b.withdrawn ++ (list_len ++ last)) whole))) in
     update_has u b.list b.spelled list
 means_has (messages.Other k) kind body means fits = tt
 
@@ -164,7 +164,7 @@ pub record IsRead (m : Message) : Type 0 where
 
 pub message_read : (ms : List Message) (text : List ℕ) → SpellsMessage ms text → IsOctets text → AllByRecursion IsRead ms
 message_read ms text s fits =
-    let body : IsOctets s.body = IsOctets-behind (header (19 + length s.body) s.kind) s.body (subst IsOctets s.parts fits) in
+    let body : IsOctets s.body = IsOctets-after (header (19 + length s.body) s.kind) s.body (subst IsOctets s.parts fits) in
     subst (AllByRecursion IsRead) (sym s.one) (
       record { spelled = (text, subst (λ (xs : List Message). SpellsMessage xs text) s.one s); has = means_has s.message s.kind s.body s.means body },
       tt,

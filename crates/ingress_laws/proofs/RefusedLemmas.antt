@@ -43,7 +43,7 @@ fault_to octets fits place fault h =
     ap (λ (c : Cut Message StreamFault). c.fault)
     (fails_cut message_front SpellsMessage UnitFault 4096 message_format octets h.messages place fault fits h.fails)
 
--- a fault stays, whatever comes behind it
+-- a fault stays, whatever comes after it
 stays : (octets more : List ℕ) → IsOctets (octets ++ more) → (f : ℕ × StreamFault) → fault_in octets ≡ Some f → fault_in (octets ++ more) ≡ Some f
 stays octets more fits f e =
     let there = found message_front SpellsMessage message_format.stream.framing 0 octets (IsOctets-before octets more fits) in
@@ -52,7 +52,7 @@ stays octets more fits f e =
 
 -- ---- a line
 
--- what an equation of faults says of a line behind others
+-- what an equation of faults says of a line after others
 module _ (root : Rooted) (others : List Line) (line : Line) (fits : IsOctets (octets_of root (number_by line) others ++ octets_by root line.said))
   where
     abbrev old : List ℕ
@@ -95,10 +95,10 @@ addresses_before : (lines more : List Line) → AllByRecursion (λ (line : Line)
 addresses_before [] more all = tt
 addresses_before (line ∷ lines) more all = (all.0, addresses_before lines more all.1)
 
-address_behind : (lines more : List Line) (line : Line) → AllByRecursion (λ (line : Line). IsAddress (peer_of line.said)) (lines ++ (line ∷ more))
+address_after : (lines more : List Line) (line : Line) → AllByRecursion (λ (line : Line). IsAddress (peer_of line.said)) (lines ++ (line ∷ more))
     → IsAddress (peer_of line.said)
-address_behind [] more line all = all.0
-address_behind (other ∷ lines) more line all = address_behind lines more line all.1
+address_after [] more line all = all.0
+address_after (other ∷ lines) more line all = address_after lines more line all.1
 
 module _ (root : Rooted) (lines others more : List Line) (line : Line) (said : IsSaid root lines) (parts : lines ≡ others ++ (line ∷ more)) where
   abbrev n : ℕ
@@ -132,7 +132,7 @@ module _ (root : Rooted) (lines others more : List Line) (line : Line) (said : I
       let was : before (peers_from root nobody others) line ≡ own root n said_before =
       before_is root n (peers_from root nobody others) said_before there (peers_from root nobody others n) refl in
       let now : after root (peers_from root nobody others) line ≡ own root n (said_before ++ octets_by root line.said) =
-      after_is root n (peers_from root nobody others) said_before line there refl (address_behind others more line addresses) line_fits in
+      after_is root n (peers_from root nobody others) said_before line there refl (address_after others more line addresses) line_fits in
       ap (shown root (peers_from root nobody others) line) is ∙ (λ i. first_fault (was i) (now i))
 
   pub shown_from : (peer octets : List ℕ) → line.said ≡ From peer octets → (place : ℕ) (fault : StreamFault)
@@ -157,9 +157,9 @@ module _ (root : Rooted) (lines others more : List Line) (line : Line) (said : I
       let some : fault_in (said_before ++ octets_by root line.said) ≡ Some g = ap fault_in (sym octets_here) ∙ e in
       shown_is peer octets is ∙ (λ i. new_fault (moved 0 (none i)) (moved 0 (some i)))
 
-  pub fault_behind : (place : ℕ) (fault : StreamFault) → BringsFault root others line place fault
+  pub fault_after : (place : ℕ) (fault : StreamFault) → BringsFault root others line place fault
       → (there : ℕ) × HasFault (octets_of root n lines) there fault × (place ≡ further 0 there)
-  fault_behind place fault b =
+  fault_after place fault b =
       let all : IsOctets ((said_before ++ octets_by root line.said) ++ octets_of root n more) = subst IsOctets up_to (octets_fit root lines said n) in
       let here : fault_in (said_before ++ octets_by root line.said) ≡ Some (b.there, fault) =
       fault_to (said_before ++ octets_by root line.said) line_fits b.there fault b.now in
@@ -187,7 +187,7 @@ module _ (root : Rooted) (lines : List Line) (said : IsSaid root lines) (n : ℕ
   refused_only place fault r =
       let is = shown_octets root (peers_from root nobody r.before) r.line r.line.said (place, fault) r.told in
       let b = shown_from root lines r.before r.more r.line said r.parts is.0 is.1 is.2 place fault r.told in
-      let h = fault_behind root lines r.before r.more r.line said r.parts place fault b in
+      let h = fault_after root lines r.before r.more r.line said r.parts place fault b in
       (h.0, subst (λ (k : ℕ). HasFault (octets_of root k lines) h.0 fault) r.number h.1, h.2)
 
   parts_fit : (before more : List Line) → lines ≡ before ++ more → IsOctets (octets_of root n before ++ octets_of root n more)

@@ -7,7 +7,7 @@ use Rattle.mv_base.specs.declared.addr.Addr.TheVariants.{V4}
 use Rattle.mv_base.specs.framing.Units as units
 use Rattle.mv_base.specs.framing.Cut.{Fails, Yields, cut}
 use Rattle.mv_base.specs.framing.Cut.Yields.{sound, faulty}
-use Rattle.mv_base.proofs.framing.Cuts.{IsOctets-behind, cut_fails, cut_splits}
+use Rattle.mv_base.proofs.framing.Cuts.{IsOctets-after, cut_fails, cut_splits}
 use Rattle.mv_base.proofs.framing.Feedings.{yields_cut}
 use Rattle.bgp_messages.specs.declared.bgp_attributes.fault.StreamFault.{StreamFault}
 use Rattle.bgp_messages.specs.declared.bgp_attributes.key.Key.{Key}
@@ -22,7 +22,7 @@ use Rattle.bgp_messages.specs.bgp_update.Table.{changes_of, key_of, AnnouncesLas
 use Rattle.bgp_messages.proofs.bgp_update.Messages.{message_format}
 use Rattle.ingress_rep.specs.declared.request.Request.{Request}
 use Rattle.ingress_rep.specs.Ingress.{answer_key, is_answer}
-use Rattle.ingress_text.specs.Telling.{answer_behind, answer_by, told_by}
+use Rattle.ingress_text.specs.Telling.{answer_after, answer_by, told_by}
 use Rattle.ingress_laws.specs.Answered.{LeavesRoute}
 use Rattle.ingress_laws.proofs.LawLemmas.{answer_is, answer_own}
 use Rattle.ingress_laws.proofs.HeardLemmas.{messages_in}
@@ -33,13 +33,13 @@ module _ (octets : List ℕ) (fits : IsOctets octets) where
   abbrev rest : List ℕ
   rest = (cut message_front octets).rest
 
-  behind_units : (ms : List Message) (left : List ℕ) → units.Begins SpellsMessage octets ms left → IsOctets left
-  behind_units ms left begins = IsOctets-behind (units.octets_of begins.units) left (subst IsOctets begins.parts fits)
+  after_units : (ms : List Message) (left : List ℕ) → units.Begins SpellsMessage octets ms left → IsOctets left
+  after_units ms left begins = IsOctets-after (units.octets_of begins.units) left (subst IsOctets begins.parts fits)
 
   pub fails_in : (f : ℕ × StreamFault) → (cut message_front octets).fault ≡ Some f → Fails SpellsMessage UnitFault octets (messages_in octets) f.0 f.1
   fails_in f e =
       let h = cut_fails message_front SpellsMessage message_format.stream.framing octets f fits e in
-      let left : IsOctets h.rest = behind_units h.first h.rest h.begins in
+      let left : IsOctets h.rest = after_units h.first h.rest h.begins in
       record {
         first = h.first;
         last = h.last;
@@ -54,7 +54,7 @@ module _ (octets : List ℕ) (fits : IsOctets octets) where
   yield_by : (o : Option (ℕ × StreamFault)) → (cut message_front octets).fault ≡ o → Yields SpellsMessage UnitFault octets (messages_in octets)
   yield_by None e =
       let splits = cut_splits message_front SpellsMessage message_format.stream.framing octets fits e in
-      let left : IsOctets rest = behind_units (messages_in octets) rest splits.0.begins in
+      let left : IsOctets rest = after_units (messages_in octets) rest splits.0.begins in
       sound rest splits.0 (λ last offset fault is. let bad_is = message_format.faulty rest last offset fault left is in let more_is = splits.1 in
       absurd cc)
   yield_by (Some f) e = faulty f.0 f.1 (fails_in f e)
@@ -69,7 +69,7 @@ module _ (request : Request) (leaf : List ℕ) where
   key = answer_key request (V4 leaf)
 
   abbrev step : Option Advert → Change → Option Advert
-  step = answer_behind request leaf
+  step = answer_after request leaf
 
   by_changes : (ms : List Message) (found : Option Advert) → fold (answer_by request leaf) found ms ≡ fold step found (flat_map changes_of ms)
   by_changes [] found = refl

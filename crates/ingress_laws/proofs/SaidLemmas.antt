@@ -18,7 +18,7 @@ use Rattle.mv_base.specs.declared.addr.Addr.{Addr}
 use Rattle.mv_base.specs.declared.addr.Addr.TheVariants.{V4}
 use Rattle.mv_base.specs.framing.Cut.{Cut, cut}
 use Rattle.mv_base.specs.framing.Feed.{fed, held_of, moved, unfed}
-use Rattle.mv_base.proofs.framing.Cuts.{IsOctets-behind, cut_splits}
+use Rattle.mv_base.proofs.framing.Cuts.{IsOctets-after, cut_splits}
 use Rattle.bgp_values.specs.declared.mvpn_nlri.route.LeafKey.{LeafKey}
 use Rattle.bgp_values.specs.declared.mvpn_nlri.route.Route.TheVariants.{Selective}
 use Rattle.bgp_values.specs.mvpn_nlri.Spelling as routes
@@ -42,7 +42,7 @@ use Rattle.line_words.specs.declared.fault.TextFault.{TextFault}
 use Rattle.line_words.specs.declared.words.Row.{Row}
 use Rattle.line_words.proofs.MeetLemmas.{Finds, Meets, bind_finds, bind_meets, dotted_octets, either_meets, err_meets, if_meets, ok_meets, only_finds, or_fault_meets, payload_octets, some_finds}
 use Rattle.ingress_rep.specs.Ingress.{answer_of, request_of, IsSpelledSelective}
-use Rattle.ingress_text.specs.Drafted.{input_at, nothing, number_by, peer_of, role_at, role_behind, role_of, said_by, stepped, Drafted}
+use Rattle.ingress_text.specs.Drafted.{input_at, nothing, number_by, peer_of, role_at, role_after, role_of, said_by, stepped, Drafted}
 use Rattle.ingress_text.specs.Grammar.{address_at, claimed, distinct, first_line, from_line, from_words, input_from, input_of, is_other, label_of, leaf_line, leaf_words, line_of, next_line, root_line, root_words, words_line}
 use Rattle.ingress_text.specs.Root.{only, only_announced, root_by, root_of, sole_advert, sole_message, unless_faulty}
 use Rattle.ingress_text.specs.Rooted.{Rooted}
@@ -141,8 +141,8 @@ module _ (root : Rooted) (is : IsRoot root) where
       let route : IsOctets (routes.written (Selective asked.rd asked.source asked.group (V4 own))) = subst HasRoute asked.key is.route.has in
       let spelled = subst IsSpelledSelective asked.key is.route.spelled in (
         spelled.1.1.1,
-        IsOctets-behind group own (IsOctets-behind source (group ++ own)
-            (IsOctets-behind rd (source ++ (group ++ own)) (IsOctets-behind (3 ∷ length fields ∷ []) fields route))),
+        IsOctets-after group own (IsOctets-after source (group ++ own)
+            (IsOctets-after rd (source ++ (group ++ own)) (IsOctets-after (3 ∷ length fields ∷ []) fields route))),
       )
 
   leaf_fits : (leaf : List ℕ) (label : ℕ) → IsAddress leaf → IsOctets (answer_octets root leaf label)
@@ -173,7 +173,7 @@ record IsNewBy (before : List Line) (root : Rooted) (said : Said) : Type 0 where
   pub by : IsSaidBy root said
   pub free : IsFree before (role_of said) (peer_of said)
 
--- a step behind these lines: the root first, which asks by its route, and what is said of peers behind it
+-- a step after these lines: the root first, which asks by its route, and what is said of peers after it
 abbrev IsFirst : Option Rooted → Rooted → Type 0
 IsFirst None root = IsRoot root
 IsFirst (Some old) root = ⊥
@@ -280,7 +280,7 @@ module _ (draft : Drafted) (root : Rooted) (is : IsRoot root) where
       (either_meets Is _ _ _ (from_line_meets row rest)
       (either_meets Is _ _ _ (err_meets _ _) (err_meets _ _)))
 
--- ---- what peers do, behind one line more
+-- ---- what peers do, after one line more
 
 all_weaker : (P Q : Line → Type 0) (xs : List Line) → ((x : Line) → P x → Q x) → AllByRecursion P xs → AllByRecursion Q xs
 all_weaker P Q [] weaker all = tt
@@ -300,9 +300,9 @@ same_role roles.From roles.From h = refl
 same_role roles.Leaf roles.From h = absurd cc
 same_role roles.From roles.Leaf h = absurd cc
 
-role_behind_one : (all : List Line) (line : Line) (n : ℕ)
+role_after_one : (all : List Line) (line : Line) (n : ℕ)
     → role_at (all ++ line ∷ []) n ≡ cond (is_at (nat_cmp (number_by line)) n) (Some (role_of line.said)) (role_at all n)
-role_behind_one all line n = fold-append (role_behind n) None all (line ∷ [])
+role_after_one all line n = fold-append (role_after n) None all (line ∷ [])
 
 module _ (all : List Line) (line : Line) (free : IsFree all (role_of line.said) (peer_of line.said)) where
   still_by : (old : Line) → HasRole all old → (b : Bool) → is_at (nat_cmp (number_by line)) (number_by old) ≡ b
@@ -316,11 +316,11 @@ module _ (all : List Line) (line : Line) (free : IsFree all (role_of line.said) 
       ap (λ (r : Role). Some r) same
 
   still_has : (old : Line) → HasRole all old → HasRole (all ++ line ∷ []) old
-  still_has old has = role_behind_one all line (number_by old) ∙ still_by old has (is_at (nat_cmp (number_by line)) (number_by old)) refl
+  still_has old has = role_after_one all line (number_by old) ∙ still_by old has (is_at (nat_cmp (number_by line)) (number_by old)) refl
 
   own_role : HasRole (all ++ line ∷ []) line
   own_role =
-      role_behind_one all line (number_by line)
+      role_after_one all line (number_by line)
       ∙ ap (λ (b : Bool). cond b (Some (role_of line.said)) (role_at all (number_by line))) (own_key nat_cmp_total (number_by line))
 
   roles_more : AllByRecursion (HasRole all) all → AllByRecursion (HasRole (all ++ line ∷ [])) (all ++ line ∷ [])
@@ -328,7 +328,7 @@ module _ (all : List Line) (line : Line) (free : IsFree all (role_of line.said) 
 
 -- ---- what the lines so far said
 
--- Nothing is said before the root is, what is said of peers behind it meets the premise, and each peer does one thing.
+-- Nothing is said before the root is, what is said of peers after it meets the premise, and each peer does one thing.
 record IsSoFar (draft : Drafted) : Type 0 where
   pub none : draft.root ≡ None → draft.lines ≡ []
   pub root : (root : Rooted) → draft.root ≡ Some root → IsRoot root

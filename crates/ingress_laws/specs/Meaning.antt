@@ -71,7 +71,7 @@ pub record IsCopy (request : Request) (taken : TakenTable) (copy : LeafCopy) : T
   pub there : IsFirst taken.table (answer_key request taken.peer) advert
   pub tells : TellsLabel request taken.peer advert copy.label
 
--- What a peer adds in front of the copies to the peers behind it: its copy, or nothing where there is none.
+-- What a peer adds in front of the copies to the peers after it: its copy, or nothing where there is none.
 pub data Adds (request : Request) (taken : TakenTable) (rest copies : List LeafCopy) : Type 0 where
   sent : (copy : LeafCopy) → IsCopy request taken copy → copies ≡ copy ∷ rest → Adds request taken rest copies
   passed : ((copy : LeafCopy) → ¬ (IsCopy request taken copy)) → copies ≡ rest → Adds request taken rest copies

@@ -20,7 +20,7 @@ pub record HasFault (octets : List ℕ) (place : ℕ) (fault : StreamFault) : Ty
   pub messages : List Message
   pub fails : Fails SpellsMessage UnitFault octets messages place fault
 
--- A line behind others brings the first fault of its peer: what the others brought of it has none. A place past the greatest number is
+-- A line after others brings the first fault of its peer: what the others brought of it has none. A place past the greatest number is
 -- that number.
 pub record BringsFault (root : Rooted) (before : List Line) (line : Line) (place : ℕ) (fault : StreamFault) : Type 0 where
   pub none : (there : ℕ) (other : StreamFault) → ¬ (HasFault (octets_of root (number_by line) before) there other)

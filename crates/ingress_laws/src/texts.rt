@@ -24,7 +24,7 @@ pub fn texts_meet_the_premise()
         (n : ℕ) → IsLeaf n input.lines ⊎ IsHeard n input.lines }
 {}
 
-/// What is kept of a peer behind all lines is the route that its octets leave under the key of its answer, however its
+/// What is kept of a peer after all lines is the route that its octets leave under the key of its answer, however its
 /// lines cut them into pieces.
 pub fn answers_are_routes()
     ensures { (root : Rooted) (lines : List Line) → IsSaid root lines →

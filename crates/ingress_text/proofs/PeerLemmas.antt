@@ -10,7 +10,7 @@ put_again : {A : Type 0} (b : Bool) (now old : Option A) → cond b now (cond b 
 put_again true now old = refl
 put_again false now old = refl
 
--- the map has the peer behind the octets that were taken, and the others as before
+-- the map has the peer after the octets that were taken, and the others as before
 pub put_back : (request : Request) (addr octets : List ℕ) (key own other : ℕ) (old mid new : BTreeMap ℕ Peer) (found : Option Peer)
     (made was now : Peer) →
     own ≡ key → other ≡ key → found ≡ tree.get nat_cmp old own →

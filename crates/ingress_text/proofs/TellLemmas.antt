@@ -13,7 +13,7 @@ use Rattle.ingress_text.specs.declared.input.Line.{Line}
 use Rattle.ingress_text.specs.declared.peers.Peer.{Peer}
 use Rattle.ingress_text.specs.declared.input.Said.{Said}
 use Rattle.ingress_text.specs.Drafted.{number_by, peer_of}
-use Rattle.ingress_text.specs.Telling.{after, behind, copy_line, line_text, nobody, octets_by, peers_from, peers_in, refused_from, shown, table_of, text_from, Changes, Peers, Takes, Tells}
+use Rattle.ingress_text.specs.Telling.{after, thereafter, copy_line, line_text, nobody, octets_by, peers_from, peers_in, refused_from, shown, table_of, text_from, Changes, Peers, Takes, Tells}
 
 or_false : (b : Bool) → (b || false) ≡ b
 or_false true = refl
@@ -49,7 +49,7 @@ takes_said root line said old new is takes =
 pub none_in : (peers : BTreeMap ℕ Peer) → peers.entries ≡ [] → peers_in peers ≡ nobody
 none_in peers e = λ i n. lookup (is_at (nat_cmp n)) (e i)
 
--- What is still to be told behind the lines so far.
+-- What is still to be told after the lines so far.
 pub record IsToldTo (root : Rooted) (lines : List Line) (text : List ℕ) (refused : Bool) (peers : BTreeMap ℕ Peer) (rest : List Line) : Type 0 where
   pub all_text : text ++ text_from root (peers_in peers) rest ≡ text_from root nobody lines
   pub all_refused : (refused || refused_from root (peers_in peers) rest) ≡ refused_from root nobody lines
@@ -73,7 +73,7 @@ pub told_more : (root : Rooted) (lines : List Line) (text new_text : List ℕ) (
     shows ≡ is_some (shown root (peers_in peers) line line.said) →
     IsToldTo root lines new_text (refused || shows) new_peers more
 told_more root lines text new_text refused shows peers new_peers line more so changes put show =
-    let is : peers_in new_peers ≡ behind root (peers_in peers) line = (λ i n. changes n i) in
+    let is : peers_in new_peers ≡ thereafter root (peers_in peers) line = (λ i n. changes n i) in
     let own : List ℕ = line_text root (peers_in peers) line line.said in
     record {
       all_text =

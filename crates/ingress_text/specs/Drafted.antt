@@ -13,7 +13,7 @@ use Rattle.ingress_text.specs.declared.input.Said.TheVariants.{Leaf, From}
 use Rattle.ingress_text.specs.declared.input.Step.{Step}
 use Rattle.ingress_text.specs.declared.input.Step.TheVariants as steps
 
--- the route of the root, where its line was read, and the lines behind it
+-- the route of the root, where its line was read, and the lines after it
 pub record Drafted : Type 0 where
   pub root : Option Rooted
   pub lines : List Line
@@ -35,13 +35,13 @@ abbrev pub number_by : Line → ℕ
 number_by line = from_be_bytes w32 (peer_of line.said)
 
 -- what the peer of that number does by the last of the lines that name it
-abbrev pub role_behind : ℕ → Option Role → Line → Option Role
-role_behind n found line = if is_eq (nat_cmp (number_by line) n) then Some (role_of line.said) else found
+abbrev pub role_after : ℕ → Option Role → Line → Option Role
+role_after n found line = if is_eq (nat_cmp (number_by line) n) then Some (role_of line.said) else found
 
 abbrev pub role_at : List Line → ℕ → Option Role
-role_at lines n = fold (role_behind n) None lines
+role_at lines n = fold (role_after n) None lines
 
--- behind one more line
+-- after one more line
 abbrev pub said_by : Drafted → ℕ → Said → Drafted
 said_by draft number said = record draft { lines = draft.lines ++ record { number = number; said = said } ∷ [] }
 

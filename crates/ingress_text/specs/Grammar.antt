@@ -102,7 +102,7 @@ unfoldable pub first_line : Row → Placed → List Placed → Result Step TextF
 first_line row first rest =
     if pointwise nat_eq first.text (codes "root") then root_line row rest else fault row.number 1 reasons.Root
 
--- a line behind it
+-- a line after it
 unfoldable pub next_line : Drafted → Rooted → Row → Placed → List Placed → Result Step TextFault
 next_line draft root row first rest =
     if pointwise nat_eq first.text (codes "leaf") then leaf_line draft root row rest else
@@ -120,7 +120,7 @@ words_line draft row (first ∷ rest) =
 unfoldable pub line_of : Drafted → ℕ → List ℕ → Result Step TextFault
 line_of draft number octets = words_in number octets >>= λ words. words_line draft (row_of number octets) words
 
--- what the lines from that number on say, behind what was said
+-- what the lines from that number on say, after what was said
 abbrev pub input_from : Drafted → ℕ → List (List ℕ) → Result Input TextFault
 input_from draft number [] = elim (input_at draft) [ Some input ↦ Ok input | None ↦ fault number 1 reasons.Root ]
 input_from draft number (octets ∷ more) = line_of draft number octets >>= λ step. input_from (stepped draft number step) (number + 1) more

@@ -56,16 +56,16 @@ copy_line copy = codes "copy " ++ dotted (addr_octets copy.leaf) ++ codes " " ++
 
 -- ---- peers
 
--- the answer of a leaf behind one more change: the route that a table has under its key (RFC 4271 section 3.1)
+-- the answer of a leaf after one more change: the route that a table has under its key (RFC 4271 section 3.1)
 abbrev pub told_by : Change → Option Advert
 told_by (Reach advert) = Some advert
 told_by (Unreach key) = None
 
-abbrev pub answer_behind : Request → List ℕ → Option Advert → Change → Option Advert
-answer_behind request leaf found change = if is_answer request (V4 leaf) (key_of change) then told_by change else found
+abbrev pub answer_after : Request → List ℕ → Option Advert → Change → Option Advert
+answer_after request leaf found change = if is_answer request (V4 leaf) (key_of change) then told_by change else found
 
 abbrev pub answer_by : Request → List ℕ → Option Advert → Message → Option Advert
-answer_by request leaf found message = fold (answer_behind request leaf) found (changes_of message)
+answer_by request leaf found message = fold (answer_after request leaf) found (changes_of message)
 
 -- nothing has come of the peer
 abbrev pub fresh : Peer
@@ -111,7 +111,7 @@ nobody n = None
 abbrev pub peers_in : BTreeMap ℕ Peer → Peers
 peers_in peers n = tree.get nat_cmp peers n
 
--- the peer of an address behind octets that are taken of it, and the fault that they show
+-- the peer of an address after octets that are taken of it, and the fault that they show
 abbrev pub peer_with : Request → List ℕ → List ℕ → Peers → Peer
 peer_with request addr octets peers = taken request addr (unwrap_or (peers (from_be_bytes w32 addr)) fresh) octets
 
@@ -119,23 +119,23 @@ abbrev pub fault_by : Request → List ℕ → List ℕ → BTreeMap ℕ Peer �
 fault_by request addr octets peers =
     first_fault (unwrap_or (peers_in peers (from_be_bytes w32 addr)) fresh) (peer_with request addr octets (peers_in peers))
 
--- a map behind a change of the peer of that number
+-- a map after a change of the peer of that number
 abbrev pub Changes : ℕ → Peer → BTreeMap ℕ Peer → BTreeMap ℕ Peer → Type 0
 Changes number peer old new = (n : ℕ) → peers_in new n ≡ (if is_at (nat_cmp number) n then Some peer else peers_in old n)
 
--- a map behind octets that are taken of the peer of an address
+-- a map after octets that are taken of the peer of an address
 abbrev pub Takes : Request → List ℕ → List ℕ → BTreeMap ℕ Peer → BTreeMap ℕ Peer → Type 0
 Takes request addr octets old new = Changes (from_be_bytes w32 addr) (peer_with request addr octets (peers_in old)) old new
 
--- a peer before and behind a line that names it
+-- a peer before and after a line that names it
 abbrev pub before : Peers → Line → Peer
 before peers line = unwrap_or (peers (number_by line)) fresh
 
 abbrev pub after : Rooted → Peers → Line → Peer
 after root peers line = taken root.request (peer_of line.said) (before peers line) (octets_by root line.said)
 
-abbrev pub behind : Rooted → Peers → Line → Peers
-behind root peers line n = if is_at (nat_cmp (number_by line)) n then Some (after root peers line) else peers n
+abbrev pub thereafter : Rooted → Peers → Line → Peers
+thereafter root peers line n = if is_at (nat_cmp (number_by line)) n then Some (after root peers line) else peers n
 
 -- the fault that a line shows: where it brings octets of a peer, the first one of these
 abbrev pub shown : Rooted → Peers → Line → Said → Option (ℕ × StreamFault)
@@ -154,15 +154,15 @@ line_text root peers line (From peer octets) = fault_text line.number (shown roo
 
 abbrev pub text_from : Rooted → Peers → List Line → List ℕ
 text_from root peers [] = []
-text_from root peers (line ∷ more) = line_text root peers line line.said ++ text_from root (behind root peers line) more
+text_from root peers (line ∷ more) = line_text root peers line line.said ++ text_from root (thereafter root peers line) more
 
 abbrev pub refused_from : Rooted → Peers → List Line → Bool
 refused_from root peers [] = false
-refused_from root peers (line ∷ more) = is_some (shown root peers line line.said) || refused_from root (behind root peers line) more
+refused_from root peers (line ∷ more) = is_some (shown root peers line line.said) || refused_from root (thereafter root peers line) more
 
 abbrev pub peers_from : Rooted → Peers → List Line → Peers
 peers_from root peers [] = peers
-peers_from root peers (line ∷ more) = peers_from root (behind root peers line) more
+peers_from root peers (line ∷ more) = peers_from root (thereafter root peers line) more
 
 -- the table of a peer, as far as it is an answer
 abbrev pub rows : Option Advert → List Advert

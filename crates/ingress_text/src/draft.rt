@@ -36,7 +36,7 @@ pub(crate) fn peer_of(said: &Said) -> [u8; 4]
     }
 }
 
-/// The route of the root, where its line was read, and the lines behind it, with what each peer does.
+/// The route of the root, where its line was read, and the lines after it, with what each peer does.
 #[derive(Drop)]
 pub struct Draft {
     root: Option<Root>,
@@ -83,7 +83,7 @@ impl Draft {
         self.roles.get(&number_of(addr)).copied()
     }
 
-    /// Adds what the line of that number says behind that of the root.
+    /// Adds what the line of that number says after that of the root.
     fn say(self, number: u32, said: Said) -> Result<Draft, NoMemory>
         ensures { IfOk result (λ draft. draft ≡ said_by self number said) }
     {

@@ -87,7 +87,7 @@ impl Label {
     }
 }
 
-/// What a line behind that of the root says, with an address of IPv4.
+/// What a line after that of the root says, with an address of IPv4.
 #[derive(Drop)]
 pub enum Said {
     /// The leaf answers under the label.
@@ -117,7 +117,7 @@ pub enum Role {
     From,
 }
 
-/// What a line says: nothing, the route of the root, or something behind it.
+/// What a line says: nothing, the route of the root, or something after it.
 #[derive(Drop)]
 pub enum Step {
     Blank,

@@ -44,7 +44,7 @@ fn label_of(text: &[u8]) -> Option<Label>
     }
 }
 
-/// The line of the root by the words behind the first one.
+/// The line of the root by the words after the first one.
 #[tactic(auto, unfolding(crate::specs::Grammar::root_words))]
 fn root_words(alloc: Global, row: Row, addr: &Word, octets: &Word) -> Result<Step, ReadFault>
     ensures { Gives result (root_words row (placed_word addr.now) (placed_word octets.now)) }
@@ -138,7 +138,7 @@ fn leaf_words(
     distinct(root, leaf, row, addr, Said::Leaf { leaf, label })
 }
 
-/// The line of a leaf by the words behind the first one.
+/// The line of a leaf by the words after the first one.
 #[tactic(auto, unfolding(crate::specs::Grammar::leaf_line))]
 fn leaf_line(draft: &Draft, root: &Root, row: Row, words: &[Word]) -> Result<Step, TextFault>
     ensures { result ≡ leaf_line draft.now root.now row (map placed_word words.now) }
@@ -167,7 +167,7 @@ fn from_words(
     Ok(step)
 }
 
-/// The line of a peer's octets by the words behind the first one.
+/// The line of a peer's octets by the words after the first one.
 #[tactic(auto, unfolding(crate::specs::Grammar::from_line))]
 fn from_line(
     alloc: Global,
@@ -200,7 +200,7 @@ fn first_line(alloc: Global, row: Row, first: &Word, rest: &[Word]) -> Result<St
     Err(ReadFault::Text(fault_at(row.number, 1, Reason::Root)))
 }
 
-/// A line behind that of the root.
+/// A line after that of the root.
 #[tactic(auto, unfolding(crate::specs::Grammar::next_line))]
 fn next_line(
     alloc: Global,

@@ -1,7 +1,7 @@
 //! The peers of a root: the stream of each, and its answer so far.
 ghost use Rattle.std.specs.Prelude.{◌≡◌, fold, OnOk, IfOk};
 ghost use Rattle.bgp_messages.specs.bgp_update.Table.{announced, unannounced};
-ghost use Rattle.ingress_text.specs.Telling.{answer_behind, answer_by, drained, fault_by, first_fault, fresh, taken, Takes};
+ghost use Rattle.ingress_text.specs.Telling.{answer_after, answer_by, drained, fault_by, first_fault, fresh, taken, Takes};
 
 use crate::draft::number_of;
 use bgp_messages::bgp_update::{Advert, FeedFault, Key, Message, Stream, StreamFault};
@@ -22,7 +22,7 @@ pub(crate) type Peers = BTreeMap<u32, Peer>;
 
 /// The answer is withdrawn, if it is one of the keys.
 fn withdraw(request: &Request, leaf: [u8; 4], answer: &mut Option<Advert>, keys: &[Key])
-    ensures { answer.new ≡ fold (answer_behind request.now leaf) answer.old (unannounced keys.now) }
+    ensures { answer.new ≡ fold (answer_after request.now leaf) answer.old (unannounced keys.now) }
 {
     let mut rest = keys;
     'keys: while let [key, more @ ..] = rest {
@@ -35,7 +35,7 @@ fn withdraw(request: &Request, leaf: [u8; 4], answer: &mut Option<Advert>, keys:
 
 /// The last of the routes that is an answer takes the place of the answer.
 fn announce(request: &Request, leaf: [u8; 4], answer: &mut Option<Advert>, adverts: Vec<Advert>)
-    ensures { answer.new ≡ fold (answer_behind request.now leaf) answer.old (announced adverts.items) }
+    ensures { answer.new ≡ fold (answer_after request.now leaf) answer.old (announced adverts.items) }
 {
     for advert in adverts {
         if is_answer(request, Addr::V4(leaf), &advert.key) {
@@ -44,7 +44,7 @@ fn announce(request: &Request, leaf: [u8; 4], answer: &mut Option<Advert>, adver
     }
 }
 
-/// The answer behind a message, which withdraws first and then announces.
+/// The answer after a message, which withdraws first and then announces.
 fn hear(request: &Request, leaf: [u8; 4], answer: &mut Option<Advert>, message: Message)
     ensures { answer.new ≡ answer_by request.now leaf answer.old message }
 {

@@ -10,7 +10,7 @@ use mv_base::{Bytes, NoMemory};
 use report_text::{put_digits, put_number};
 use value_text::Worded;
 
-fn put_behind_dots(out: &mut Bytes, octets: &[u8]) -> Result<(), NoMemory>
+fn put_after_dots(out: &mut Bytes, octets: &[u8]) -> Result<(), NoMemory>
     ensures { OnOk result (out.new ≡ out.old ++ flat_map dotted_more octets.now) }
 {
     for octet in octets {
@@ -28,7 +28,7 @@ fn put_dotted(out: &mut Bytes, octets: &[u8]) -> Result<(), NoMemory>
         [] => Ok(()),
         [first, rest @ ..] => {
             put_number(out, u64::from(*first))?;
-            put_behind_dots(out, rest)
+            put_after_dots(out, rest)
         }
     }
 }

@@ -30,11 +30,11 @@ pub fn read(alloc: Global, text: &[u8]) -> Result<Input, ReadFault>
     let mut number = 1;
     let mut rest = text;
     'lines: while !rest.is_empty() {
-        let (line, behind) = split_line(rest);
+        let (line, thereafter) = split_line(rest);
         let step = line_of(alloc, &draft, number, line)?;
         draft = draft.add(number, step)?;
         number += 1;
-        rest = behind;
+        rest = thereafter;
     }
     match draft.into_input() {
         Some(input) => Ok(input),

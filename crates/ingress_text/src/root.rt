@@ -11,7 +11,7 @@ use ingress_rep::request_of;
 use mv_base::NoMemory;
 use std::alloc::Global;
 
-/// The message that waits, where it is the only one and no octets stand behind it.
+/// The message that waits, where it is the only one and no octets stand after it.
 fn sole(mut stream: Stream) -> Option<Message>
     requires { AllByRecursion IsSpelled stream.waiting }
     ensures value { result ≡ sole stream }

@@ -127,7 +127,7 @@ fn tables_of(alloc: Global, mut peers: Peers) -> Result<TakenTables, NoMemory>
     Ok(Seq::from_vec(tables))
 }
 
-/// Tells what the text said: its lines one after another, and behind them the copies that the root sends.
+/// Tells what the text said: its lines one after another, and after them the copies that the root sends.
 pub fn tell(alloc: Global, input: &Input) -> Result<Told, NoMemory>
     ensures { IfOk result (λ told. Tells told.refused input.now told.text) }
 {

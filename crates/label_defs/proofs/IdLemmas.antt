@@ -23,7 +23,7 @@ use Rattle.label_defs.proofs.EffectLemmas.{held}
 use Rattle.label_defs.proofs.TimerLemmas.{timed_end}
 use Rattle.label_defs.proofs.TurnLemmas.{settle_all_keeps}
 
--- the end towards the neighbour behind messages
+-- the end towards the neighbour after messages
 abbrev pub passed : NodeId → List Put → End → End
 passed node [] end = end
 passed node (put ∷ more) end = passed node more (cond (put.to.0 == node.0) (told end) end)
@@ -103,7 +103,7 @@ counted_up new node = up_after new.part.ends new.puts node
 pub counted_ready : (new : Stepped) (node : NodeId) → is_ready (counted new).part node ≡ is_ready new.part node
 counted_ready new node = held_after new.part.ends new.puts node
 
--- ---- the ends behind a step
+-- ---- the ends after a step
 
 pub step_ends : (place : Place) (now : ℕ) (part : LabelData) (call : Call) (new : Stepped) → label_step place now part call ≡ Some new
     → new.part.ends ≡ ends_after (effect place now part call).0.part.ends new.puts
@@ -115,7 +115,7 @@ step_ends place now part call new e =
     ap (λ (s : Stepped). s.part.ends) (sym x.2) ∙ ap (λ (ends : FinMap node_cmp End). ends_after ends x.0.puts) same
     ∙ ap (λ (s : Stepped). ends_after own.0.part.ends s.puts) x.2
 
--- the end towards a neighbour behind a step
+-- the end towards a neighbour after a step
 pub step_end : (place : Place) (now : ℕ) (part : LabelData) (call : Call) (new : Stepped) (node : NodeId) → label_step place now part call ≡ Some new
     → maps.get new.part.ends node ≡ option_map (passed node new.puts) (maps.get (effect place now part call).0.part.ends node)
 step_end place now part call new node e =
@@ -199,24 +199,24 @@ step_fits place now part call new all e node end is =
     subst (λ (own : End). Fits own.next) x.2 (passed_fits node new.puts x.0 (effect_fits place now part call all node x.0 x.1))
 
 -- each id of a row of messages
-numbered_fit : (ends : FinMap node_cmp End) (puts : List Put) → AllFit ends → (before behind : List Numbered) (own : Numbered)
-    → numbered ends puts ≡ before ++ own ∷ behind → Fits own.id
-numbered_fit ends [] all [] behind own e = absurd cc
-numbered_fit ends [] all (x ∷ before) behind own e = absurd cc
-numbered_fit ends (put ∷ more) all before behind own e =
-    by (λ ends' all' before'. numbered_fit ends' more all' before' behind own) (maps.get ends put.to) refl before e
+numbered_fit : (ends : FinMap node_cmp End) (puts : List Put) → AllFit ends → (before thereafter : List Numbered) (own : Numbered)
+    → numbered ends puts ≡ before ++ own ∷ thereafter → Fits own.id
+numbered_fit ends [] all [] thereafter own e = absurd cc
+numbered_fit ends [] all (x ∷ before) thereafter own e = absurd cc
+numbered_fit ends (put ∷ more) all before thereafter own e =
+    by (λ ends' all' before'. numbered_fit ends' more all' before' thereafter own) (maps.get ends put.to) refl before e
   where
-    by : ((ends' : FinMap node_cmp End) → AllFit ends' → (before' : List Numbered) → numbered ends' more ≡ before' ++ own ∷ behind → Fits own.id)
+    by : ((ends' : FinMap node_cmp End) → AllFit ends' → (before' : List Numbered) → numbered ends' more ≡ before' ++ own ∷ thereafter → Fits own.id)
         → (o : Option End) → maps.get ends put.to ≡ o → (front : List Numbered)
         → (elim o [ None ↦ numbered ends more | Some end ↦ record { id = end.next; put = put } ∷ numbered (maps.insert ends put.to (told end)) more ])
-        ≡ front ++ own ∷ behind → Fits own.id
+        ≡ front ++ own ∷ thereafter → Fits own.id
     by rest None is front e = rest ends all front e
     by rest (Some end) is [] e = (let first : end.next ≡ own.id = cc in subst Fits first (all put.to end is))
     by rest (Some end) is (x ∷ front) e =
-        let tail : numbered (maps.insert ends put.to (told end)) more ≡ front ++ own ∷ behind = cc in
+        let tail : numbered (maps.insert ends put.to (told end)) more ≡ front ++ own ∷ thereafter = cc in
         rest (maps.insert ends put.to (told end)) (put_fits ends put.to (told end) (next_fits end.next (all put.to end is)) all) front tail
 
-pub puts_fit : (place : Place) (now : ℕ) (part : LabelData) (call : Call) (puts : List Put) (before behind : List Numbered) (put : Numbered)
-    → IdsFit part → step_puts place now part call puts ≡ before ++ put ∷ behind → Fits put.id
-puts_fit place now part call puts before behind put all e =
-    numbered_fit (effect place now part call).0.part.ends puts (effect_fits place now part call all) before behind put e
+pub puts_fit : (place : Place) (now : ℕ) (part : LabelData) (call : Call) (puts : List Put) (before thereafter : List Numbered) (put : Numbered)
+    → IdsFit part → step_puts place now part call puts ≡ before ++ put ∷ thereafter → Fits put.id
+puts_fit place now part call puts before thereafter put all e =
+    numbered_fit (effect place now part call).0.part.ends puts (effect_fits place now part call all) before thereafter put e

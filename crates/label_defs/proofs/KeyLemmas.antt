@@ -40,17 +40,17 @@ one_kind Down Down e = refl
 one_fec : (a b : Fec) → fec_key a ≡ fec_key b → a ≡ b
 one_fec a b e =
     let number : kind_key a.kind ≡ kind_key b.kind = cc in
-    let behind : addr_front a.root ++ a.opaque ≡ addr_front b.root ++ b.opaque = cc in
+    let thereafter : addr_front a.root ++ a.opaque ≡ addr_front b.root ++ b.opaque = cc in
     let kind = one_kind a.kind b.kind number in
-    let both = addr_fronts a.root b.root a.opaque b.opaque behind in
+    let both = addr_fronts a.root b.root a.opaque b.opaque thereafter in
     λ i. record { kind = kind i; root = both.0 i; opaque = both.1 i }
 
 one_branch : (a b : Branch) → branch_key a ≡ branch_key b → a ≡ b
 one_branch a b e =
     let node : a.node.0 ≡ b.node.0 = cc in
     let label : a.label ≡ b.label = cc in
-    let behind : fec_key a.fec ≡ fec_key b.fec = cc in
-    let fec = one_fec a.fec b.fec behind in
+    let thereafter : fec_key a.fec ≡ fec_key b.fec = cc in
+    let fec = one_fec a.fec b.fec thereafter in
     λ i. record { fec = fec i; node = record { 0 = node i }; label = label i }
 
 pub fec_cmp_exact : IsAntisymmetric fec_cmp

@@ -24,7 +24,7 @@ use Rattle.label_defs.proofs.TreeLemmas.{Tied, tied, not_both}
 use Rattle.label_defs.proofs.SettleLemmas.{Good}
 use Rattle.label_defs.proofs.EffectLemmas.{held}
 
--- what is mapped behind a loss was so before, and not towards that neighbour
+-- what is mapped after a loss was so before, and not towards that neighbour
 pub freed_maps : (node : NodeId) (usage : LabelUse) (fec : Fec) (u : NodeId) → freed node usage ≡ uses.Mapped fec u
     → (usage ≡ uses.Mapped fec u) × (u ≡ node → ⊥)
 freed_maps node uses.Free fec u e = absurd cc
@@ -111,7 +111,7 @@ absent part fec h =
           (in_mapped fec u part.labels _ (used_some part.labels label (uses.Mapped fec u) p).1) y.1;
     }
 
--- behind a loss the node has no branch that it had not
+-- after a loss the node has no branch that it had not
 pub loss_adds_no_branch : (part : LabelData) (peer : NodeId) (fec : Fec) → has_branch (without_session part peer) fec ≡ true
     → has_branch part fec ≡ true
 loss_adds_no_branch part peer fec h =

@@ -25,17 +25,17 @@ use Rattle.label_defs.proofs.TurnLemmas.{Turn, Quiet, Takes, Gives, Off, on_it}
 use Rattle.label_defs.proofs.IdLemmas.{counted_ready}
 use Rattle.label_defs.proofs.OwnLemmas.{step_keeps, rest_tree, rest_ready, free_then, then_free}
 
--- a part of a list with one more element behind it
-pub snoc_split : {A : Type 0} (xs front : List A) (x put : A) (behind : List A) → xs ++ x ∷ [] ≡ front ++ put ∷ behind
+-- a part of a list with one more element after it
+pub snoc_split : {A : Type 0} (xs front : List A) (x put : A) (thereafter : List A) → xs ++ x ∷ [] ≡ front ++ put ∷ thereafter
     → ((rest : List A) × (xs ≡ front ++ put ∷ rest)) ⊎ ((xs ≡ front) × (x ≡ put))
-snoc_split [] [] x put behind e = inr (refl, cc)
-snoc_split [] (y ∷ []) x put behind e = absurd cc
-snoc_split [] (y ∷ (z ∷ front)) x put behind e = absurd cc
-snoc_split (w ∷ xs) [] x put behind e = let same : w ≡ put = cc in inl (xs, ap (λ y. y ∷ xs) same)
-snoc_split (w ∷ xs) (y ∷ front) x put behind e =
+snoc_split [] [] x put thereafter e = inr (refl, cc)
+snoc_split [] (y ∷ []) x put thereafter e = absurd cc
+snoc_split [] (y ∷ (z ∷ front)) x put thereafter e = absurd cc
+snoc_split (w ∷ xs) [] x put thereafter e = let same : w ≡ put = cc in inl (xs, ap (λ y. y ∷ xs) same)
+snoc_split (w ∷ xs) (y ∷ front) x put thereafter e =
     let same : w ≡ y = cc in
-    let more : xs ++ x ∷ [] ≡ front ++ put ∷ behind = cc in
-    elim (snoc_split xs front x put behind more) [
+    let more : xs ++ x ∷ [] ≡ front ++ put ∷ thereafter = cc in
+    elim (snoc_split xs front x put thereafter more) [
       | inl r ↦ inl (r.0, λ i. same i ∷ r.1 i)
       | inr r ↦ inr (λ i. same i ∷ r.0 i, r.1)
     ]
@@ -56,7 +56,7 @@ record Traced (place : Place) (start part : LabelData) (puts : List Put) : Type 
   -- what is free was so, and what was free is so or was taken
   free : (label : ℕ) → use_of part label ≡ Some uses.Free → use_of start label ≡ Some uses.Free
   taken : (label : ℕ) → use_of start label ≡ Some uses.Free → (use_of part label ≡ Some uses.Free) ⊎ (list_any (takes_by label) puts ≡ true)
-  found : (before behind : List Put) (to : NodeId) (fec : Fec) (label : ℕ) → puts ≡ before ++ mapping_to to fec label ∷ behind
+  found : (before thereafter : List Put) (to : NodeId) (fec : Fec) (label : ℕ) → puts ≡ before ++ mapping_to to fec label ∷ thereafter
       → Found place start part before to fec label
 
 same_found : (place : Place) (start part : LabelData) (a b : List Put) (u v : NodeId) (f g : Fec) (l k : ℕ) → a ≡ b → u ≡ v → f ≡ g → l ≡ k
@@ -80,8 +80,8 @@ module _ (place : Place) (start old : LabelData) (fec : Fec) (next : LabelData) 
           | inl is ↦ inl (same k ∙ is)
           | inr is ↦ inr (ap (list_any (takes_by k)) none ∙ is)
         ];
-        found = λ before behind to own label e.
-            let f = x.found before behind to own label (sym none ∙ e) in
+        found = λ before thereafter to own label e.
+            let f = x.found before thereafter to own label (sym none ∙ e) in
             record {
               toward = f.toward;
               ready = rest_ready old next t.rest to ∙ f.ready;
@@ -116,7 +116,7 @@ module _ (place : Place) (start old : LabelData) (fec : Fec) (next : LabelData) 
                 ∙ or_right (list_any (takes_by k) puts) (list_any (takes_by k) (one ∷ [])) (or_left (m.label == k) false (eq-eqb m.label k (sym p))))
           ]
         ];
-        found = λ before behind to own label e. elim (snoc_split puts before one (mapping_to to own label) behind (sym all ∙ e)) [
+        found = λ before thereafter to own label e. elim (snoc_split puts before one (mapping_to to own label) thereafter (sym all ∙ e)) [
           | inl r ↦
               let f = x.found before r.0 to own label r.1 in
               record {
@@ -166,7 +166,7 @@ module _ (place : Place) (start old : LabelData) (fec : Fec) (next : LabelData) 
             | inl p ↦ (let both = same_Some (uses.Mapped fec w.to) uses.Free (sym (ap (use_of old) p ∙ w.was) ∙ is) in absurd cc)
           ]
         ];
-        found = λ before behind to own label e. elim (snoc_split puts before one (mapping_to to own label) behind (sym all ∙ e)) [
+        found = λ before thereafter to own label e. elim (snoc_split puts before one (mapping_to to own label) thereafter (sym all ∙ e)) [
           | inr r ↦ (let message : messages.Withdraw fec w.label ≡ messages.Mapping own label = ap (λ (put : Put). put.message) r.1 in absurd cc)
           | inl r ↦
               let f = x.found before r.0 to own label r.1 in
@@ -198,37 +198,37 @@ is_held : (o : Option End) → held o ≡ true → (end : End) × (o ≡ Some en
 is_held None e = absurd cc
 is_held (Some end) e = (end, refl, e)
 
-pub none_first : (before behind : List Put) (put : Put) → [] ≡ before ++ put ∷ behind → ⊥
-none_first [] behind put e = absurd cc
-none_first (first ∷ before) behind put e = absurd cc
+pub none_first : (before thereafter : List Put) (put : Put) → [] ≡ before ++ put ∷ thereafter → ⊥
+none_first [] thereafter put e = absurd cc
+none_first (first ∷ before) thereafter put e = absurd cc
 
-one_first : (from : NodeId) (fec : Fec) (label : ℕ) (before behind : List Put) (put : Put) → releases put.message ≡ false
-    → record { to = from; message = messages.Release fec label } ∷ [] ≡ before ++ put ∷ behind → ⊥
-one_first from fec label [] behind put none e =
+one_first : (from : NodeId) (fec : Fec) (label : ℕ) (before thereafter : List Put) (put : Put) → releases put.message ≡ false
+    → record { to = from; message = messages.Release fec label } ∷ [] ≡ before ++ put ∷ thereafter → ⊥
+one_first from fec label [] thereafter put none e =
     let release : Put = record { to = from; message = messages.Release fec label } in
     let same : release ≡ put = cc in
     let is : true ≡ false = ap (λ (p : Put). releases p.message) same ∙ none in
     absurd cc
-one_first from fec label (first ∷ before) behind put none e = (let rest : [] ≡ before ++ put ∷ behind = cc in none_first before behind put rest)
+one_first from fec label (first ∷ before) thereafter put none e = (let rest : [] ≡ before ++ put ∷ thereafter = cc in none_first before thereafter put rest)
 
 -- the call's own effect puts releases alone
-pub no_own_put : (place : Place) (now : ℕ) (part : LabelData) (call : Call) (before behind : List Put) (put : Put) → releases put.message ≡ false
-    → (effect place now part call).0.puts ≡ before ++ put ∷ behind → ⊥
-no_own_put place now part (Taken from (messages.Mapping fec label)) before behind put none e = none_first before behind put e
-no_own_put place now part (Taken from (messages.Withdraw fec label)) before behind put none e = one_first from fec label before behind put none e
-no_own_put place now part (Taken from (messages.Release fec label)) before behind put none e = none_first before behind put e
-no_own_put place now part (Taken from (messages.Ignored kind)) before behind put none e = none_first before behind put e
-no_own_put place now part (Want fec) before behind put none e = none_first before behind put e
-no_own_put place now part (Unwant fec) before behind put none e = none_first before behind put e
-no_own_put place now part (Raised peer) before behind put none e = none_first before behind put e
-no_own_put place now part (Noticed peer) before behind put none e = none_first before behind put e
-no_own_put place now part Timers before behind put none e = none_first before behind put e
-no_own_put place now part Rerouted before behind put none e = none_first before behind put e
+pub no_own_put : (place : Place) (now : ℕ) (part : LabelData) (call : Call) (before thereafter : List Put) (put : Put) → releases put.message ≡ false
+    → (effect place now part call).0.puts ≡ before ++ put ∷ thereafter → ⊥
+no_own_put place now part (Taken from (messages.Mapping fec label)) before thereafter put none e = none_first before thereafter put e
+no_own_put place now part (Taken from (messages.Withdraw fec label)) before thereafter put none e = one_first from fec label before thereafter put none e
+no_own_put place now part (Taken from (messages.Release fec label)) before thereafter put none e = none_first before thereafter put e
+no_own_put place now part (Taken from (messages.Ignored kind)) before thereafter put none e = none_first before thereafter put e
+no_own_put place now part (Want fec) before thereafter put none e = none_first before thereafter put e
+no_own_put place now part (Unwant fec) before thereafter put none e = none_first before thereafter put e
+no_own_put place now part (Raised peer) before thereafter put none e = none_first before thereafter put e
+no_own_put place now part (Noticed peer) before thereafter put none e = none_first before thereafter put e
+no_own_put place now part Timers before thereafter put none e = none_first before thereafter put e
+no_own_put place now part Rerouted before thereafter put none e = none_first before thereafter put e
 
-pub mapping_is : (place : Place) (now : ℕ) (part : LabelData) (call : Call) (new : Stepped) (before behind : List Put) (to : NodeId) (fec : Fec)
+pub mapping_is : (place : Place) (now : ℕ) (part : LabelData) (call : Call) (new : Stepped) (before thereafter : List Put) (to : NodeId) (fec : Fec)
     (label : ℕ) → label_step place now part call ≡ Some new
-    → new.puts ≡ before ++ mapping_to to fec label ∷ behind → MappingIs place now part call new.part before to fec label
-mapping_is place now part call new before behind to fec label e is =
+    → new.puts ≡ before ++ mapping_to to fec label ∷ thereafter → MappingIs place now part call new.part before to fec label
+mapping_is place now part call new before thereafter to fec label e is =
     let start = (effect place now part call).0.part in
     let traced =
     step_keeps place now part call new (λ p puts. Traced place start p puts)
@@ -242,7 +242,7 @@ mapping_is place now part call new before behind to fec label e is =
     })
     (record { free = λ k h. h; taken = λ k h. inl h; found = λ b r u f l h. absurd (no_own_put place now part call b r (mapping_to u f l) refl h) }) e
     in
-    let f = traced.found before behind to fec label is in
+    let f = traced.found before thereafter to fec label is in
     record {
       toward = f.toward;
       ready = is_held (maps.get new.part.ends to) f.ready;

@@ -1,4 +1,4 @@
--- What a call's own effect does to each label, and what holds behind a whole step.
+-- What a call's own effect does to each label, and what holds after a whole step.
 use Rattle.std.proofs.Common.{◌≡◌, ℕ, ◌+◌, ◌==◌, nat_le, Bool, true, false, cond, ◌&&◌, ◌||◌, ◌++◌, List, Option, Some, None, option_map, inl, inr, refl, sym, ap, subst, ◌∙◌}
 use Rattle.std.specs.List.{list_any}
 use Rattle.std.specs.FinSet as sets
@@ -26,7 +26,7 @@ rest_tree old new same fec = λ i. list_any (λ branch. same_fec branch.fec fec)
 pub rest_ready : (old new : LabelData) → SameRest old new → (node : NodeId) → is_ready new node ≡ is_ready old node
 rest_ready old new same node = ap (λ ends. held (maps.get ends node)) same.ends
 
--- What the effect shows and each turn keeps holds behind the step.
+-- What the effect shows and each turn keeps holds after the step.
 pub step_keeps : (place : Place) (now : ℕ) (part : LabelData) (call : Call) (new : Stepped) (P : LabelData → List Put → Type 0)
     → ((old : LabelData) (puts : List Put) (fec : Fec) (next : LabelData) (more : List Put) → Turn place old fec next more → P old puts
     → P next (puts ++ more))
@@ -37,7 +37,7 @@ step_keeps place now part call new P step ids start e =
     let x = map_some counted (settle_all place own.1 own.0) new e in
     subst (λ (s : Stepped). P s.part s.puts) x.2 (ids x.0 (settle_all_keeps place P step own.1 own.0 x.0 start x.1))
 
--- the use of a label behind the call's own effect, by its use before
+-- the use of a label after the call's own effect, by its use before
 abbrev pub own_use : Place → ℕ → Call → ℕ → LabelUse → LabelUse
 own_use place now (Taken from (messages.Release fec own)) label usage = cond (label == own) (released from fec (now + place.life + 1) usage) usage
 own_use place now (Taken from other) label usage = usage

@@ -126,7 +126,7 @@ moved_leaves old place now part new fec label old_hop all e is away = elim (mapp
 
 -- ---- and is mapped to the new one
 
--- behind the turn in which the label leaves, none is mapped
+-- after the turn in which the label leaves, none is mapped
 none_left : (place : Place) (old : LabelData) (fec : Fec) (mid : LabelData) (puts : List Put) → Loose old fec → Gives place old fec mid puts
     → (label : ℕ) (u : NodeId) → Maps mid fec label u → ⊥
 none_left place old fec mid puts l w label u is =
@@ -153,11 +153,11 @@ moved_turn place own old_hop new_hop label toward old puts fec next more t x =
       moved = record {
         taken = m.taken;
         before = m.before;
-        behind = m.behind ++ more;
+        thereafter = m.thereafter ++ more;
         maps = stays_mapped place old fec next more t m.taken own new_hop x.tree toward m.maps;
         leaves = turn_stays place old fec next more t label (uses.Leaving own old_hop) (λ h. absurd cc) (λ f u h. absurd cc) m.leaves;
         put = ap (λ (ps : List Put). ps ++ more) m.put
-            ∙ append_assoc m.before (withdraw_to old_hop own label ∷ mapping_to new_hop own m.taken ∷ m.behind) more;
+            ∙ append_assoc m.before (withdraw_to old_hop own label ∷ mapping_to new_hop own m.taken ∷ m.thereafter) more;
       };
     }
 
@@ -198,7 +198,7 @@ module _ (place : Place) (old : LabelData) (fec : Fec) (mid next : LabelData) (p
         moved = record {
           taken = m.label;
           before = puts;
-          behind = [];
+          thereafter = [];
           maps = ap (λ (labels : List LabelUse). used labels m.label) m.labels ∙ set_here mid m.label uses.Free (uses.Mapped fec m.to) m.least.free
               ∙ ap (λ (u : NodeId). Some (uses.Mapped fec u)) hop;
           leaves = turn_stays place mid fec next second s label (uses.Leaving fec old_hop) (λ h. absurd cc) (λ f u h. absurd cc) gone;
@@ -259,7 +259,7 @@ moved_maps old place now part new fec label old_hop new_hop all e is apart towar
     (moves_map place fec label old_hop new_hop apart toward (trees part) start x.0 (λ own. loose old part own (all own)) listed is ready
     x.1).moved in
     subst (λ (s : Stepped). MovedThen s.part s.puts fec old_hop new_hop label) x.2
-    (record { taken = moved.taken; before = moved.before; behind = moved.behind; maps = moved.maps; leaves = moved.leaves; put = moved.put })
+    (record { taken = moved.taken; before = moved.before; thereafter = moved.thereafter; maps = moved.maps; leaves = moved.leaves; put = moved.put })
 
 -- ---- where labels are lacking
 
@@ -381,13 +381,13 @@ none_moves place (fec ∷ more) old once all =
         ∙ and_from (needs_new_label place old.part fec) (list_any (same_fec fec) (fec ∷ more)) need
         (or_left (same_fec fec fec) (list_any (same_fec fec) more) (same_fec_itself fec)))
 
-    behind : (mid : LabelData) → changed old.part fec (change_of place old.part fec) ≡ Some mid
+    thereafter : (mid : LabelData) → changed old.part fec (change_of place old.part fec) ≡ Some mid
         → ((next : LabelData) (puts : List Put) → ((other : Fec) → Loose next other)
         → (settle_all place (twice more) (record { part = next; puts = puts }) ≡ None) ↔ lacks_new place more next)
         → (o : Option LabelData) → changed mid fec (change_of place mid fec) ≡ o
         → ((o >>? λ next. settle_all place (twice more) (record { part = next; puts = (old.puts ++ first) ++ put_by fec (change_of place mid fec) }))
         ≡ None) ↔ lacks_new place (fec ∷ more) old.part
-    behind mid e rest None h =
+    thereafter mid e rest None h =
         let t = turn place old.part fec mid e in
         let s = stuck place mid fec h in
         let zero_free = none_free mid s.none in
@@ -407,7 +407,7 @@ none_moves place (fec ∷ more) old once all =
         lacking z c o n false is =
             (let top : cond {A = ℕ} (needs_new_label place old.part fec) 1 0 ≡ 0 = ap (λ b. cond {A = ℕ} b 1 0) is in
             absurd (omega (arith, o, n, top)))
-    behind mid e rest (Some next) h =
+    thereafter mid e rest (Some next) h =
         let t = turn place old.part fec mid e in
         let s = turn place mid fec next h in
         let begun = step_begun place old.part fec mid (all fec) e in
@@ -431,4 +431,4 @@ none_moves place (fec ∷ more) old once all =
         let zero_free = none_free old.part s.none in
         let some = listed (needs_then_new place old.part fec s.need) in
         (λ h. omega (arith, zero_free, some), λ h. refl)
-    by rest (Some mid) e = behind mid e rest (changed mid fec (change_of place mid fec)) refl
+    by rest (Some mid) e = thereafter mid e rest (changed mid fec (change_of place mid fec)) refl

@@ -1,4 +1,4 @@
--- A label that is free in a step is free behind it, or is mapped and its mapping was put.
+-- A label that is free in a step is free after it, or is mapped and its mapping was put.
 use Rattle.std.proofs.Common.{◌≡◌, ℕ, true, ◌++◌, ◌⊎◌, inl, inr, List, [], ◌∷◌, Some, sym, ap, subst, ◌∙◌}
 use Rattle.std.proofs.lemmas.Bool.{cases_eq}
 use Rattle.std.proofs.lemmas.List.{append_assoc}
@@ -23,11 +23,11 @@ record Won (place : Place) (part : LabelData) (puts : List Put) (label : ℕ) : 
   fec : Fec
   to : NodeId
   before : List Put
-  behind : List Put
+  thereafter : List Put
   maps : Maps part fec label to
   tree : has_tree part fec ≡ true
   toward : place.upstream fec ≡ Some to
-  put : puts ≡ before ++ mapping_to to fec label ∷ behind
+  put : puts ≡ before ++ mapping_to to fec label ∷ thereafter
 
 -- a label that is mapped towards the upstream of a tree that the node is on stays so
 pub stays_mapped : (place : Place) (old : LabelData) (fec : Fec) (next : LabelData) (more : List Put) → Turn place old fec next more
@@ -51,11 +51,11 @@ won_turn place old puts fec next more t label x =
       fec = x.fec;
       to = x.to;
       before = x.before;
-      behind = x.behind ++ more;
+      thereafter = x.thereafter ++ more;
       maps = stays_mapped place old fec next more t label x.fec x.to x.tree x.toward x.maps;
       tree = rest_tree old next t.rest x.fec ∙ x.tree;
       toward = x.toward;
-      put = ap (λ (ps : List Put). ps ++ more) x.put ∙ append_assoc x.before (mapping_to x.to x.fec label ∷ x.behind) more;
+      put = ap (λ (ps : List Put). ps ++ more) x.put ∙ append_assoc x.before (mapping_to x.to x.fec label ∷ x.thereafter) more;
     }
 
 free_turn : (place : Place) (old : LabelData) (puts : List Put) (fec : Fec) (next : LabelData) (more : List Put) → Turn place old fec next more
@@ -71,7 +71,7 @@ free_turn place old puts fec next more t label (inl is) = elim t.how [
       fec = fec;
       to = m.to;
       before = puts;
-      behind = [];
+      thereafter = [];
       tree = rest_tree old next t.rest fec ∙ m.tree;
       toward = m.toward;
       maps = ap (λ (labels : List LabelUse). used labels label) m.labels ∙ ap (use_of (with_use old m.label (uses.Mapped fec m.to))) e
@@ -95,8 +95,8 @@ free_label_then place now part call new label e free =
         → (use_of old.part label ≡ Some uses.Free) ⊎ Won place (counted old).part old.puts label
     same old (inl x) = inl x
     same old (inr x) =
-        inr (record { fec = x.fec; to = x.to; before = x.before; behind = x.behind; maps = x.maps; tree = x.tree; toward = x.toward; put = x.put })
+        inr (record { fec = x.fec; to = x.to; before = x.before; thereafter = x.thereafter; maps = x.maps; tree = x.tree; toward = x.toward; put = x.put })
 
     by : (use_of new.part label ≡ Some uses.Free) ⊎ Won place new.part new.puts label → FreeThen new.part new.puts label
     by (inl x) = inl x
-    by (inr x) = inr (record { fec = x.fec; to = x.to; before = x.before; behind = x.behind; maps = x.maps; put = x.put })
+    by (inr x) = inr (record { fec = x.fec; to = x.to; before = x.before; thereafter = x.thereafter; maps = x.maps; put = x.put })

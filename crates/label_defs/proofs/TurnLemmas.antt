@@ -1,4 +1,4 @@
--- What the settling of one tree does to the labels and puts, and what holds behind a row of them.
+-- What the settling of one tree does to the labels and puts, and what holds after a row of them.
 use Rattle.std.proofs.Common.{◌≡◌, ℕ, ◌-◌, Bool, true, false, not, ◌&&◌, is_some, ◌++◌, List, [], ◌∷◌, slice_set, Option, Some, None, refl, sym, ap, subst, ◌∙◌, inl, inr, ◌⊎◌}
 use Rattle.std.proofs.lemmas.Bool.{and_left, cases_Bool}
 use Rattle.std.proofs.lemmas.Option.{same_Some, none-some}
@@ -203,7 +203,7 @@ turn place part fec new is =
     (is_ready_to part (place.upstream fec)) (free_label part) new
     refl refl refl refl refl refl is
 
--- What each turn keeps holds behind a row of them.
+-- What each turn keeps holds after a row of them.
 pub settle_all_keeps : (place : Place) (P : LabelData → List Put → Type 0)
     → ((old : LabelData) (puts : List Put) (fec : Fec) (new : LabelData) (more : List Put) → Turn place old fec new more → P old puts
     → P new (puts ++ more))

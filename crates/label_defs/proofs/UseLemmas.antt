@@ -1,4 +1,4 @@
--- What the labels are used for, behind a change of one label or of all, and what the first fitting label tells.
+-- What the labels are used for, after a change of one label or of all, and what the first fitting label tells.
 use Rattle.std.proofs.Common.{◌≡◌, ℕ, ◌+◌, ◌-◌, ◌<◌, ◌≤◌, zero, suc, Bool, true, false, cond, nat_lt, List, [], ◌∷◌, map, length, get_or, position, slice_get, slice_set, Option, Some, None, option_map, inl, inr, refl, sym, ap, ◌∙◌, arith}
 use Rattle.std.specs.List.{position_or_len}
 use Rattle.std.proofs.lemmas.Bool.{cases_lt, cond-true, cond-false, lt-ltb, le-ltb}

@@ -69,7 +69,7 @@ rest_off place old next same fec to (inr away) = inr away
 record Told (place : Place) (start part : LabelData) (puts : List Put) : Type 0 where
   kept : (label : ℕ) (fec : Fec) (to : NodeId) → Maps part fec label to
       → Maps start fec label to ⊎ ((has_tree part fec ≡ true) × (place.upstream fec ≡ Some to))
-  found : (before behind : List Put) (to : NodeId) (fec : Fec) (label : ℕ) → puts ≡ before ++ withdraw_to to fec label ∷ behind
+  found : (before thereafter : List Put) (to : NodeId) (fec : Fec) (label : ℕ) → puts ≡ before ++ withdraw_to to fec label ∷ thereafter
       → Withdrawn place start part to fec label
 
 module _ (place : Place) (start old : LabelData) (fec : Fec) (next : LabelData) (puts more : List Put) where
@@ -85,8 +85,8 @@ module _ (place : Place) (start old : LabelData) (fec : Fec) (next : LabelData) 
       let same : (k : ℕ) → use_of next k ≡ use_of old k = same_uses old next old.labels q.labels in
       record {
         kept = λ k own to is. carry t x k own to (sym (same k) ∙ is);
-        found = λ before behind to own label e.
-            let f = x.found before behind to own label (sym (ap (λ (ps : List Put). puts ++ ps) q.silent ∙ append-nil puts) ∙ e) in
+        found = λ before thereafter to own label e.
+            let f = x.found before thereafter to own label (sym (ap (λ (ps : List Put). puts ++ ps) q.silent ∙ append-nil puts) ∙ e) in
             record { was = f.was; leaves = same label ∙ f.leaves; off = rest_off place old next t.rest own to f.off };
       }
 
@@ -109,7 +109,7 @@ module _ (place : Place) (start old : LabelData) (fec : Fec) (next : LabelData) 
               )
           | inr ne ↦ carry t x k own to (sym (there k ne) ∙ is)
         ];
-        found = λ before behind to own label e. elim (snoc_split puts before one (withdraw_to to own label) behind
+        found = λ before thereafter to own label e. elim (snoc_split puts before one (withdraw_to to own label) thereafter
             (sym (ap (λ (ps : List Put). puts ++ ps) m.put) ∙ e)) [
               | inr r ↦ (let message : messages.Mapping fec m.label ≡ messages.Withdraw own label = ap (λ (put : Put). put.message) r.1 in absurd cc)
               | inl r ↦
@@ -140,7 +140,7 @@ module _ (place : Place) (start old : LabelData) (fec : Fec) (next : LabelData) 
           | inl p ↦ (let both = same_Some (uses.Leaving fec w.to) (uses.Mapped own to) (sym (ap (use_of next) p ∙ here) ∙ is) in absurd cc)
           | inr ne ↦ carry t x k own to (sym (there k ne) ∙ is)
         ];
-        found = λ before behind to own label e. elim (snoc_split puts before one (withdraw_to to own label) behind
+        found = λ before thereafter to own label e. elim (snoc_split puts before one (withdraw_to to own label) thereafter
             (sym (ap (λ (ps : List Put). puts ++ ps) w.put) ∙ e)) [
               | inr r ↦
                   let message : messages.Withdraw fec w.label ≡ messages.Withdraw own label = ap (λ (put : Put). put.message) r.1 in
@@ -166,10 +166,10 @@ module _ (place : Place) (start old : LabelData) (fec : Fec) (next : LabelData) 
     | inr (inr w) ↦ gives_told t w x
   ]
 
-pub withdraw_is : (place : Place) (now : ℕ) (part : LabelData) (call : Call) (new : Stepped) (before behind : List Put) (to : NodeId) (fec : Fec)
+pub withdraw_is : (place : Place) (now : ℕ) (part : LabelData) (call : Call) (new : Stepped) (before thereafter : List Put) (to : NodeId) (fec : Fec)
     (label : ℕ) → label_step place now part call ≡ Some new
-    → new.puts ≡ before ++ withdraw_to to fec label ∷ behind → WithdrawIs place part new.part to fec label
-withdraw_is place now part call new before behind to fec label e is =
+    → new.puts ≡ before ++ withdraw_to to fec label ∷ thereafter → WithdrawIs place part new.part to fec label
+withdraw_is place now part call new before thereafter to fec label e is =
     let start = (effect place now part call).0.part in
     let told =
     step_keeps place now part call new (λ p puts. Told place start p puts)
@@ -179,7 +179,7 @@ withdraw_is place now part call new before behind to fec label e is =
       found = λ b r u f l h. (let y = x.found b r u f l h in record { was = y.was; leaves = y.leaves; off = y.off });
     })
     (record { kept = λ k f u h. inl h; found = λ b r u f l h. absurd (no_own_put place now part call b r (withdraw_to u f l) refl h) }) e in
-    let f = told.found before behind to fec label is in
+    let f = told.found before thereafter to fec label is in
     record { mapped = mapped_before place now part call label fec to f.was; leaves = f.leaves; off = f.off }
 
 -- ---- what was mapped
@@ -211,8 +211,8 @@ mapped_turn place old puts fec next more t label own to (inr x) =
     inr (record {
       leaves = turn_stays place old fec next more t label (uses.Leaving own to) (λ h. absurd cc) (λ f u h. absurd cc) x.leaves;
       before = x.before;
-      behind = x.behind ++ more;
-      put = ap (λ (ps : List Put). ps ++ more) x.put ∙ append_assoc x.before (withdraw_to to own label ∷ x.behind) more;
+      thereafter = x.thereafter ++ more;
+      put = ap (λ (ps : List Put). ps ++ more) x.put ∙ append_assoc x.before (withdraw_to to own label ∷ x.thereafter) more;
     })
 mapped_turn place old puts fec next more t label own to (inl is) = elim t.how [
   | inl q ↦ inl (ap (λ (labels : List LabelUse). used labels label) q.labels ∙ is)
@@ -230,7 +230,7 @@ mapped_turn place old puts fec next more t label own to (inl is) = elim t.how [
         inr (record {
           leaves = leaves ∙ (λ i. Some (uses.Leaving (both.0 i) (both.1 i)));
           before = puts;
-          behind = [];
+          thereafter = [];
           put = ap (λ (ps : List Put). puts ++ ps) w.put ∙ (λ i. puts ++ withdraw_to (both.1 i) (both.0 i) (sym e i) ∷ []);
         })
   ]
@@ -248,7 +248,7 @@ mapped_then place now part call new label fec to e is = elim (own_mapped place n
   where
     same : (old : Stepped) → MappedThen old.part old.puts fec to label → MappedThen (counted old).part old.puts fec to label
     same old (inl x) = inl x
-    same old (inr x) = inr (record { leaves = x.leaves; before = x.before; behind = x.behind; put = x.put })
+    same old (inr x) = inr (record { leaves = x.leaves; before = x.before; thereafter = x.thereafter; put = x.put })
 
 -- ---- what settling keeps
 

@@ -47,7 +47,7 @@ is_towards node other = false
 abbrev pub withdraw_to : NodeId → Fec → ℕ → Put
 withdraw_to to fec label = record { to = to; message = messages.Withdraw fec label }
 
--- A withdraw that a step puts is of a label that was mapped so. Behind the step the label is leaving, and the node is not on the
+-- A withdraw that a step puts is of a label that was mapped so. After the step the label is leaving, and the node is not on the
 -- tree, or the neighbour is not the one towards its root.
 pub record WithdrawIs (place : Place) (part new : LabelData) (to : NodeId) (fec : Fec) (label : ℕ) : Type 0 where
   pub mapped : Maps part fec label to
@@ -58,8 +58,8 @@ pub record WithdrawIs (place : Place) (part new : LabelData) (to : NodeId) (fec 
 pub record WithdrawnThen (new : LabelData) (puts : List Put) (fec : Fec) (to : NodeId) (label : ℕ) : Type 0 where
   pub leaves : use_of new label ≡ Some (uses.Leaving fec to)
   pub before : List Put
-  pub behind : List Put
-  pub put : puts ≡ before ++ withdraw_to to fec label ∷ behind
+  pub thereafter : List Put
+  pub put : puts ≡ before ++ withdraw_to to fec label ∷ thereafter
 
 -- what becomes of a mapped label: it stays so, or it is leaving and its withdraw was put
 abbrev pub MappedThen : LabelData → List Put → Fec → NodeId → ℕ → Type 0
@@ -89,11 +89,11 @@ pub record TakenThen (new : LabelData) (puts : List Put) (label : ℕ) : Type 0 
   pub fec : Fec
   pub to : NodeId
   pub before : List Put
-  pub behind : List Put
+  pub thereafter : List Put
   pub maps : Maps new fec label to
-  pub put : puts ≡ before ++ mapping_to to fec label ∷ behind
+  pub put : puts ≡ before ++ mapping_to to fec label ∷ thereafter
 
--- what becomes of a label that is free in a step: it is free behind it, or it is mapped and its mapping was put
+-- what becomes of a label that is free in a step: it is free after it, or it is mapped and its mapping was put
 abbrev pub FreeThen : LabelData → List Put → ℕ → Type 0
 FreeThen new puts label = (use_of new label ≡ Some uses.Free) ⊎ TakenThen new puts label
 
@@ -114,8 +114,8 @@ HeldBefore part node end = (old : End) × (maps.get part.ends node ≡ Some old)
 abbrev pub HeldSince : LabelData → NodeId → ℕ → Type 0
 HeldSince part node moment = (end : End) × (maps.get part.ends node ≡ Some end) × (end.held ≡ true) × (end.raised ≡ moment)
 
--- A mapping that a step puts, behind others. It goes to the neighbour towards the root of the tree, and the hold of its session
--- was run. It takes a label that is free in the step, and each lower one that is so was taken by a mapping before. Behind the
+-- A mapping that a step puts, after others. It goes to the neighbour towards the root of the tree, and the hold of its session
+-- was run. It takes a label that is free in the step, and each lower one that is so was taken by a mapping before. After the
 -- step the label is mapped so.
 pub record MappingIs (place : Place) (now : ℕ) (part : LabelData) (call : Call) (new : LabelData) (before : List Put)
     (to : NodeId) (fec : Fec) (label : ℕ) : Type 0 where
@@ -127,14 +127,14 @@ pub record MappingIs (place : Place) (now : ℕ) (part : LabelData) (call : Call
 
 -- ---- next hops that changed
 
--- A tree moved: its label is withdrawn from the old neighbour, and right behind that another is mapped to the new one.
+-- A tree moved: its label is withdrawn from the old neighbour, and right after that another is mapped to the new one.
 pub record MovedThen (new : LabelData) (puts : List Put) (fec : Fec) (old_hop new_hop : NodeId) (label : ℕ) : Type 0 where
   pub taken : ℕ
   pub before : List Put
-  pub behind : List Put
+  pub thereafter : List Put
   pub maps : Maps new fec taken new_hop
   pub leaves : use_of new label ≡ Some (uses.Leaving fec old_hop)
-  pub put : puts ≡ before ++ withdraw_to old_hop fec label ∷ mapping_to new_hop fec taken ∷ behind
+  pub put : puts ≡ before ++ withdraw_to old_hop fec label ∷ mapping_to new_hop fec taken ∷ thereafter
 
 -- ---- labels that are lacking
 

@@ -75,7 +75,7 @@ place_in place core = record {
 
 -- ---- octets
 
--- each message waits behind what waits for its neighbour, in a PDU of its own
+-- each message waits after what waits for its neighbour, in a PDU of its own
 abbrev pub with_pdus : Addr → List Numbered → FinMap node_cmp (List ℕ) → FinMap node_cmp (List ℕ)
 with_pdus addr [] waiting = waiting
 with_pdus addr (numbered ∷ more) waiting =
@@ -94,18 +94,18 @@ prepared (Raised peer) old = record old { raises = maps.insert old.raises peer (
 prepared (Noticed peer) old = record old { waiting = maps.remove old.waiting peer }
 prepared other old = old
 
--- the node behind a label step; one that lacks a label is spent
-abbrev pub behind : Addr → Place → ℕ → LabelNode → Call → Option Stepped → LabelNode
-behind addr place now old call None = record old { spent = Some LacksLabel }
-behind addr place now old call (Some new) =
+-- the node after a label step; one that lacks a label is spent
+abbrev pub thereafter : Addr → Place → ℕ → LabelNode → Call → Option Stepped → LabelNode
+thereafter addr place now old call None = record old { spent = Some LacksLabel }
+thereafter addr place now old call (Some new) =
     record old { part = new.part; waiting = with_pdus addr (step_puts place now old.part call new.puts) old.waiting }
 
 -- a label step, unless the node is spent
 abbrev pub called_unless : Option Spent → Addr → Place → ℕ → LabelNode → Call → LabelNode
-called_unless None addr place now old call = behind addr place now (prepared call old) call (label_step place now old.part call)
+called_unless None addr place now old call = thereafter addr place now (prepared call old) call (label_step place now old.part call)
 called_unless (Some spent) addr place now old call = old
 
--- the node behind a call
+-- the node after a call
 abbrev pub called : NodePlace → Core → ℕ → LabelNode → Call → LabelNode
 called place core now old call = called_unless old.spent (addr_in place) (place_in place core) now old call
 

@@ -61,7 +61,7 @@ change_of place part fec =
     let upstream = place.upstream fec in
     change_by (has_tree part fec) (mapped_label part fec) (holder_of part fec) upstream (is_ready_to part upstream) (free_label part)
 
--- the node behind a change of the tree; none where a label is needed and none is free
+-- the node after a change of the tree; none where a label is needed and none is free
 abbrev pub changed : LabelData → Fec → Change → Option LabelData
 changed part fec changes.Keep = Some part
 changed part fec (changes.Map upstream label) =
@@ -77,7 +77,7 @@ put_by fec (changes.Map upstream label) = record { to = upstream; message = mess
 put_by fec (changes.Withdraw upstream label) = record { to = upstream; message = messages.Withdraw fec label } ∷ []
 put_by fec other = []
 
--- a node behind a step, and what it put
+-- a node after a step, and what it put
 pub record Stepped : Type 0 where
   pub part : LabelData
   pub puts : List Put

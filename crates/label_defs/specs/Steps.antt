@@ -30,7 +30,7 @@ released from fec until (uses.Leaving own upstream) =
     if same_fec own fec && upstream.0 == from.0 then uses.Resting until else uses.Leaving own upstream
 released from fec until other = other
 
--- the node behind a release
+-- the node after a release
 abbrev pub with_release : LabelData → NodeId → Fec → ℕ → ℕ → LabelData
 with_release part from fec label until =
     elim (use_of part label) [ None ↦ part | Some usage ↦ with_use part label (released from fec until usage) ]
@@ -63,7 +63,7 @@ freed node (uses.Mapped fec upstream) = if upstream.0 == node.0 then uses.Free e
 freed node (uses.Leaving fec upstream) = if upstream.0 == node.0 then uses.Free else uses.Leaving fec upstream
 freed node other = other
 
--- the node behind a noticed loss of the session with a neighbour
+-- the node after a noticed loss of the session with a neighbour
 abbrev pub without_session : LabelData → NodeId → LabelData
 without_session part node =
     record part {
@@ -84,7 +84,7 @@ hold_run life now end = record end { held = end.held || is_hold_due life now end
 abbrev pub holds_run : ℕ → ℕ → FinMap node_cmp End → FinMap node_cmp End
 holds_run life now ends = maps.from_entries (map (λ entry. (entry.0, hold_run life now entry.1)) (maps.entries ends))
 
--- the node behind its timers, before its trees settle: first the resting labels, then the holds
+-- the node after its timers, before its trees settle: first the resting labels, then the holds
 abbrev pub timed : Place → ℕ → LabelData → LabelData
 timed place now part = record part { labels = map (woken now) part.labels; ends = holds_run place.life now part.ends }
 
@@ -110,7 +110,7 @@ twice (fec ∷ more) = fec ∷ fec ∷ twice more
 abbrev pub raised_end : ℕ → End
 raised_end now = record { raised = now; held = false; next = 1 }
 
--- The node behind the call's own effect, what answers it, and the trees that settle then, in their order. Where next hops changed,
+-- The node after the call's own effect, what answers it, and the trees that settle then, in their order. Where next hops changed,
 -- each tree settles twice in a row: first its label is withdrawn from the old next hop, and then one is mapped to the new one.
 abbrev pub effect : Place → ℕ → LabelData → Call → Stepped × List Fec
 effect place now part (Taken from message) =
@@ -124,11 +124,11 @@ effect place now part Rerouted = (record { part = part; puts = [] }, twice (tree
 
 -- ---- ids of messages (RFC 5036 section 3.5)
 
--- the id behind that of a message: they grow by one, and 1 follows the highest
+-- the id after that of a message: they grow by one, and 1 follows the highest
 abbrev pub next_id : ℕ → ℕ
 next_id id = if id == 4294967295 then 1 else id + 1
 
--- the end behind one message more
+-- the end after one message more
 abbrev pub told : End → End
 told end = record end { next = next_id end.next }
 
@@ -145,7 +145,7 @@ numbered ends (put ∷ more) = elim (maps.get ends put.to) [
   | Some end ↦ record { id = end.next; put = put } ∷ numbered (maps.insert ends put.to (told end)) more
 ]
 
--- the ends behind messages
+-- the ends after messages
 abbrev pub ends_after : FinMap node_cmp End → List Put → FinMap node_cmp End
 ends_after ends [] = ends
 ends_after ends (put ∷ more) = elim (maps.get ends put.to) [
@@ -162,7 +162,7 @@ counted new = record { part = record new.part { ends = ends_after new.part.ends 
 abbrev pub label_step : Place → ℕ → LabelData → Call → Option Stepped
 label_step place now part call = let own = effect place now part call in option_map counted (settle_all place own.1 own.0)
 
--- The messages that a step puts, with their ids. The first are those of the ends behind the call's own effect: the ids of an end
+-- The messages that a step puts, with their ids. The first are those of the ends after the call's own effect: the ids of an end
 -- that comes up begin with 1.
 abbrev pub step_puts : Place → ℕ → LabelData → Call → List Put → List Numbered
 step_puts place now part call puts = numbered (effect place now part call).0.part.ends puts

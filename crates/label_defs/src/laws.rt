@@ -90,8 +90,8 @@ pub fn losses_end_a_session()
 /// Each mapping that a step puts waited for the session towards the root, and takes the least label that is free then.
 pub fn mappings_wait()
     ensures { (place : Place) (now : ℕ) (part : LabelData) (call : Call) (new : Stepped)
-        (before behind : List Put) (to : NodeId) (fec : Fec) (label : ℕ) →
-        label_step place now part call ≡ Some new → new.puts ≡ before ++ mapping_to to fec label ∷ behind →
+        (before thereafter : List Put) (to : NodeId) (fec : Fec) (label : ℕ) →
+        label_step place now part call ≡ Some new → new.puts ≡ before ++ mapping_to to fec label ∷ thereafter →
         MappingIs place now part call new.part before to fec label }
 {}
 
@@ -119,12 +119,12 @@ pub fn withdraws_leave()
         label_step place now part call ≡ Some new → Maps part fec label to →
         MappedThen new.part new.puts fec to label ⊎ (call ≡ Noticed to) }
     ensures put { (place : Place) (now : ℕ) (part : LabelData) (call : Call) (new : Stepped)
-        (before behind : List Put) (to : NodeId) (fec : Fec) (label : ℕ) →
-        label_step place now part call ≡ Some new → new.puts ≡ before ++ withdraw_to to fec label ∷ behind →
+        (before thereafter : List Put) (to : NodeId) (fec : Fec) (label : ℕ) →
+        label_step place now part call ≡ Some new → new.puts ≡ before ++ withdraw_to to fec label ∷ thereafter →
         WithdrawIs place part new.part to fec label }
 {}
 
-/// Where next hops changed, a tree that moves is withdrawn from its old neighbour. It is mapped to the new one right behind that,
+/// Where next hops changed, a tree that moves is withdrawn from its old neighbour. It is mapped to the new one right after that,
 /// where that session is ready.
 pub fn reroutes_move()
     ensures leaves { (old place : Place) (now : ℕ) (part : LabelData) (new : Stepped) (fec : Fec) (label : ℕ) (old_hop : NodeId) →
@@ -137,7 +137,7 @@ pub fn reroutes_move()
         MovedThen new.part new.puts fec old_hop new_hop label }
 {}
 
-/// Behind the own effect of a call, trees that settle change no branch and no leaf, and of an end the id of its next message alone.
+/// After the own effect of a call, trees that settle change no branch and no leaf, and of an end the id of its next message alone.
 pub fn settling_keeps()
     ensures branches { (place : Place) (now : ℕ) (part : LabelData) (call : Call) (new : Stepped) →
         label_step place now part call ≡ Some new → new.part.branches ≡ (effect place now part call).0.part.branches }
@@ -153,8 +153,8 @@ pub fn ids_fit()
     ensures steps { (place : Place) (now : ℕ) (part : LabelData) (call : Call) (new : Stepped) →
         IdsFit part → label_step place now part call ≡ Some new → IdsFit new.part }
     ensures puts { (place : Place) (now : ℕ) (part : LabelData) (call : Call) (puts : List Put)
-        (before behind : List Numbered) (put : Numbered) →
-        IdsFit part → step_puts place now part call puts ≡ before ++ put ∷ behind → (1 ≤ put.id) × (put.id ≤ 4294967295) }
+        (before thereafter : List Numbered) (put : Numbered) →
+        IdsFit part → step_puts place now part call puts ≡ before ++ put ∷ thereafter → (1 ≤ put.id) × (put.id ≤ 4294967295) }
 {}
 
 /// There is no step exactly where more of its trees need a label than are free in it.

@@ -92,14 +92,14 @@ one_noted q fec (e ∷ es) at = by (one_noted q fec es) (is_hop q e.0) refl at (
     by : (lookup (is_hop q) es ≡ Some fec → 1 ≤ noted fec es) → (t : Bool) → is_hop q e.0 ≡ t
         → cond (is_hop q e.0) (Some e.1) (lookup (is_hop q) es) ≡ Some fec → noted fec (e ∷ es) ≡ cond (is_fec fec e.1) 1 0 + noted fec es
         → 1 ≤ noted fec (e ∷ es)
-    by behind true s at sum =
+    by thereafter true s at sum =
         let here : Some e.1 ≡ Some fec = sym (ap (λ (b : Bool). cond b (Some e.1) (lookup (is_hop q) es)) s) ∙ at in
         let same : e.1 ≡ fec = cc in
         let one : is_fec fec e.1 ≡ true = subst (λ (x : Fec). is_fec x e.1 ≡ true) same (fec_itself e.1) in
         at_least (noted fec (e ∷ es)) (cond (is_fec fec e.1) 1 0) (noted fec es) sum (ap (λ (b : Bool). cond b 1 0) one)
-    by behind false s at sum =
+    by thereafter false s at sum =
         at_least_rest (noted fec (e ∷ es)) (cond (is_fec fec e.1) 1 0) (noted fec es) sum
-        (behind (sym (ap (λ (b : Bool). cond b (Some e.1) (lookup (is_hop q) es)) s) ∙ at))
+        (thereafter (sym (ap (λ (b : Bool). cond b (Some e.1) (lookup (is_hop q) es)) s) ∙ at))
 
 -- ---- one slot that changes
 

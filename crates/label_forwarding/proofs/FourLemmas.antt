@@ -32,12 +32,12 @@ pub record FourRead (octets : List ℕ) (f : FourFields) : Type 0 where
   pub third : get_or octets 18 0 ≡ get_or f.group 2 0
   pub header : 5 ≤ f.words → reading.unsummed (header_len octets) octets ≡ unsummed f
 
--- The header with a checksum of 0, by what stands before and behind the checksum.
+-- The header with a checksum of 0, by what stands before and after the checksum.
 header_is : (words service : ℕ) (total ignored sum source group rest octets : List ℕ) (count len : ℕ) → length total ≡ 2 → length ignored ≡ 6
     → length source ≡ 4 → length group ≡ 4 → len ≡ 20 + count
     → octets ≡ (64 + words) ∷ service ∷ (total ++ (ignored ++ (sum ++ (source ++ (group ++ rest))))) → drop 12 octets ≡ source ++ (group ++ rest)
     → reading.unsummed len octets ≡ (64 + words) ∷ service ∷ (total ++ (ignored ++ (0 ∷ 0 ∷ (source ++ (group ++ take count rest)))))
-header_is words service total ignored sum source group rest octets count len two six four_a four_b fit whole behind =
+header_is words service total ignored sum source group rest octets count len two six four_a four_b fit whole thereafter =
     let front : List ℕ = (64 + words) ∷ service ∷ (total ++ ignored) in
     let ten : length front ≡ 10 = omega (arith, length-append total ignored) in
     let split : octets ≡ front ++ (sum ++ (source ++ (group ++ rest))) =
@@ -45,7 +45,7 @@ header_is words service total ignored sum source group rest octets count len two
     let before : take 10 octets ≡ front = ap (take 10) split ∙ take_at front (sum ++ (source ++ (group ++ rest))) 10 ten in
     let left : len ≡ 12 + (4 + (4 + count)) = omega arith in
     let kept : drop 12 (take len octets) ≡ source ++ (group ++ take count rest) =
-    ap (λ n. drop 12 (take n octets)) left ∙ (drop-take 12 (4 + (4 + count)) octets ∙ (ap (take (4 + (4 + count))) behind
+    ap (λ n. drop 12 (take n octets)) left ∙ (drop-take 12 (4 + (4 + count)) octets ∙ (ap (take (4 + (4 + count))) thereafter
     ∙ (ap (λ n. take (n + (4 + count)) (source ++ (group ++ rest))) (sym four_a) ∙ (take-append-add source (group ++ rest) (4 + count)
     ∙ ap (λ (xs : List ℕ). source ++ xs) (ap (λ n. take (n + count) (group ++ rest)) (sym four_b) ∙ take-append-add group rest count))))) in
     joined before (ap (λ (xs : List ℕ). 0 ∷ 0 ∷ xs) kept)

@@ -92,8 +92,8 @@ partitioned k (x ∷ xs) h (suc i) (suc j) d le lt e = partitioned k xs (second 
 abbrev pub Point : Branch → List Branch → ℕ → Type 0
 Point k xs i = IsPartitionPoint (λ item. is_before k item ≡ true) (λ item. is_before k item ≡ false) xs i
 
-behind_point : (k x : Branch) (xs : List Branch) (i : ℕ) → Point k (x ∷ xs) (suc i) → Point k xs i
-behind_point k x xs i p = (λ j d le lt. p.0 (suc j) d (omega arith) (omega arith), λ j d le lt. p.1 (suc j) d (omega arith) (omega arith))
+after_point : (k x : Branch) (xs : List Branch) (i : ℕ) → Point k (x ∷ xs) (suc i) → Point k xs i
+after_point k x xs i p = (λ j d le lt. p.0 (suc j) d (omega arith) (omega arith), λ j d le lt. p.1 (suc j) d (omega arith) (omega arith))
 
 ahead : (k x : Branch) (xs : List Branch) (i : ℕ) → Point k (x ∷ xs) (suc i) → hop_cmp k x ≡ Greater
 ahead k x xs i p = hop_cmp_total.antisymm k x ∙ ap ordering_reverse (below (hop_cmp x k) (p.0 0 x (omega arith) (omega arith)))
@@ -112,7 +112,7 @@ put_there k (x ∷ xs) zero p e =
     let tie : hop_cmp k x ≡ Equal = subst (λ (y : Branch). hop_cmp k y ≡ Equal) (sym same) (tied_itself hop_cmp_total k) in
     rw tie refl
 put_there k (x ∷ xs) (suc i) p e =
-    rw (ahead k x xs i p) (ap (λ (es : List (Branch × Unit {0})). (x, tt) ∷ es) (put_there k xs i (behind_point k x xs i p) e))
+    rw (ahead k x xs i p) (ap (λ (es : List (Branch × Unit {0})). (x, tt) ∷ es) (put_there k xs i (after_point k x xs i p) e))
 
 -- Where it does not, the list with it there is in order.
 pub put_here : (k : Branch) (xs : List Branch) (i : ℕ) → Point k xs i → i ≤ length xs → (slice_get xs i ≡ Some k → ⊥)
@@ -127,7 +127,7 @@ put_here k (x ∷ xs) zero p le ne =
       | Greater ↦ λ e. absurd (not_ahead k x xs p e)
     ] refl
 put_here k (x ∷ xs) (suc i) p le ne =
-    rw (ahead k x xs i p) (ap (λ (es : List (Branch × Unit {0})). (x, tt) ∷ es) (put_here k xs i (behind_point k x xs i p) (omega arith) ne))
+    rw (ahead k x xs i p) (ap (λ (es : List (Branch × Unit {0})). (x, tt) ∷ es) (put_here k xs i (after_point k x xs i p) (omega arith) ne))
 
 -- ---- the set of a list
 

@@ -1,4 +1,4 @@
--- What is noted of labels, behind a change.
+-- What is noted of labels, after a change.
 use Rattle.std.proofs.Common.{◌≡◌, ℕ, suc, ◌+◌, ◌<◌, ◌^◌, Bool, true, false, not, cond, List, [], ◌∷◌, ◌++◌, length, get_or, position, Option, Some, None, Result, Ok, Err, refl, sym, ap, subst, ◌∙◌, arith}
 use Rattle.std.specs.Prelude.{IfSome, IsOk, OnOk}
 use Rattle.std.specs.List.{sum_by, swap_remove, position_or_len, prefix_len}
@@ -40,13 +40,13 @@ found test (e ∷ es) fec at = by (found test es fec) (test e.0) refl at
     by : (lookup test es ≡ Some fec → (place test es < length es) × ((d : Branch × Fec) → (get_or es (place test es) d).1 ≡ fec))
         → (t : Bool) → test e.0 ≡ t → cond (test e.0) (Some e.1) (lookup test es) ≡ Some fec
         → (place test (e ∷ es) < length (e ∷ es)) × ((d : Branch × Fec) → (get_or (e ∷ es) (place test (e ∷ es)) d).1 ≡ fec)
-    by behind true s at =
+    by thereafter true s at =
         let here : Some e.1 ≡ Some fec = sym (ap (λ (b : Bool). cond b (Some e.1) (lookup test es)) s) ∙ at in
         let same : e.1 ≡ fec = cc in
         subst (λ (i : ℕ). (i < length (e ∷ es)) × ((d : Branch × Fec) → (get_or (e ∷ es) i d).1 ≡ fec)) (sym (place-cons test e es true s))
         (omega arith, λ d. same)
-    by behind false s at =
-        let rest = behind (sym (ap (λ (b : Bool). cond b (Some e.1) (lookup test es)) s) ∙ at) in
+    by thereafter false s at =
+        let rest = thereafter (sym (ap (λ (b : Bool). cond b (Some e.1) (lookup test es)) s) ∙ at) in
         let lt : place test es < length es = rest.0 in
         subst (λ (i : ℕ). (i < length (e ∷ es)) × ((d : Branch × Fec) → (get_or (e ∷ es) i d).1 ≡ fec)) (sym (place-cons test e es false s))
         (omega arith, rest.1)

@@ -33,7 +33,7 @@ six_read f are =
     let four = field_at 4 2 6 octets (to_be_bytes w16 f.len) (f.ignored ++ (f.source ++ (f.group ++ f.payload))) one.1 refl refl in
     let six = field_at 6 2 8 octets f.ignored (f.source ++ (f.group ++ f.payload)) four.1 are.ignored refl in
     let eight = field_at 8 16 24 octets f.source (f.group ++ f.payload) six.1 are.source refl in
-    let behind = field_at 24 16 40 octets f.group f.payload eight.1 are.group refl in
+    let thereafter = field_at 24 16 40 octets f.group f.payload eight.1 are.group refl in
     let class_lt = are.class in
     record {
       version = omega arith;
@@ -50,7 +50,7 @@ six_read f are =
       );
       payload = ap (from_be_bytes w16) four.0 ∙ wide16.again f.len are.len;
       source = eight.0;
-      group = behind.0;
+      group = thereafter.0;
       first = octet_in 24 0 24 octets f.group f.payload eight.1 (omega (arith, are.group)) refl;
       second = octet_in 24 1 25 octets f.group f.payload eight.1 (omega (arith, are.group)) refl;
     }

@@ -63,9 +63,9 @@ apart : (q : Fec) (es : List (Fec × Slot)) → AllByRecursion (λ fec. is_fec q
 apart q [] h = refl
 apart q (e ∷ es) h = rw h.0 (apart q es h.1)
 
-behind : (q : Fec) (e : Fec × Slot) (es : List (Fec × Slot)) → IsDistinct is_fec (keys_of (e ∷ es)) → is_fec q e.0 ≡ true
+thereafter : (q : Fec) (e : Fec × Slot) (es : List (Fec × Slot)) → IsDistinct is_fec (keys_of (e ∷ es)) → is_fec q e.0 ≡ true
     → lookup (is_fec q) es ≡ None
-behind q e es h t =
+thereafter q e es h t =
     subst (λ (x : Fec). lookup (is_fec x) es ≡ None) (sym (fec_equal q e.0 t)) (apart e.0 es (IsDistinct-head is_fec e.0 (keys_of es) h))
 
 leaf_any : (es : List (Fec × Slot)) → IsDistinct is_fec (keys_of es) → (q : Fec)
@@ -77,7 +77,7 @@ leaf_any (e ∷ es) h q = by (leaf_any es (IsDistinct-tail is_fec e.0 (keys_of e
         → list_any (eq_by_cmp fec_cmp q) (cond e.1.entry.leaf (e.0 ∷ leaves_in es) (leaves_in es))
         ≡ leaf_of (cond (is_fec q e.0) (Some e.1) (lookup (is_fec q) es))
     by rest true true s l = rw (s, l) (ap (λ (c : Bool). c || list_any (eq_by_cmp fec_cmp q) (leaves_in es)) (sym (fec-ties q e.0) ∙ s))
-    by rest true false s l = rw (s, l) (rest ∙ ap leaf_of (behind q e es h s))
+    by rest true false s l = rw (s, l) (rest ∙ ap leaf_of (thereafter q e es h s))
     by rest false true s l = rw (s, l) (ap (λ (c : Bool). c || list_any (eq_by_cmp fec_cmp q) (leaves_in es)) (sym (fec-ties q e.0) ∙ s) ∙ rest)
     by rest false false s l = rw (s, l) rest
 
@@ -130,7 +130,7 @@ branch_any (e ∷ es) h b =
         ≡ has_hop (cond (is_fec b.fec e.0) (Some e.1) (lookup (is_fec b.fec) es)) (hop_of b)
     by rest true s =
         let nothing : list_any (eq_by_cmp branch_cmp b) (branches_in es) ≡ false =
-        rest ∙ ap (λ (o : Option Slot). has_hop o (hop_of b)) (behind b.fec e es h s) in
+        rest ∙ ap (λ (o : Option Slot). has_hop o (hop_of b)) (thereafter b.fec e es h s) in
         rw (s, nothing) (or_nothing _ ∙ sym (maps.contains_key-keys e.1.entry.branches (hop_of b)))
     by rest false s = rw s rest
 

@@ -35,11 +35,11 @@ header_alone : (source group payload : List ℕ) (sum : ℕ)
     → four_header (V4 source) (V4 group) (20 + length payload) 0 ≡ unsummed (four_sent source group payload sum)
 header_alone source group payload sum =
     let front : List ℕ = (0x45 ∷ 0 ∷ []) ++ to_be_bytes w16 (20 + length payload) ++ (0 ∷ 0 ∷ 0 ∷ 0 ∷ 64 ∷ 17 ∷ []) ++ to_be_bytes w16 0 in
-    append_assoc front source group ∙ ap (λ (xs : List ℕ). front ++ (source ++ xs)) (sym (nothing_behind group))
+    append_assoc front source group ∙ ap (λ (xs : List ℕ). front ++ (source ++ xs)) (sym (nothing_after group))
   where
-    nothing_behind : (xs : List ℕ) → xs ++ [] ≡ xs
-    nothing_behind [] = refl
-    nothing_behind (x ∷ xs) = ap (λ (ys : List ℕ). x ∷ ys) (nothing_behind xs)
+    nothing_after : (xs : List ℕ) → xs ++ [] ≡ xs
+    nothing_after [] = refl
+    nothing_after (x ∷ xs) = ap (λ (ys : List ℕ). x ∷ ys) (nothing_after xs)
 
 six_laid_out : (source group payload : List ℕ) → six_written (V6 source) (V6 group) payload
     ≡ six_octets (record {

@@ -38,9 +38,9 @@ below_to depth bound n (p ∷ more) h = by (p.to.0 == n.0) refl (below_to depth 
     by true e rest = (let P : NodeId → Type 0 = λ x. rank depth x p.message < bound in subst P (node_equal p.to n e) h.0, rest)
     by false e rest = rest
 
-pub all_behind : {X : Type 0} (P : X → Type 0) (xs ys : List X) → AllByRecursion P xs → AllByRecursion P ys → AllByRecursion P (xs ++ ys)
-all_behind P [] ys h k = k
-all_behind P (x ∷ xs) ys h k = (h.0, all_behind P xs ys h.1 k)
+pub all_after : {X : Type 0} (P : X → Type 0) (xs ys : List X) → AllByRecursion P xs → AllByRecursion P ys → AllByRecursion P (xs ++ ys)
+all_after P [] ys h k = k
+all_after P (x ∷ xs) ys h k = (h.0, all_after P xs ys h.1 k)
 
 -- a choice between two nodes with the same labels
 same_labels : (t : Bool) (new old : LabelData) → new.labels ≡ old.labels → (cond t new old).labels ≡ old.labels
@@ -73,7 +73,7 @@ turn_below place depth bound old fec next more t toward nearer = elim t.how [
 
 module _ (place : Place) (now : ℕ) (part : LabelData) (depth : NodeId → Fec → ℕ) (a b : NodeId) (all : AllSettled place part)
     (nearer : (v : NodeId) (fec : Fec) → place.upstream fec ≡ Some v → depth v fec < depth b fec) where
-  -- what settles behind a mapping or a withdraw
+  -- what settles after a mapping or a withdraw
   settles_below : (fec : Fec) (old : LabelData) (puts : List Put) (new : Stepped) → old.labels ≡ part.labels → PutsBelow depth (1 + depth b fec) puts
       → settle_all place (fec ∷ []) (record { part = old; puts = puts }) ≡ Some new → PutsBelow depth (1 + depth b fec) new.puts
   settles_below fec old puts new same low e =
@@ -81,7 +81,7 @@ module _ (place : Place) (now : ℕ) (part : LabelData) (depth : NodeId → Fec 
       let more = turn_below place depth (depth b fec) old fec x.0 x.1 x.2
       (λ label to is. ((all fec).toward label to (ap (λ (labels : List LabelUse). used labels label) (sym same) ∙ is)).0) (λ to up. nearer to fec up)
       in
-      subst (PutsBelow depth (1 + depth b fec)) x.3 (all_behind (λ (put : Put). rank depth put.to put.message < 1 + depth b fec) puts x.1 low more)
+      subst (PutsBelow depth (1 + depth b fec)) x.3 (all_after (λ (put : Put). rank depth put.to put.message < 1 + depth b fec) puts x.1 low more)
 
   -- what is no mapping and no withdraw is not answered
   silent_below : (own : LabelData) (bound : ℕ) (new : Stepped)

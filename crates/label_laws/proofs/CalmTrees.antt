@@ -16,7 +16,7 @@ use Rattle.label_defs.specs.Steps.{branch_to, label_step}
 use Rattle.label_defs.proofs.KeyLemmas.{branch_cmp_total, branch_cmp_exact, node_cases, same_fec_from, same_fec_itself}
 use Rattle.label_defs.proofs.SetLemmas.{member_passes}
 use Rattle.label_defs.proofs.NoLabelLemmas.{loss_steps}
-use Rattle.label_laws.specs.Network.{LabelNetwork, place_of, behind}
+use Rattle.label_laws.specs.Network.{LabelNetwork, place_of, thereafter}
 use Rattle.label_laws.specs.Acts.{Notice, Raise, noticed, raised, act}
 use Rattle.label_laws.specs.Rule.{Kind, Mapping, Stands, MappingAndWithdraw, Withdraw, Release, Idle, PhaseIs, Kept, branch_trees, is_of_owner, is_release_of}
 use Rattle.label_laws.specs.Calm.{CalmLink, Calm, Reached, at_root, below}
@@ -85,9 +85,9 @@ reached w depth root n fec calm kept has = reached_by (depth n) w depth root n f
 
 -- ---- losses and raises
 
-stays_some : (w : LabelNetwork) (n : NodeId) (o : Option Stepped) → o ≢ None → option_map (behind w n) o ≢ None
+stays_some : (w : LabelNetwork) (n : NodeId) (o : Option Stepped) → o ≢ None → option_map (thereafter w n) o ≢ None
 stays_some w n None h e = h refl
-stays_some w n (Some s) h e = none-some (behind w n s) (sym e)
+stays_some w n (Some s) h e = none-some (thereafter w n s) (sym e)
 
 noticed_some : (w : LabelNetwork) (a b : NodeId) (live up : Bool) → Kept w → noticed w a b live up ≢ None
 noticed_some w a b false true k =

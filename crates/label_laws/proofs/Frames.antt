@@ -12,7 +12,7 @@ use Rattle.label_defs.specs.declared.label_use.LabelUse.{LabelUse}
 use Rattle.label_defs.specs.declared.put.Put.{Put}
 use Rattle.label_defs.specs.LabelData.{LabelData, use_of}
 use Rattle.label_defs.proofs.KeyLemmas.{node_equal, node_itself, node_apart}
-use Rattle.label_laws.specs.Network.{PacketCopy, Direction, LabelNetwork, at_node, messages_to, sent, behind}
+use Rattle.label_laws.specs.Network.{PacketCopy, Direction, LabelNetwork, at_node, messages_to, sent, thereafter}
 use Rattle.label_laws.specs.Rule.{View, Covered, LabelCovers, CopyOk, end_of}
 
 -- a choice, read by F
@@ -123,10 +123,10 @@ twice_sent true old ps qs both e = append_assoc old ps qs ∙ ap (λ ms. old ++ 
 twice_sent false old ps qs both e = refl
 
 -- a node that steps twice
-pub behind_again : (w : LabelNetwork) (n : NodeId) (old next : LabelData) (puts more : List Put)
-    → behind (behind w n (record { part = old; puts = puts })) n (record { part = next; puts = more })
-    ≡ behind w n (record { part = next; puts = puts ++ more })
-behind_again w n old next puts more =
+pub after_again : (w : LabelNetwork) (n : NodeId) (old next : LabelData) (puts more : List Put)
+    → thereafter (thereafter w n (record { part = old; puts = puts })) n (record { part = next; puts = more })
+    ≡ thereafter w n (record { part = next; puts = puts ++ more })
+after_again w n old next puts more =
     let transit : (u v : NodeId) → _ ≡ sent n (puts ++ more) w.direction u v = λ u v.
     twice_sent ((u.0 == n.0) && (w.direction u v).joined) (w.direction u v).transit (messages_to v puts) (messages_to v more)
     (messages_to v (puts ++ more)) (append_to v puts more) in
@@ -141,9 +141,9 @@ sent_nothing n direction u v =
     (λ e. append-nil (direction u v).transit)
 
 -- a node that steps and puts nothing
-pub behind_silent : (w : LabelNetwork) (n : NodeId) (next : LabelData)
-    → record w { node = at_node n next w.node } ≡ behind w n (record { part = next; puts = [] })
-behind_silent w n next =
+pub after_silent : (w : LabelNetwork) (n : NodeId) (next : LabelData)
+    → record w { node = at_node n next w.node } ≡ thereafter w n (record { part = next; puts = [] })
+after_silent w n next =
     λ i. record w { node = at_node n next w.node; direction = λ u v. record (w.direction u v) { transit = sym (sent_nothing n w.direction u v) i } }
 
 -- ---- copies

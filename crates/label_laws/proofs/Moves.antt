@@ -11,14 +11,14 @@ use Rattle.label_defs.specs.Steps as steps
 use Rattle.label_defs.specs.Steps.{label_step}
 use Rattle.label_defs.proofs.KeyLemmas.{node_itself, node_apart, node_cases}
 use Rattle.label_defs.proofs.UseLemmas.{map_some}
-use Rattle.label_laws.specs.Network.{LabelNetwork, place_of, messages_to, behind}
+use Rattle.label_laws.specs.Network.{LabelNetwork, place_of, messages_to, thereafter}
 use Rattle.label_laws.specs.Acts.{Deliver, stepped, left_in_transit, delivered, act}
 use Rattle.label_laws.specs.Rule.{Rule, Kept, OnNetwork}
 use Rattle.label_laws.specs.Rounds.{rank, Lists, IsNearer}
 use Rattle.label_laws.proofs.Steps.{call_kept, taken_rule}
 use Rattle.label_laws.proofs.Answers.{Below, below_to, answers_below}
 
--- more was put behind what was in transit, and it ranks below a bound
+-- more was put after what was in transit, and it ranks below a bound
 pub record Grown (depth : NodeId → Fec → ℕ) (bound : ℕ) (n : NodeId) (old new : List LabelMessage) : Type 0 where
   pub more : List LabelMessage
   pub grown : new ≡ old ++ more
@@ -35,7 +35,7 @@ pub record Going (depth : NodeId → Fec → ℕ) (order : List (NodeId × NodeI
   pub nearer : IsNearer w depth
   pub lists : Lists order w
 
--- the network behind the delivery of a message
+-- the network after the delivery of a message
 pub record Moved (depth : NodeId → Fec → ℕ) (order : List (NodeId × NodeId)) (w x : LabelNetwork) (a b : NodeId) (m : LabelMessage)
     (rest : List LabelMessage) : Type 0 where
   pub going : Going depth order x
@@ -69,9 +69,9 @@ module _ (depth : NodeId → Fec → ℕ) (order : List (NodeId × NodeId)) (w :
         | inr apart ↦ and_left (u.0 == a.0) (n.0 == b.0) (node_apart u a apart)
       ])
 
-  behind_grown : (new : Stepped) → label_step (place_of w b) w.clock (w.node b) (steps.Taken a m) ≡ Some new → (u n : NodeId)
-      → Grown depth (rank depth b m) n (left.direction u n).transit ((behind left b new).direction u n).transit
-  behind_grown new is u n =
+  after_grown : (new : Stepped) → label_step (place_of w b) w.clock (w.node b) (steps.Taken a m) ≡ Some new → (u n : NodeId)
+      → Grown depth (rank depth b m) n (left.direction u n).transit ((thereafter left b new).direction u n).transit
+  after_grown new is u n =
       grown_by depth (rank depth b m) n ((u.0 == b.0) && (left.direction u n).joined) (left.direction u n).transit (messages_to n new.puts)
       (below_to depth (rank depth b m) n new.puts (answers_below (place_of w b) w.clock (w.node b) depth a b (going.kept.settled b)
       (λ v fec up. going.nearer b v fec up) m new is))
@@ -85,12 +85,12 @@ module _ (depth : NodeId → Fec → ℕ) (order : List (NodeId × NodeId)) (w :
   pub moves : (x : LabelNetwork) → act w (Deliver a b) ≡ Some x → Moved depth order w x a b m rest
   moves x is =
       let taken = sym is_stepped ∙ is in
-      let y = map_some (behind left b) (label_step (place_of w b) w.clock (w.node b) (steps.Taken a m)) x taken in
+      let y = map_some (thereafter left b) (label_step (place_of w b) w.clock (w.node b) (steps.Taken a m)) x taken in
       let kept : Kept x = subst (OnNetwork Kept) taken step_kept in
       let P : LabelNetwork → Type 0 = λ v. Kept v → Moved depth order w v a b m rest in
       subst P y.2 (λ k. record {
         going = record { kept = k; nearer = going.nearer; lists = going.lists };
-        here = subst (λ old. Grown depth (rank depth b m) b old ((behind left b y.0).direction a b).transit) left_here (behind_grown y.0 y.1 a b);
-        there = λ u n other. subst (λ old. Grown depth (rank depth b m) n old ((behind left b y.0).direction u n).transit) (left_there u n other)
-            (behind_grown y.0 y.1 u n);
+        here = subst (λ old. Grown depth (rank depth b m) b old ((thereafter left b y.0).direction a b).transit) left_here (after_grown y.0 y.1 a b);
+        there = λ u n other. subst (λ old. Grown depth (rank depth b m) n old ((thereafter left b y.0).direction u n).transit) (left_there u n other)
+            (after_grown y.0 y.1 u n);
       }) kept

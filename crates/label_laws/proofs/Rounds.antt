@@ -17,7 +17,7 @@ use Rattle.label_laws.specs.Acts.{Act, Deliver, delivered, act, run}
 use Rattle.label_laws.specs.Rule.{Kept, OnNetwork}
 use Rattle.label_laws.specs.Rounds.{moved, turn, round, rounds, is_listed, Lists, IsQuiet, rank, IsNearer}
 use Rattle.label_laws.proofs.Frames.{each_kept}
-use Rattle.label_laws.proofs.Answers.{Below, all_behind}
+use Rattle.label_laws.proofs.Answers.{Below, all_after}
 use Rattle.label_laws.proofs.Runs.{run_kept}
 use Rattle.label_laws.proofs.Moves.{Going, moves}
 
@@ -74,14 +74,14 @@ module _ (depth : NodeId → Fec → ℕ) (order : List (NodeId × NodeId)) wher
       let le : rank depth b m ≤ r = omega (arith, top) in
       let rec =
       moved_turns k r y.0 x a b front (back ++ d.here.more) ne d.going (d.here.grown ∙ append_assoc front back d.here.more) (omega (arith, l)) f.1
-      (all_behind (λ (m : LabelMessage). rank depth b m < r) back d.here.more h (lower depth (rank depth b m) r b d.here.more le d.here.low)) y.2 in
+      (all_after (λ (m : LabelMessage). rank depth b m < r) back d.here.more h (lower depth (rank depth b m) r b d.here.more le d.here.low)) y.2 in
       record {
         going = rec.going;
         here = rec.here;
         there = λ s at u n other low.
             let t = d.there u n other in
             rec.there s at u n other (subst (Below depth s n) (sym t.grown)
-            (all_behind (λ (m : LabelMessage). rank depth n m < s) (w.direction u n).transit t.more low
+            (all_after (λ (m : LabelMessage). rank depth n m < s) (w.direction u n).transit t.more low
             (lower depth (rank depth b m) s n t.more (omega (arith, le, at)) t.low)));
       }
 
@@ -96,7 +96,7 @@ module _ (depth : NodeId → Fec → ℕ) (order : List (NodeId × NodeId)) wher
         subst P stays (record { going = g; here = λ apart. absurd (apart same); there = λ s le u n other h. h })
   ]
 
-  -- behind a round each direction that had its turn, or that was low before, is low
+  -- after a round each direction that had its turn, or that was low before, is low
   record Passed (r : ℕ) (order_left : List (NodeId × NodeId)) (w x : LabelNetwork) : Type 0 where
     going : In x
     low : (u n : NodeId) → u ≢ n → (is_listed order_left u n ≡ true) ⊎ Low r w u n → Low r x u n

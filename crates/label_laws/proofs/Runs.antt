@@ -17,18 +17,18 @@ use Rattle.label_defs.specs.Steps as steps
 use Rattle.label_defs.specs.Steps.{without_session, timed}
 use Rattle.label_defs.proofs.KeyLemmas.{fec_cmp_total, fec_cmp_exact, node_itself, node_equal, node_cases}
 use Rattle.label_defs.proofs.StepLemmas.{fresh_settled}
-use Rattle.label_laws.specs.Network.{LabelNetwork, place_of, at_node, behind}
+use Rattle.label_laws.specs.Network.{LabelNetwork, place_of, at_node, thereafter}
 use Rattle.label_defs.specs.Between.{is_between, is_either}
 use Rattle.label_defs.proofs.BetweenLemmas.{between_swap, either_swap}
 use Rattle.label_laws.specs.Acts.{Act, Deliver, Want, Unwant, Put, Land, Drop, Lose, Notice, Raise, Restart, Tick, Timers, Reroute, stepped, left_in_transit, delivered, wanted, unjoined, noticed, with_joined, raised, act, run}
 use Rattle.label_laws.specs.Rule.{Rule, Kept, OnNetwork, end_of, branch_trees, is_held, none}
-use Rattle.label_laws.proofs.Frames.{node_here, node_there, behind_silent}
+use Rattle.label_laws.proofs.Frames.{node_here, node_there, after_silent}
 use Rattle.label_laws.proofs.NodeRule.{node_rule}
 use Rattle.label_laws.proofs.Sessions.{Begins, unjoined_rule, joined_rule}
 use Rattle.label_laws.proofs.Ends.{with_node, noticed_rule, fresh_rule, new_end, risen, risen_here, risen_rule, bare_where}
 use Rattle.label_laws.proofs.Times.{tick_rule, timed_rule}
 use Rattle.label_laws.proofs.Copies.{put_kept, dropped_rule, landed_kept}
-use Rattle.label_laws.proofs.Steps.{settled_behind, call_kept, rerouted_kept, taken_rule}
+use Rattle.label_laws.proofs.Steps.{settled_after, call_kept, rerouted_kept, taken_rule}
 
 apart : (a b : NodeId) → (a.0 == b.0) ≡ false → a ≢ b
 apart a b t e = (let x = node_itself a b e in absurd cc)
@@ -69,7 +69,7 @@ want_kept w n fec true e k =
       | inl x ↦ ap w.is_tree (fec_cmp_exact f fec ((Equal-is (fec_cmp f fec)).0 x)) ∙ e
       | inr x ↦ (k.rule.trees n).leaves f x
     ] in
-    call_kept w n (steps.Want fec) tt (subst Rule (behind_silent w n (record part { leaves = new })) (leaf_rule w n new ok k.rule)) k.settled
+    call_kept w n (steps.Want fec) tt (subst Rule (after_silent w n (record part { leaves = new })) (leaf_rule w n new ok k.rule)) k.settled
 
 unwant_kept : (w : LabelNetwork) (n : NodeId) (fec : Fec) → Kept w → OnNetwork Kept (stepped w n (steps.Unwant fec))
 unwant_kept w n fec k =
@@ -78,15 +78,15 @@ unwant_kept w n fec k =
     let ok : (f : Fec) → sets.contains new f ≡ true → w.is_tree f ≡ true =
     λ f h. (k.rule.trees n).leaves f (and_parts (not (eq_by_cmp fec_cmp f fec)) (sets.contains part.leaves f)
     (sym (sets.contains-remove fec_cmp_total part.leaves fec f) ∙ h)).1 in
-    call_kept w n (steps.Unwant fec) tt (subst Rule (behind_silent w n (record part { leaves = new })) (leaf_rule w n new ok k.rule)) k.settled
+    call_kept w n (steps.Unwant fec) tt (subst Rule (after_silent w n (record part { leaves = new })) (leaf_rule w n new ok k.rule)) k.settled
 
 timers_kept : (w : LabelNetwork) (n : NodeId) → Kept w → OnNetwork Kept (stepped w n steps.Timers)
 timers_kept w n k =
-    call_kept w n steps.Timers tt (subst Rule (behind_silent w n (timed (place_of w n) w.clock (w.node n))) (timed_rule w n k.rule)) k.settled
+    call_kept w n steps.Timers tt (subst Rule (after_silent w n (timed (place_of w n) w.clock (w.node n))) (timed_rule w n k.rule)) k.settled
 
 noticed_kept : (w : LabelNetwork) (a b : NodeId) (live up : Bool) → (w.direction a b).joined ≡ live → Kept w → OnNetwork Kept (noticed w a b live up)
 noticed_kept w a b false true e k =
-    call_kept w a (steps.Noticed b) tt (subst Rule (behind_silent w a (without_session (w.node a) b)) (noticed_rule w a b (λ ne. e) k.rule)) k.settled
+    call_kept w a (steps.Noticed b) tt (subst Rule (after_silent w a (without_session (w.node a) b)) (noticed_rule w a b (λ ne. e) k.rule)) k.settled
 noticed_kept w a b false false e k = k
 noticed_kept w a b true up e k = k
 
@@ -187,22 +187,22 @@ module _ (w : LabelNetwork) (a b : NodeId) (ne : a ≢ b) (off_a : is_some (end_
 
   -- by the label steps
   abbrev stepped_a : LabelNetwork
-  stepped_a = behind w a (record { part = data_a; puts = [] })
+  stepped_a = thereafter w a (record { part = data_a; puts = [] })
 
   abbrev stepped_both : LabelNetwork
-  stepped_both = behind stepped_a b (record { part = risen (stepped_a.node b) a w.clock; puts = [] })
+  stepped_both = thereafter stepped_a b (record { part = risen (stepped_a.node b) a w.clock; puts = [] })
 
   same : both ≡ stepped_both
   same =
-      ap (λ (x : LabelNetwork). with_node x b (risen (x.node b) a x.clock)) (behind_silent w a data_a)
-      ∙ behind_silent stepped_a b (risen (stepped_a.node b) a w.clock)
+      ap (λ (x : LabelNetwork). with_node x b (risen (x.node b) a x.clock)) (after_silent w a data_a)
+      ∙ after_silent stepped_a b (risen (stepped_a.node b) a w.clock)
 
   settled_a : (m : NodeId) → AllSettled (place_of w m) (stepped_a.node m)
-  settled_a = settled_behind w a (steps.Raised b) (record { part = data_a; puts = [] }) off_a k.settled refl
+  settled_a = settled_after w a (steps.Raised b) (record { part = data_a; puts = [] }) off_a k.settled refl
 
   settled_both : (m : NodeId) → AllSettled (place_of w m) (stepped_both.node m)
   settled_both =
-      settled_behind stepped_a b (steps.Raised a) (record { part = risen (stepped_a.node b) a w.clock; puts = [] })
+      settled_after stepped_a b (steps.Raised a) (record { part = risen (stepped_a.node b) a w.clock; puts = [] })
       (ap (λ (d : LabelData). is_some (end_of d a)) there ∙ off_b) settled_a refl
 
   pub raised_both : Kept (with_joined a b stepped_both)

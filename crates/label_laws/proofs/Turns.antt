@@ -21,9 +21,9 @@ use Rattle.label_defs.proofs.KeyLemmas.{node_cases}
 use Rattle.label_defs.proofs.UseLemmas.{used, set_here, set_there}
 use Rattle.label_defs.proofs.TurnLemmas.{Turn, SameRest}
 use Rattle.label_defs.proofs.IdLemmas.{passed, passed_held, passed_raised}
-use Rattle.label_laws.specs.Network.{LabelNetwork, place_of, sent, behind}
+use Rattle.label_laws.specs.Network.{LabelNetwork, place_of, sent, thereafter}
 use Rattle.label_laws.specs.Rule.{IsUsedTowards, View, ViewAt, LabelCovers, Covered, Unheld, Rule, is_held, end_of, branch_trees, is_of_owner, is_release_of}
-use Rattle.label_laws.proofs.Frames.{along_view, none_to, fails_to, sent_other, sent_quiet, sent_skips, sent_passes, stand_along, covered_along, covered_if, behind_silent}
+use Rattle.label_laws.proofs.Frames.{along_view, none_to, fails_to, sent_other, sent_quiet, sent_skips, sent_passes, stand_along, covered_along, covered_if, after_silent}
 use Rattle.label_laws.proofs.Phases.{free_other}
 use Rattle.label_laws.proofs.Views.{SameOrOther, same_view, free_view, left_view}
 use Rattle.label_laws.proofs.NodeRule.{OwnerView, node_rule}
@@ -67,11 +67,11 @@ covered_alike life vpn_of u vpn t c d s a h = elim h [
 -- what the rule reads of the data stays
 pub alike_rule : (w : LabelNetwork) (b : NodeId) (d : LabelData) → d.labels ≡ (w.node b).labels → d.branches ≡ (w.node b).branches
     → d.leaves ≡ (w.node b).leaves
-    → ((u : NodeId) → AlikeEnd (end_of (w.node b) u) (end_of d u)) → Rule w → Rule (behind w b (record { part = d; puts = [] }))
+    → ((u : NodeId) → AlikeEnd (end_of (w.node b) u) (end_of d u)) → Rule w → Rule (thereafter w b (record { part = d; puts = [] }))
 alike_rule w b d labels own_branches own_leaves ends rule =
     let branches = same_branches d (w.node b) own_branches in
     let same : (l : ℕ) → use_of d l ≡ use_of (w.node b) l = λ l. ap (λ (ls : List LabelUse). used ls l) labels in
-    subst Rule (behind_silent w b d) (node_rule w b d (λ u n. (w.direction u n).transit) (record {
+    subst Rule (after_silent w b d) (node_rule w b d (λ u n. (w.direction u n).transit) (record {
       owner = λ u l j v. near_alike u l (w.direction u b).joined (end_of (w.node b) u) (end_of d u) (end_of (w.node u) b) (use_of d l)
           (filter (is_of_owner l) (w.direction b u).transit) (filter (is_release_of l) (w.direction u b).transit) (branch_trees (w.node u) b l)
           (ends u)
@@ -99,7 +99,7 @@ same_end old new e =
           λ t x. record { end = x.end; up = e ∙ x.up; since = x.since; unheld = x.unheld };
     }
 
--- an end behind messages
+-- an end after messages
 pub passed_end : (n : NodeId) (puts : List Put) (old : Option End) → AlikeEnd old (option_map (passed n puts) old)
 passed_end n puts None = same_end None None refl
 passed_end n puts (Some end) = record {
@@ -117,7 +117,7 @@ passed_end n puts (Some end) = record {
 }
 
 pub same_rule : (w : LabelNetwork) (b : NodeId) (d : LabelData) → d.labels ≡ (w.node b).labels → SameRest (w.node b) d → Rule w
-    → Rule (behind w b (record { part = d; puts = [] }))
+    → Rule (thereafter w b (record { part = d; puts = [] }))
 same_rule w b d labels rest rule =
     alike_rule w b d labels rest.branches rest.leaves (λ u. same_end (end_of (w.node b) u) (end_of d u) (same_ends d (w.node b) rest.ends u)) rule
 
@@ -173,7 +173,7 @@ module _ (w : LabelNetwork) (b x : NodeId) (d : LabelData) (l : ℕ) (s : Option
         | inr e ↦ stand_along w.life w.vpn_of u vpn t (use_of (w.node b) k) (use_of d k) (there_use k e) st
       ]) h
 
-  pub use_rule : Rule (behind w b (record { part = d; puts = puts }))
+  pub use_rule : Rule (thereafter w b (record { part = d; puts = puts }))
   use_rule =
       node_rule w b d transit (record {
         owner = owner;
@@ -203,10 +203,10 @@ left_fec f g u v h = elim h [ inl x ↦ absurd cc | inr x ↦ cc ]
 
 -- a turn keeps the rule
 pub turn_rule : (w : LabelNetwork) (b : NodeId) (fec : Fec) (next : LabelData) (more : List Put) → Turn (place_of w b) (w.node b) fec next more
-    → Rule w → Rule (behind w b (record { part = next; puts = more }))
+    → Rule w → Rule (thereafter w b (record { part = next; puts = more }))
 turn_rule w b fec next more t rule =
     let part = w.node b in
-    let P : List Put → Type 0 = λ ps. Rule (behind w b (record { part = next; puts = ps })) in
+    let P : List Put → Type 0 = λ ps. Rule (thereafter w b (record { part = next; puts = ps })) in
     elim t.how [
       | inl q ↦ subst P (sym q.silent) (same_rule w b next q.labels t.rest rule)
       | inr (inl m) ↦ subst P (sym m.put) (use_rule w b m.to next m.label (Some (uses.Mapped fec m.to)) (messages.Mapping fec m.label) rule

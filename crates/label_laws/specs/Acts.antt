@@ -13,13 +13,13 @@ use Rattle.label_defs.specs.Between.{is_between, is_either}
 use Rattle.label_defs.specs.LabelData.{fresh, use_of, is_up, branches_of}
 use Rattle.label_defs.specs.Steps as steps
 use Rattle.label_defs.specs.Steps.{Call, label_step}
-use Rattle.label_laws.specs.Network.{PacketCopy, LabelNetwork, place_of, at_node, behind}
+use Rattle.label_laws.specs.Network.{PacketCopy, LabelNetwork, place_of, at_node, thereafter}
 
 -- ---- label steps
 
 -- a label step of one node; none where it needs a label and none is free
 abbrev pub stepped : LabelNetwork → NodeId → Call → Option LabelNetwork
-stepped network n call = option_map (behind network n) (label_step (place_of network n) network.clock (network.node n) call)
+stepped network n call = option_map (thereafter network n) (label_step (place_of network n) network.clock (network.node n) call)
 
 -- these alone are left in transit from one node to another
 abbrev pub left_in_transit : LabelNetwork → NodeId → NodeId → List LabelMessage → LabelNetwork
@@ -133,7 +133,7 @@ pub data Act : Type 0 where
   Timers : (node : NodeId) → Act
   Reroute : (node : NodeId) → (upstream : Fec → Option NodeId) → Act
 
--- the network behind an act; none where a node needs a label and none is free
+-- the network after an act; none where a node needs a label and none is free
 abbrev pub act : LabelNetwork → Act → Option LabelNetwork
 act network (Deliver a b) = delivered network a b (a.0 == b.0) (is_up (network.node b) a) (network.direction a b).transit
 act network (Want n fec) = wanted network n fec (network.is_tree fec)
@@ -155,7 +155,7 @@ act network (Tick ticks) =
 act network (Timers n) = stepped network n steps.Timers
 act network (Reroute n upstream) = stepped (with_upstream network n upstream) n steps.Rerouted
 
--- the network behind a row of acts
+-- the network after a row of acts
 abbrev pub run : LabelNetwork → List Act → Option LabelNetwork
 run network [] = Some network
 run network (first ∷ more) = act network first >>? λ next. run next more

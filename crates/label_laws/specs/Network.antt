@@ -69,8 +69,8 @@ sent from puts direction u n =
     else (direction u n).transit
 
 -- the network once a node has stepped
-abbrev pub behind : LabelNetwork → NodeId → Stepped → LabelNetwork
-behind network n stepped =
+abbrev pub thereafter : LabelNetwork → NodeId → Stepped → LabelNetwork
+thereafter network n stepped =
     record network {
       node = at_node n stepped.part network.node;
       direction = λ from to. record (network.direction from to) { transit = sent n stepped.puts network.direction from to };

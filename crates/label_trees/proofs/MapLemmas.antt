@@ -1,4 +1,4 @@
--- The notes of a forwarding table behind a change of one label.
+-- The notes of a forwarding table after a change of one label.
 use Rattle.std.proofs.Common.{◌≡◌, ◌≢◌, ℕ, ◌==◌, ◌&&◌, Bool, true, false, cond, List, Option, Some, None, Result, Ok, Err, OnOk, OnErr, subst, option_map, map, inl, inr, refl, sym, ap, ◌∙◌}
 use Rattle.std.specs.Prelude.{replicate, nat_le}
 use Rattle.std.specs.FinMap as maps

@@ -48,7 +48,7 @@ branch_equal a b e = branch_cmp_exact a b ((Equal-is (branch_cmp a b)).0 e)
 
 -- ---- messages
 
--- what is mapped stays so behind a message that does not withdraw it
+-- what is mapped stays so after a message that does not withdraw it
 pub mapped_more : (ms : List LabelMessage) (m : LabelMessage) (fec : Fec) (label : ℕ) → m ≢ messages.Withdraw fec label → IsMapped ms fec label
     → IsMapped (ms ++ m ∷ []) fec label
 mapped_more ms m fec label ne is = record {
@@ -183,7 +183,7 @@ node_own nodes n from Q fewer (Edge edge) call new at e q =
       puts = bgp_puts place edge.control made.edge.control
           ++ flat_map (label_puts n (addr_of nodes.scenario n) (label_place_of nodes n) nodes.clock) made.row;
     } in
-    let behind_row : List LabelStep → EdgeStepped =
+    let after_row : List LabelStep → EdgeStepped =
     λ row. record {
       edge =
           record { control = control; part = part_after edge.part row; raised = raised_after nodes.clock edge.raised call };
@@ -191,8 +191,8 @@ node_own nodes n from Q fewer (Edge edge) call new at e q =
     } in
     let wants : List labels.Call = changed_leaves (leaves place edge.control) (leaves place control) in
     let x = bind_some (edge_step place nodes.clock edge call) (λ m. Some (made m)) new e in
-    let y = bind_some (label_row place nodes.clock edge.part (one_call (own_label_call call) ++ wants)) (λ row. Some (behind_row row)) x.0 x.1 in
-    let same : made (behind_row y.0) ≡ new = ap made (same_Some (behind_row y.0) x.0 y.2) ∙ same_Some (made x.0) new x.2 in
+    let y = bind_some (label_row place nodes.clock edge.part (one_call (own_label_call call) ++ wants)) (λ row. Some (after_row row)) x.0 x.1 in
+    let same : made (after_row y.0) ≡ new = ap made (same_Some (after_row y.0) x.0 y.2) ∙ same_Some (made x.0) new x.2 in
     let there : Q (part_after edge.part y.0) =
     rows_own place nodes.clock from Q fewer (own_label_call call) wants (changed_leaf (leaves place edge.control) (leaves place control))
     edge.part y.0 y.1 q in

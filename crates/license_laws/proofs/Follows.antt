@@ -56,7 +56,7 @@ use Rattle.license_laws.proofs.Sessions.{Declared, sessions_declared}
 abbrev pub stepped : ℕ → Act → Acted → Traced
 stepped number one acted = record { event = number; happened = record { act = Some one; lines = acted.lines } }
 
--- What is kept of a trace and the network behind it: by each act that an event makes, by both ends of a session that come up, by a
+-- What is kept of a trace and the network after it: by each act that an event makes, by both ends of a session that come up, by a
 -- datagram that is accepted, and by an event that is refused.
 pub record Keeps (scenario : Scenario) (K : List Traced → World → Type 0) : Type 0 where
   pub single : (before : List Traced) (number : ℕ) (world : World) (one : Act) (acted : Acted) → InStep scenario world → SoundAct scenario one
@@ -84,7 +84,7 @@ pub record Leaves (scenario : Scenario) (K : List Traced → World → Type 0) (
 -- ---- rows, turns and rounds
 
 module _ (K : List Traced → World → Type 0) (H : List Traced → Type 0) (number : ℕ) where
-  -- It holds of the trace and the network behind an outcome, and so does something of the network; or what is left of it holds of the
+  -- It holds of the trace and the network after an outcome, and so does something of the network; or what is left of it holds of the
   -- trace before a label was lacked.
   abbrev pub Follows : (World → Type 0) → List Traced → Outcome → Type 0
   Follows P before (Halted acts node) = H (before ++ traced number acts)
@@ -101,12 +101,12 @@ module _ (K : List Traced → World → Type 0) (H : List Traced → Type 0) (nu
   abbrev pub Turns : (World → Type 0) → (World → Outcome) → Type 0
   Turns P turned = (before : List Traced) (world : World) → P world → K before world → Follows P before (turned world)
 
-  grouped : (T : List Traced → Type 0) (before : List Traced) (acts behind : List Happened)
-      → T ((before ++ traced number acts) ++ traced number behind) → T (before ++ traced number (acts ++ behind))
-  grouped T before acts behind t =
-      subst T (append_assoc before (traced number acts) (traced number behind)
+  grouped : (T : List Traced → Type 0) (before : List Traced) (acts thereafter : List Happened)
+      → T ((before ++ traced number acts) ++ traced number thereafter) → T (before ++ traced number (acts ++ thereafter))
+  grouped T before acts thereafter t =
+      subst T (append_assoc before (traced number acts) (traced number thereafter)
       ∙ ap (λ (steps : List Traced). before ++ steps)
-      (sym (map-append {A = Happened} {B = Traced} (λ happened. record { event = number; happened = happened }) acts behind))) t
+      (sym (map-append {A = Happened} {B = Traced} (λ happened. record { event = number; happened = happened }) acts thereafter))) t
 
 module _ (K : List Traced → World → Type 0) (H : List Traced → Type 0) (number : ℕ)
     (left : (trace : List Traced) (world : World) → K trace world → H trace) where
@@ -120,9 +120,9 @@ module _ (K : List Traced → World → Type 0) (H : List Traced → Type 0) (nu
   then_follows P Q before (Done acts world) next f h = by (next world) (h (before ++ traced number acts) world f.1 f.0)
     where
       by : (o : Outcome) → Follows K H number Q (before ++ traced number acts) o
-          → Follows K H number Q before (elim o [ Done behind new ↦ Done (acts ++ behind) new | Halted behind node ↦ Halted (acts ++ behind) node ])
-      by (Halted behind node) q = grouped K H number H before acts behind q
-      by (Done behind new) q = (grouped K H number (λ trace. K trace new) before acts behind q.0, q.1)
+          → Follows K H number Q before (elim o [ Done thereafter new ↦ Done (acts ++ thereafter) new | Halted thereafter node ↦ Halted (acts ++ thereafter) node ])
+      by (Halted thereafter node) q = grouped K H number H before acts thereafter q
+      by (Done thereafter new) q = (grouped K H number (λ trace. K trace new) before acts thereafter q.0, q.1)
 
   one_follows : (P : World → Type 0) (before : List Traced) (world : World) (one : Act) → K before world → Goes K H number P before world one
       → Follows K H number P before (one_act world one)
@@ -157,7 +157,7 @@ module _ (K : List Traced → World → Type 0) (H : List Traced → Type 0) (nu
       then_follows P P before (round world) (times round count) (keeps before world p k)
       (λ now next q l. times_follows P round keeps count now next q l)
 
-  -- an act, and a row behind it
+  -- an act, and a row after it
   goes_then : (P Q : World → Type 0) (one : Act) (more : List Act) (before : List Traced) (world : World) → K before world
       → Goes K H number P before world one → ((now : List Traced) (next : World) → P next → K now next → Follows K H number Q now (row more next))
       → Follows K H number Q before (row (one ∷ more) world)
@@ -512,7 +512,7 @@ runs_follow scenario K keeps (timed ∷ more) sound before old number trace new 
     subst (λ (t : List Traced). K (before ++ t) new) (sym run.4)
     (subst (λ (t : List Traced). K t new) (append_assoc before (traced number acts) run.2) rest)
 
--- Behind a run, what is left where an act of the next event lacks a label.
+-- After a run, what is left where an act of the next event lacks a label.
 pub halt_leaves : (scenario : Scenario) (K : List Traced → World → Type 0) (H : List Traced → Type 0) → Keeps scenario K → Leaves scenario K H
     → (number : ℕ) (before : List Traced) (old : World) → InStep scenario old → (timed : Timed) → IsSoundEvent scenario timed.event → K before old
     → (acts : List Happened) (node : NodeId) → outcome old timed ≡ Halted acts node → H (before ++ traced number acts)

@@ -14,7 +14,7 @@ use Rattle.network_defs.specs.World.{Datagram, scenario_of}
 use Rattle.network_laws.specs.SoundRun.{SoundRun}
 use Rattle.network_laws.proofs.Lists.{each_map}
 use Rattle.rule_laws.specs.SoundHalt.{SoundHalt}
-use Rattle.rule_laws.proofs.Halting.{each_behind, run_before, event_sound, acts_quiet}
+use Rattle.rule_laws.proofs.Halting.{each_after, run_before, event_sound, acts_quiet}
 use Rattle.rule_laws.proofs.Plain.{IsOfPlain, IsQuiet}
 use Rattle.rule_laws.proofs.Start.{start_in_step, run_in_step}
 use Rattle.license_laws.proofs.Follows.{Leaves, halt_leaves}
@@ -56,7 +56,7 @@ quiet_licensed scenario datagrams before (Some (Reroute n)) all p s = s
 -- a step of two traces is one of the first, or is as each of the second
 of_either : (Q : Traced → Type 0) (first more front after : List Traced) (step : Traced) → first ++ more ≡ front ++ step ∷ after
     → AllByRecursion Q more → ((rest : List Traced) × (first ≡ front ++ step ∷ rest)) ⊎ Q step
-of_either Q [] more front after step e all = inr (each_behind Q front (step ∷ after) (subst (AllByRecursion Q) e all)).0
+of_either Q [] more front after step e all = inr (each_after Q front (step ∷ after) (subst (AllByRecursion Q) e all)).0
 of_either Q (own ∷ first) more [] after step e all = (let same : own ≡ step = cc in inl (first, λ i. same i ∷ first))
 of_either Q (own ∷ first) more (other ∷ front) after step e all =
     let head : own ≡ other = cc in

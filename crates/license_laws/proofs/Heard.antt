@@ -10,7 +10,7 @@ use Rattle.mv_base.specs.declared.ids.NodeId.{NodeId}
 use Rattle.mv_base.specs.framing.Cut.Front.{more}
 use Rattle.mv_base.specs.framing.Feed.{fed}
 use Rattle.mv_base.specs.framing.Units.{Spelled, octets_of, messages_of, AreUnits, NoUnit}
-use Rattle.mv_base.proofs.framing.Cuts.{none_whole, IsOctets-before, IsOctets-behind}
+use Rattle.mv_base.proofs.framing.Cuts.{none_whole, IsOctets-before, IsOctets-after}
 use Rattle.scenario_defs.specs.declared.event.Kind.{Kind}
 use Rattle.network_defs.specs.session_defs.Message.{SessionMessage, same_direction, front_of, Spells}
 use Rattle.network_defs.specs.session_defs.Octets.{Stream, OctetNetwork, OctetAct, all_taken, moved, octet_run}
@@ -71,7 +71,7 @@ no_unit kind held w = none_whole (front_of kind) (Spells kind) (stream_of kind).
 -- ---- one direction
 
 module _ (kind : Kind) (from to : NodeId) (P : List SessionMessage → NodeState → Type 0) (f : Follower kind from to P) where
-  -- Whole units stand end to end in what was taken, and what the receiver's stream holds back behind them; and the receiver keeps what
+  -- Whole units stand end to end in what was taken, and what the receiver's stream holds back after them; and the receiver keeps what
   -- their messages say.
   pub record Hearing (network : OctetNetwork Nodes) (taken : List ℕ) : Type 0 where
     pub units : List (Spelled SessionMessage)
@@ -85,11 +85,11 @@ module _ (kind : Kind) (from to : NodeId) (P : List SessionMessage → NodeState
   HearingBehind taken (Some new) = Hearing new.network taken
 
   -- the state and the stream apart
-  both_behind : (taken : List ℕ) (units : List (Spelled SessionMessage)) (stream : Stream) → AreUnits (Spells kind) units
+  both_after : (taken : List ℕ) (units : List (Spelled SessionMessage)) (stream : Stream) → AreUnits (Spells kind) units
       → taken ≡ octets_of units ++ stream.held → Waits kind stream.held → (o : Option (Behind (OctetNetwork Nodes)))
       → StreamStays kind from to P f stream o → NetworkHas kind from to P f (messages_of units) o → HearingBehind taken o
-  both_behind taken units stream each parts waits None s h = tt
-  both_behind taken units stream each parts waits (Some new) s h = record {
+  both_after taken units stream each parts waits None s h = tt
+  both_after taken units stream each parts waits (Some new) s h = record {
     units = units;
     each = each;
     parts = parts ∙ ap (λ (d : Stream). octets_of units ++ d.held) (sym s);
@@ -100,7 +100,7 @@ module _ (kind : Kind) (from to : NodeId) (P : List SessionMessage → NodeState
   pub run_hears : (acts : List (OctetAct NodeCall)) → AllByRecursion (λ one. IsTame kind from to P f one) acts
       → (old : OctetNetwork Nodes) (taken : List ℕ) → Hearing old taken → HearingBehind taken (octet_run system old acts)
   run_hears acts tame old taken h =
-      both_behind taken h.units (old.stream (direction kind from to)) h.each h.parts h.waits (octet_run system old acts)
+      both_after taken h.units (old.stream (direction kind from to)) h.each h.parts h.waits (octet_run system old acts)
       (run_stream kind from to P f acts tame (old.stream (direction kind from to)) old refl)
       (run_has kind from to P f acts tame (messages_of h.units) old h.holds)
 
@@ -137,9 +137,9 @@ module _ (kind : Kind) (from to : NodeId) (P : List SessionMessage → NodeState
       ap (λ (xs : List ℕ). xs ++ piece) h.parts ∙ append_assoc (octets_of h.units) (old.stream (direction kind from to)).held piece
       ∙ ap (λ (xs : List ℕ). octets_of h.units ++ xs) some.came ∙ sym (append_assoc (octets_of h.units) (octets_of some.done) some.rest)
       ∙ (λ i. sym (flat_map-append (λ (u : Spelled SessionMessage). u.octets) h.units some.done) i ++ sym now.1 i) in
-      both_behind (taken ++ piece) units (record new { waiting = [] }) (are_both (Spells kind) h.units some.done h.each some.done_are) parts
+      both_after (taken ++ piece) units (record new { waiting = [] }) (are_both (Spells kind) h.units some.done h.each some.done_are) parts
       (subst (Waits kind) (sym now.1) (record {
-        octets = IsOctets-behind (octets_of some.done) some.rest (subst IsOctets some.came fits);
+        octets = IsOctets-after (octets_of some.done) some.rest (subst IsOctets some.came fits);
         partial =
             some.partial;
       }))
@@ -186,7 +186,7 @@ module _ (kind : Kind) (from to : NodeId) (P : List SessionMessage → NodeState
       → same_direction (direction kind from to) way ≡ false → Carried way.kind (old.stream way) (old.transit way) pending → Hearing old taken
       → HearingBehind taken (moved system old way count)
   other_moved old way count pending taken off c h =
-      both_behind taken h.units (old.stream (direction kind from to)) h.each h.parts h.waits (moved system old way count)
+      both_after taken h.units (old.stream (direction kind from to)) h.each h.parts h.waits (moved system old way count)
       (taken_stream kind from to P f way (fed (front_of way.kind) (old.stream way) (take count (old.transit way))).waiting
       (old.stream (direction kind from to)) (gone old way count)
       (ap (λ (t : Bool). cond t (record (fed (front_of way.kind) (old.stream way) (take count (old.transit way))) { waiting = [] })

@@ -50,7 +50,7 @@ take_none : (count : ℕ) → take {A = ℕ} count [] ≡ []
 take_none zero = refl
 take_none (suc count) = refl
 
--- the network behind an act at a node
+-- the network after an act at a node
 pub record Behaved (world : World) (before : List ReportLine) (found : Option (Behind (OctetNetwork Nodes))) (acted : Acted) : Type 0 where
   pub new : Behind (OctetNetwork Nodes)
   pub is : found ≡ Some new
@@ -175,7 +175,7 @@ module _ (kind : Kind) (from to : NodeId) (P : List SessionMessage → NodeState
 
   -- ---- one act more
 
-  -- an act behind which the end is up as it was
+  -- an act after which the end is up as it was
   pub heard_more : (trace : List Traced) (old new : World) (step : Traced) → hit kind from to step ≡ false
       → is_up_after kind to from (is_up_in kind to from trace) step.happened.act ≡ is_up_in kind to from trace
       → (was_raised kind from to trace ≡ false → takes_of kind from to step.happened.lines ≡ [])
@@ -193,7 +193,7 @@ module _ (kind : Kind) (from to : NodeId) (P : List SessionMessage → NodeState
         silent = λ d. keeps (sym now ∙ d) (h.silent (sym now ∙ d));
       }
 
-  -- an act behind which it is down
+  -- an act after which it is down
   pub heard_down : (trace : List Traced) (old new : World) (step : Traced)
       → is_up_after kind to from (is_up_in kind to from trace) step.happened.act ≡ false → new.network.joined (direction kind from to) ≡ false
       → P [] (new.network.state.node to) → Heard (trace ++ step ∷ []) new

@@ -118,7 +118,7 @@ module _ (kind : Kind) (from to : NodeId) (P : List SessionMessage → NodeState
   abbrev over : Direction
   over = direction kind from to
 
-  -- it holds of the state behind, if there is one
+  -- it holds of the state after, if there is one
   abbrev pub StateHas : List SessionMessage → Option (Stepped Nodes) → Type 0
   StateHas ms None = ⊤
   StateHas ms (Some new) = P ms (new.state.node to)

@@ -76,7 +76,7 @@ module _ (scenario : Scenario) (from to : NodeId) where
       (cond (was_raised kinds.Ldp from to trace) (put_since kinds.Ldp from to trace ++ puts_of kinds.Ldp from to step.happened.lines) [])
   put_is trace step = told_next kinds.Ldp from to (λ step. flat_map (put_by kinds.Ldp from to) step.happened.lines) trace step
 
-  -- units behind units
+  -- units after units
   with_units : (trace : List Traced) (old new : World) (step : Traced) (units : List (Spelled SessionMessage)) → AreUnits (Spells kinds.Ldp) units
       → (a : Speaks old new step.happened.lines) → Says to (labels_in (messages_of units)) (part_of (old.network.state.node from))
       → Once kinds.Ldp from to (directions (scenario_of old)) → scenario_of new ≡ scenario_of old

@@ -260,7 +260,7 @@ node_control nodes n from changes (Edge edge) call new at e h =
       puts = bgp_puts place edge.control made.edge.control
           ++ flat_map (label_puts n (addr_of nodes.scenario n) (label_place_of nodes n) nodes.clock) made.row;
     } in
-    let behind_row : List LabelStep → EdgeStepped =
+    let after_row : List LabelStep → EdgeStepped =
     λ row. record {
       edge =
           record { control = control; part = part_after edge.part row; raised = raised_after nodes.clock edge.raised call };
@@ -268,9 +268,9 @@ node_control nodes n from changes (Edge edge) call new at e h =
     } in
     let x = bind_some (edge_step place nodes.clock edge call) (λ m. Some (made m)) new e in
     let y = bind_some (label_row place nodes.clock edge.part
-    (one_call (own_label_call call) ++ changed_leaves (leaves place edge.control) (leaves place control))) (λ row. Some (behind_row row)) x.0 x.1
+    (one_call (own_label_call call) ++ changed_leaves (leaves place edge.control) (leaves place control))) (λ row. Some (after_row row)) x.0 x.1
     in
-    let same : made (behind_row y.0) ≡ new = ap made (same_Some (behind_row y.0) x.0 y.2) ∙ same_Some (made x.0) new x.2 in
+    let same : made (after_row y.0) ≡ new = ap made (same_Some (after_row y.0) x.0 y.2) ∙ same_Some (made x.0) new x.2 in
     subst (λ (s : Stepped Nodes). PeerHas from changes (control_of (s.state.node n)).peers) same
     (subst (λ (t : Bool). PeerHas from changes (control_of
     (cond t (Edge (record { control = control; part = part_after edge.part y.0; raised = raised_after nodes.clock edge.raised call }))

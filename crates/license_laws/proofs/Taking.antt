@@ -233,7 +233,7 @@ pub run_takes : (scenario : Scenario) (cores : Cores) (all : List Timed) (trace 
 run_takes scenario cores all trace new lines sound run s =
     runs_follow scenario Taking (taking_kept scenario) all sound [] (start scenario cores) 0 trace new s (taking_start scenario cores) run
 
--- the same behind the first act of a raise
+-- the same after the first act of a raise
 pub first_taking : (scenario : Scenario) (before : List Traced) (number : ℕ) (world : World) (session : Session) (first : Acted)
     → Declared scenario session → scenario_of world ≡ scenario → act world (RaiseFirst session.kind session.a session.b) ≡ Ok first
     → Taking before world

@@ -1,4 +1,4 @@
--- What acts on octets put, and what a node has mapped behind them.
+-- What acts on octets put, and what a node has mapped after them.
 use Rattle.std.specs.Prelude.{⊤, take, drop}
 use Rattle.std.proofs.Common.{◌≡◌, inl, inr, ℕ, Bool, true, false, cond, List, [], ◌∷◌, ◌++◌, Option, Some, None, refl, sym, ap, subst, ◌∙◌}
 use Rattle.std.specs.List.{AllByRecursion}

@@ -64,7 +64,7 @@ beyond same found None rest h = refl
 beyond same found (Some x) None h = refl
 beyond same found (Some x) (Some more) h = full_fails same (found ++ x ∷ more) (omega (arith, length-append found (x ∷ more)))
 
--- One more part behind 8 leaves no list.
+-- One more part after 8 leaves no list.
 pub too_many : {A : Type 0} (same : A → A → Bool) (read : List ℕ → Option A) (found : List A) (parts : List (List ℕ)) → 0 < length parts
     → 8 ≤ length found → list_from same read found parts ≡ None
 too_many same read found [] some full = absurd (omega arith)
@@ -109,7 +109,7 @@ none_more : {A : Type 0} (test : A → Bool) (xs : List A) (x : A) → list_any 
 none_more test [] x h k = rw k refl
 none_more test (y ∷ ys) x h k = let p = or_parts (test y) (list_any test ys) h in rw p.0 (none_more test ys x p.1 k)
 
--- A list with a new one behind it is distinct.
+-- A list with a new one after it is distinct.
 pub distinct_push : {A : Type 0} (same : A → A → Bool) (found : List A) (x : A) → are_distinct same found ≡ true
     → list_any (λ own. same own x) found ≡ false → are_distinct same (found ++ x ∷ []) ≡ true
 distinct_push same [] x d n = refl
@@ -135,7 +135,7 @@ found_at text part rest (Some place) e h =
     let cut : (take place text, drop (place + 1) text) ≡ (part, rest) = cc in
     split_first (λ b. b == 44) text place e ∙ ap (λ (parts : List ℕ × List ℕ). parts.0 ∷ slice_split (λ b. b == 44) parts.1) cut
 
--- The part before the first comma, and those behind it.
+-- The part before the first comma, and those after it.
 pub comma_found : (text part rest : List ℕ) → cut_of 44 text ≡ Some (part, rest)
     → slice_split (λ b. b == 44) text ≡ part ∷ slice_split (λ b. b == 44) rest
 comma_found text part rest h = found_at text part rest (position (λ b. b == 44) text) refl h

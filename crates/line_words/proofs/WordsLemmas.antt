@@ -25,23 +25,23 @@ pub total-slice_split : (p : ℕ → Bool) (xs : List ℕ) → total (slice_spli
 total-slice_split p [] = refl
 total-slice_split p (x ∷ xs) = total-cons (p x) x (slice_split p xs) (length xs) (total-slice_split p xs) ∙ omega arith
 
--- The parts from a place on: the one there, and those behind it.
+-- The parts from a place on: the one there, and those after it.
 pub total-drop : (parts : List (Bor (List ℕ))) (i : ℕ) (d : Bor (List ℕ)) → i < length parts
     → total (map (λ p. p.now) (drop i parts)) ≡ length (get_or parts i d).now + 1 + total (map (λ p. p.now) (drop (suc i) parts))
 total-drop parts i d h = ap (λ (l : List (Bor (List ℕ))). total (map (λ p. p.now) l)) (drop-cons parts i d h)
 
--- What is to come fits behind what was.
+-- What is to come fits after what was.
 pub column_fits : (parts : List (Bor (List ℕ))) (i : ℕ) (d : Bor (List ℕ)) (column n : ℕ) → i < length parts
     → column + total (map (λ p. p.now) (drop i parts)) ≡ 1 + total (map (λ p. p.now) parts) → total (map (λ p. p.now) parts) ≡ n + 1
     → column + (length (get_or parts i d).now + 1) ≤ n + 2
 column_fits parts i d column n h e t = omega (arith, total-drop parts i d h, e, t)
 
--- Parts behind a line feed: the part before it is a line.
+-- Parts after a line feed: the part before it is a line.
 lines-cons : (x : List ℕ) (parts : List (List ℕ)) → 0 < length parts → lines_of_parts (x ∷ parts) ≡ strip_carriage_return x ∷ lines_of_parts parts
 lines-cons x [] h = absurd (omega arith)
 lines-cons x (y ∷ more) h = refl
 
--- The part before the first cut, and the parts behind it.
+-- The part before the first cut, and the parts after it.
 pub split_first : (p : ℕ → Bool) (xs : List ℕ) (i : ℕ) → position p xs ≡ Some i → slice_split p xs ≡ take i xs ∷ slice_split p (drop (i + 1) xs)
 split_first p xs i h =
     let found : (i < length xs) × (p (get_or xs i 0) ≡ true) × ((k : ℕ) → k < i → p (get_or xs k 0) ≡ false) = position-Some p xs i 0 h in
@@ -49,7 +49,7 @@ split_first p xs i h =
     let s : slice_split p xs ≡ before_first p xs ∷ slice_split p (after_first p xs) = slice_split_first p xs 0 (omega (arith, found.0, e)) in
     s ∙ ap (λ (n : ℕ). take n xs ∷ slice_split p (drop (n + 1) xs)) e
 
--- The line before the first line feed, and the lines behind it.
+-- The line before the first line feed, and the lines after it.
 pub lines-first : (xs : List ℕ) (i : ℕ) → position (λ b. b == 10) xs ≡ Some i → lines xs ≡ strip_carriage_return (take i xs) ∷ lines (drop (i + 1) xs)
 lines-first xs i h =
     let p : ℕ → Bool = λ b. b == 10 in

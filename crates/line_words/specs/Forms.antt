@@ -140,7 +140,7 @@ rule_at row word =
     if pointwise nat_eq word.text (codes "hash") then Ok Hash else
     fault row.number word.column reasons.Choice
 
--- whether the address has that many bits, and none behind them is set
+-- whether the address has that many bits, and none after them is set
 abbrev pub is_prefix : Addr → ℕ → Bool
 is_prefix (V4 octets) bits = nat_le bits 32 && (from_be_bytes w32 octets % 2 ^ (32 - bits)) == 0
 is_prefix (V6 octets) bits = nat_le bits 128 && (from_be_bytes w128 octets % 2 ^ (128 - bits)) == 0

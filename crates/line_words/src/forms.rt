@@ -283,7 +283,7 @@ fn prefix_if(addr: Addr, bits: u64) -> Option<Prefix>
     }
 }
 
-/// The prefix of either family that a text `ADDR/N` writes, with no bit set behind the first N.
+/// The prefix of either family that a text `ADDR/N` writes, with no bit set after the first N.
 #[tactic(auto, unfolding(crate::specs::Forms::prefix_of))]
 pub(crate) fn prefix_of(text: &[u8]) -> Option<Prefix>
     ensures { result ≡ prefix_of text.now }

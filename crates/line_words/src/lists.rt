@@ -6,7 +6,7 @@ ghost use Rattle.scenario_defs.specs.Prefixes.{same_prefix};
 ghost use Rattle.line_words.specs.Answers.{Gives};
 ghost use Rattle.line_words.specs.Words.{placed_word};
 ghost use Rattle.line_words.specs.Forms.{target_of, prefix_of, list_of, targets_at, prefixes_at};
-ghost use Rattle.line_words.specs.Parts.{parts_behind};
+ghost use Rattle.line_words.specs.Parts.{parts_after};
 
 use crate::fault::fault_at;
 use crate::forms::{or_fault, prefix_of, target_of};
@@ -68,9 +68,9 @@ fn is_among<T: Listed>(items: &[T], item: &T) -> bool
     items.iter().any(|own| own.same(item))
 }
 
-/// The text before the first comma, and the text behind it, where there is one.
+/// The text before the first comma, and the text after it, where there is one.
 fn cut_comma(text: &[u8]) -> (&[u8], Option<&[u8]>)
-    ensures { slice_split (λ b. b == 44) text.now ≡ result.0.now ∷ parts_behind result.1 }
+    ensures { slice_split (λ b. b == 44) text.now ≡ result.0.now ∷ parts_after result.1 }
 {
     match cut_at(text, b',') {
         Some((part, rest)) => (part, Some(rest)),
@@ -85,7 +85,7 @@ fn read_list<T: Listed>(alloc: Global, text: &[u8]) -> Result<Option<Seq<T>>, No
     let mut found = Seq::new(alloc);
     let mut rest = text;
     'parts: for _ in 0..LIST_LIMIT {
-        let (part, behind) = cut_comma(rest);
+        let (part, thereafter) = cut_comma(rest);
         let item = match T::read(part) {
             Some(item) => item,
             None => return Ok(None),
@@ -94,8 +94,8 @@ fn read_list<T: Listed>(alloc: Global, text: &[u8]) -> Result<Option<Seq<T>>, No
             return Ok(None);
         }
         found.push(item)?;
-        rest = match behind {
-            Some(behind) => behind,
+        rest = match thereafter {
+            Some(thereafter) => thereafter,
             None => return Ok(Some(found)),
         };
     }
@@ -117,7 +117,7 @@ pub fn targets_at(alloc: Global, row: Row, word: &Word) -> Result<Targets, ReadF
     }
 }
 
-/// The 1 to 8 distinct prefixes that a word writes with commas, each `ADDR/N` with no bit set behind the first N, or
+/// The 1 to 8 distinct prefixes that a word writes with commas, each `ADDR/N` with no bit set after the first N, or
 /// `Prefix`; or want of memory.
 #[tactic(auto, unfolding(crate::specs::Forms::prefixes_at))]
 pub fn prefixes_at(alloc: Global, row: Row, word: &Word) -> Result<Prefixes, ReadFault>

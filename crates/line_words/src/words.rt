@@ -17,7 +17,7 @@ pub struct Word<'a> {
 #[derive(Clone, Copy)]
 pub struct Row {
     pub number: u32,
-    /// The column behind the last octet.
+    /// The column after the last octet.
     pub after: u32,
 }
 
@@ -27,7 +27,7 @@ fn line_feed(text: &[u8]) -> Option<usize>
     text.iter().position(|b| *b == b'\n')
 }
 
-/// The first line of a text, and the text behind it.
+/// The first line of a text, and the text after it.
 pub fn split_line(text: &[u8]) -> (&[u8], &[u8])
     requires { 0 < length text.now }
     ensures line { lines text.now ≡ result.0.now ∷ lines result.1.now }

@@ -4,7 +4,7 @@ use Rattle.std.proofs.lemmas.Bool.{and_from, or_left, or_right, eq-eqb, cases_lt
 use Rattle.mv_base.specs.declared.core_link.Link.{Link}
 use Rattle.mv_base.specs.core_walks.Reached.{joins_to, reached_within, all_below, is_connected}
 use Rattle.made_laws.specs.MadeScript.{ring_link, spur_link}
-use Rattle.made_laws.proofs.ListLemmas.{behind, any_some, any_kept}
+use Rattle.made_laws.proofs.ListLemmas.{thereafter, any_some, any_kept}
 use Rattle.made_laws.proofs.Drafts.{made_links}
 
 all_from : (test : ℕ → Bool) (count : ℕ) → ((k : ℕ) → k < count → test k ≡ true) → all_below test count ≡ true
@@ -32,7 +32,7 @@ module _ (edges cores : ℕ) (all_edges : edges ≡ 32) (all_cores : cores ≡ 1
       → reached_within (made_links cores edges) (suc count) node ≡ true
   over_ring count k node w e h =
       or_right (reached_within (made_links cores edges) count node) _
-      (any_kept (joins_to (reached_within (made_links cores edges) count) node) (behind [] ring_link cores) spur_link edges
+      (any_kept (joins_to (reached_within (made_links cores edges) count) node) (thereafter [] ring_link cores) spur_link edges
       (any_some (joins_to (reached_within (made_links cores edges) count) node) [] ring_link cores k (omega arith)
       (joined_there (reached_within (made_links cores edges) count) node (ring_link (suc k)) e h)))
 
@@ -40,7 +40,7 @@ module _ (edges cores : ℕ) (all_edges : edges ≡ 32) (all_cores : cores ≡ 1
       → reached_within (made_links cores edges) (suc count) ((suc k - 1) % 16 + 1 + 31) ≡ true
   up_spur count k w h =
       or_right (reached_within (made_links cores edges) count ((suc k - 1) % 16 + 1 + 31)) _
-      (any_some (joins_to (reached_within (made_links cores edges) count) ((suc k - 1) % 16 + 1 + 31)) (behind [] ring_link cores) spur_link edges k
+      (any_some (joins_to (reached_within (made_links cores edges) count) ((suc k - 1) % 16 + 1 + 31)) (thereafter [] ring_link cores) spur_link edges k
       (omega arith)
       (joined_there (reached_within (made_links cores edges) count) ((suc k - 1) % 16 + 1 + 31) (spur_link (suc k)) refl h))
 
@@ -48,7 +48,7 @@ module _ (edges cores : ℕ) (all_edges : edges ≡ 32) (all_cores : cores ≡ 1
       → reached_within (made_links cores edges) (suc count) (suc k - 1) ≡ true
   down_spur count k w h =
       or_right (reached_within (made_links cores edges) count (suc k - 1)) _
-      (any_some (joins_to (reached_within (made_links cores edges) count) (suc k - 1)) (behind [] ring_link cores) spur_link edges k (omega arith)
+      (any_some (joins_to (reached_within (made_links cores edges) count) (suc k - 1)) (thereafter [] ring_link cores) spur_link edges k (omega arith)
       (joined_here (reached_within (made_links cores edges) count) (suc k - 1) (spur_link (suc k)) refl h))
 
   core_reached : (k : ℕ) → k < 16 → reached_within (made_links cores edges) (suc k) (suc k + 31) ≡ true

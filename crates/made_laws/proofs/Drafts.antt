@@ -14,7 +14,7 @@ use Rattle.scenario_defs.specs.declared.scenario.Thing.TheVariants as things
 use Rattle.scenario_lines.specs.scenario_draft.Drafted.{Drafted}
 use Rattle.scenario_lines.specs.scenario_draft.Settings.{none_given}
 use Rattle.made_laws.specs.MadeScript.{edge_id, core_id, edge_node, core_node, ring_link, spur_link, name_at, vrf_id, site_id, iface_id, vrf, site, iface}
-use Rattle.made_laws.proofs.ListLemmas.{behind, rows, lookup_none, lookup_more, lookup_last, lookup_one, lookup_behind, lookup_kept, lookup_found}
+use Rattle.made_laws.proofs.ListLemmas.{thereafter, rows, lookup_none, lookup_more, lookup_last, lookup_one, lookup_after, lookup_kept, lookup_found}
 use Rattle.made_laws.proofs.NumeralLemmas.{same_name, other_number, other_pair}
 
 -- ---- the names
@@ -35,7 +35,7 @@ abbrev pub iface_entry : ℕ → ℕ → List ℕ × Thing
 iface_entry edge vpn = (name_at (codes "I") edge vpn, things.Iface (iface_id edge vpn))
 
 abbrev pub node_names : ℕ → ℕ → List (List ℕ × Thing)
-node_names edges cores = behind (behind [] edge_entry edges) core_entry cores
+node_names edges cores = thereafter (thereafter [] edge_entry edges) core_entry cores
 
 -- the names with those of so many VPNs at the edge
 abbrev pub named_at : List (List ℕ × Thing) → ℕ → ℕ → List (List ℕ × Thing)
@@ -60,29 +60,29 @@ with_lists nodes links vrfs sites ifaces names = record {
 }
 
 abbrev pub made_nodes : ℕ → ℕ → List Node
-made_nodes edges cores = behind (behind [] edge_node edges) core_node cores
+made_nodes edges cores = thereafter (thereafter [] edge_node edges) core_node cores
 
 abbrev pub made_links : ℕ → ℕ → List Link
-made_links cores edges = behind (behind [] ring_link cores) spur_link edges
+made_links cores edges = thereafter (thereafter [] ring_link cores) spur_link edges
 
-abbrev pub behind_edges : ℕ → Drafted
-behind_edges edges = with_lists (behind [] edge_node edges) [] [] [] [] (behind [] edge_entry edges)
+abbrev pub after_edges : ℕ → Drafted
+after_edges edges = with_lists (thereafter [] edge_node edges) [] [] [] [] (thereafter [] edge_entry edges)
 
-abbrev pub behind_cores : ℕ → ℕ → Drafted
-behind_cores edges cores = with_lists (made_nodes edges cores) [] [] [] [] (node_names edges cores)
+abbrev pub after_cores : ℕ → ℕ → Drafted
+after_cores edges cores = with_lists (made_nodes edges cores) [] [] [] [] (node_names edges cores)
 
-abbrev pub behind_ring : ℕ → ℕ → ℕ → Drafted
-behind_ring edges cores ring = with_lists (made_nodes edges cores) (behind [] ring_link ring) [] [] [] (node_names edges cores)
+abbrev pub after_ring : ℕ → ℕ → ℕ → Drafted
+after_ring edges cores ring = with_lists (made_nodes edges cores) (thereafter [] ring_link ring) [] [] [] (node_names edges cores)
 
-abbrev pub behind_spurs : ℕ → ℕ → ℕ → Drafted
-behind_spurs edges cores spurs = with_lists (made_nodes edges cores) (made_links cores spurs) [] [] [] (node_names edges cores)
+abbrev pub after_spurs : ℕ → ℕ → ℕ → Drafted
+after_spurs edges cores spurs = with_lists (made_nodes edges cores) (made_links cores spurs) [] [] [] (node_names edges cores)
 
 -- after what all VPNs have at so many edges, and so many VPNs at the next one
-abbrev pub behind_vpns : ℕ → ℕ → ℕ → ℕ → ℕ → Drafted
-behind_vpns edges cores vpns edge vpn =
-    with_lists (made_nodes edges cores) (made_links cores edges) (behind (rows vpns vrf edge) (vrf (suc edge)) vpn)
-    (behind (rows vpns site edge) (site (suc edge)) vpn)
-    (behind (rows vpns iface edge) (iface (suc edge)) vpn) (named_at (named_edges vpns (node_names edges cores) edge) (suc edge) vpn)
+abbrev pub after_vpns : ℕ → ℕ → ℕ → ℕ → ℕ → Drafted
+after_vpns edges cores vpns edge vpn =
+    with_lists (made_nodes edges cores) (made_links cores edges) (thereafter (rows vpns vrf edge) (vrf (suc edge)) vpn)
+    (thereafter (rows vpns site edge) (site (suc edge)) vpn)
+    (thereafter (rows vpns iface edge) (iface (suc edge)) vpn) (named_at (named_edges vpns (node_names edges cores) edge) (suc edge) vpn)
 
 -- ---- look-ups of names
 
@@ -92,26 +92,26 @@ Stands names entry = lookup (pointwise nat_eq entry.0) names ≡ Some entry.1
 abbrev pub IsNone : List (List ℕ × Thing) → List ℕ → Type 0
 IsNone names name = lookup (pointwise nat_eq name) names ≡ None
 
-pub edge_free : (k : ℕ) → k < 32 → IsNone (behind [] edge_entry k) (codes "E" ++ decimal (suc k))
+pub edge_free : (k : ℕ) → k < 32 → IsNone (thereafter [] edge_entry k) (codes "E" ++ decimal (suc k))
 edge_free k h =
-    lookup_behind (pointwise nat_eq (codes "E" ++ decimal (suc k))) [] edge_entry k refl
+    lookup_after (pointwise nat_eq (codes "E" ++ decimal (suc k))) [] edge_entry k refl
     (λ j w. other_number 69 (suc k) (suc j) (omega arith) (omega arith) (λ e. omega (arith, e)))
 
 pub core_free : (edges k : ℕ) → k < 16 → IsNone (node_names edges k) (codes "C" ++ decimal (suc k))
 core_free edges k h =
-    lookup_behind (pointwise nat_eq (codes "C" ++ decimal (suc k))) (behind [] edge_entry edges) core_entry k
-    (lookup_behind (pointwise nat_eq (codes "C" ++ decimal (suc k))) [] edge_entry edges refl (λ j w. refl))
+    lookup_after (pointwise nat_eq (codes "C" ++ decimal (suc k))) (thereafter [] edge_entry edges) core_entry k
+    (lookup_after (pointwise nat_eq (codes "C" ++ decimal (suc k))) [] edge_entry edges refl (λ j w. refl))
     (λ j w. other_number 67 (suc k) (suc j) (omega arith) (omega arith) (λ e. omega (arith, e)))
 
 pub edge_stands : (edges cores k : ℕ) → k < edges → edges ≡ 32 → Stands (node_names edges cores) (edge_entry (suc k))
 edge_stands edges cores k h all =
-    lookup_kept (pointwise nat_eq (codes "E" ++ decimal (suc k))) (behind [] edge_entry edges) core_entry cores (things.Node (edge_id (suc k)))
+    lookup_kept (pointwise nat_eq (codes "E" ++ decimal (suc k))) (thereafter [] edge_entry edges) core_entry cores (things.Node (edge_id (suc k)))
     (lookup_found (pointwise nat_eq (codes "E" ++ decimal (suc k))) [] edge_entry edges k h (edge_free k (omega arith))
     (same_name (codes "E" ++ decimal (suc k))))
 
 pub core_stands : (edges cores k : ℕ) → k < cores → cores ≡ 16 → Stands (node_names edges cores) (core_entry (suc k))
 core_stands edges cores k h all =
-    lookup_found (pointwise nat_eq (codes "C" ++ decimal (suc k))) (behind [] edge_entry edges) core_entry cores k h (core_free edges k (omega arith))
+    lookup_found (pointwise nat_eq (codes "C" ++ decimal (suc k))) (thereafter [] edge_entry edges) core_entry cores k h (core_free edges k (omega arith))
     (same_name (codes "C" ++ decimal (suc k)))
 
 -- ---- names of VPNs at edges
@@ -156,15 +156,15 @@ module _ (edges cores vpns edge vpn : ℕ) (all : vpns ≡ 8) (h : edge < 32) (k
 
   pub vrf_free : IsNone earlier (name_at (codes "V") (suc edge) (suc vpn))
   vrf_free = pair_free 86 vpns (node_names edges cores) edge vpn all h k
-      (lookup_behind (pointwise nat_eq (name_at (codes "V") (suc edge) (suc vpn))) (behind [] edge_entry edges) core_entry cores
-      (lookup_behind (pointwise nat_eq (name_at (codes "V") (suc edge) (suc vpn))) [] edge_entry edges refl (λ j w. refl)) (λ j w. refl))
+      (lookup_after (pointwise nat_eq (name_at (codes "V") (suc edge) (suc vpn))) (thereafter [] edge_entry edges) core_entry cores
+      (lookup_after (pointwise nat_eq (name_at (codes "V") (suc edge) (suc vpn))) [] edge_entry edges refl (λ j w. refl)) (λ j w. refl))
 
   pub site_free : IsNone (earlier ++ vrf_entry (suc edge) (suc vpn) ∷ []) (name_at (codes "S") (suc edge) (suc vpn))
   site_free =
       lookup_none (pointwise nat_eq (name_at (codes "S") (suc edge) (suc vpn))) earlier (vrf_entry (suc edge) (suc vpn) ∷ [])
       (pair_free 83 vpns (node_names edges cores) edge vpn all h k
-      (lookup_behind (pointwise nat_eq (name_at (codes "S") (suc edge) (suc vpn))) (behind [] edge_entry edges) core_entry cores
-      (lookup_behind (pointwise nat_eq (name_at (codes "S") (suc edge) (suc vpn))) [] edge_entry edges refl (λ j w. refl)) (λ j w. refl)))
+      (lookup_after (pointwise nat_eq (name_at (codes "S") (suc edge) (suc vpn))) (thereafter [] edge_entry edges) core_entry cores
+      (lookup_after (pointwise nat_eq (name_at (codes "S") (suc edge) (suc vpn))) [] edge_entry edges refl (λ j w. refl)) (λ j w. refl)))
       refl
 
   pub iface_free : IsNone (earlier ++ vrf_entry (suc edge) (suc vpn) ∷ [] ++ site_entry (suc edge) (suc vpn) ∷ [])
@@ -174,8 +174,8 @@ module _ (edges cores vpns edge vpn : ℕ) (all : vpns ≡ 8) (h : edge < 32) (k
       (site_entry (suc edge) (suc vpn) ∷ [])
       (lookup_none (pointwise nat_eq (name_at (codes "I") (suc edge) (suc vpn))) earlier (vrf_entry (suc edge) (suc vpn) ∷ [])
       (pair_free 73 vpns (node_names edges cores) edge vpn all h k
-      (lookup_behind (pointwise nat_eq (name_at (codes "I") (suc edge) (suc vpn))) (behind [] edge_entry edges) core_entry cores
-      (lookup_behind (pointwise nat_eq (name_at (codes "I") (suc edge) (suc vpn))) [] edge_entry edges refl (λ j w. refl)) (λ j w. refl)))
+      (lookup_after (pointwise nat_eq (name_at (codes "I") (suc edge) (suc vpn))) (thereafter [] edge_entry edges) core_entry cores
+      (lookup_after (pointwise nat_eq (name_at (codes "I") (suc edge) (suc vpn))) [] edge_entry edges refl (λ j w. refl)) (λ j w. refl)))
       refl)
       refl
 

@@ -13,7 +13,7 @@ use Rattle.scenario_defs.specs.Vpn.{is_of_site, is_of_vrf, is_attached_at}
 use Rattle.scenario_defs.specs.declared.scenario.Iface.{Iface}
 use Rattle.scenario_defs.specs.declared.scenario.Route.{Route}
 use Rattle.scenario_defs.specs.declared.scenario.Site.{Site}
-use Rattle.growth_laws.proofs.edge_words.calm_laws.Lists.{any_among, among_either, among_front, among_behind}
+use Rattle.growth_laws.proofs.edge_words.calm_laws.Lists.{any_among, among_either, among_front, among_after}
 use Rattle.growth_laws.specs.Scripts.{HasOneHome}
 use Rattle.made_laws.specs.MadeScript.{each, all, ipv4, vrf, site, iface, made_scenario}
 
@@ -62,7 +62,7 @@ routes_either passes number (site ∷ front) back route a =
         → Among route (own ++ routes_from passes (number + 1) front) ⊎ Among route (routes_from passes (number + length (site ∷ front)) back)
     by (inl b) rest = inl (among_front route own (routes_from passes (number + 1) front) b)
     by (inr b) rest = elim (rest b) [
-      | inl c ↦ inl (among_behind route own (routes_from passes (number + 1) front) c)
+      | inl c ↦ inl (among_after route own (routes_from passes (number + 1) front) c)
       | inr c ↦
           let same : number + 1 + length front ≡ number + length (site ∷ front) = omega arith in
           inr (subst (λ (n : ℕ). Among route (routes_from passes n back)) same c)

@@ -14,10 +14,10 @@ use Rattle.scenario_lines.specs.scenario_draft.Naming.{node_at, is_at, joins}
 use Rattle.generator.specs.Made as made
 use Rattle.made_laws.specs.MadeScript.{ipv4, edge_id, core_id, edge_node, core_node, ring_link, spur_link}
 use Rattle.made_laws.proofs.RowLemmas.{is_word_octet, IsWord, row_text, Reads, reads_none, reads_then, reads_row}
-use Rattle.made_laws.proofs.ListLemmas.{behind, length_behind, any_none, get_behind, get_kept}
+use Rattle.made_laws.proofs.ListLemmas.{thereafter, length_after, any_none, get_after, get_kept}
 use Rattle.made_laws.proofs.NumeralLemmas.{numbered_word, numbered_name, edge_dotted, core_dotted, other_name}
 use Rattle.made_laws.proofs.LineLemmas.{at, node_word, IsNewNode, edge_said, core_said, IsNewLink, link_said}
-use Rattle.made_laws.proofs.Drafts.{core_entry, node_names, made_nodes, made_links, behind_edges, behind_cores, behind_ring, behind_spurs, Stands, edge_free, core_free, edge_stands, core_stands}
+use Rattle.made_laws.proofs.Drafts.{core_entry, node_names, made_nodes, made_links, after_edges, after_cores, after_ring, after_spurs, Stands, edge_free, core_free, edge_stands, core_stands}
 
 -- ---- a block
 
@@ -49,14 +49,14 @@ edge_text edge = simp append_assoc
 other_octets : (a b c d e : ℕ) → d ≢ e → pointwise nat_eq (a ∷ b ∷ c ∷ d ∷ []) (a ∷ b ∷ c ∷ e ∷ []) ≡ false
 other_octets a b c d e differ = other_name (a ∷ b ∷ c ∷ d ∷ []) (a ∷ b ∷ c ∷ e ∷ []) (λ same. differ (ap (λ (l : List ℕ). get_or l 3 0) same))
 
-new_edge : (k : ℕ) → k < 32 → IsNewNode (behind_edges k) (edge_id (suc k)) (edge_node (suc k))
+new_edge : (k : ℕ) → k < 32 → IsNewNode (after_edges k) (edge_id (suc k)) (edge_node (suc k))
 new_edge k h =
-    let long : length (behind [] edge_node k) ≡ k = omega (arith, length_behind [] edge_node k) in
+    let long : length (thereafter [] edge_node k) ≡ k = omega (arith, length_after [] edge_node k) in
     record {
       number = omega (arith, long);
-      few = or_from _ _ (lt-leb 64 (length (behind [] edge_node k)) (omega (arith, long)))
-          (lt-leb 32 (count_by (λ (n : Node). n.edge) (behind [] edge_node k))
-          (omega (arith, long, count_by-le-length (λ (n : Node). n.edge) (behind [] edge_node k))));
+      few = or_from _ _ (lt-leb 64 (length (thereafter [] edge_node k)) (omega (arith, long)))
+          (lt-leb 32 (count_by (λ (n : Node). n.edge) (thereafter [] edge_node k))
+          (omega (arith, long, count_by-le-length (λ (n : Node). n.edge) (thereafter [] edge_node k))));
       name = numbered_name 69 (suc k) refl (omega arith);
       free = edge_free k h;
       unicast = refl;
@@ -66,10 +66,10 @@ new_edge k h =
 dotted_addr : (text octets : List ℕ) (o : Option (List ℕ)) → o ≡ Some octets → option_map (λ (l : List ℕ). V4 l) o ≡ Some (V4 octets)
 dotted_addr text octets o h = rw h refl
 
-edge_row : (k number : ℕ) → k < 32 → Reads (behind_edges k) number (made.edge_line (suc k)) (behind_edges (suc k)) (number + 1)
+edge_row : (k number : ℕ) → k < 32 → Reads (after_edges k) number (made.edge_line (suc k)) (after_edges (suc k)) (number + 1)
 edge_row k number h =
-    as_text (behind_edges k) (behind_edges (suc k)) number (number + 1) _ (made.edge_line (suc k)) (edge_text (suc k))
-    (reads_row (behind_edges k) number (codes "edge") ((codes "E" ++ decimal (suc k)) ∷ (codes "192.0.2." ++ decimal (suc k)) ∷ [])
+    as_text (after_edges k) (after_edges (suc k)) number (number + 1) _ (made.edge_line (suc k)) (edge_text (suc k))
+    (reads_row (after_edges k) number (codes "edge") ((codes "E" ++ decimal (suc k)) ∷ (codes "192.0.2." ++ decimal (suc k)) ∷ [])
     (says.Node (edge_id (suc k)) (edge_node (suc k))) (
       known_word (codes "edge") (omega arith) (omega arith) refl,
       (
@@ -78,14 +78,14 @@ edge_row k number h =
       ),
     )
     (omega arith) refl
-    (edge_said (behind_edges k) _ (edge_id (suc k)) (edge_node (suc k)) _ _ _ (codes "192.0.2." ++ decimal (suc k)) refl refl (new_edge k h)
+    (edge_said (after_edges k) _ (edge_id (suc k)) (edge_node (suc k)) _ _ _ (codes "192.0.2." ++ decimal (suc k)) refl refl (new_edge k h)
     (dotted_addr (codes "192.0.2." ++ decimal (suc k)) _ _ (edge_dotted (suc k) (omega arith)))))
 
 pub edges_read : (edges number : ℕ) → edges ≡ 32
-    → Reads (behind_edges zero) (number + 0) (made.each made.edge_line edges) (behind_edges edges) (number + edges)
+    → Reads (after_edges zero) (number + 0) (made.each made.edge_line edges) (after_edges edges) (number + edges)
 edges_read edges number all =
-    reads_each behind_edges (λ k. number + k) made.edge_line edges
-    (λ k w. at_lines (behind_edges k) (behind_edges (suc k)) (made.edge_line (suc k)) (number + k) (number + k + 1) (number + k) (number + suc k)
+    reads_each after_edges (λ k. number + k) made.edge_line edges
+    (λ k w. at_lines (after_edges k) (after_edges (suc k)) (made.edge_line (suc k)) (number + k) (number + k + 1) (number + k) (number + suc k)
     refl (omega arith) (edge_row k (number + k) (omega arith)))
 
 -- ---- core nodes
@@ -93,26 +93,26 @@ edges_read edges number all =
 core_text : (core : ℕ) → made.core_line core ≡ row_text (codes "core" ∷ (codes "C" ++ decimal core) ∷ (codes "192.0.3." ++ decimal core) ∷ [])
 core_text core = simp append_assoc
 
-new_core : (edges k : ℕ) → edges ≡ 32 → k < 16 → IsNewNode (behind_cores edges k) (core_id (suc k)) (core_node (suc k))
+new_core : (edges k : ℕ) → edges ≡ 32 → k < 16 → IsNewNode (after_cores edges k) (core_id (suc k)) (core_node (suc k))
 new_core edges k all h =
     let long : length (made_nodes edges k) ≡ 32 + k =
-    omega (arith, all, length_behind [] edge_node edges, length_behind (behind [] edge_node edges) core_node k) in
+    omega (arith, all, length_after [] edge_node edges, length_after (thereafter [] edge_node edges) core_node k) in
     record {
       number = omega (arith, long);
       few = or_from _ _ (lt-leb 64 (length (made_nodes edges k)) (omega (arith, long))) refl;
       name = numbered_name 67 (suc k) refl (omega arith);
       free = core_free edges k h;
       unicast = refl;
-      alone = any_none (is_at (ipv4 192 0 3 (suc k))) (behind [] edge_node edges) core_node k
+      alone = any_none (is_at (ipv4 192 0 3 (suc k))) (thereafter [] edge_node edges) core_node k
           (any_none (is_at (ipv4 192 0 3 (suc k))) [] edge_node edges refl (λ j w. refl))
           (λ j w. other_octets 192 0 3 (suc j) (suc k) (λ e. omega (arith, e)));
     }
 
 core_row : (edges k number : ℕ) → edges ≡ 32 → k < 16
-    → Reads (behind_cores edges k) number (made.core_line (suc k)) (behind_cores edges (suc k)) (number + 1)
+    → Reads (after_cores edges k) number (made.core_line (suc k)) (after_cores edges (suc k)) (number + 1)
 core_row edges k number all h =
-    as_text (behind_cores edges k) (behind_cores edges (suc k)) number (number + 1) _ (made.core_line (suc k)) (core_text (suc k))
-    (reads_row (behind_cores edges k) number (codes "core") ((codes "C" ++ decimal (suc k)) ∷ (codes "192.0.3." ++ decimal (suc k)) ∷ [])
+    as_text (after_cores edges k) (after_cores edges (suc k)) number (number + 1) _ (made.core_line (suc k)) (core_text (suc k))
+    (reads_row (after_cores edges k) number (codes "core") ((codes "C" ++ decimal (suc k)) ∷ (codes "192.0.3." ++ decimal (suc k)) ∷ [])
     (says.Node (core_id (suc k)) (core_node (suc k))) (
       known_word (codes "core") (omega arith) (omega arith) refl,
       (
@@ -121,25 +121,25 @@ core_row edges k number all h =
       ),
     )
     (omega arith) refl
-    (core_said (behind_cores edges k) _ (core_id (suc k)) (core_node (suc k)) _ _ _ (codes "192.0.3." ++ decimal (suc k)) refl refl
+    (core_said (after_cores edges k) _ (core_id (suc k)) (core_node (suc k)) _ _ _ (codes "192.0.3." ++ decimal (suc k)) refl refl
     (new_core edges k all h) (dotted_addr (codes "192.0.3." ++ decimal (suc k)) _ _ (core_dotted (suc k) (omega arith)))))
 
 pub cores_read : (edges cores number : ℕ) → edges ≡ 32 → cores ≡ 16
-    → Reads (behind_cores edges zero) (number + 0) (made.each made.core_line cores) (behind_cores edges cores) (number + cores)
+    → Reads (after_cores edges zero) (number + 0) (made.each made.core_line cores) (after_cores edges cores) (number + cores)
 cores_read edges cores number all few =
-    reads_each (behind_cores edges) (λ k. number + k) made.core_line cores
-    (λ k w. at_lines (behind_cores edges k) (behind_cores edges (suc k)) (made.core_line (suc k)) (number + k) (number + k + 1) (number + k)
+    reads_each (after_cores edges) (λ k. number + k) made.core_line cores
+    (λ k w. at_lines (after_cores edges k) (after_cores edges (suc k)) (made.core_line (suc k)) (number + k) (number + k + 1) (number + k)
     (number + suc k) refl (omega arith) (core_row edges k (number + k) all (omega arith)))
 
 -- ---- nodes that are named
 
 core_there : (edges cores k : ℕ) → edges ≡ 32 → k < cores → slice_get (made_nodes edges cores) (suc k + 31) ≡ Some (core_node (suc k))
 core_there edges cores k all h =
-    get_behind (behind [] edge_node edges) core_node cores k (suc k + 31) h (omega (arith, all, length_behind [] edge_node edges))
+    get_after (thereafter [] edge_node edges) core_node cores k (suc k + 31) h (omega (arith, all, length_after [] edge_node edges))
 
 pub edge_there : (edges cores k : ℕ) → k < edges → slice_get (made_nodes edges cores) (suc k - 1) ≡ Some (edge_node (suc k))
 edge_there edges cores k h =
-    get_kept (behind [] edge_node edges) core_node cores (suc k - 1) (edge_node (suc k)) (get_behind [] edge_node edges k (suc k - 1) h (omega arith))
+    get_kept (thereafter [] edge_node edges) core_node cores (suc k - 1) (edge_node (suc k)) (get_after [] edge_node edges k (suc k - 1) h (omega arith))
 
 core_named : (draft : Drafted) (core : ℕ) → 0 < core → core < 17 → Stands draft.names (core_entry core)
     → slice_get draft.scenario.nodes (core + 31) ≡ Some (core_node core) → (row : Row) (column : ℕ)
@@ -168,21 +168,21 @@ ring_text : (core : ℕ) → made.ring_line core ≡ row_text
 ring_text core = simp append_assoc
 
 new_ring : (edges cores k : ℕ) → edges ≡ 32 → cores ≡ 16 → k < 16
-    → IsNewLink (behind_ring edges cores k) (ring_link (suc k)) (codes "C" ++ decimal (suc k)) (codes "C" ++ decimal (suc k % 16 + 1))
+    → IsNewLink (after_ring edges cores k) (ring_link (suc k)) (codes "C" ++ decimal (suc k)) (codes "C" ++ decimal (suc k % 16 + 1))
 new_ring edges cores k all few h = record {
-  few = lt-leb 256 (length (behind [] ring_link k)) (omega (arith, length_behind [] ring_link k));
-  from = core_at edges cores (suc k) (behind_ring edges cores k) all few (omega arith) (omega arith) refl refl;
-  to = core_at edges cores (suc k % 16 + 1) (behind_ring edges cores k) all few (omega arith) (omega arith) refl refl;
+  few = lt-leb 256 (length (thereafter [] ring_link k)) (omega (arith, length_after [] ring_link k));
+  from = core_at edges cores (suc k) (after_ring edges cores k) all few (omega arith) (omega arith) refl refl;
+  to = core_at edges cores (suc k % 16 + 1) (after_ring edges cores k) all few (omega arith) (omega arith) refl refl;
   two = ne_eqb (suc k + 31) (suc k % 16 + 1 + 31) (λ e. omega (arith, e));
   alone = any_none (joins (core_id (suc k)) (core_id (suc k % 16 + 1))) [] ring_link k refl
       (λ j w. no_join (suc j + 31) (suc j % 16 + 1 + 31) (suc k + 31) (suc k % 16 + 1 + 31) (λ a b. omega (arith, a)) (λ a b. omega (arith, a, b)));
 }
 
 ring_row : (edges cores k number : ℕ) → edges ≡ 32 → cores ≡ 16 → k < 16
-    → Reads (behind_ring edges cores k) number (made.ring_line (suc k)) (behind_ring edges cores (suc k)) (number + 1)
+    → Reads (after_ring edges cores k) number (made.ring_line (suc k)) (after_ring edges cores (suc k)) (number + 1)
 ring_row edges cores k number all few h =
-    as_text (behind_ring edges cores k) (behind_ring edges cores (suc k)) number (number + 1) _ (made.ring_line (suc k)) (ring_text (suc k))
-    (reads_row (behind_ring edges cores k) number (codes "link")
+    as_text (after_ring edges cores k) (after_ring edges cores (suc k)) number (number + 1) _ (made.ring_line (suc k)) (ring_text (suc k))
+    (reads_row (after_ring edges cores k) number (codes "link")
     ((codes "C" ++ decimal (suc k)) ∷ (codes "C" ++ decimal (suc k % 16 + 1)) ∷ codes "1" ∷ []) (says.Link (ring_link (suc k))) (
       known_word (codes "link") (omega arith) (omega arith) refl,
       (
@@ -194,14 +194,14 @@ ring_row edges cores k number all few h =
       ),
     )
     (omega arith) refl
-    (link_said (behind_ring edges cores k) _ (ring_link (suc k)) (codes "C" ++ decimal (suc k)) (codes "C" ++ decimal (suc k % 16 + 1)) _ _ _ _ refl
+    (link_said (after_ring edges cores k) _ (ring_link (suc k)) (codes "C" ++ decimal (suc k)) (codes "C" ++ decimal (suc k % 16 + 1)) _ _ _ _ refl
     refl (new_ring edges cores k all few h)))
 
 pub ring_read : (edges cores number : ℕ) → edges ≡ 32 → cores ≡ 16
-    → Reads (behind_ring edges cores zero) (number + 0) (made.each made.ring_line cores) (behind_ring edges cores cores) (number + cores)
+    → Reads (after_ring edges cores zero) (number + 0) (made.each made.ring_line cores) (after_ring edges cores cores) (number + cores)
 ring_read edges cores number all few =
-    reads_each (behind_ring edges cores) (λ k. number + k) made.ring_line cores
-    (λ k w. at_lines (behind_ring edges cores k) (behind_ring edges cores (suc k)) (made.ring_line (suc k)) (number + k) (number + k + 1)
+    reads_each (after_ring edges cores) (λ k. number + k) made.ring_line cores
+    (λ k w. at_lines (after_ring edges cores k) (after_ring edges cores (suc k)) (made.ring_line (suc k)) (number + k) (number + k + 1)
     (number + k) (number + suc k) refl (omega arith) (ring_row edges cores k (number + k) all few (omega arith)))
 
 spur_text : (edge : ℕ) → made.spur_line edge ≡ row_text
@@ -209,15 +209,15 @@ spur_text : (edge : ℕ) → made.spur_line edge ≡ row_text
 spur_text edge = simp append_assoc
 
 new_spur : (edges cores k : ℕ) → edges ≡ 32 → cores ≡ 16 → k < 32
-    → IsNewLink (behind_spurs edges cores k) (spur_link (suc k)) (codes "E" ++ decimal (suc k)) (codes "C" ++ decimal ((suc k - 1) % 16 + 1))
+    → IsNewLink (after_spurs edges cores k) (spur_link (suc k)) (codes "E" ++ decimal (suc k)) (codes "C" ++ decimal ((suc k - 1) % 16 + 1))
 new_spur edges cores k all few h = record {
   few = lt-leb 256 (length (made_links cores k))
-      (omega (arith, few, length_behind [] ring_link cores, length_behind (behind [] ring_link cores) spur_link k));
-  from = λ row column. node_word (behind_spurs edges cores k) row (at column (codes "E" ++ decimal (suc k))) (edge_id (suc k)) (edge_node (suc k))
+      (omega (arith, few, length_after [] ring_link cores, length_after (thereafter [] ring_link cores) spur_link k));
+  from = λ row column. node_word (after_spurs edges cores k) row (at column (codes "E" ++ decimal (suc k))) (edge_id (suc k)) (edge_node (suc k))
       (numbered_name 69 (suc k) refl (omega arith)) (edge_stands edges cores k (omega arith) all) (edge_there edges cores k (omega arith));
-  to = core_at edges cores ((suc k - 1) % 16 + 1) (behind_spurs edges cores k) all few (omega arith) (omega arith) refl refl;
+  to = core_at edges cores ((suc k - 1) % 16 + 1) (after_spurs edges cores k) all few (omega arith) (omega arith) refl refl;
   two = ne_eqb (suc k - 1) ((suc k - 1) % 16 + 1 + 31) (λ e. omega (arith, e));
-  alone = any_none (joins (edge_id (suc k)) (core_id ((suc k - 1) % 16 + 1))) (behind [] ring_link cores) spur_link k
+  alone = any_none (joins (edge_id (suc k)) (core_id ((suc k - 1) % 16 + 1))) (thereafter [] ring_link cores) spur_link k
       (any_none (joins (edge_id (suc k)) (core_id ((suc k - 1) % 16 + 1))) [] ring_link cores refl
       (λ j w. no_join (suc j + 31) (suc j % 16 + 1 + 31) (suc k - 1) ((suc k - 1) % 16 + 1 + 31) (λ a b. omega (arith, a)) (λ a b. omega (arith, b))))
       (λ j w. no_join (suc j - 1) ((suc j - 1) % 16 + 1 + 31) (suc k - 1) ((suc k - 1) % 16 + 1 + 31) (λ a b. omega (arith, a))
@@ -225,10 +225,10 @@ new_spur edges cores k all few h = record {
 }
 
 spur_row : (edges cores k number : ℕ) → edges ≡ 32 → cores ≡ 16 → k < 32
-    → Reads (behind_spurs edges cores k) number (made.spur_line (suc k)) (behind_spurs edges cores (suc k)) (number + 1)
+    → Reads (after_spurs edges cores k) number (made.spur_line (suc k)) (after_spurs edges cores (suc k)) (number + 1)
 spur_row edges cores k number all few h =
-    as_text (behind_spurs edges cores k) (behind_spurs edges cores (suc k)) number (number + 1) _ (made.spur_line (suc k)) (spur_text (suc k))
-    (reads_row (behind_spurs edges cores k) number (codes "link")
+    as_text (after_spurs edges cores k) (after_spurs edges cores (suc k)) number (number + 1) _ (made.spur_line (suc k)) (spur_text (suc k))
+    (reads_row (after_spurs edges cores k) number (codes "link")
     ((codes "E" ++ decimal (suc k)) ∷ (codes "C" ++ decimal ((suc k - 1) % 16 + 1)) ∷ codes "1" ∷ []) (says.Link (spur_link (suc k))) (
       known_word (codes "link") (omega arith) (omega arith) refl,
       (
@@ -240,12 +240,12 @@ spur_row edges cores k number all few h =
       ),
     )
     (omega arith) refl
-    (link_said (behind_spurs edges cores k) _ (spur_link (suc k)) (codes "E" ++ decimal (suc k)) (codes "C" ++ decimal ((suc k - 1) % 16 + 1)) _ _ _ _
+    (link_said (after_spurs edges cores k) _ (spur_link (suc k)) (codes "E" ++ decimal (suc k)) (codes "C" ++ decimal ((suc k - 1) % 16 + 1)) _ _ _ _
     refl refl (new_spur edges cores k all few h)))
 
 pub spurs_read : (edges cores number : ℕ) → edges ≡ 32 → cores ≡ 16
-    → Reads (behind_spurs edges cores zero) (number + 0) (made.each made.spur_line edges) (behind_spurs edges cores edges) (number + edges)
+    → Reads (after_spurs edges cores zero) (number + 0) (made.each made.spur_line edges) (after_spurs edges cores edges) (number + edges)
 spurs_read edges cores number all few =
-    reads_each (behind_spurs edges cores) (λ k. number + k) made.spur_line edges
-    (λ k w. at_lines (behind_spurs edges cores k) (behind_spurs edges cores (suc k)) (made.spur_line (suc k)) (number + k) (number + k + 1)
+    reads_each (after_spurs edges cores) (λ k. number + k) made.spur_line edges
+    (λ k w. at_lines (after_spurs edges cores k) (after_spurs edges cores (suc k)) (made.spur_line (suc k)) (number + k) (number + k + 1)
     (number + k) (number + suc k) refl (omega arith) (spur_row edges cores k (number + k) all few (omega arith)))

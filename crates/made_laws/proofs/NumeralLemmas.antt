@@ -272,10 +272,10 @@ cut_at : (mark : ℕ) (front rest : List ℕ) → All (λ x. (x == mark) ≡ fal
 cut_at mark front rest h =
     let found : position (λ octet. octet == mark) (front ++ mark ∷ rest) ≡ Some (length front) =
     position_at (λ octet. octet == mark) front rest mark h (eq-eqb mark mark refl) in
-    let behind : drop (length front + 1) (front ++ mark ∷ rest) ≡ rest =
+    let thereafter : drop (length front + 1) (front ++ mark ∷ rest) ≡ rest =
     rw (← append_assoc front (mark ∷ []) rest) (drop_at (front ++ mark ∷ []) rest (length front + 1) (length-append front (mark ∷ []))) in
     let before : take (length front) (front ++ mark ∷ rest) ≡ front = take_at front (mark ∷ rest) (length front) refl in
-    rw (cut_of, found) (ap₂ (λ (a b : List ℕ). Some (a, b)) before behind)
+    rw (cut_of, found) (ap₂ (λ (a b : List ℕ). Some (a, b)) before thereafter)
 
 -- the octets of a dotted address
 abbrev is_dotted_octet : ℕ → Bool

@@ -19,10 +19,10 @@ use Rattle.scenario_lines.specs.SiteGrammar.{is_mixed, is_taken}
 use Rattle.generator.specs.Made as made
 use Rattle.made_laws.specs.MadeScript.{ipv4, edge_id, edge_node, name_at, place, vrf_id, site_id, iface_id, vrf, site, iface}
 use Rattle.made_laws.proofs.RowLemmas.{glued_strung, is_word_octet, IsWord, row_text, Reads, reads_then, reads_row}
-use Rattle.made_laws.proofs.ListLemmas.{behind, rows, length_behind, length_rows, any_place, get_place}
+use Rattle.made_laws.proofs.ListLemmas.{thereafter, rows, length_after, length_rows, any_place, get_place}
 use Rattle.made_laws.proofs.NumeralLemmas.{numbered_word, number_word, paired_word, numbered_name, paired_name, other_name, host, host_dotted, addr_read, vrf_number_read, rd_read, targets_read, prefixes_read}
 use Rattle.made_laws.proofs.LineLemmas.{at, edge_word, vrf_word, site_word, IsNewVrf, vrf_said, IsNewSite, site_said, IsNewIface, iface_said}
-use Rattle.made_laws.proofs.Drafts.{vrf_entry, site_entry, node_names, named_at, named_edges, with_lists, made_nodes, made_links, behind_vpns, edge_stands, vrf_free, site_free, iface_free, vrf_stands, site_stands, at_kept, edges_kept}
+use Rattle.made_laws.proofs.Drafts.{vrf_entry, site_entry, node_names, named_at, named_edges, with_lists, made_nodes, made_links, after_vpns, edge_stands, vrf_free, site_free, iface_free, vrf_stands, site_stands, at_kept, edges_kept}
 use Rattle.made_laws.proofs.NodeBlocks.{reads_each, as_text, at_lines, known_word, edge_there}
 
 -- ---- words
@@ -126,22 +126,22 @@ module _ (edges cores vpns e v : ℕ) (all_edges : edges ≡ 32) (all_vpns : vpn
   old_names = named_at (named_edges vpns (node_names edges cores) e) (suc e) v
 
   abbrev zeroth : Drafted
-  zeroth = behind_vpns edges cores vpns e v
+  zeroth = after_vpns edges cores vpns e v
 
   abbrev first : Drafted
   first =
-      with_lists (made_nodes edges cores) (made_links cores edges) (behind (rows vpns vrf e) (vrf (suc e)) (suc v))
-      (behind (rows vpns site e) (site (suc e)) v)
-      (behind (rows vpns iface e) (iface (suc e)) v) (old_names ++ vrf_entry (suc e) (suc v) ∷ [])
+      with_lists (made_nodes edges cores) (made_links cores edges) (thereafter (rows vpns vrf e) (vrf (suc e)) (suc v))
+      (thereafter (rows vpns site e) (site (suc e)) v)
+      (thereafter (rows vpns iface e) (iface (suc e)) v) (old_names ++ vrf_entry (suc e) (suc v) ∷ [])
 
   abbrev second : Drafted
   second =
-      with_lists (made_nodes edges cores) (made_links cores edges) (behind (rows vpns vrf e) (vrf (suc e)) (suc v))
-      (behind (rows vpns site e) (site (suc e)) (suc v))
-      (behind (rows vpns iface e) (iface (suc e)) v) (old_names ++ vrf_entry (suc e) (suc v) ∷ [] ++ site_entry (suc e) (suc v) ∷ [])
+      with_lists (made_nodes edges cores) (made_links cores edges) (thereafter (rows vpns vrf e) (vrf (suc e)) (suc v))
+      (thereafter (rows vpns site e) (site (suc e)) (suc v))
+      (thereafter (rows vpns iface e) (iface (suc e)) v) (old_names ++ vrf_entry (suc e) (suc v) ∷ [] ++ site_entry (suc e) (suc v) ∷ [])
 
-  length_place : {A : Type 0} (of : ℕ → ℕ → A) → length (behind (rows vpns of e) (of (suc e)) v) ≡ 8 * e + v
-  length_place of = omega (arith, length_behind (rows vpns of e) (of (suc e)) v, length_rows vpns of e all_vpns)
+  length_place : {A : Type 0} (of : ℕ → ℕ → A) → length (thereafter (rows vpns of e) (of (suc e)) v) ≡ 8 * e + v
+  length_place of = omega (arith, length_after (rows vpns of e) (of (suc e)) v, length_rows vpns of e all_vpns)
 
   edge_known : (row : Row) (column : ℕ) → edge_at zeroth row (at column (codes "E" ++ decimal (suc e))) ≡ Ok (edge_id (suc e))
   edge_known row column =
@@ -156,7 +156,7 @@ module _ (edges cores vpns e v : ℕ) (all_edges : edges ≡ 32) (all_vpns : vpn
   new_vrf : IsNewVrf zeroth (vrf_id (suc e) (suc v)) (vrf (suc e) (suc v)) (codes "E" ++ decimal (suc e))
   new_vrf = record {
     number = omega (arith, length_place vrf);
-    few = lt-leb 256 (length (behind (rows vpns vrf e) (vrf (suc e)) v)) (omega (arith, length_place vrf));
+    few = lt-leb 256 (length (thereafter (rows vpns vrf e) (vrf (suc e)) v)) (omega (arith, length_place vrf));
     name = paired_name 86 (suc e) (suc v) refl (omega arith) (omega arith);
     free = vrf_free edges cores vpns e v all_vpns h k;
     at_edge = edge_known;
@@ -213,7 +213,7 @@ module _ (edges cores vpns e v : ℕ) (all_edges : edges ≡ 32) (all_vpns : vpn
   new_site : IsNewSite first (site_id (suc e) (suc v)) (site (suc e) (suc v))
   new_site = record {
     number = omega (arith, length_place site);
-    few = lt-leb 512 (length (behind (rows vpns site e) (site (suc e)) v)) (omega (arith, length_place site));
+    few = lt-leb 512 (length (thereafter (rows vpns site e) (site (suc e)) v)) (omega (arith, length_place site));
     name = paired_name 83 (suc e) (suc v) refl (omega arith) (omega arith);
     free = site_free edges cores vpns e v all_vpns h k;
   }
@@ -233,18 +233,18 @@ module _ (edges cores vpns e v : ℕ) (all_edges : edges ≡ 32) (all_vpns : vpn
       (site_said first _ (site_id (suc e) (suc v)) (site (suc e) (suc v)) (host (suc e) (suc v) (codes "0") ++ 47 ∷ codes "24") _ _ _ refl new_site
       (prefixes_read (suc e) (suc v) (omega arith) (omega arith))))
 
-  vrf_there : slice_get (behind (rows vpns vrf e) (vrf (suc e)) (suc v)) (place (suc e) (suc v)) ≡ Some (vrf (suc e) (suc v))
+  vrf_there : slice_get (thereafter (rows vpns vrf e) (vrf (suc e)) (suc v)) (place (suc e) (suc v)) ≡ Some (vrf (suc e) (suc v))
   vrf_there = get_place vpns vrf e (suc v) e v (place (suc e) (suc v)) all_vpns (omega arith) (omega arith) (omega arith) (omega arith)
 
   sites_there : (r j : ℕ) → 8 * r + j < 8 * e + suc v → j < vpns
-      → slice_get (behind (rows vpns site e) (site (suc e)) (suc v)) (place (suc r) (suc j)) ≡ Some (site (suc r) (suc j))
+      → slice_get (thereafter (rows vpns site e) (site (suc e)) (suc v)) (place (suc r) (suc j)) ≡ Some (site (suc r) (suc j))
   sites_there r j a b = get_place vpns site e (suc v) r j (place (suc r) (suc j)) all_vpns a (omega arith) b (omega arith)
 
   new_iface : IsNewIface second (iface_id (suc e) (suc v)) (iface (suc e) (suc v)) (name_at (codes "V") (suc e) (suc v))
       (name_at (codes "S") (suc e) (suc v))
   new_iface = record {
     number = omega (arith, length_place iface);
-    few = lt-leb 1024 (length (behind (rows vpns iface e) (iface (suc e)) v)) (omega (arith, length_place iface));
+    few = lt-leb 1024 (length (thereafter (rows vpns iface e) (iface (suc e)) v)) (omega (arith, length_place iface));
     name = paired_name 73 (suc e) (suc v) refl (omega arith) (omega arith);
     free = iface_free edges cores vpns e v all_vpns h k;
     in_vrf = λ row column. vrf_word second row (at column (name_at (codes "V") (suc e) (suc v))) (vrf_id (suc e) (suc v)) (vrf (suc e) (suc v))
@@ -263,9 +263,9 @@ module _ (edges cores vpns e v : ℕ) (all_edges : edges ≡ 32) (all_vpns : vpn
         (λ x y. omega (arith, x, y)))) all_vpns;
   }
 
-  iface_row : (number : ℕ) → Reads second number (made.iface_line (suc e) (suc v)) (behind_vpns edges cores vpns e (suc v)) (number + 1)
+  iface_row : (number : ℕ) → Reads second number (made.iface_line (suc e) (suc v)) (after_vpns edges cores vpns e (suc v)) (number + 1)
   iface_row number =
-      as_text second (behind_vpns edges cores vpns e (suc v)) number (number + 1) _ (made.iface_line (suc e) (suc v)) (iface_text (suc e) (suc v))
+      as_text second (after_vpns edges cores vpns e (suc v)) number (number + 1) _ (made.iface_line (suc e) (suc v)) (iface_text (suc e) (suc v))
       (reads_row second number (codes "iface") (name_at (codes "I") (suc e) (suc v) ∷ name_at (codes "V") (suc e) (suc v)
       ∷ name_at (codes "S") (suc e) (suc v) ∷ host (suc e) (suc v) (codes "1") ∷ [])
       (says.Iface (iface_id (suc e) (suc v)) (iface (suc e) (suc v))) (
@@ -290,11 +290,11 @@ module _ (edges cores vpns e v : ℕ) (all_edges : edges ≡ 32) (all_vpns : vpn
       (name_at (codes "S") (suc e) (suc v)) (host (suc e) (suc v) (codes "1")) _ _ _ _ _ refl new_iface
       (addr_read (host (suc e) (suc v) (codes "1")) _ (host_dotted (suc e) (suc v) 1 (omega arith) (omega arith) (omega arith)))))
 
-  attachment_read : (number : ℕ) → Reads zeroth number (made.attachment (suc e) (suc v)) (behind_vpns edges cores vpns e (suc v)) (number + 3)
+  attachment_read : (number : ℕ) → Reads zeroth number (made.attachment (suc e) (suc v)) (after_vpns edges cores vpns e (suc v)) (number + 3)
   attachment_read number =
-      at_lines zeroth (behind_vpns edges cores vpns e (suc v)) (made.attachment (suc e) (suc v)) number (number + 1 + 1 + 1) number (number + 3) refl
+      at_lines zeroth (after_vpns edges cores vpns e (suc v)) (made.attachment (suc e) (suc v)) number (number + 1 + 1 + 1) number (number + 3) refl
       (omega arith)
-      (reads_then zeroth second (behind_vpns edges cores vpns e (suc v)) number (number + 1 + 1) (number + 1 + 1 + 1)
+      (reads_then zeroth second (after_vpns edges cores vpns e (suc v)) number (number + 1 + 1) (number + 1 + 1 + 1)
       (made.vrf_line (suc e) (suc v) ++ made.site_line (suc e) (suc v)) (made.iface_line (suc e) (suc v))
       (reads_then zeroth first second number (number + 1) (number + 1 + 1) (made.vrf_line (suc e) (suc v)) (made.site_line (suc e) (suc v))
       (vrf_row number) (site_row (number + 1)))
@@ -303,19 +303,19 @@ module _ (edges cores vpns e v : ℕ) (all_edges : edges ≡ 32) (all_vpns : vpn
 -- ---- all of them
 
 edge_read : (edges cores vpns e number : ℕ) → edges ≡ 32 → vpns ≡ 8 → e < 32
-    → Reads (behind_vpns edges cores vpns e zero) (number + 0) (made.each (made.attachment (suc e)) vpns) (behind_vpns edges cores vpns e vpns)
+    → Reads (after_vpns edges cores vpns e zero) (number + 0) (made.each (made.attachment (suc e)) vpns) (after_vpns edges cores vpns e vpns)
     (number + 3 * vpns)
 edge_read edges cores vpns e number all_edges all_vpns h =
-    reads_each (behind_vpns edges cores vpns e) (λ k. number + 3 * k) (made.attachment (suc e)) vpns
-    (λ k w. at_lines (behind_vpns edges cores vpns e k) (behind_vpns edges cores vpns e (suc k)) (made.attachment (suc e) (suc k)) (number + 3 * k)
+    reads_each (after_vpns edges cores vpns e) (λ k. number + 3 * k) (made.attachment (suc e)) vpns
+    (λ k w. at_lines (after_vpns edges cores vpns e k) (after_vpns edges cores vpns e (suc k)) (made.attachment (suc e) (suc k)) (number + 3 * k)
     (number + 3 * k + 3) (number + 3 * k) (number + 3 * suc k) refl (omega arith)
     (attachment_read edges cores vpns e k all_edges all_vpns h (omega arith) (number + 3 * k)))
 
 pub vpns_read : (edges cores vpns number : ℕ) → edges ≡ 32 → vpns ≡ 8
-    → Reads (behind_vpns edges cores vpns zero zero) (number + 0) (made.each (λ edge. made.each (made.attachment edge) vpns) edges)
-    (behind_vpns edges cores vpns edges zero) (number + 24 * edges)
+    → Reads (after_vpns edges cores vpns zero zero) (number + 0) (made.each (λ edge. made.each (made.attachment edge) vpns) edges)
+    (after_vpns edges cores vpns edges zero) (number + 24 * edges)
 vpns_read edges cores vpns number all_edges all_vpns =
-    reads_each (λ e. behind_vpns edges cores vpns e zero) (λ e. number + 24 * e) (λ edge. made.each (made.attachment edge) vpns) edges
-    (λ e w. at_lines (behind_vpns edges cores vpns e zero) (behind_vpns edges cores vpns (suc e) zero) (made.each (made.attachment (suc e)) vpns)
+    reads_each (λ e. after_vpns edges cores vpns e zero) (λ e. number + 24 * e) (λ edge. made.each (made.attachment edge) vpns) edges
+    (λ e w. at_lines (after_vpns edges cores vpns e zero) (after_vpns edges cores vpns (suc e) zero) (made.each (made.attachment (suc e)) vpns)
     (number + 24 * e + 0) (number + 24 * e + 3 * vpns) (number + 24 * e) (number + 24 * suc e) (omega arith) (omega arith)
     (edge_read edges cores vpns e (number + 24 * e) all_edges all_vpns (omega arith)))

@@ -17,10 +17,10 @@ use Rattle.scenario_text.proofs.FaultsLemmas.{accepts, short_text}
 use Rattle.generator.specs.Made as made
 use Rattle.made_laws.specs.MadeScript.{each, all, name_at, vrf_id, site_id, iface_id, edge_node, core_node, ring_link, spur_link, vrf, site, iface, join, send, selection, from_line, made_scenario, made_events, made_script}
 use Rattle.made_laws.proofs.RowLemmas.{Reads, reads_then, reads_row}
-use Rattle.made_laws.proofs.ListLemmas.{behind, behind_all, rows_each, length_behind, get_rows}
+use Rattle.made_laws.proofs.ListLemmas.{thereafter, after_all, rows_each, length_after, get_rows}
 use Rattle.made_laws.proofs.LineLemmas.{events_said}
 use Rattle.made_laws.proofs.EventLines.{first_payload, second_payload, third_payload}
-use Rattle.made_laws.proofs.Drafts.{vrf_entry, site_entry, iface_entry, node_names, made_nodes, made_links, behind_edges, behind_cores, behind_ring, behind_spurs, behind_vpns, Stands, three_stand, edges_later}
+use Rattle.made_laws.proofs.Drafts.{vrf_entry, site_entry, iface_entry, node_names, made_nodes, made_links, after_edges, after_cores, after_ring, after_spurs, after_vpns, Stands, three_stand, edges_later}
 use Rattle.made_laws.proofs.NodeBlocks.{at_lines, known_word, edges_read, cores_read, ring_read, spurs_read}
 use Rattle.made_laws.proofs.VpnBlocks.{vpns_read}
 use Rattle.made_laws.proofs.Connected.{connected}
@@ -109,34 +109,34 @@ reads_script text new after reads begun few =
 
 module _ (edges cores vpns : ℕ) (all_edges : edges ≡ 32) (all_cores : cores ≡ 16) (all_vpns : vpns ≡ 8) where
   abbrev base : Drafted
-  base = behind_vpns edges cores vpns edges zero
+  base = after_vpns edges cores vpns edges zero
 
   -- ---- the scenario
 
   scenario_read : Reads empty_draft 1 (scenario_lines edges cores vpns) base 865
   scenario_read =
-      reads_then empty_draft (behind_spurs edges cores edges) base 1 97 865
+      reads_then empty_draft (after_spurs edges cores edges) base 1 97 865
       (made.each made.edge_line edges ++ made.each made.core_line cores ++ made.each made.ring_line cores ++ made.each made.spur_line edges)
       (made.each (λ edge. made.each (made.attachment edge) vpns) edges)
-      (reads_then empty_draft (behind_ring edges cores cores) (behind_spurs edges cores edges) 1 65 97
+      (reads_then empty_draft (after_ring edges cores cores) (after_spurs edges cores edges) 1 65 97
       (made.each made.edge_line edges ++ made.each made.core_line cores ++ made.each made.ring_line cores) (made.each made.spur_line edges)
-      (reads_then empty_draft (behind_cores edges cores) (behind_ring edges cores cores) 1 49 65
+      (reads_then empty_draft (after_cores edges cores) (after_ring edges cores cores) 1 49 65
       (made.each made.edge_line edges ++ made.each made.core_line cores) (made.each made.ring_line cores)
-      (reads_then empty_draft (behind_edges edges) (behind_cores edges cores) 1 33 49 (made.each made.edge_line edges)
+      (reads_then empty_draft (after_edges edges) (after_cores edges cores) 1 33 49 (made.each made.edge_line edges)
       (made.each made.core_line cores)
-      (at_lines empty_draft (behind_edges edges) (made.each made.edge_line edges) (1 + 0) (1 + edges) 1 33 refl (omega (arith, all_edges))
+      (at_lines empty_draft (after_edges edges) (made.each made.edge_line edges) (1 + 0) (1 + edges) 1 33 refl (omega (arith, all_edges))
       (edges_read edges 1 all_edges))
-      (at_lines (behind_edges edges) (behind_cores edges cores) (made.each made.core_line cores) (33 + 0) (33 + cores) 33 49 refl
+      (at_lines (after_edges edges) (after_cores edges cores) (made.each made.core_line cores) (33 + 0) (33 + cores) 33 49 refl
       (omega (arith, all_cores)) (cores_read edges cores 33 all_edges all_cores)))
-      (at_lines (behind_cores edges cores) (behind_ring edges cores cores) (made.each made.ring_line cores) (49 + 0) (49 + cores) 49 65 refl
+      (at_lines (after_cores edges cores) (after_ring edges cores cores) (made.each made.ring_line cores) (49 + 0) (49 + cores) 49 65 refl
       (omega (arith, all_cores)) (ring_read edges cores 49 all_edges all_cores)))
-      (at_lines (behind_ring edges cores cores) (behind_spurs edges cores edges) (made.each made.spur_line edges) (65 + 0) (65 + edges) 65 97 refl
+      (at_lines (after_ring edges cores cores) (after_spurs edges cores edges) (made.each made.spur_line edges) (65 + 0) (65 + edges) 65 97 refl
       (omega (arith, all_edges)) (spurs_read edges cores 65 all_edges all_cores)))
-      (at_lines (behind_spurs edges cores edges) base (made.each (λ edge. made.each (made.attachment edge) vpns) edges) (97 + 0) (97 + 24 * edges) 97
+      (at_lines (after_spurs edges cores edges) base (made.each (λ edge. made.each (made.attachment edge) vpns) edges) (97 + 0) (97 + 24 * edges) 97
       865 refl (omega (arith, all_edges)) (vpns_read edges cores vpns 97 all_edges all_vpns))
 
   forty_eight : length (made_nodes edges cores) ≡ 48
-  forty_eight = omega (arith, all_edges, all_cores, length_behind [] edge_node edges, length_behind (behind [] edge_node edges) core_node cores)
+  forty_eight = omega (arith, all_edges, all_cores, length_after [] edge_node edges, length_after (thereafter [] edge_node edges) core_node cores)
 
   begun_read : Reads base 865 (codes "events\n") (telling base []) 866
   begun_read =
@@ -305,10 +305,10 @@ module _ (edges cores vpns : ℕ) (all_edges : edges ≡ 32) (all_cores : cores 
       (last_tells number (first_told edges vpns number) (omega (arith, few_first number, few_last number)))
 
   nodes_said : made_nodes edges cores ≡ all edge_node edges ++ all core_node cores
-  nodes_said = behind_all (behind [] edge_node edges) core_node cores ∙ ap (λ l. l ++ all core_node cores) (behind_all [] edge_node edges)
+  nodes_said = after_all (thereafter [] edge_node edges) core_node cores ∙ ap (λ l. l ++ all core_node cores) (after_all [] edge_node edges)
 
   links_said : made_links cores edges ≡ all ring_link cores ++ all spur_link edges
-  links_said = behind_all (behind [] ring_link cores) spur_link edges ∙ ap (λ l. l ++ all spur_link edges) (behind_all [] ring_link cores)
+  links_said = after_all (thereafter [] ring_link cores) spur_link edges ∙ ap (λ l. l ++ all spur_link edges) (after_all [] ring_link cores)
 
   scenario_is : base.scenario ≡ scenario_said edges cores vpns
   scenario_is = λ i. record {

@@ -12,7 +12,7 @@ use Rattle.mldp.specs.declared.mldp_fec.fec.Fec.{Fec}
 use Rattle.label_defs.specs.declared.label_use.LabelUse.TheVariants as uses
 use Rattle.label_defs.specs.Keys.{fec_cmp, branch_cmp, node_cmp}
 use Rattle.label_defs.specs.LabelData.{fresh}
-use Rattle.label_defs.specs.Node.{NodePlace, raises_of, addr_in, place_in, prepared, behind}
+use Rattle.label_defs.specs.Node.{NodePlace, raises_of, addr_in, place_in, prepared, thereafter}
 use Rattle.label_defs.specs.Settling.{Stepped}
 use Rattle.label_defs.specs.Steps.{Call, Taken, Want, Unwant, Raised, Noticed, Timers, Rerouted}
 use Rattle.label_defs.proofs.KeyLemmas.{fec_cmp_total, fec_cmp_exact}
@@ -62,7 +62,7 @@ answers_err core now call place trees ends new_trees new_ends old spent fault no
       goes_on = tt;
       toward = tt;
       lacks = λ e n own core_is. ap (λ (o : Option Stepped).
-          (behind (addr_in place) (place_in place own) now (prepared call (node_of trees ends)) call o).spent) (lacks e own core_is);
+          (thereafter (addr_in place) (place_in place own) now (prepared call (node_of trees ends)) call o).spent) (lacks e own core_is);
       faults = λ other e. ap (λ (f : NodeFault). Some (cause f)) (fault_is fault other e);
     }))
 

@@ -1,4 +1,4 @@
--- The label part of a node behind a change of one of its trees.
+-- The label part of a node after a change of one of its trees.
 use Rattle.std.proofs.Common.{◌≡◌, ℕ, ◌||◌, ◌&&◌, not, Bool, true, false, cond, List, [], ◌∷◌, ◌++◌, Option, Some, None, Result, Ok, Err, OnOk, is_some, ◌⊎◌, inl, inr, refl, sym, ap, subst, ◌∙◌}
 use Rattle.std.specs.FinMap as maps
 use Rattle.std.specs.FinMap.{FinMap}
@@ -21,7 +21,7 @@ use Rattle.mldp.specs.declared.mldp_msgs.message.LabelMessage.TheVariants as mes
 use Rattle.label_trees.specs.label_forwarding.FibData.{is_on}
 use Rattle.label_trees.specs.label_uses.Uses.{with_mapped, set_use, use_in, free_in, mapped_in}
 use Rattle.label_trees.specs.Trees.{Trees, fib_with}
-use Rattle.mldp_node.specs.Parts.{awaited, part_of, behind_change, waiting_by, change_toward, Turned, SettledSo}
+use Rattle.mldp_node.specs.Parts.{awaited, part_of, after_change, waiting_by, change_toward, Turned, SettledSo}
 
 -- ---- the trees that wait
 
@@ -139,7 +139,7 @@ so_toward : (upstream : Option NodeId) (fec : Fec) (up : FinMap node_cmp End) (o
     → change_toward upstream (part_of old up) fec ≡ change → Turned upstream fec change old puts new told
     → SettledSo upstream fec up old puts new told
 so_toward upstream fec up old new puts told change e h = record {
-  made = ap (λ (c : Change). behind_change (record { part = part_of old up; puts = puts }) fec c) e ∙ h.made up;
+  made = ap (λ (c : Change). after_change (record { part = part_of old up; puts = puts }) fec c) e ∙ h.made up;
   waiting = h.waiting ∙ sym (ap (λ (c : Change). waiting_by upstream fec c old.uses.waiting) e);
   sessions = h.sessions;
   life = h.life;

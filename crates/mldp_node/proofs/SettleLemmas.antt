@@ -19,7 +19,7 @@ use Rattle.mldp_node.specs.label_ends.Ends.{Ends}
 use Rattle.label_trees.specs.Trees.{Trees}
 use Rattle.mldp_node.specs.Parts.{is_on_tree, stepped_of, settled_toward, AreSessions, AreTied, IsPut, SettledSo, LacksOne, AllSettledSo, LacksAny}
 use Rattle.mldp_node.proofs.SpelledLemmas.{settled_spelled}
-use Rattle.mldp_node.proofs.WaitLemmas.{settled_same, settled_apart, settled_on, settled_toward_root, behind_both}
+use Rattle.mldp_node.proofs.WaitLemmas.{settled_same, settled_apart, settled_on, settled_toward_root, after_both}
 
 pub on_ok : {X E : Type 0} {P Q : Type 0} (r : Result X E) → (P → Q) → OnOk r P → OnOk r Q
 on_ok (Ok x) f p = f p
@@ -109,9 +109,9 @@ then_settled core place fecs fec ends first puts mid said new told h k = record 
   life = k.life ∙ h.life;
   written = k.written;
   same = λ f. k.same f ∙ h.same f;
-  on = λ f x g. behind_both (is_on_tree new f ≡ true) fecs (fec ∷ []) first mid f x (k.on f x g)
+  on = λ f x g. after_both (is_on_tree new f ≡ true) fecs (fec ∷ []) first mid f x (k.on f x g)
       (λ was. elim (h.on f x was) [ inl a ↦ inl (k.same f ∙ a) | inr b ↦ inr b ]);
-  toward = λ own is f x g. behind_both ((place_in place own).upstream f ≡ Some x) fecs (fec ∷ []) first mid f x (k.toward own is f x g)
+  toward = λ own is f x g. after_both ((place_in place own).upstream f ≡ Some x) fecs (fec ∷ []) first mid f x (k.toward own is f x g)
       (h.toward own is f x);
 }
 

@@ -20,7 +20,7 @@ use Rattle.label_defs.proofs.KeyLemmas.{branch_cmp_total, branch_cmp_exact, same
 use Rattle.label_defs.proofs.SetLemmas.{passing_member}
 use Rattle.label_defs.proofs.TreeLemmas.{one_tree}
 use Rattle.label_defs.proofs.UseLemmas.{used_some, set_here, set_there, mapped_some, free_some}
-use Rattle.mldp_node.specs.Parts.{AreSpelled, IsPut, behind_change, change_toward, settled_toward}
+use Rattle.mldp_node.specs.Parts.{AreSpelled, IsPut, after_change, change_toward, settled_toward}
 
 -- ---- what a change tells
 
@@ -85,7 +85,7 @@ kept_puts puts h = subst (λ (xs : List Put). All IsPut xs) (sym (append-nil put
 
 good : (upstream : Option NodeId) (old : Stepped) (fec : Fec) (change : Change) (new : Stepped) → AreSpelled old.part → All IsPut old.puts
     → Told (has_tree old.part fec) (mapped_label old.part fec) upstream (free_label old.part) change
-    → behind_change old fec change ≡ Some new → AreSpelled new.part × All IsPut new.puts
+    → after_change old fec change ≡ Some new → AreSpelled new.part × All IsPut new.puts
 good upstream old fec changes.Keep new h k t e =
     subst (λ (s : Stepped). AreSpelled s.part × All IsPut s.puts) (same_Some _ new e) (h, kept_puts old.puts k)
 good upstream old fec changes.Wait new h k t e = subst (λ (s : Stepped). AreSpelled s.part × All IsPut s.puts) (same_Some _ new e)

@@ -23,7 +23,7 @@ use Rattle.label_defs.specs.declared.label_use.LabelUse.TheVariants as uses
 use Rattle.label_defs.specs.declared.put.Put.{Put}
 use Rattle.label_defs.specs.Keys.{fec_cmp, branch_cmp, node_cmp}
 use Rattle.label_defs.specs.LabelData.{Place, LabelData, fresh, same_fec, use_of, has_branch, trees}
-use Rattle.label_defs.specs.Node.{NodePlace, is_p2mp, place_in, addr_in, raises_of, one_more, with_pdus, prepared, behind}
+use Rattle.label_defs.specs.Node.{NodePlace, is_p2mp, place_in, addr_in, raises_of, one_more, with_pdus, prepared, thereafter}
 use Rattle.label_defs.specs.Settling.{Stepped, settle_all}
 use Rattle.label_defs.specs.Steps.{Call, Taken, Want, Unwant, Raised, Noticed, Timers, Rerouted, effect, numbered, ends_after, counted, label_step, twice, branch_to, released, freed, woken, hold_run, holds_run, raised_end, told}
 use Rattle.label_defs.proofs.IdLemmas.{up_after}
@@ -148,7 +148,7 @@ made_of core place now call old old_ends mid mid_ends puts fecs new new_ends own
       let step : label_step P now part call ≡ Some (counted (stepped_of new mid_ends.up h.told)) =
       ap (λ (o : Stepped × List Fec). option_map counted (settle_all P o.1 o.0)) (own_effect own) ∙ ap (option_map counted) (h.settled.made own is) in
       let start : (effect P now part call).0.part.ends ≡ mid_ends.up = ap (λ (o : Stepped × List Fec). o.0.part.ends) (own_effect own) in
-      (λ i. behind (addr_in place) P now (ready i) call (step i))
+      (λ i. thereafter (addr_in place) P now (ready i) call (step i))
       ∙ ap (λ (up : FinMap node_cmp End). record {
         part = part_of new (ends_after mid_ends.up h.told);
         raises = mid_ends.raises;
@@ -473,7 +473,7 @@ session_tied old ends peer h q = elim (node_cases q peer) [
       (cut_other node_cmp_total node_cmp_exact ends.up peer q ne))
 ]
 
--- the trees behind the loss of the session with the neighbour
+-- the trees after the loss of the session with the neighbour
 abbrev pub lost : NodeId → Trees → Trees
 lost peer old =
     record { uses = without peer old.uses; leaves = old.leaves; branches = sets.retain old.branches (λ branch. not (branch.node.0 == peer.0)) }
@@ -514,7 +514,7 @@ loss_made core place now old ends mid mid_ends fecs puts peer new new_ends m e t
 
 -- ---- timers
 
--- the trees behind the moment
+-- the trees after the moment
 abbrev pub awake : ℕ → Trees → Trees
 awake now old = record old { uses = record old.uses { labels = map (woken now) old.uses.labels } }
 

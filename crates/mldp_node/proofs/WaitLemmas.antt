@@ -24,12 +24,12 @@ use Rattle.label_defs.proofs.SettleLemmas.{bind_some}
 use Rattle.label_defs.proofs.TreeLemmas.{one_tree}
 use Rattle.label_defs.proofs.UseLemmas.{set_here, set_there, mapped_none, mapped_some, free_some}
 use Rattle.label_trees.specs.Trees.{Trees}
-use Rattle.mldp_node.specs.Parts.{part_of, is_on_tree, waiting_by, change_toward, behind_change, MappedDoNotWait, SettledSo, WaitedBeside}
+use Rattle.mldp_node.specs.Parts.{part_of, is_on_tree, waiting_by, change_toward, after_change, MappedDoNotWait, SettledSo, WaitedBeside}
 use Rattle.mldp_node.proofs.SpelledLemmas.{Told, told}
 
 -- ---- one change
 
--- what is mapped behind a new use of a label was mapped before, or is the new use
+-- what is mapped after a new use of a label was mapped before, or is the new use
 pub mapped_was : (part : LabelData) (label : ℕ) (old new : LabelUse) (f : Fec) (l : ℕ) (u : NodeId) → use_of part label ≡ Some old
     → use_of (with_use part label new) l ≡ Some (uses.Mapped f u) → ((l ≡ label) × (new ≡ uses.Mapped f u)) ⊎ Maps part f l u
 mapped_was part label old new f l u is m = elim (cases_eq l label) [
@@ -77,7 +77,7 @@ change_apart part waiting fec upstream (changes.Withdraw to label) new t e h =
       | inr was ↦ h f l u was
     ])
 
--- a tree that waits behind a change: the node is on it and it waits towards its root, or it is another one and waited before
+-- a tree that waits after a change: the node is on it and it waits towards its root, or it is another one and waited before
 abbrev WaitsBy : LabelData → FinMap fec_cmp NodeId → Fec → Option NodeId → Fec → NodeId → Type 0
 WaitsBy part waiting fec upstream f x = ((has_tree part f ≡ true) × (upstream ≡ Some x) × (f ≡ fec)) ⊎ ((maps.get waiting f ≡ Some x) × (f ≡ fec → ⊥))
 
@@ -130,7 +130,7 @@ change_same part fec changes.NoLabel new e f = absurd (none-some new e)
 
 -- ---- one tree that settles
 
-change_is : (old : Stepped) (fec : Fec) (change : Change) (new : Stepped) → behind_change old fec change ≡ Some new
+change_is : (old : Stepped) (fec : Fec) (change : Change) (new : Stepped) → after_change old fec change ≡ Some new
     → changed old.part fec change ≡ Some new.part
 change_is old fec change new e =
     let x = bind_some (changed old.part fec change) (λ (part : LabelData). Some (record { part = part; puts = old.puts ++ put_by fec change })) new e
@@ -180,11 +180,11 @@ module _ (upstream : Option NodeId) (fec : Fec) (up : FinMap node_cmp End) (old 
 
 -- ---- a row of trees
 
--- what holds of a tree that waits behind two rows, or it is in neither and waited before
-pub behind_both : (P : Type 0) (first second : List Fec) (old mid : Trees) (f : Fec) (x : NodeId) → P ⊎ WaitedBeside second mid f x
+-- what holds of a tree that waits after two rows, or it is in neither and waited before
+pub after_both : (P : Type 0) (first second : List Fec) (old mid : Trees) (f : Fec) (x : NodeId) → P ⊎ WaitedBeside second mid f x
     → (maps.get mid.uses.waiting f ≡ Some x → P ⊎ WaitedBeside first old f x) → P ⊎ WaitedBeside (first ++ second) old f x
-behind_both P first second old mid f x (inl p) before = inl p
-behind_both P first second old mid f x (inr b) before = elim (before b.0) [
+after_both P first second old mid f x (inl p) before = inl p
+after_both P first second old mid f x (inr b) before = elim (before b.0) [
   | inl p ↦ inl p
   | inr c ↦ inr (c.0, list_any-append (same_fec f) first second ∙ or_from (list_any (same_fec f) first) (list_any (same_fec f) second) c.1 b.1)
 ]

@@ -49,9 +49,9 @@ is_on_tree trees fec = has_tree (part_of trees maps.empty) fec
 
 -- ---- one tree settles
 
--- the node behind a change of the tree, with what is put
-abbrev pub behind_change : Stepped → Fec → Change → Option Stepped
-behind_change old fec change = changed old.part fec change >>? λ new. Some (record { part = new; puts = old.puts ++ put_by fec change })
+-- the node after a change of the tree, with what is put
+abbrev pub after_change : Stepped → Fec → Change → Option Stepped
+after_change old fec change = changed old.part fec change >>? λ new. Some (record { part = new; puts = old.puts ++ put_by fec change })
 
 -- what the tree needs where that is the neighbour towards its root
 abbrev pub change_toward : Option NodeId → LabelData → Fec → Change
@@ -60,9 +60,9 @@ change_toward upstream part fec =
 
 -- the tree settles
 abbrev pub settled_toward : Option NodeId → Fec → Stepped → Option Stepped
-settled_toward upstream fec old = behind_change old fec (change_toward upstream old.part fec)
+settled_toward upstream fec old = after_change old fec (change_toward upstream old.part fec)
 
--- the trees that wait behind a change of the tree, where that is the neighbour towards its root
+-- the trees that wait after a change of the tree, where that is the neighbour towards its root
 abbrev pub waiting_by : Option NodeId → Fec → Change → FinMap fec_cmp NodeId → FinMap fec_cmp NodeId
 waiting_by upstream fec (changes.Map to label) old = maps.remove old fec
 waiting_by upstream fec changes.Wait old = elim upstream [ None ↦ old | Some neighbour ↦ maps.insert old fec neighbour ]
@@ -117,7 +117,7 @@ WaitedTowardRoots other place own waiting = WaitTowardRoots place own waiting
 -- The tree's change was made and put, where that is the neighbour towards its root. Sessions stay as they are.
 pub record Turned (upstream : Option NodeId) (fec : Fec) (change : Change)
     (old : Trees) (puts : List Put) (new : Trees) (told : List Put) : Type 0 where
-  pub made : (up : FinMap node_cmp End) → behind_change (record { part = part_of old up; puts = puts }) fec change
+  pub made : (up : FinMap node_cmp End) → after_change (record { part = part_of old up; puts = puts }) fec change
       ≡ Some (record { part = part_of new up; puts = told })
   pub waiting : new.uses.waiting ≡ waiting_by upstream fec change old.uses.waiting
   pub sessions : new.uses.sessions ≡ old.uses.sessions

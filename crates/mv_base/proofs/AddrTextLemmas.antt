@@ -112,10 +112,10 @@ groups_read text octets read =
     let at_a = more_read [] text a (b.0 ∷ c.0 ∷ d.0 ∷ e.0 ∷ f.0 ∷ g.0 ∷ h ∷ []) read_a at_b in
     (a.0 ∷ b.0 ∷ c.0 ∷ d.0 ∷ e.0 ∷ f.0 ∷ g.0 ∷ h ∷ [], sym (same_Some _ _ kept_h), at_a, refl)
 
-behind_colon : (text : List ℕ) (s : ℕ) (segments : List ℕ) → IsGroupsAfter false (58 ∷ []) (58 ∷ text) (s ∷ segments)
+after_colon : (text : List ℕ) (s : ℕ) (segments : List ℕ) → IsGroupsAfter false (58 ∷ []) (58 ∷ text) (s ∷ segments)
     → IsGroups false text (s ∷ segments)
-behind_colon text s segments (inl h) = inl (h.0, h.1, ap (drop 1) h.2, h.3, h.4)
-behind_colon text s segments (inr h) = absurd cc
+after_colon text s segments (inl h) = inl (h.0, h.1, ap (drop 1) h.2, h.3, h.4)
+after_colon text s segments (inr h) = absurd cc
 
 colon_first : (text : List ℕ) (s : ℕ) (segments : List ℕ) → IsGroupsAfter false (58 ∷ []) text (s ∷ segments) → (rest : List ℕ) × (text ≡ 58 ∷ rest)
 colon_first text s segments (inl h) = (h.0 ++ h.1, h.2)
@@ -131,7 +131,7 @@ group_next text s t segments (inl h) =
     let (rest, e) = colon_first h.1 t segments h.4 in (
       rest,
       front_there text h.0 h.1 rest s h.2 e h.3,
-      behind_colon rest t segments (subst (λ (l : List ℕ). IsGroupsAfter false (58 ∷ []) l (t ∷ segments)) e h.4),
+      after_colon rest t segments (subst (λ (l : List ℕ). IsGroupsAfter false (58 ∷ []) l (t ∷ segments)) e h.4),
     )
 group_next text s t segments (inr h) = absurd cc
 

@@ -38,7 +38,7 @@ cut_found : (mark : ℕ) (text front rest : List ℕ) (o : Option ℕ) → posit
 cut_found mark text front rest None found e = absurd (none-some _ e)
 cut_found mark text front rest (Some place) found e = cut_place mark text front rest place found (same_parts _ _ _ _ e)
 
--- What was cut is the text before the mark, and the text behind it.
+-- What was cut is the text before the mark, and the text after it.
 pub cut_read : (mark : ℕ) (text front rest : List ℕ) → cut_of mark text ≡ Some (front, rest) → text ≡ front ++ mark ∷ rest
 cut_read mark text front rest e = cut_found mark text front rest (position (λ octet. octet == mark) text) refl e
 
@@ -50,9 +50,9 @@ digits_before : (radix mark : ℕ) (front rest : List ℕ) → AllDigits radix f
 digits_before radix mark [] rest h above = grind arith
 digits_before radix mark (c ∷ front) rest h above = rw (no_mark radix mark c h.0 above, digits_before radix mark front rest h.1 above) (omega arith)
 
-place_behind : (radix mark : ℕ) (front rest : List ℕ) → AllDigits radix front → radix ≤ digit_value mark
+place_after : (radix mark : ℕ) (front rest : List ℕ) → AllDigits radix front → radix ≤ digit_value mark
     → position (λ octet. octet == mark) (front ++ mark ∷ rest) ≡ Some (length front)
-place_behind radix mark front rest h above =
+place_after radix mark front rest h above =
     let within : length front < length (front ++ mark ∷ rest) = rw length-append (omega arith) in
     rw (position, position_or_len, digits_before radix mark front rest h above, lt-ltb _ _ within) refl
 
@@ -64,8 +64,8 @@ cut_there mark text place found = rw (cut_of, found) refl
 pub cut_digits : (radix mark : ℕ) (front rest : List ℕ) → AllDigits radix front → radix ≤ digit_value mark
     → cut_of mark (front ++ mark ∷ rest) ≡ Some (front, rest)
 cut_digits radix mark front rest h above =
-    let behind : drop (length front + 1) (front ++ mark ∷ rest) ≡ rest =
+    let thereafter : drop (length front + 1) (front ++ mark ∷ rest) ≡ rest =
     rw (← append_assoc front (mark ∷ []) rest) (drop_at (front ++ mark ∷ []) rest (length front + 1) (length-append front (mark ∷ []))) in
     let before : take (length front) (front ++ mark ∷ rest) ≡ front = take_at front (mark ∷ rest) (length front) refl in
-    cut_there mark (front ++ mark ∷ rest) (length front) (place_behind radix mark front rest h above)
-    ∙ ap₂ (λ (a b : List ℕ). Some (a, b)) before behind
+    cut_there mark (front ++ mark ∷ rest) (length front) (place_after radix mark front rest h above)
+    ∙ ap₂ (λ (a b : List ℕ). Some (a, b)) before thereafter

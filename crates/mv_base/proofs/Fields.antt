@@ -12,9 +12,9 @@ use Rattle.mv_base.specs.Writing.{put_at}
 
 -- ---- octets
 
--- Octets behind a front are octets, and so is the front.
-pub octets_behind : (n : ℕ) (octets : List ℕ) → IsOctets octets → IsOctets (drop n octets)
-octets_behind n octets h i = rw get_or-drop (h (n + i))
+-- Octets after a front are octets, and so is the front.
+pub octets_after : (n : ℕ) (octets : List ℕ) → IsOctets octets → IsOctets (drop n octets)
+octets_after n octets h i = rw get_or-drop (h (n + i))
 
 pub octets_before : (n : ℕ) (octets : List ℕ) → IsOctets octets → IsOctets (take n octets)
 octets_before n octets h i =
@@ -46,7 +46,7 @@ puts old a b p q room at =
     rw (taken, back) (append_assoc (take p old) a (b ++ drop (p + length (a ++ b)) old)
     ∙ ap (λ (xs : List ℕ). take p old ++ xs) (sym (append_assoc a b (drop (p + length (a ++ b)) old))))
 
--- A text written at the front stands there, and the others stay behind it.
+-- A text written at the front stands there, and the others stay after it.
 pub put_at_front : (old a : List ℕ) → put_at old 0 a ≡ a ++ drop (length a) old
 unfolding put_at
 put_at_front old a = rw zero-add refl
@@ -70,14 +70,14 @@ passes_then a x b y c p q = record {
   place = omega (arith, p.place, q.place, length-append x y);
 }
 
--- What is behind octets is octets, and so is the text that is passed.
+-- What is after octets is octets, and so is the text that is passed.
 pub passes_octets : (c : Cursor) (text : List ℕ) (d : Cursor) → Passes c text d → IsOctets c.left → IsOctets d.left
-passes_octets c text d p fits = rw (← drop_at text d.left (length text) refl) (octets_behind (length text) (text ++ d.left) (rw (← p.parts) fits))
+passes_octets c text d p fits = rw (← drop_at text d.left (length text) refl) (octets_after (length text) (text ++ d.left) (rw (← p.parts) fits))
 
 pub passes_text : (c : Cursor) (text : List ℕ) (d : Cursor) → Passes c text d → IsOctets c.left → IsOctets text
 passes_text c text d p fits = rw (← take_at text d.left (length text) refl) (octets_before (length text) (text ++ d.left) (rw (← p.parts) fits))
 
--- Equal texts, and equal cursors behind them.
+-- Equal texts, and equal cursors after them.
 pub passes_is : (c : Cursor) (x y : List ℕ) (d e : Cursor) → Passes c x d → x ≡ y → d ≡ e → Passes c y e
 passes_is c x y d e p same there = rw (← same, ← there) p
 

@@ -65,7 +65,7 @@ module _ {K X : Type 0} (R : K → K → Ordering) where
   pub get-lookup : (es : List (K × X)) (q : K) → IsStrictlySortedBy R (keys_of es) → get (from_sorted {R = R} es) q ≡ lookup (is_at (R q)) es
   get-lookup es q a = get-from_sorted R es q (sorted es a) ∙ find-lookup q es
 
--- what stands at each key behind a change of one
+-- what stands at each key after a change of one
 abbrev pub Changes : {K X : Type 0} → (K → K → Ordering) → List (K × X) → List (K × X) → K → Option X → Type 0
 Changes {K} R es fs k w = (q : K) → lookup (is_at (R q)) fs ≡ cond (is_at (R k) q) w (lookup (is_at (R q)) es)
 

@@ -33,7 +33,7 @@ group_of (b ∷ c ∷ d ∷ []) = digits_of 48 b c d
 group_of (a ∷ b ∷ c ∷ d ∷ []) = digits_of a b c d
 group_of (a ∷ b ∷ c ∷ d ∷ next ∷ more) = None
 
--- a group that a colon follows, and the text behind the colon
+-- a group that a colon follows, and the text after the colon
 unfoldable pub group_front_of : List ℕ → Option (ℕ × List ℕ)
 group_front_of text = cut_of 58 text >>? λ cut. group_of cut.0 >>? λ group. Some (group, cut.1)
 

@@ -23,7 +23,7 @@ abbrev pub addr_key : Addr → List ℕ
 addr_key (V4 octets) = 4 ∷ octets
 addr_key (V6 octets) = 6 ∷ octets
 
--- the same with the number of octets, where other numbers stand behind
+-- the same with the number of octets, where other numbers stand after
 abbrev pub addr_front : Addr → List ℕ
 addr_front (V4 octets) = 4 ∷ length octets ∷ octets
 addr_front (V6 octets) = 6 ∷ length octets ∷ octets

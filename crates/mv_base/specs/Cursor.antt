@@ -41,12 +41,12 @@ number24_at c =
     then Err (record { place = c.place; needed = 3; left = length c.left })
     else Ok (from_be_bytes w32 (0 ∷ take 3 c.left), record { left = drop 3 c.left; place = c.place + 3 })
 
--- What a call answered, and the cursor that it left behind a value, is what reading gives.
+-- What a call answered, and the cursor that it left after a value, is what reading gives.
 abbrev pub Reads : {X Y E : Type 0} → (X → Y) → Result X E → Cursor → Result (Y × Cursor) E → Type 0
 Reads view (Ok x) new read = read ≡ Ok (view x, new)
 Reads view (Err e) new read = read ≡ Err e
 
--- What a call answered is what reading from place 0 gives, and the number of octets is the place behind the value.
+-- What a call answered is what reading from place 0 gives, and the number of octets is the place after the value.
 abbrev pub IsRead : {X E : Type 0} → Result (X × ℕ) E → Result (X × Cursor) E → Type 0
 IsRead (Ok x) read = (c : Cursor) × (read ≡ Ok (x.0, c)) × (x.1 ≡ c.place)
 IsRead (Err e) read = read ≡ Err e

@@ -7,7 +7,7 @@ use Rattle.mv_base.specs.Number.{number_of, cut_of, only_if, ◌>>?◌}
 unfoldable pub octet_of : List ℕ → Option ℕ
 octet_of text = number_of text >>? λ number. only_if (nat_lt number 256) number
 
--- one octet in decimal that a point follows, and the text behind the point
+-- one octet in decimal that a point follows, and the text after the point
 unfoldable pub octet_front_of : List ℕ → Option (ℕ × List ℕ)
 octet_front_of text = cut_of 46 text >>? λ cut. octet_of cut.0 >>? λ octet. Some (octet, cut.1)
 

@@ -15,7 +15,7 @@ None >>? next = None
 abbrev pub only_if : {A : Type 0} → Bool → A → Option A
 only_if passes x = if passes then Some x else None
 
--- the number that digits write behind a front that writes n
+-- the number that digits write after a front that writes n
 abbrev pub value_after : ℕ → List ℕ → ℕ
 value_after n [] = n
 value_after n (digit ∷ digits) = value_after (10 * n + (digit - 48)) digits
@@ -33,7 +33,7 @@ is_number (digit ∷ next ∷ digits) =
 abbrev pub number_of : List ℕ → Option ℕ
 number_of text = only_if (is_number text) (value_after 0 text)
 
--- the text before the first mark, and the text behind it
+-- the text before the first mark, and the text after it
 abbrev pub cut_of : ℕ → List ℕ → Option (List ℕ × List ℕ)
 cut_of mark text = elim (position (λ octet. octet == mark) text) [
   | None ↦ None

@@ -6,7 +6,7 @@ pub record Cursor : Type 0 where
   pub left : List ℕ
   pub place : ℕ
 
--- the text stands at the first cursor, and the second is right behind it
+-- the text stands at the first cursor, and the second is right after it
 pub record Passes (c : Cursor) (text : List ℕ) (d : Cursor) : Type 0 where
   pub parts : c.left ≡ text ++ d.left
   pub place : d.place ≡ c.place + length text

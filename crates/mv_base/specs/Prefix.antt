@@ -5,7 +5,7 @@ use Rattle.mv_base.specs.declared.addr.Addr.{Addr}
 use Rattle.mv_base.specs.declared.addr.Addr.TheVariants.{V4, V6}
 use Rattle.mv_base.specs.declared.prefix.Prefix.{Prefix}
 
--- The address has that many bits, and no bit behind them is set.
+-- The address has that many bits, and no bit after them is set.
 abbrev pub IsPrefixOf : Addr → ℕ → Type 0
 IsPrefixOf (V4 octets) bits = (bits ≤ 32) × (from_be_bytes w32 octets % 2 ^ (32 - bits) ≡ 0)
 IsPrefixOf (V6 octets) bits = (bits ≤ 128) × (from_be_bytes w128 octets % 2 ^ (128 - bits) ≡ 0)

@@ -90,7 +90,7 @@ fn read_octet(text: &[u8]) -> Option<u8>
     }
 }
 
-/// One octet in decimal that a point follows, and the text behind the point.
+/// One octet in decimal that a point follows, and the text after the point.
 #[tactic(auto, unfolding(crate::specs::Dotted::octet_front_of))]
 fn read_octet_front(text: &[u8]) -> Option<(u8, &[u8])>
     ensures { option_map front_texts result ≡ octet_front_of text.now }

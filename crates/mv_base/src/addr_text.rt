@@ -41,7 +41,7 @@ fn read_group(text: &[u8]) -> Option<u16>
     }
 }
 
-/// A group that a colon follows, and the text behind the colon.
+/// A group that a colon follows, and the text after the colon.
 #[tactic(auto, unfolding(crate::specs::AddrText::group_front_of))]
 fn read_group_front(text: &[u8]) -> Option<(u16, &[u8])>
     ensures { option_map group_texts result ≡ group_front_of text.now }

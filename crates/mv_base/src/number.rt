@@ -55,7 +55,7 @@ fn first_place(text: &[u8], mark: u8) -> Option<usize>
     text.iter().position(|octet| *octet == mark)
 }
 
-/// The text before the first `mark`, and the text behind it.
+/// The text before the first `mark`, and the text after it.
 pub fn cut_at(text: &[u8], mark: u8) -> Option<(&[u8], &[u8])>
     ensures { option_map cut_texts result ≡ cut_of mark text.now }
 {

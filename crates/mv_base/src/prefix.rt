@@ -20,7 +20,7 @@ fn front_v4(octets: [u8; 4], bits: u8) -> u64
     u64::from(u32::from_be_bytes(octets)) >> 32u8.saturating_sub(bits)
 }
 
-/// The bits behind the first `bits` bits of an IPv4 address, as a number.
+/// The bits after the first `bits` bits of an IPv4 address, as a number.
 fn host_v4(octets: [u8; 4], bits: u8) -> u64
     ensures { result ≡ from_be_bytes w32 octets % 2 ^ (32 - bits) }
 {
@@ -37,7 +37,7 @@ fn front_v6(octets: [u8; 16], bits: u8) -> u128
     u128::from_be_bytes(octets) >> 128u8.saturating_sub(bits)
 }
 
-/// The bits behind the first `bits` bits of an IPv6 address, as a number.
+/// The bits after the first `bits` bits of an IPv6 address, as a number.
 fn host_v6(octets: [u8; 16], bits: u8) -> u128
     ensures { result ≡ from_be_bytes w128 octets % 2 ^ (128 - bits) }
 {
@@ -49,7 +49,7 @@ fn host_v6(octets: [u8; 16], bits: u8) -> u128
 }
 
 impl Prefix {
-    /// The prefix of that many bits, where the address has as many and none is set behind them.
+    /// The prefix of that many bits, where the address has as many and none is set after them.
     pub fn of(addr: Addr, bits: u8) -> Option<Prefix>
         ensures { SomeIff result (IsPrefixOf addr bits) (record { addr = addr; bits = bits }) }
     {

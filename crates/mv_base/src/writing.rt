@@ -2,7 +2,7 @@
 ghost use Rattle.std.specs.Prelude.{◌≡◌, ◌≤◌, ◌+◌, length};
 ghost use Rattle.mv_base.specs.Writing.{put_at};
 
-/// Writes octets at a place, and answers the place behind them.
+/// Writes octets at a place, and answers the place after them.
 #[tactic(auto, unfolding(crate::specs::Writing::put_at))]
 pub fn put(out: &mut [u8], place: usize, octets: &[u8]) -> usize
     requires { place + length octets.now ≤ length out.old }

@@ -23,7 +23,7 @@ pub appended-take : (old mid new : Option (List ℕ)) (piece : List ℕ) (n m : 
 appended-take old mid new piece n m h k =
     rw take-add (appended-append old mid new (take n piece) (take m (drop n piece)) h (rw take_rest at k))
 
--- What is left out behind a front makes it a prefix.
+-- What is left out after a front makes it a prefix.
 pub take-prefix : (n : ℕ) (piece : List ℕ) → IsPrefix (take n piece) piece
 take-prefix n piece = (drop n piece, sym (take-append-drop n piece))
 
@@ -50,12 +50,12 @@ pub prefix_of_front : (front a b : List ℕ) → IsPrefix front a → IsPrefix f
 prefix_of_front front a b h = (h.0 ++ b, ap (λ (l : List ℕ). l ++ b) h.1 ∙ append_assoc front h.0 b)
 
 -- A front, and a prefix of what follows it, is a prefix of both.
-pub prefix_behind : (a front b : List ℕ) → IsPrefix front b → IsPrefix (a ++ front) (a ++ b)
-prefix_behind a front b h = (h.0, ap (λ (l : List ℕ). a ++ l) h.1 ∙ sym (append_assoc a front h.0))
+pub prefix_after : (a front b : List ℕ) → IsPrefix front b → IsPrefix (a ++ front) (a ++ b)
+prefix_after a front b h = (h.0, ap (λ (l : List ℕ). a ++ l) h.1 ∙ sym (append_assoc a front h.0))
 
 -- A piece, and then a part of another, is a part of both.
 pub part_after : (old mid new : Option (List ℕ)) (a b : List ℕ) → Appended old mid a → AppendedPart mid new b → AppendedPart old new (a ++ b)
-part_after old mid new a b h k = (a ++ k.0, prefix_behind a k.0 b k.1, appended-append old mid new a k.0 h k.2)
+part_after old mid new a b h k = (a ++ k.0, prefix_after a k.0 b k.1, appended-append old mid new a k.0 h k.2)
 
 -- The whole is a part.
 pub part_whole : (old new : Option (List ℕ)) (a : List ℕ) → Appended old new a → AppendedPart old new a

@@ -1,7 +1,7 @@
 -- When a source or a sink may answer that it failed: where its count of faults rose in the call.
 use Rattle.std.specs.Prelude.{ℕ, ◌+◌, ◌-◌, ◌^◌, ◌≤◌, min, Result, Ok, Err, OnErr}
 
--- what stands behind a count, which stays at its greatest value
+-- what stands after a count, which stays at its greatest value
 abbrev pub next : ℕ → ℕ
 next count = min (count + 1) (2 ^ 64 - 1)
 

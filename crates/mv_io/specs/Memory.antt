@@ -1,12 +1,12 @@
 -- What the kinds that fail at chosen calls tell, the calls made, those that fail, and how many did.
 use Rattle.std.specs.Prelude.{ℕ, List, Option}
-use Rattle.mv_io.specs.Kinds.{left_behind, told}
+use Rattle.mv_io.specs.Kinds.{left_after, told}
 use Rattle.mv_io.specs.declared.memory.MemSource.{MemSource}
 use Rattle.mv_io.specs.declared.memory.MemSink.{MemSink}
 
 -- what is left to read
 abbrev pub source_left : MemSource → Option (List ℕ)
-source_left s = left_behind s.octets s.at
+source_left s = left_after s.octets s.at
 
 -- how many calls of `read` were made
 abbrev pub source_calls : MemSource → ℕ

@@ -2,7 +2,7 @@
 ghost use Rattle.std.specs.Prelude.{◌≡◌, ◌≤◌, ◌+◌, ◌++◌, ◌↔◌, ⊤, Ok, length, take, min, vec_capacity, vec_len, MatchBool, IsTrue};
 ghost use Rattle.std.specs.Io.{ReadsAtMost};
 ghost use Rattle.std.specs.Io.KnownBytes.{ReadConsumes};
-ghost use Rattle.mv_io.specs.Kinds.{left_behind};
+ghost use Rattle.mv_io.specs.Kinds.{left_after};
 
 /// Copies as much as fits of the rest into the buffer, and answers how much that was.
 fn copy_front(rest: &[u8], buf: &mut [u8]) -> usize
@@ -14,12 +14,12 @@ fn copy_front(rest: &[u8], buf: &mut [u8]) -> usize
     count
 }
 
-/// Copies as much as fits of what stands behind the place into the buffer, and answers how much that was.
+/// Copies as much as fits of what stands after the place into the buffer, and answers how much that was.
 pub(crate) fn give(octets: &[u8], at: usize, buf: &mut [u8]) -> usize
     requires { at ≤ length octets.now }
     ensures bound { ReadsAtMost {E = ⊤} (Ok result) buf.new }
     ensures within { at + result ≤ length octets.now }
-    ensures octets { ReadConsumes {E = ⊤} (left_behind octets.now at) (left_behind octets.now (at + result)) (Ok result) buf.new }
+    ensures octets { ReadConsumes {E = ⊤} (left_after octets.now at) (left_after octets.now (at + result)) (Ok result) buf.new }
 {
     copy_front(&octets[at..], buf)
 }

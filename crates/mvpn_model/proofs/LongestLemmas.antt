@@ -32,7 +32,7 @@ longer_is : (best : Option Route) (route : Route) → Longer best route
 longer_is None route = record { kept = route; is = refl; own = omega arith; before = tt; one = inl refl }
 longer_is (Some best) route = longer_of best route (nat_le route.prefix.bits best.prefix.bits) refl
 
--- what the longest behind a best one is, of those that pass a test
+-- what the longest after a best one is, of those that pass a test
 record IsBest (p : Route → Bool) (best : Option Route) (all : List Route) (route : Route) : Type 0 where
   found : (best ≡ Some route) ⊎ ((place : ℕ) × (slice_get all place ≡ Some route) × (p route ≡ true))
   longest : (place : ℕ) (other : Route) → slice_get all place ≡ Some other → p other ≡ true → other.prefix.bits ≤ route.prefix.bits

@@ -1,4 +1,4 @@
--- What is told of all sessions behind events is told of one session by following it alone.
+-- What is told of all sessions after events is told of one session by following it alone.
 use Rattle.std.proofs.Common.{◌≡◌, ℕ, ◌+◌, ◌<◌, ◌≤◌, ◌^◌, ◌⊎◌, length, drop, get_or, add-one, drop-cons, arith, ◌==◌, ◌&&◌, ◌||◌, not, Bool, true, false, cond, List, [], ◌∷◌, map, filter, fold, Option, Some, refl, sym, ap, inl, inr, ◌∙◌}
 use Rattle.std.proofs.Math.Bool.{or_comm, or-false}
 use Rattle.std.proofs.lemmas.Bool.{and_parts, or_cases, or_right, cond_both, cond-true, cond-false, cases_Bool, false≢true}
@@ -17,8 +17,8 @@ use Rattle.mvpn_model.specs.declared.session.Session.{Session}
 use Rattle.mvpn_model.specs.declared.readiness.SessionStands.{SessionStands}
 use Rattle.mvpn_model.specs.Past.{Past, is_accepted, ticks_of, ticks_in}
 use Rattle.mvpn_model.specs.Sessions.{edges, bgp_sessions, ldp_session, sessions}
-use Rattle.mvpn_model.specs.Unready.{SessionsStand, none_joined, is_that, raised, healed, behind, sessions_stand, is_held, is_ready_in, unready_behind}
-use Rattle.mvpn_model.specs.OneSession.{raised_one, behind_one, after_one, is_ready_one, unready_among}
+use Rattle.mvpn_model.specs.Unready.{SessionsStand, none_joined, is_that, raised, healed, thereafter, sessions_stand, is_held, is_ready_in, unready_after}
+use Rattle.mvpn_model.specs.OneSession.{raised_one, thereafter_one, after_one, is_ready_one, unready_among}
 use Rattle.mvpn_model.proofs.SessionLemmas.{other_way, one_kind, own_session, IsIn, count_alike}
 
 -- what of all sessions concerns one
@@ -48,12 +48,12 @@ all_healed-even : (all : List Session) (old : SessionsStand) → IsEven old → 
 all_healed-even [] old h = h
 all_healed-even (session ∷ more) old h = all_healed-even more (healed old session) (healed-even old session h)
 
-behind-even : (scenario : Scenario) (old : SessionsStand) (event : Event) → IsEven old → IsEven (behind scenario old event)
-behind-even scenario old (events.Raise kind a b) h = raised-even kind a b old h
-behind-even scenario old events.Heal h = all_healed-even (sessions scenario) old h
-behind-even scenario old (events.Lose kind a b) h = λ own u n i. h own u n i && not (sym (other_way kind a b own u n) i)
-behind-even scenario old (events.Restart node) h = λ own u n i. h own u n i && not (or_comm (u.0 == node.0) (n.0 == node.0) i)
-behind-even scenario old other h = h
+after-even : (scenario : Scenario) (old : SessionsStand) (event : Event) → IsEven old → IsEven (thereafter scenario old event)
+after-even scenario old (events.Raise kind a b) h = raised-even kind a b old h
+after-even scenario old events.Heal h = all_healed-even (sessions scenario) old h
+after-even scenario old (events.Lose kind a b) h = λ own u n i. h own u n i && not (sym (other_way kind a b own u n) i)
+after-even scenario old (events.Restart node) h = λ own u n i. h own u n i && not (or_comm (u.0 == node.0) (n.0 == node.0) i)
+after-even scenario old other h = h
 
 -- ---- raises
 
@@ -134,13 +134,13 @@ healed-raised (other ∷ more) old even session is j = elim (cases_Bool (is_same
       healed-joined more (healed old other) (healed-even old other even) session (ap (λ (stands : SessionStands). stands.joined) one) ∙ one)
   | inr apart ↦
       (let one = healed-other old other session apart in
-      healed-raised more (healed old other) (healed-even old other even) session (behind_first is apart)
+      healed-raised more (healed old other) (healed-even old other even) session (after_first is apart)
       (ap (λ (stands : SessionStands). stands.joined) one ∙ j) ∙ ap raised_one one)
 ]
   where
-    behind_first : (session ≡ other) ⊎ IsIn session more → is_same other session ≡ false → IsIn session more
-    behind_first (inl e) apart = absurd (false≢true (sym apart ∙ (ap (λ (x : Session). is_same x session) (sym e) ∙ own_session session)))
-    behind_first (inr h) apart = h
+    after_first : (session ≡ other) ⊎ IsIn session more → is_same other session ≡ false → IsIn session more
+    after_first (inl e) apart = absurd (false≢true (sym apart ∙ (ap (λ (x : Session). is_same x session) (sym e) ∙ own_session session)))
+    after_first (inr h) apart = h
 
 -- A session of the list is raised where it is not joined.
 seen-healed : (all : List Session) (old : SessionsStand) → IsEven old → (session : Session) → IsIn session all
@@ -153,60 +153,60 @@ seen-healed all old even session is =
 
 -- ---- events
 
-seen-behind : (scenario : Scenario) (session : Session) → IsIn session (sessions scenario) → (old : SessionsStand) → IsEven old → (event : Event)
-    → seen session (behind scenario old event) ≡ behind_one scenario.life session (seen session old) event
-seen-behind scenario session is old even (events.Raise kind a b) =
+seen-after : (scenario : Scenario) (session : Session) → IsIn session (sessions scenario) → (old : SessionsStand) → IsEven old → (event : Event)
+    → seen session (thereafter scenario old event) ≡ thereafter_one scenario.life session (seen session old) event
+seen-after scenario session is old even (events.Raise kind a b) =
     seen-raised kind a b old session (is_that kind a b session.kind session.a session.b) refl
-seen-behind scenario session is old even events.Heal = seen-healed (sessions scenario) old even session is
-seen-behind scenario session is old even other = refl
+seen-after scenario session is old even events.Heal = seen-healed (sessions scenario) old even session is
+seen-after scenario session is old even other = refl
 
 seen-all : (scenario : Scenario) (refused : List ℕ) (session : Session) → IsIn session (sessions scenario)
     → (timeds : List Timed) (old : SessionsStand) → IsEven old
-    → seen session (fold (behind scenario) old (map (λ timed. timed.event) (filter (is_accepted refused) timeds)))
+    → seen session (fold (thereafter scenario) old (map (λ timed. timed.event) (filter (is_accepted refused) timeds)))
     ≡ fold (after_one scenario.life refused session) (seen session old) timeds
 seen-all scenario refused session is [] old even = refl
 seen-all scenario refused session is (timed ∷ more) old even =
-    by (is_accepted refused timed) (seen-all scenario refused session is more (behind scenario old timed.event)
-    (behind-even scenario old timed.event even)) (seen-all scenario refused session is more old even)
+    by (is_accepted refused timed) (seen-all scenario refused session is more (thereafter scenario old timed.event)
+    (after-even scenario old timed.event even)) (seen-all scenario refused session is more old even)
   where
     by : (b : Bool)
-        → seen session (fold (behind scenario) (behind scenario old timed.event) (map (λ t. t.event) (filter (is_accepted refused) more)))
-        ≡ fold (after_one scenario.life refused session) (seen session (behind scenario old timed.event)) more
-        → seen session (fold (behind scenario) old (map (λ t. t.event) (filter (is_accepted refused) more)))
+        → seen session (fold (thereafter scenario) (thereafter scenario old timed.event) (map (λ t. t.event) (filter (is_accepted refused) more)))
+        ≡ fold (after_one scenario.life refused session) (seen session (thereafter scenario old timed.event)) more
+        → seen session (fold (thereafter scenario) old (map (λ t. t.event) (filter (is_accepted refused) more)))
         ≡ fold (after_one scenario.life refused session) (seen session old) more
-        → seen session (fold (behind scenario) old (map (λ t. t.event)
+        → seen session (fold (thereafter scenario) old (map (λ t. t.event)
         (cond b (timed ∷ filter (is_accepted refused) more) (filter (is_accepted refused) more))))
-        ≡ fold (after_one scenario.life refused session) (cond b (behind_one scenario.life session (seen session old) timed.event) (seen session old))
+        ≡ fold (after_one scenario.life refused session) (cond b (thereafter_one scenario.life session (seen session old) timed.event) (seen session old))
         more
     by true there here =
         there ∙ ap (λ (stands : SessionStands). fold (after_one scenario.life refused session) stands more)
-        (seen-behind scenario session is old even timed.event)
+        (seen-after scenario session is old even timed.event)
     by false there here = here
 
 -- ---- the clock of one session
 
-behind-clock : (life : ℕ) (session : Session) (old : SessionStands) (event : Event)
-    → (behind_one life session old event).clock ≤ old.clock + ticks_of event
-behind-clock life session old (events.Tick count) = omega arith
-behind-clock life session old (events.Raise kind a b) = by (is_that kind a b session.kind session.a session.b)
+thereafter-clock : (life : ℕ) (session : Session) (old : SessionStands) (event : Event)
+    → (thereafter_one life session old event).clock ≤ old.clock + ticks_of event
+thereafter-clock life session old (events.Tick count) = omega arith
+thereafter-clock life session old (events.Raise kind a b) = by (is_that kind a b session.kind session.a session.b)
   where
     by : (raises : Bool) → (cond raises (raised_one old) old).clock ≤ old.clock + 0
     by true = omega arith
     by false = omega arith
-behind-clock life session old events.Heal = by (not old.joined)
+thereafter-clock life session old events.Heal = by (not old.joined)
   where
     by : (raises : Bool) → (cond raises (raised_one old) old).clock ≤ old.clock + 0
     by true = omega arith
     by false = omega arith
-behind-clock life session old other = omega arith
+thereafter-clock life session old other = omega arith
 
 -- The clock of a session moves by the ticks of an event at most.
 after-clock : (life : ℕ) (refused : List ℕ) (session : Session) (old : SessionStands) (timed : Timed)
     → (after_one life refused session old timed).clock ≤ old.clock + ticks_of timed.event
 after-clock life refused session old timed = by (is_accepted refused timed)
   where
-    by : (accepted : Bool) → (cond accepted (behind_one life session old timed.event) old).clock ≤ old.clock + ticks_of timed.event
-    by true = behind-clock life session old timed.event
+    by : (accepted : Bool) → (cond accepted (thereafter_one life session old timed.event) old).clock ≤ old.clock + ticks_of timed.event
+    by true = thereafter-clock life session old timed.event
     by false = omega arith
 
 -- One event more of those that a session is followed through.
@@ -233,7 +233,7 @@ ready-one past session is =
 
 -- Those of either protocol that are not ready are all of them.
 pub unready-told : (past : Past) → unready_among past (bgp_sessions (edges past.scenario)) + unready_among past (map ldp_session past.scenario.links)
-    ≡ unready_behind past
+    ≡ unready_after past
 unready-told past =
     sym (sum_by-append (λ session. cond (not (is_ready_one past session)) 1 0) (bgp_sessions (edges past.scenario))
     (map ldp_session past.scenario.links))

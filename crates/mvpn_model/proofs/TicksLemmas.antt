@@ -20,6 +20,6 @@ ticks_take scenario zero list h = omega arith
 ticks_take scenario (suc n) [] h = omega arith
 ticks_take scenario (suc n) (timed ∷ more) h = omega (arith, ticks_few scenario timed.event h.0, ticks_take scenario n more h.1)
 
--- The clock behind the first events of a script.
+-- The clock after the first events of a script.
 pub clock_small : (script : Script) (n : ℕ) → ScriptRules script → ticks_in (take n script.events) < 2 ^ 63
 clock_small script n rules = omega (arith, ticks_take script.scenario n script.events rules.events, rules.few)

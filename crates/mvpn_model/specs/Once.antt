@@ -39,7 +39,7 @@ IsOfWindow event.Drain = Unit {0}
 IsOfWindow event.State = Unit {0}
 IsOfWindow other = ⊥
 
--- A window: the events behind a calm `state` up to a `drain` or a `state` without copies, all of which send, land, drain
+-- A window: the events after a calm `state` up to a `drain` or a `state` without copies, all of which send, land, drain
 -- or ask for the state, but for those of the refused lines.
 pub record IsWindow (events : List Timed) (refused : List ℕ) (report : List Entry) (first last : ℕ) : Type 0 where
   pub calm : ℕ

@@ -17,17 +17,17 @@ use Rattle.mvpn_model.specs.Unready.{hold_run, is_that, is_held}
 abbrev pub timed_end : ℕ → Bool → ℕ → Option UpEnd → Option UpEnd
 timed_end life runs clock old = elim old [ None ↦ None | Some end ↦ Some (if runs then hold_run life clock end else end) ]
 
--- an end behind a loss that it notices
+-- an end after a loss that it notices
 abbrev pub noticed_end : Bool → Option UpEnd → Option UpEnd
 noticed_end notices old = if notices then None else old
 
--- the session behind a raise of itself
+-- the session after a raise of itself
 abbrev pub raised_one : SessionStands → SessionStands
 raised_one old =
     let fresh : UpEnd = record { raised = old.clock; held = false } in
     record old { joined = true; near = Some fresh; far = Some fresh }
 
--- the session behind a loss that the node notices on its session with the peer
+-- the session after a loss that the node notices on its session with the peer
 abbrev pub noticed_one : Session → Kind → NodeId → NodeId → SessionStands → SessionStands
 noticed_one session kind node peer old =
     record old {
@@ -35,7 +35,7 @@ noticed_one session kind node peer old =
       far = noticed_end (same_kind kind session.kind && (session.b.0 == node.0) && (session.a.0 == peer.0)) old.far;
     }
 
--- the session behind a restart of the node
+-- the session after a restart of the node
 abbrev pub restarted_one : Session → NodeId → SessionStands → SessionStands
 restarted_one session node old =
     record old {
@@ -44,33 +44,33 @@ restarted_one session node old =
       far = noticed_end (session.b.0 == node.0) old.far;
     }
 
--- the session behind an accepted event, by where it stood
-abbrev pub behind_one : ℕ → Session → SessionStands → Event → SessionStands
-behind_one life session old (events.Tick count) = record old { clock = old.clock + count }
-behind_one life session old (events.Timers node) =
+-- the session after an accepted event, by where it stood
+abbrev pub thereafter_one : ℕ → Session → SessionStands → Event → SessionStands
+thereafter_one life session old (events.Tick count) = record old { clock = old.clock + count }
+thereafter_one life session old (events.Timers node) =
     record old {
       near = timed_end life (session.a.0 == node.0) old.clock old.near;
       far = timed_end life (session.b.0 == node.0) old.clock old.far;
     }
-behind_one life session old events.Settle =
+thereafter_one life session old events.Settle =
     record old { near = timed_end life true old.clock old.near; far = timed_end life true old.clock old.far }
-behind_one life session old (events.Raise kind a b) = if is_that kind a b session.kind session.a session.b then raised_one old else old
-behind_one life session old events.Heal = if not old.joined then raised_one old else old
-behind_one life session old (events.Lose kind a b) =
+thereafter_one life session old (events.Raise kind a b) = if is_that kind a b session.kind session.a session.b then raised_one old else old
+thereafter_one life session old events.Heal = if not old.joined then raised_one old else old
+thereafter_one life session old (events.Lose kind a b) =
     record old { joined = old.joined && not (is_that kind a b session.kind session.a session.b) }
-behind_one life session old (events.Notice kind node peer) = noticed_one session kind node peer old
-behind_one life session old (events.Restart node) = restarted_one session node old
-behind_one life session old other = old
+thereafter_one life session old (events.Notice kind node peer) = noticed_one session kind node peer old
+thereafter_one life session old (events.Restart node) = restarted_one session node old
+thereafter_one life session old other = old
 
--- the same behind any event; a refused one changes nothing
+-- the same after any event; a refused one changes nothing
 abbrev pub after_one : ℕ → List ℕ → Session → SessionStands → Timed → SessionStands
-after_one life refused session old timed = if is_accepted refused timed then behind_one life session old timed.event else old
+after_one life refused session old timed = if is_accepted refused timed then thereafter_one life session old timed.event else old
 
 -- nothing has happened yet
 abbrev pub none_stands : SessionStands
 none_stands = record { clock = 0; joined = false; near = None; far = None }
 
--- where the session stands behind all events
+-- where the session stands after all events
 abbrev pub stands_one : Past → Session → SessionStands
 stands_one past session = fold (after_one past.scenario.life past.refused session) none_stands past.events
 

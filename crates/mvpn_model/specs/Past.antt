@@ -57,7 +57,7 @@ ticks_in (timed ∷ more) = ticks_of timed.event + ticks_in more
 abbrev pub is_of_edge : Scenario → NodeId → IfaceId → Bool
 is_of_edge scenario node iface = elim (edge_of scenario iface) [ None ↦ false | Some edge ↦ edge.0 == node.0 ]
 
--- the expiry of an entry of the interface behind a message that is taken at the clock
+-- the expiry of an entry of the interface after a message that is taken at the clock
 abbrev pub expiry_given : IfaceId → JoinEntry → ℕ → Option Expiry → Option Given → Option Expiry
 expiry_given iface entry clock old None = old
 expiry_given iface entry clock old (Some given) =
@@ -71,14 +71,14 @@ expiry_by scenario iface entry clock (events.Restart node) old = if is_of_edge s
 expiry_by scenario iface entry clock events.Settle old = remaining clock old
 expiry_by scenario iface entry clock event old = expiry_given iface entry clock old (message_of scenario event)
 
--- the clock and the entry's expiry behind an event, by those before it; a refused event changes neither
+-- the clock and the entry's expiry after an event, by those before it; a refused event changes neither
 abbrev pub stands_after : Scenario → List ℕ → IfaceId → JoinEntry → Standing → Timed → Standing
 stands_after scenario refused iface entry old timed =
     if is_accepted refused timed
     then record { clock = old.clock + ticks_of timed.event; expiry = expiry_by scenario iface entry old.clock timed.event old.expiry }
     else old
 
--- The clock, and the expiry of an entry of the interface, behind all events. At first the clock is 0 and no entry is
+-- The clock, and the expiry of an entry of the interface, after all events. At first the clock is 0 and no entry is
 -- there.
 abbrev pub standing : Past → IfaceId → JoinEntry → Standing
 standing past iface entry = fold (stands_after past.scenario past.refused iface entry) (record { clock = 0; expiry = None }) past.events
@@ -101,7 +101,7 @@ abbrev pub is_flow_at : IfaceId → Addr → Addr → IfaceId → Addr → Addr 
 is_flow_at iface source group own own_source own_group =
     (iface.0 == own.0) && same_addr source own_source && same_addr group own_group
 
--- Whether S is noted at the interface as a sender to G behind an accepted event, by whether it was before: `active` for them
+-- Whether S is noted at the interface as a sender to G after an accepted event, by whether it was before: `active` for them
 -- there notes it, and `idle` for them there, or a restart of the interface's edge, ends that.
 abbrev pub noted_by : Scenario → IfaceId → Addr → Addr → Event → Bool → Bool
 noted_by scenario iface source group (events.Customer (customers.Active own own_source own_group)) old =
@@ -111,12 +111,12 @@ noted_by scenario iface source group (events.Customer (customers.Idle own own_so
 noted_by scenario iface source group (events.Restart node) old = old && not (is_of_edge scenario node iface)
 noted_by scenario iface source group other old = old
 
--- the same behind any event; a refused one changes nothing
+-- the same after any event; a refused one changes nothing
 abbrev pub noted_after : Scenario → List ℕ → IfaceId → Addr → Addr → Bool → Timed → Bool
 noted_after scenario refused iface source group old timed =
     if is_accepted refused timed then noted_by scenario iface source group timed.event old else old
 
--- whether S is noted at the interface as a sender to G behind all events; at first none is
+-- whether S is noted at the interface as a sender to G after all events; at first none is
 abbrev pub is_noted : Past → IfaceId → Addr → Addr → Bool
 is_noted past iface source group = fold (noted_after past.scenario past.refused iface source group) false past.events
 

@@ -15,14 +15,14 @@ use Rattle.label_forwarding.specs.label_defs.Between.{is_between}
 use Rattle.mvpn_model.specs.declared.session.Session.{Session}
 use Rattle.scenario_defs.specs.Kinds.{same_kind}
 
--- Where the sessions stand behind some events: the clock, whether the session of two nodes is joined, and the end of a node's session
+-- Where the sessions stand after some events: the clock, whether the session of two nodes is joined, and the end of a node's session
 -- with a peer, where it is up.
 pub record SessionsStand : Type 0 where
   pub clock : ℕ
   pub joined : Kind → NodeId → NodeId → Bool
   pub end : Kind → NodeId → NodeId → Option UpEnd
 
--- a hold that is due is run: it is behind one tick more than the life of a copy
+-- a hold that is due is run: it is after one tick more than the life of a copy
 abbrev pub hold_run : ℕ → ℕ → UpEnd → UpEnd
 hold_run life now end = record end { held = end.held || nat_le (end.raised + life + 1) now }
 
@@ -56,26 +56,26 @@ timed scenario passes old =
       ];
     }
 
--- where the sessions stand behind an accepted event
-abbrev pub behind : Scenario → SessionsStand → Event → SessionsStand
-behind scenario old (events.Tick count) = record old { clock = old.clock + count }
-behind scenario old (events.Timers node) = timed scenario (λ n. n.0 == node.0) old
-behind scenario old events.Settle = timed scenario (λ n. true) old
-behind scenario old (events.Raise kind a b) = raised kind a b old
-behind scenario old events.Heal = fold healed old (sessions scenario)
-behind scenario old (events.Lose kind a b) = record old { joined = λ own u n. old.joined own u n && not (is_that kind a b own u n) }
-behind scenario old (events.Notice kind a b) =
+-- where the sessions stand after an accepted event
+abbrev pub thereafter : Scenario → SessionsStand → Event → SessionsStand
+thereafter scenario old (events.Tick count) = record old { clock = old.clock + count }
+thereafter scenario old (events.Timers node) = timed scenario (λ n. n.0 == node.0) old
+thereafter scenario old events.Settle = timed scenario (λ n. true) old
+thereafter scenario old (events.Raise kind a b) = raised kind a b old
+thereafter scenario old events.Heal = fold healed old (sessions scenario)
+thereafter scenario old (events.Lose kind a b) = record old { joined = λ own u n. old.joined own u n && not (is_that kind a b own u n) }
+thereafter scenario old (events.Notice kind a b) =
     record old { end = λ own n peer. if same_kind kind own && (n.0 == a.0) && (peer.0 == b.0) then None else old.end own n peer }
-behind scenario old (events.Restart node) =
+thereafter scenario old (events.Restart node) =
     record old {
       joined = λ own u n. old.joined own u n && not ((u.0 == node.0) || (n.0 == node.0));
       end = λ own n peer. if n.0 == node.0 then None else old.end own n peer;
     }
-behind scenario old other = old
+thereafter scenario old other = old
 
--- where they stand behind the accepted events of a past
+-- where they stand after the accepted events of a past
 abbrev pub sessions_stand : Past → SessionsStand
-sessions_stand past = fold (behind past.scenario) none_joined (map (λ timed. timed.event) (filter (is_accepted past.refused) past.events))
+sessions_stand past = fold (thereafter past.scenario) none_joined (map (λ timed. timed.event) (filter (is_accepted past.refused) past.events))
 
 -- whether the hold of an end was run
 abbrev pub is_held : Option UpEnd → Bool
@@ -89,6 +89,6 @@ is_ready_in standing session =
     && (same_kind session.kind kinds.Bgp
     || (is_held (standing.end session.kind session.a session.b) && is_held (standing.end session.kind session.b session.a)))
 
--- How many sessions are not ready behind a past.
-abbrev pub unready_behind : Past → ℕ
-unready_behind past = count_by (λ session. not (is_ready_in (sessions_stand past) session)) (sessions past.scenario)
+-- How many sessions are not ready after a past.
+abbrev pub unready_after : Past → ℕ
+unready_after past = count_by (λ session. not (is_ready_in (sessions_stand past) session)) (sessions past.scenario)

@@ -1,4 +1,4 @@
-//! Which sources are known to send behind events.
+//! Which sources are known to send after events.
 ghost use Rattle.std.specs.Prelude.{◌≡◌, ◌≤◌, ◌^◌, ◌==◌, ◌&&◌, false, length};
 ghost use Rattle.std.specs.List.{fold, list_any};
 ghost use Rattle.mv_base.specs.Address.{same_addr};
@@ -28,7 +28,7 @@ fn is_flow_at(noted: &Noted<'_>, iface: IfaceId, source: Addr, group: Addr) -> b
     noted.iface.0 == iface.0 && noted.source.same(source) && noted.group.same(group)
 }
 
-/// Whether the flow is noted behind an accepted event of a customer, by whether it was before.
+/// Whether the flow is noted after an accepted event of a customer, by whether it was before.
 fn noted_by_customer(noted: &Noted<'_>, event: &CustomerEvent, old: bool) -> bool
     ensures { result ≡ noted_by noted.now.scenario.now noted.now.iface noted.now.source noted.now.group (events.Customer event.now) old }
 {
@@ -47,7 +47,7 @@ fn noted_by_customer(noted: &Noted<'_>, event: &CustomerEvent, old: bool) -> boo
     }
 }
 
-/// Whether the flow is noted behind an accepted event, by whether it was before.
+/// Whether the flow is noted after an accepted event, by whether it was before.
 fn noted_by(noted: &Noted<'_>, event: &Event, old: bool) -> bool
     ensures { result ≡ noted_by noted.now.scenario.now noted.now.iface noted.now.source noted.now.group event.now old }
 {
@@ -69,8 +69,8 @@ fn noted_after(noted: &Noted<'_>, old: bool, timed: &Timed) -> bool
     }
 }
 
-/// Whether the flow is noted behind all events.
-fn noted_behind(noted: &Noted<'_>, events: &[Timed]) -> bool
+/// Whether the flow is noted after all events.
+fn noted_thereafter(noted: &Noted<'_>, events: &[Timed]) -> bool
     ensures { result ≡ fold
         (noted_after noted.now.scenario.now noted.now.refused.now noted.now.iface noted.now.source noted.now.group)
         false events.now }
@@ -94,7 +94,7 @@ fn is_noted(history: &History<'_>, iface: IfaceId, source: Addr, group: Addr) ->
         source,
         group,
     };
-    noted_behind(&noted, events_of(history))
+    noted_thereafter(&noted, events_of(history))
 }
 
 /// Whether S is known in the VRF's VPN to send to G.

@@ -7,7 +7,7 @@ ghost use Rattle.mvpn_model.specs.Past.{past_of, ticks_in, standing, asks, recei
 
 use crate::active::is_active_at;
 use crate::routing::longest_route;
-use crate::standing::{Followed, Standing, stand_behind};
+use crate::standing::{Followed, Standing, stand_after};
 use crate::vpn::vrf_of_site;
 use mv_base::{Addr, IfaceId, NoMemory, Seq, SiteId, VrfId};
 use pim_defs::asks_by;
@@ -52,7 +52,7 @@ fn site_of_longest(scenario: &Scenario, vrf: VrfId, source: Addr) -> Option<Site
     longest_route(scenario, vrf, source).map(|route| route.site)
 }
 
-/// Where an entry of the interface stands behind the history.
+/// Where an entry of the interface stands after the history.
 fn stands(
     alloc: Global,
     history: &History<'_>,
@@ -69,7 +69,7 @@ fn stands(
         iface,
         entry,
     };
-    stand_behind(alloc, &followed, events_of(history))
+    stand_after(alloc, &followed, events_of(history))
 }
 
 /// Whether the interface asks for (S,G) (RFC 7761 section 4.1.5).

@@ -1,4 +1,4 @@
-//! How many sessions are not ready behind events.
+//! How many sessions are not ready after events.
 ghost use Rattle.std.specs.Prelude.{◌≡◌, ◌==◌, ◌&&◌, ◌||◌, ◌+◌, ◌<◌, ◌≤◌, ◌^◌, not, length, drop, map, if◌then◌else◌};
 ghost use Rattle.scenario_defs.specs.declared.event.Kind.TheVariants as kinds;
 ghost use Rattle.std.specs.List.{fold};
@@ -7,8 +7,8 @@ ghost use Rattle.scenario_defs.specs.Kinds.{same_kind};
 ghost use Rattle.mvpn_model.specs.Past.{past_of, ticks_of, ticks_in};
 ghost use Rattle.mvpn_model.specs.Sessions.{edges_from, bgp_session, bgp_sessions, ldp_session};
 ghost use Rattle.label_forwarding.specs.label_defs.Between.{is_between};
-ghost use Rattle.mvpn_model.specs.Unready.{hold_run, is_that, is_held, unready_behind};
-ghost use Rattle.mvpn_model.specs.OneSession.{timed_end, noticed_end, raised_one, noticed_one, restarted_one, behind_one};
+ghost use Rattle.mvpn_model.specs.Unready.{hold_run, is_that, is_held, unready_after};
+ghost use Rattle.mvpn_model.specs.OneSession.{timed_end, noticed_end, raised_one, noticed_one, restarted_one, thereafter_one};
 ghost use Rattle.mvpn_model.specs.OneSession.{after_one, none_stands, is_ready_one, unready_among};
 
 use crate::history::{History, events_of};
@@ -77,7 +77,7 @@ fn is_end(
     same_kind(kind, session.kind) && from.0 == node.0 && to.0 == peer.0
 }
 
-/// The end behind a run of its node's timers: its hold is run where it is due.
+/// The end after a run of its node's timers: its hold is run where it is due.
 fn hold_run(life: u64, clock: u64, end: UpEnd) -> UpEnd
     ensures { result ≡ hold_run life clock end }
 {
@@ -103,7 +103,7 @@ fn noticed_end(notices: bool, old: Option<UpEnd>) -> Option<UpEnd>
     if notices { None } else { old }
 }
 
-/// The session behind a raise of itself, where there is one.
+/// The session after a raise of itself, where there is one.
 fn raised_where(raises: bool, old: SessionStands) -> SessionStands
     ensures { result ≡ (if raises then raised_one old else old) }
 {
@@ -122,7 +122,7 @@ fn raised_where(raises: bool, old: SessionStands) -> SessionStands
     }
 }
 
-/// The session behind a run of timers, of its first node's, its second one's, or both.
+/// The session after a run of timers, of its first node's, its second one's, or both.
 fn timed_one(life: u64, old: SessionStands, near: bool, far: bool) -> SessionStands
     ensures { result ≡ record old { near = timed_end life near old.clock old.near; far = timed_end life far old.clock old.far } }
 {
@@ -133,7 +133,7 @@ fn timed_one(life: u64, old: SessionStands, near: bool, far: bool) -> SessionSta
     }
 }
 
-/// The session behind a loss that the node notices on its session with the peer.
+/// The session after a loss that the node notices on its session with the peer.
 fn noticed_one(
     session: Session,
     kind: Kind,
@@ -152,7 +152,7 @@ fn noticed_one(
     }
 }
 
-/// The session behind a restart of the node.
+/// The session after a restart of the node.
 fn restarted_one(session: Session, node: NodeId, old: SessionStands) -> SessionStands
     ensures { result ≡ restarted_one session node old }
 {
@@ -166,10 +166,10 @@ fn restarted_one(session: Session, node: NodeId, old: SessionStands) -> SessionS
     }
 }
 
-/// The session behind an accepted event.
-fn behind_one(life: u64, session: Session, old: SessionStands, event: &Event) -> SessionStands
+/// The session after an accepted event.
+fn thereafter_one(life: u64, session: Session, old: SessionStands, event: &Event) -> SessionStands
     requires { old.clock + ticks_of event.now < 2 ^ 63 }
-    ensures { result ≡ behind_one life session old event.now }
+    ensures { result ≡ thereafter_one life session old event.now }
 {
     match event {
         Event::Tick { count } => SessionStands {
@@ -192,19 +192,19 @@ fn behind_one(life: u64, session: Session, old: SessionStands, event: &Event) ->
     }
 }
 
-/// The session behind an event.
+/// The session after an event.
 fn after_one(following: &Following<'_>, old: SessionStands, timed: &Timed) -> SessionStands
     requires { old.clock + ticks_of timed.now.event < 2 ^ 63 }
     ensures { result ≡ after_one following.now.life following.now.refused.now following.now.session old timed.now }
 {
     if is_accepted(following.refused, timed) {
-        behind_one(following.life, following.session, old, &timed.event)
+        thereafter_one(following.life, following.session, old, &timed.event)
     } else {
         old
     }
 }
 
-/// The session behind all events.
+/// The session after all events.
 fn stands_one(following: &Following<'_>, events: &[Timed]) -> SessionStands
     requires { ticks_in events.now < 2 ^ 63 }
     ensures { result ≡ fold
@@ -238,7 +238,7 @@ fn is_ready(kind: Kind, stands: SessionStands) -> bool
     stands.joined && (same_kind(kind, Kind::Bgp) || (is_held(stands.near) && is_held(stands.far)))
 }
 
-/// 1 where the session is not ready behind the history, and else 0.
+/// 1 where the session is not ready after the history, and else 0.
 fn unready_one(history: &History<'_>, session: Session) -> u64
     requires upto { history.now.upto ≤ length history.now.script.now.events }
     requires clock { ticks_in (past_of history.now).events < 2 ^ 63 }
@@ -337,13 +337,13 @@ fn unready_ldp(history: &History<'_>, links: &[Link]) -> u64
     count
 }
 
-/// How many of the scenario's sessions are not ready behind the history: a session is ready where it is joined and, over LDP,
+/// How many of the scenario's sessions are not ready after the history: a session is ready where it is joined and, over LDP,
 /// the holds of both its ends were run.
 pub fn unready(history: &History<'_>) -> u64
     requires rules { Rules history.now.script.now.scenario }
     requires upto { history.now.upto ≤ length history.now.script.now.events }
     requires clock { ticks_in (past_of history.now).events < 2 ^ 63 }
-    ensures { result ≡ unready_behind (past_of history.now) }
+    ensures { result ≡ unready_after (past_of history.now) }
 {
     let scenario = &history.script.scenario;
     let over_bgp = unready_bgp(history, scenario.nodes.as_slice());

@@ -1,4 +1,4 @@
-//! Where an entry of an interface stands behind events.
+//! Where an entry of an interface stands after events.
 ghost use Rattle.std.specs.Prelude.{◌≡◌, ◌==◌, ◌+◌, ◌<◌, ◌^◌, None, IfOk};
 ghost use Rattle.std.specs.List.{list_any, fold};
 ghost use Rattle.mvpn_model.specs.Past.{is_accepted, ticks_of, ticks_in, is_of_edge, expiry_given, expiry_by, stands_after};
@@ -58,7 +58,7 @@ pub(crate) struct Followed<'a> {
     pub entry: JoinEntry,
 }
 
-/// The expiry behind a message that is taken at the clock.
+/// The expiry after a message that is taken at the clock.
 fn expiry_given(
     followed: &Followed<'_>,
     clock: u64,
@@ -77,7 +77,7 @@ fn expiry_given(
     }
 }
 
-/// The expiry behind an accepted event at the clock.
+/// The expiry after an accepted event at the clock.
 fn expiry_by(
     alloc: Global,
     followed: &Followed<'_>,
@@ -106,7 +106,7 @@ fn expiry_by(
     }
 }
 
-/// The clock and the expiry behind an event, by those before it.
+/// The clock and the expiry after an event, by those before it.
 fn stands_after(
     alloc: Global,
     followed: &Followed<'_>,
@@ -127,8 +127,8 @@ fn stands_after(
     })
 }
 
-/// The clock and the expiry behind all events. At first the clock is 0 and the entry is not there.
-pub(crate) fn stand_behind(
+/// The clock and the expiry after all events. At first the clock is 0 and the entry is not there.
+pub(crate) fn stand_after(
     alloc: Global,
     followed: &Followed<'_>,
     events: &[Timed],

@@ -36,8 +36,8 @@ use Rattle.mvpn_tool.specs.Runs.{AuditRun, Ending}
 long_fault : (octets more : List ℕ) (fault : TextFault) → 16777216 < length octets → HasFault octets fault → HasFault (octets ++ more) fault
 long_fault octets more fault long (IsLong l is) = IsLong (omega (arith, long, length-append octets more)) is
 long_fault octets more fault long (IsUnmarked short none is) = absurd (omega (arith, long, short))
-long_fault octets more fault long (OfScript short front behind cut e) = absurd (omega (arith, long, short))
-long_fault octets more fault long (OfReport short front behind cut script e stray is) = absurd (omega (arith, long, short))
+long_fault octets more fault long (OfScript short front thereafter cut e) = absurd (omega (arith, long, short))
+long_fault octets more fault long (OfReport short front thereafter cut script e stray is) = absurd (omega (arith, long, short))
 
 long_read : (octets more : List ℕ) (result : Result AuditText ReadFault) → 16777216 < length octets → IsRead octets result
     → IsRead (octets ++ more) result
@@ -84,7 +84,7 @@ pub comes_after : (text : List ℕ) (script : Script) (report : ReportLines) →
 comes_after text script report h =
     let front = front_rules h.front script h.scripted in
     let last : last_line script.events < script.end = last_before script.end script.events (omega (arith, front.1)) front.0.last in
-    lines_rise script.scenario (last_line script.events) (length h.front + 2) report.end h.behind report.lines (omega (arith, last, front.1)) h.end
+    lines_rise script.scenario (last_line script.events) (length h.front + 2) report.end h.thereafter report.lines (omega (arith, last, front.1)) h.end
     h.reported
 
 -- ---- how an audit ends

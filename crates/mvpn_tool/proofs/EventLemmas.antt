@@ -74,8 +74,8 @@ module _ (output : Output) (scenario : Scenario) (timed : Timed) (view : WorldVi
         count = place.count;
         trace = place.trace;
         world = place.state;
-        behind =
-            place.behind;
+        thereafter =
+            place.thereafter;
         next = place.next;
       }
 
@@ -102,7 +102,7 @@ module _ (output : Output) (scenario : Scenario) (timed : Timed) (view : WorldVi
     module _ (steps : Steps timed.line timed.event view now own new_lines (Ok tt)) where
       advance : (place : Here) → Advances place.cores place.script.scenario (take place.count place.script.events) place.trace place.state timed own
           new_lines now
-      advance place = steps.made place.cores place.script.scenario (take place.count place.script.events) place.trace place.state place.behind.is
+      advance place = steps.made place.cores place.script.scenario (take place.count place.script.events) place.trace place.state place.thereafter.is
 
       pub made_are_known : (place : Here) → All (IsLineOf scenario) (own_lines place) → All (IsLineOf scenario) new_lines
       made_are_known place known = subst (All (IsLineOf scenario)) (sym (made_lines place (advance place))) known
@@ -140,7 +140,7 @@ module _ (output : Output) (scenario : Scenario) (timed : Timed) (view : WorldVi
               acts = a.acts;
               state = a.next;
               is = a.is;
-              behind = reached_more timed view (reached place) own new_lines now a;
+              thereafter = reached_more timed view (reached place) own new_lines now a;
               known = subst (AllByRecursion (IsKnown scenario)) (step_lines place a)
                   (all_known scenario new_lines (recursion_from_All (IsLineOf scenario) new_lines (made_are_known place (names place)))
                   (recursion_from_All HasTypeBounds new_lines bounds));
@@ -162,8 +162,8 @@ module _ (output : Output) (scenario : Scenario) (timed : Timed) (view : WorldVi
     module _ (n : NodeId) (steps : Steps timed.line timed.event view now own new_lines (Err (halts.NoLabel n))) where
       lacking : (place : Here) → Lacks place.state timed n own new_lines
       lacking place =
-          steps.lacks n refl place.behind.is.going place.cores place.script.scenario (take place.count place.script.events) place.trace place.state
-          place.behind.is
+          steps.lacks n refl place.thereafter.is.going place.cores place.script.scenario (take place.count place.script.events) place.trace place.state
+          place.thereafter.is
 
       pub lacking_are_known : (place : Here) → All (IsLineOf scenario) (own_lines place) →
           All (IsLineOf scenario) (new_lines ++ lines.Halt timed.line n ∷ [])

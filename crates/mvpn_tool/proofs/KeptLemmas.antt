@@ -61,7 +61,7 @@ module _ (scenario : Scenario) (timed : Timed) (view : WorldView) (so_far : SoFa
         ≡ sent_in place.script.events (refused_lines (report_of place.trace) ++ flat_map refused_line (lines_in acts)) (place.count + 1)
     sent_then =
         ap (λ (sent : List (List ℕ)). sent_after sent timed (lines_in acts)) place.kept.1
-        ∙ sym (sent_next place.cores place.script place.count place.trace place.state place.behind.is.run place.behind.rules timed place.next acts
+        ∙ sym (sent_next place.cores place.script place.count place.trace place.state place.thereafter.is.run place.thereafter.rules timed place.next acts
         next is)
 
     -- The hops by what is kept are those of the event.
@@ -82,9 +82,9 @@ module _ (scenario : Scenario) (timed : Timed) (view : WorldView) (so_far : SoFa
     may_go_on spelled = record {
       payload =
           short_payload place.script.scenario timed.event
-          (each_at (λ (t : Timed). IsEventOf place.script.scenario t.event) place.script.events place.count timed place.behind.rules.events
+          (each_at (λ (t : Timed). IsEventOf place.script.scenario t.event) place.script.events place.count timed place.thereafter.rules.events
           place.next);
-      clock = subst (λ (n : ℕ). n < 2 ^ 63) clock_next (clock_small place.script (place.count + 1) place.behind.rules);
+      clock = subst (λ (n : ℕ). n < 2 ^ 63) clock_next (clock_small place.script (place.count + 1) place.thereafter.rules);
       hops = subst (All IsHop) (sym hops_then) spelled;
     }
 

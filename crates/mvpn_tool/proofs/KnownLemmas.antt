@@ -36,7 +36,7 @@ use Rattle.network_events.specs.network_laws.Sound.{SoundScenario}
 use Rattle.network_events.specs.network_laws.SoundRun.{SoundRun}
 use Rattle.network_events.proofs.delivery_laws.OnceLemmas.{rises_first}
 use Rattle.network_events.proofs.delivery_laws.Splits.{take_to}
-use Rattle.hop_laws.proofs.run_laws.rule_laws.Halting.{each_behind, run_before}
+use Rattle.hop_laws.proofs.run_laws.rule_laws.Halting.{each_after, run_before}
 use Rattle.hop_laws.specs.run_laws.Ready.{ReportsUnready}
 use Rattle.hop_laws.specs.run_laws.rule_laws.SoundHalt.{SoundHalt}
 use Rattle.hop_laws.specs.run_laws.rule_laws.Throughout.{ThroughoutEvents}
@@ -83,13 +83,13 @@ module _ (readable_event : ReadableEvent) (readable_runs : ReadableRuns)
   where
     sound_here : SoundRun place.cores place.script (take place.count place.script.events) place.trace place.state
     sound_here =
-        readable_runs place.cores place.script place.count place.trace place.state place.behind.rules place.octets place.behind.is.of_scenario
-        place.behind.is.run
+        readable_runs place.cores place.script place.count place.trace place.state place.thereafter.rules place.octets place.thereafter.is.of_scenario
+        place.thereafter.is.run
 
     sound_next : IsSoundEvent place.script.scenario timed.event
     sound_next =
-        readable_event place.script.scenario timed.event place.behind.rules.scenario
-        (each_at (λ (t : Timed). IsEventOf place.script.scenario t.event) place.script.events place.count timed place.behind.rules.events place.next)
+        readable_event place.script.scenario timed.event place.thereafter.rules.scenario
+        (each_at (λ (t : Timed). IsEventOf place.script.scenario t.event) place.script.events place.count timed place.thereafter.rules.events place.next)
         (each_at (λ (t : Timed). EventHasOctets t.event) place.script.events place.count timed place.octets.events place.next)
 
     by_outcome : (o : Outcome) → outcome place.state timed ≡ o → All (IsLineOf place.script.scenario) (event_lines timed.line o)
@@ -126,21 +126,21 @@ module _ (readable_runs : ReadableRuns) (spelled : SpelledHops)
     abbrev hops_by : Outcome → List CoreHop
     hops_by o = event_hops place.script.events (report_of place.trace) place.count (event_lines timed.line o)
 
-    hops_behind : (first more : List CoreHop) → All IsHop (first ++ more) → All IsHop more
-    hops_behind first more all = All-from_recursion IsHop more (each_behind IsHop first more (recursion_from_All IsHop (first ++ more) all))
+    hops_after : (first more : List CoreHop) → All IsHop (first ++ more) → All IsHop more
+    hops_after first more all = All-from_recursion IsHop more (each_after IsHop first more (recursion_from_All IsHop (first ++ more) all))
 
     spelled_by : (o : Outcome) → outcome place.state timed ≡ o → All IsHop (hops_by o)
     spelled_by (Done acts new) e =
-        let run = place.behind.is.run in
-        let rules = place.behind.rules in
+        let run = place.thereafter.is.run in
+        let rules = place.thereafter.rules in
         let trace : List Traced = place.trace ++ traced place.count acts in
         let next : Run place.cores place.script (take (suc place.count) place.script.events) trace new =
         subst (λ (l : List Timed). Run place.cores place.script l trace new) (sym (take_to place.script.events place.count timed place.next))
         (run_next place.cores place.script place.count place.trace place.state run rules timed place.next acts new e) in
         let all =
         spelled place.cores place.script (suc place.count) trace new rules
-        (readable_runs place.cores place.script (suc place.count) trace new rules place.octets place.behind.is.of_scenario next) in
-        hops_behind (hops_of place.script.events (report_of place.trace)) (hops_by (Done acts new))
+        (readable_runs place.cores place.script (suc place.count) trace new rules place.octets place.thereafter.is.of_scenario next) in
+        hops_after (hops_of place.script.events (report_of place.trace)) (hops_by (Done acts new))
         (subst (All IsHop) (hops_next place.cores place.script place.count place.trace place.state run rules timed place.next acts new e) all)
     spelled_by (Halted acts node) e =
         let own = lines_in acts ++ lines.Halt timed.line node ∷ [] in

@@ -10,7 +10,7 @@ use Rattle.scenario_defs.specs.declared.report.ReportLine.{ReportLine}
 use Rattle.scenario_defs.specs.declared.report.ReportLine.TheVariants as lines
 use Rattle.hop_laws.specs.Hops.{datagram_octets, hop_by}
 use Rattle.network_events.proofs.network_laws.Lists.{each_front}
-use Rattle.hop_laws.proofs.run_laws.rule_laws.Halting.{each_behind}
+use Rattle.hop_laws.proofs.run_laws.rule_laws.Halting.{each_after}
 
 -- What holds of all parts holds of each.
 module _ {X Y : Type 0} (P : Y → Type 0) (f : X → List Y) where
@@ -18,7 +18,7 @@ module _ {X Y : Type 0} (P : Y → Type 0) (f : X → List Y) where
       → AllByRecursion P (f x)
   part_each [] place x less is all = absurd (omega (arith, less))
   part_each (y ∷ ys) zero x less is all = subst (λ (z : X). AllByRecursion P (f z)) (sym is) (each_front P (f y) (flat_map f ys) all)
-  part_each (y ∷ ys) (suc place) x less is all = part_each ys place x (omega (arith, less)) is (each_behind P (f y) (flat_map f ys) all)
+  part_each (y ∷ ys) (suc place) x less is all = part_each ys place x (omega (arith, less)) is (each_after P (f y) (flat_map f ys) all)
 
 -- The hops of a line have spellings, where those of all lines do.
 pub line_spelled : (clock : ℕ) (sent : List (List ℕ)) (all : List ReportLine) (place : ℕ) (line : ReportLine) → place < length all

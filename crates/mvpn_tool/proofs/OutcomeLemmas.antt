@@ -34,7 +34,7 @@ use Rattle.mvpn_tool.specs.declared.command.Output.TheVariants as outputs
 use Rattle.mvpn_tool.specs.declared.sent_hops.SoFar.{SoFar}
 use Rattle.mvpn_tool.specs.declared.stop.Stop.{Stop}
 use Rattle.mvpn_tool.specs.declared.stop.Stop.TheVariants as stops
-use Rattle.mvpn_tool.proofs.FirstEventLemmas.{behind_none}
+use Rattle.mvpn_tool.proofs.FirstEventLemmas.{after_none}
 use Rattle.mvpn_tool.proofs.OutputLemmas.{output_begins, output_halted, output_more, output_none}
 use Rattle.mvpn_tool.proofs.TextLemmas.{lines_at, lines_of-append, report_of-append}
 
@@ -117,7 +117,7 @@ module _ (known : KnownRuns) (output : Output) (script : Script) (rules : Script
           cores = own.0;
           trace = [];
           state = start script.scenario own.0;
-          behind = behind_none script rules view begun own.0 own.1;
+          thereafter = after_none script rules view begun own.0 own.1;
           known = tt;
           text = subst (Appended old new) (sym (output_none known.text output script)) front;
         };
@@ -140,7 +140,7 @@ module _ (known : KnownRuns) (output : Output) (script : Script) (rules : Script
       state = way.replayed.state;
       of_scenario = names;
       octets = octets;
-      behind = way.replayed.behind;
+      thereafter = way.replayed.thereafter;
       next = at;
       kept = way.kept;
     }
@@ -160,7 +160,7 @@ module _ (known : KnownRuns) (output : Output) (script : Script) (rules : Script
     more_text : (acts : List Happened) (next : World) → outcome r.state timed ≡ Done acts next
         → text (report_of (r.trace ++ traced count acts)) ≡ text (report_of r.trace) ++ own
     more_text acts next is =
-        output_more known.text r.cores script rules count r.trace r.state r.behind.is.run timed at acts next is output
+        output_more known.text r.cores script rules count r.trace r.state r.thereafter.is.run timed at acts next is output
         ∙ ap (λ (l : List ℕ). text (report_of r.trace) ++ l) (ap own_by (sym is) ∙ sym own_text)
 
     -- One event more.
@@ -171,7 +171,7 @@ module _ (known : KnownRuns) (output : Output) (script : Script) (rules : Script
         cores = r.cores;
         trace = r.trace ++ traced count g.acts;
         state = g.state;
-        behind = g.behind;
+        thereafter = g.thereafter;
         known = known_more script.scenario r.trace count g.acts r.known
             (subst (λ (s : Scenario). AllByRecursion (IsKnown s) (lines_in g.acts)) (sym names) g.known);
         text = subst (Appended old new) (sym (more_text g.acts g.state g.is))
@@ -186,12 +186,12 @@ module _ (known : KnownRuns) (output : Output) (script : Script) (rules : Script
     own_report acts node = halted_report r.trace count timed.line acts node
 
     halts_here : (acts : List Happened) (node : NodeId) → outcome r.state timed ≡ Halted acts node → Halts r.cores script (own_report acts node) node
-    halts_here acts node lacks = halts_at r.cores script count r.trace r.state timed acts node r.behind.is.of_scenario r.behind.is.run at lacks
+    halts_here acts node lacks = halts_at r.cores script count r.trace r.state timed acts node r.thereafter.is.of_scenario r.thereafter.is.run at lacks
 
     halted_text : (acts : List Happened) (node : NodeId) → outcome r.state timed ≡ Halted acts node
         → text (own_report acts node) ≡ text (report_of r.trace) ++ own
     halted_text acts node lacks =
-        output_halted known.text r.cores script rules count r.trace r.state r.behind.is.run timed at acts node lacks output
+        output_halted known.text r.cores script rules count r.trace r.state r.thereafter.is.run timed at acts node lacks output
         ∙ ap (λ (l : List ℕ). text (report_of r.trace) ++ l) (ap own_by (sym lacks) ∙ sym own_text)
 
     replayed-halted : Lacks output scenario timed view so_far place_of mid new → ReplaysUpToHalt output script old new
@@ -210,7 +210,7 @@ module _ (known : KnownRuns) (output : Output) (script : Script) (rules : Script
         → Run r.cores script (take (suc count) script.events) (r.trace ++ traced count acts) next
     run_more acts next is =
         subst (λ (l : List Timed). Run r.cores script l (r.trace ++ traced count acts) next) (sym (take_to script.events count timed at))
-        (run_next r.cores script count r.trace r.state r.behind.is.run rules timed at acts next is)
+        (run_next r.cores script count r.trace r.state r.thereafter.is.run rules timed at acts next is)
 
     module _ (part : AppendedPart mid new own) where
       both_parts : AppendedPart old new (text (report_of r.trace) ++ own)
@@ -219,7 +219,7 @@ module _ (known : KnownRuns) (output : Output) (script : Script) (rules : Script
       part_by : (o : Outcome) → outcome r.state timed ≡ o → ReplaysPart output script old new
       part_by (Done acts next) is =
           let trace : List Traced = r.trace ++ traced count acts in
-          let on = known.begins r.cores script (suc count) trace next rules octets r.behind.is.of_scenario (run_more acts next is) in
+          let on = known.begins r.cores script (suc count) trace next rules octets r.thereafter.is.of_scenario (run_more acts next is) in
           let begins = output_begins known.text output script (report_of trace) on in
           let all : text on.report ≡ (text (report_of r.trace) ++ own) ++ begins.0 =
           begins.1 ∙ ap (λ (l : List ℕ). l ++ begins.0) (more_text acts next is) in
@@ -267,9 +267,9 @@ module _ (known : KnownRuns) (output : Output) (script : Script) (rules : Script
       subst (λ (n : ℕ). Replayed output script n old new view) all way.replayed in
       record {
         replayed = whole;
-        whole = known.whole whole.cores script whole.trace whole.state rules octets whole.behind.is.of_scenario
+        whole = known.whole whole.cores script whole.trace whole.state rules octets whole.thereafter.is.of_scenario
             (subst (λ (l : List Timed). Run whole.cores script l whole.trace whole.state)
-            (take_all (length script.events) script.events (omega arith)) whole.behind.is.run);
+            (take_all (length script.events) script.events (omega arith)) whole.thereafter.is.run);
       }
 
 -- The event at a place of the list is that of the script.

@@ -7,7 +7,7 @@ use Rattle.mv_base.specs.Octets.{IsOctets}
 use Rattle.mv_base.specs.framing.Units.{Splits, octets_of as unit_octets}
 use Rattle.mv_base.specs.framing.Cut.{Cut, Front, NoFault, cut, with_front}
 use Rattle.mv_base.specs.framing.Cut.Front.{bad, more, whole}
-use Rattle.mv_base.proofs.framing.Cuts.{IsOctets-behind, begun, waits}
+use Rattle.mv_base.proofs.framing.Cuts.{IsOctets-after, begun, waits}
 use Rattle.mv_base.proofs.framing.Feedings.{fails_cut}
 use Rattle.bgp_messages.specs.declared.bgp_attributes.fault.StreamFault.{StreamFault}
 use Rattle.bgp_messages.specs.declared.bgp_attributes.update.Message.{Message}
@@ -58,7 +58,7 @@ not_both octets ms ns fault fits failed sound =
     let there : ℕ = length (unit_octets splits.begins.units) in
     let at : there + length rest ≡ 0 + length octets =
     omega (arith, ap (λ (xs : List ℕ). length xs) splits.begins.parts, length-append (unit_octets splits.begins.units) rest) in
-    let rest_fits : IsOctets rest = IsOctets-behind (unit_octets splits.begins.units) rest (subst IsOctets splits.begins.parts fits) in
+    let rest_fits : IsOctets rest = IsOctets-after (unit_octets splits.begins.units) rest (subst IsOctets splits.begins.parts fits) in
     let none : (cut message_front octets).fault ≡ None =
     ap (λ (c : Cut Message StreamFault). c.fault)
     (begun message_front SpellsMessage message_format.stream.framing 0 there octets ns rest splits.begins at

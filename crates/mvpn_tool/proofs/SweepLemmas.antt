@@ -34,7 +34,7 @@ use Rattle.mvpn_tool.specs.declared.stop.Stop.{Stop}
 use Rattle.mvpn_tool.specs.declared.stop.Stop.TheVariants as stops
 use Rattle.mvpn_tool.specs.declared.sweep.Swept.{Swept}
 use Rattle.mvpn_tool.proofs.CountLemmas.{counted_all}
-use Rattle.mvpn_tool.proofs.FirstEventLemmas.{behind_none, reached_more}
+use Rattle.mvpn_tool.proofs.FirstEventLemmas.{after_none, reached_more}
 use Rattle.mvpn_tool.proofs.OutcomeLemmas.{halted_report, halts_at}
 use Rattle.mvpn_tool.proofs.TextLemmas.{lines_at, lines_of-append, report_of-append}
 
@@ -55,12 +55,12 @@ module _ (timed : Timed) (view now : WorldView) (before after : Counts) (own new
       → EventCounts timed view now before after (Ok tt)
   event_counted steps told = record {
     made = λ at.
-        let a = steps.made at.cores at.script.scenario (take at.count at.script.events) at.trace at.world at.behind.is in
+        let a = steps.made at.cores at.script.scenario (take at.count at.script.events) at.trace at.world at.thereafter.is in
         record {
           acts = a.acts;
           state = a.next;
           is = a.is;
-          behind = reached_more timed view at own new_lines now a;
+          thereafter = reached_more timed view at own new_lines now a;
           told = told ∙ ap (fold with_line before) (a.told ∙ ap (λ (l : List ReportLine). l ++ lines_in a.acts) none);
         };
     lacks = λ e. absurd cc;
@@ -72,7 +72,7 @@ module _ (timed : Timed) (view now : WorldView) (before after : Counts) (own new
   event_lacks_label n steps = record {
     made = tt;
     lacks = λ e at.
-        let a = steps.lacks n refl at.behind.is.going at.cores at.script.scenario (take at.count at.script.events) at.trace at.world at.behind.is in
+        let a = steps.lacks n refl at.thereafter.is.going at.cores at.script.scenario (take at.count at.script.events) at.trace at.world at.thereafter.is in
         record { acts = a.acts; node = n; is = a.is };
   }
 
@@ -87,7 +87,7 @@ pub record SweptSoFar (script : Script) (count : ℕ) (view : WorldView) (counts
   pub cores : Cores
   pub trace : List Traced
   pub state : World
-  pub behind : IsBehindFirst cores script count trace state view
+  pub thereafter : IsBehindFirst cores script count trace state view
   pub told : counts ≡ fold with_line no_counts (lines_of (report_of trace))
 
 -- the counts after the acts of one event more
@@ -107,14 +107,14 @@ module _ (known : KnownRuns) (script : Script) (rules : ScriptRules script) (oct
   pub swept_none : (view : WorldView) (counts : Counts) → IsBegun script.scenario view → counts ≡ no_counts → SweptSoFar script 0 view counts
   swept_none view counts begun none =
       let own = known.cores script.scenario rules.scenario in
-      record { cores = own.0; trace = []; state = start script.scenario own.0; behind = behind_none script rules view begun own.0 own.1; told = none }
+      record { cores = own.0; trace = []; state = start script.scenario own.0; thereafter = after_none script rules view begun own.0 own.1; told = none }
 
   module _ (count : ℕ) (timed : Timed) (view : WorldView) (counts : Counts) (at : slice_get script.events count ≡ Some timed)
       (so_far : SweptSoFar script count view counts) where
     -- where the next event is met
     abbrev pub swept_to : IsReached timed view
     swept_to =
-        record { cores = so_far.cores; script = script; count = count; trace = so_far.trace; world = so_far.state; behind = so_far.behind; next = at }
+        record { cores = so_far.cores; script = script; count = count; trace = so_far.trace; world = so_far.state; thereafter = so_far.thereafter; next = at }
 
     -- One event more.
     pub swept_more : (now : WorldView) (after : Counts) → EventCounts timed view now counts after (Ok tt) → SweptSoFar script (count + 1) now after
@@ -124,7 +124,7 @@ module _ (known : KnownRuns) (script : Script) (rules : ScriptRules script) (oct
           cores = so_far.cores;
           trace = so_far.trace ++ traced count on.acts;
           state = on.state;
-          behind = on.behind;
+          thereafter = on.thereafter;
           told = more_counts counts after so_far.trace count on.acts so_far.told on.told;
         }
 
@@ -135,7 +135,7 @@ module _ (known : KnownRuns) (script : Script) (rules : ScriptRules script) (oct
         let lacks = ends.lacks (ap stopped label) swept_to in
         absurd
         (never so_far.cores (halted_report so_far.trace count timed.line lacks.acts lacks.node) lacks.node
-        (halts_at so_far.cores script count so_far.trace so_far.state timed lacks.acts lacks.node so_far.behind.is.of_scenario so_far.behind.is.run at
+        (halts_at so_far.cores script count so_far.trace so_far.state timed lacks.acts lacks.node so_far.thereafter.is.of_scenario so_far.thereafter.is.run at
         lacks.is))
     swept_stops now after stop never ends (inr memory) = memory
 
@@ -148,10 +148,10 @@ module _ (known : KnownRuns) (script : Script) (rules : ScriptRules script) (oct
         cores = whole.cores;
         trace = whole.trace;
         state = whole.state;
-        behind = whole.behind;
-        whole = known.whole whole.cores script whole.trace whole.state rules octets whole.behind.is.of_scenario
+        thereafter = whole.thereafter;
+        whole = known.whole whole.cores script whole.trace whole.state rules octets whole.thereafter.is.of_scenario
             (subst (λ (l : List Timed). Run whole.cores script l whole.trace whole.state)
-            (take_all (length script.events) script.events (omega arith)) whole.behind.is.run);
+            (take_all (length script.events) script.events (omega arith)) whole.thereafter.is.run);
         counts = whole.told ∙ counted_all (lines_of (report_of whole.trace));
       }
 
@@ -165,7 +165,7 @@ module _ (number : ℕ) (script : Script) (said : script_of (made number) ≡ Ok
     counts = swept.counts;
     whole = whole;
     labels = few whole.cores;
-    text = subst (λ (n : ℕ). Written (sweep_text number n swept.counts)) whole.behind.is.stands.datagrams.count text;
+    text = subst (λ (n : ℕ). Written (sweep_text number n swept.counts)) whole.thereafter.is.stands.datagrams.count text;
   }
 
   -- The line was written.

@@ -22,5 +22,5 @@ pub record IsReached (timed : Timed) (view : WorldView) : Type 0 where
   pub count : ℕ
   pub trace : List Traced
   pub world : World
-  pub behind : IsBehindFirst cores script count trace world view
+  pub thereafter : IsBehindFirst cores script count trace world view
   pub next : slice_get script.events count ≡ Some timed

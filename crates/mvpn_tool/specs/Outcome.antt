@@ -39,7 +39,7 @@ pub record Place (output : Output) (scenario : Scenario) (timed : Timed) (view :
   pub state : World
   pub of_scenario : script.scenario ≡ scenario
   pub octets : ScriptHasOctets script
-  pub behind : IsBehindFirst cores script count trace state view
+  pub thereafter : IsBehindFirst cores script count trace state view
   pub next : slice_get script.events count ≡ Some timed
   pub kept : IsKept output script.events (report_of trace) count so_far
 
@@ -60,7 +60,7 @@ pub record GoesOn (output : Output) (scenario : Scenario) (timed : Timed) (view 
   pub acts : List Happened
   pub state : World
   pub is : outcome place.state timed ≡ Done acts state
-  pub behind : IsBehindFirst place.cores place.script (place.count + 1) (place.trace ++ traced place.count acts) state now
+  pub thereafter : IsBehindFirst place.cores place.script (place.count + 1) (place.trace ++ traced place.count acts) state now
   pub known : AllByRecursion (IsKnown scenario) (lines_in acts)
   pub text : Appended old new (written_at output scenario timed view so_far place)
   pub kept : IsKept output place.script.events (report_of (place.trace ++ traced place.count acts)) (place.count + 1) kept_now
@@ -89,7 +89,7 @@ pub record Replayed (output : Output) (script : Script) (count : ℕ) (old new :
   pub cores : Cores
   pub trace : List Traced
   pub state : World
-  pub behind : IsBehindFirst cores script count trace state view
+  pub thereafter : IsBehindFirst cores script count trace state view
   pub known : AllByRecursion (IsKnown script.scenario) (lines_of (report_of trace))
   pub text : Appended old new (output_of output script (report_of trace))
 

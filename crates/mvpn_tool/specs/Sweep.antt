@@ -77,7 +77,7 @@ pub record CountsOn (timed : Timed) (view : WorldView) (at : IsReached timed vie
   pub acts : List Happened
   pub state : World
   pub is : outcome at.world timed ≡ Done acts state
-  pub behind : IsBehindFirst at.cores at.script (at.count + 1) (at.trace ++ traced at.count acts) state now
+  pub thereafter : IsBehindFirst at.cores at.script (at.count + 1) (at.trace ++ traced at.count acts) state now
   pub told : after ≡ fold with_line before (lines_in acts)
 
 -- The event runs out of labels.
@@ -98,7 +98,7 @@ pub record SweepsWhole (script : Script) (swept : Swept) : Type 0 where
   pub cores : Cores
   pub trace : List Traced
   pub state : World
-  pub behind : IsBehindFirst cores script (length script.events) trace state swept.world
+  pub thereafter : IsBehindFirst cores script (length script.events) trace state swept.world
   pub whole : IsWholeRun cores script trace state
   pub counts : swept.counts ≡ counts_of (report_of trace)
 

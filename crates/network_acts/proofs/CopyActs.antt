@@ -139,7 +139,7 @@ pub drops : (own old : NetworkView) → own ≡ old → (from to : NodeId) (plac
 drops own old same from to place view drop at is =
     let now = own_is own old same at is in
     record {
-      behind = record { world = without_copy at.world from to place; lines = [] };
+      thereafter = record { world = without_copy at.world from to place; lines = [] };
       is = refl;
       stands = record { scenario = now.scenario; plane = now.plane; datagrams = drop at.world now.datagrams };
       told = refl;
@@ -238,13 +238,13 @@ enters own old same n vrf site packet fate view lines new_lines goes octets text
     (goes (standing_of at) stands now.plane edge.0 edge.1) in
     let expected =
     entering_fate place (clock_of at.world) edge.0 (record { id = vrf; vrf = stands.vrf }) datagram.site datagram.source datagram.group in
-    let behind = with_branches n 255 number expected.branches at.world in
+    let thereafter = with_branches n 255 number expected.branches at.world in
     record {
-      behind = fated at.world n 255 number datagram.octets [] expected;
+      thereafter = fated at.world n 255 number datagram.octets [] expected;
       is = enters_alike at.world n vrf stands.vrf edge.0 datagram stands.stands stands.edge edge.1 now.datagrams.of_it;
-      stands = sending_there at own behind (sym (branches_keep n 255 number expected.branches at.world)) now.scenario now.plane view
-          (length behind.datagrams) datagram
-          (subst (λ (k : ℕ). IsSending behind k datagram view)
+      stands = sending_there at own thereafter (sym (branches_keep n 255 number expected.branches at.world)) now.scenario now.plane view
+          (length thereafter.datagrams) datagram
+          (subst (λ (k : ℕ). IsSending thereafter k datagram view)
           (ap (λ (ds : List Datagram). length ds) (sym (branches_datagrams n 255 number expected.branches at.world)))
           ((leaves (clock_of at.world)).left at.world number datagram expected (now.datagrams, own_octets) refl is).0);
       told = (leaves (clock_of at.world)).lines_are at.world number datagram expected (now.datagrams, own_octets) is;
@@ -324,14 +324,14 @@ lands from to copy own old same fate ttl clock view lines between new_lines lowe
     let now = subst (HasLanded at from to place copy) (sym same) is in
     let handles = subst (λ (n : NetworkView). Handles gone left.copy.number left.datagram n.datagrams) (sym same) left.handles in
     let lowered : ttl ≡ left.copy.ttl - 1 = lower ∙ ap (λ (k : ℕ). k - 1) left.ttl in
-    let behind = with_branches to (left.copy.ttl - 1) left.copy.number expected.branches gone in
+    let thereafter = with_branches to (left.copy.ttl - 1) left.copy.number expected.branches gone in
     record {
       number = left.copy.number;
       datagram = left.datagram;
-      behind = fated gone to (left.copy.ttl - 1) left.copy.number left.datagram.octets (landed_line ∷ []) expected;
+      thereafter = fated gone to (left.copy.ttl - 1) left.copy.number left.datagram.octets (landed_line ∷ []) expected;
       is = ap (λ (o : Option LinkCopy). Ok (landing at.world from to place o)) left.at
           ∙ ap (λ (o : Option Datagram). Ok (landed gone from to left.copy o)) left.handles.of_it;
-      stands = landing_there at own behind (sym (branches_keep to (left.copy.ttl - 1) left.copy.number expected.branches gone)) now.scenario now.plane
+      stands = landing_there at own thereafter (sym (branches_keep to (left.copy.ttl - 1) left.copy.number expected.branches gone)) now.scenario now.plane
           view left.copy.number left.datagram
           (subst (λ (k : ℕ). Handles (with_branches to k left.copy.number expected.branches gone) left.copy.number left.datagram view) lowered
           (leaves.left gone left.copy.number left.datagram expected handles (sym (ticks (standing_of at) now.plane)) (goes at place may is)));
@@ -366,7 +366,7 @@ pub none_lands : (own old : NetworkView) → own ≡ old → (from to : NodeId) 
 none_lands own old same from to place view lines none stays at is =
     let now = own_is own old same at is in
     record {
-      behind = record { world = at.world; lines = [] };
+      thereafter = record { world = at.world; lines = [] };
       is = ap (λ (o : Option LinkCopy). Ok (landing at.world from to place o)) (none at.world now.datagrams);
       stands = subst (λ (v : DatagramsView). IsWorld at (record own { datagrams = v })) (sym stays) now;
       told = sym (append-nil lines);
@@ -383,8 +383,8 @@ pub hops : (own old : NetworkView) → own ≡ old
 hops own old same from to place copy view next new lines new_lines land arrives finishes at may is =
     let done = arrives at place may (landed_here own old same from to place copy view land at is) in
     record {
-      behind = done.behind;
+      thereafter = done.thereafter;
       is = done.is;
-      stands = finishes (record at { world = done.behind.world }) done.number done.datagram done.stands;
+      stands = finishes (record at { world = done.thereafter.world }) done.number done.datagram done.stands;
       told = done.told;
     }

@@ -45,11 +45,11 @@ idle_still : (world : World) (network : OctetNetwork Nodes) (view : DatagramsVie
 idle_still world network view idle =
     record { stores = record { copies = idle.stores.copies; buffers = idle.stores.buffers }; none = idle.none; count = idle.count }
 
--- the network behind a change of its plane
-world_behind : (at : Instant) (moment : Moment) (network : OctetNetwork Nodes) (own : NetworkView) (plane : PlaneView) → IsWorld at own
+-- the network after a change of its plane
+world_after : (at : Instant) (moment : Moment) (network : OctetNetwork Nodes) (own : NetworkView) (plane : PlaneView) → IsWorld at own
     → IsPlane (scenario_of at.world) at.cores moment network plane
     → IsWorld (record { cores = at.cores; moment = moment; world = record at.world { network = network } }) (record own { plane = plane })
-world_behind at moment network own plane is now = record {
+world_after at moment network own plane is now = record {
   scenario = is.scenario ∙ sym now.around.scenario_is;
   plane = in_own_words (scenario_of at.world) at.cores moment network plane now;
   datagrams = idle_still at.world network own.datagrams is.datagrams;
@@ -74,9 +74,9 @@ made : (at : Instant) (moment : Moment) (happening : Act) (n : NodeId) (before :
     → act at.world happening ≡ at_node at.world n before acts → IsWorld at own → Acted (standing_of at) moment acts before lines new_lines plane
     → Made at moment happening lines new_lines (record own { plane = plane })
 made at moment happening n before acts lines new_lines own plane form is done = record {
-  behind = record { world = record at.world { network = done.new.network }; lines = before ++ put_lines (scenario_of at.world) done.new.puts };
+  thereafter = record { world = record at.world { network = done.new.network }; lines = before ++ put_lines (scenario_of at.world) done.new.puts };
   is = form ∙ ap (λ (o : Option (Behind (OctetNetwork Nodes))). with_network at.world before o n) done.run;
-  stands = world_behind at moment done.new.network own plane is done.is;
+  stands = world_after at moment done.new.network own plane is done.is;
   told = done.told;
 }
 
@@ -166,9 +166,9 @@ module _ (own old : NetworkView) (same : own ≡ old) (plane : PlaneView) where
       let now = own_is own old same at is in
       let done = acted (standing_of at) (octets.Call (Elapse count) ∷ []) at.moment plane (passed now.plane) in
       let world : World = record at.world { network = done.new.network } in
-      let stands = world_behind at at.moment done.new.network own plane now done.is in
+      let stands = world_after at at.moment done.new.network own plane now done.is in
       record {
-        behind = record { world = aged world; lines = [] ++ put_lines (scenario_of at.world) done.new.puts };
+        thereafter = record { world = aged world; lines = [] ++ put_lines (scenario_of at.world) done.new.puts };
         is = ap (λ (o : Option (Behind (OctetNetwork Nodes))). with_aged (with_network at.world [] o (record { 0 = 0 }))) done.run;
         stands = record {
           scenario = stands.scenario;

@@ -65,7 +65,7 @@ tells own old same all are octets copies live due due_told waiting waiting_told 
     ∙ ap (λ (l : List Session). min (count_by (λ session. not (is_ready at.world session)) l) 18446744073709551615)
     (own_sessions ∙ ap sessions now.scenario)) in
     record {
-      behind = record { world = at.world; lines = state_line at.world ∷ [] };
+      thereafter = record { world = at.world; lines = state_line at.world ∷ [] };
       is = refl;
       stands = is;
       told =

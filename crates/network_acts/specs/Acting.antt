@@ -10,13 +10,13 @@ use Rattle.network_acts.specs.control_plane.Plane.{Moment}
 use Rattle.network_acts.specs.Instant.{Instant, IsWorld}
 use Rattle.network_acts.specs.NetworkView.{NetworkView}
 
--- The act leads to a world that the network is, at that moment; its lines stand behind those of before.
+-- The act leads to a world that the network is, at that moment; its lines stand after those of before.
 pub record Made (at : Instant) (moment : Moment) (happening : Act) (lines new_lines : List ReportLine) (new : NetworkView)
     : Type 0 where
-  pub behind : Acted
-  pub is : act at.world happening ≡ Ok behind
-  pub stands : IsWorld (record { cores = at.cores; moment = moment; world = behind.world }) new
-  pub told : new_lines ≡ lines ++ behind.lines
+  pub thereafter : Acted
+  pub is : act at.world happening ≡ Ok thereafter
+  pub stands : IsWorld (record { cores = at.cores; moment = moment; world = thereafter.world }) new
+  pub told : new_lines ≡ lines ++ thereafter.lines
 
 -- The act has no lines.
 abbrev pub Passes : Instant → Moment → Act → NetworkView → Type 0

@@ -40,12 +40,12 @@ abbrev pub IsSomeHandling : (Instant → Type 0) → NetworkView → Type 0
 IsSomeHandling Fits network = (at : Instant) × (number : ℕ) × (datagram : Datagram) × Fits at × IsHandling at number datagram network
 
 -- The datagram that was accepted last enters at the VRF: the act leads to a world that the network is, in which that datagram is still
--- being sent, and its lines stand behind those of before.
+-- being sent, and its lines stand after those of before.
 pub record Enters (at : Instant) (vrf : VrfId) (datagram : Datagram) (lines new_lines : List ReportLine) (new : NetworkView) : Type 0 where
-  pub behind : Acted
-  pub is : act at.world (Enter vrf) ≡ Ok behind
-  pub stands : IsHandling (record at { world = behind.world }) (length behind.world.datagrams) datagram new
-  pub told : new_lines ≡ lines ++ behind.lines
+  pub thereafter : Acted
+  pub is : act at.world (Enter vrf) ≡ Ok thereafter
+  pub stands : IsHandling (record at { world = thereafter.world }) (length thereafter.world.datagrams) datagram new
+  pub told : new_lines ≡ lines ++ thereafter.lines
 
 -- the datagram was sent by that site, and is that packet
 pub record IsSentBy (sender : SiteId) (packet : Packet) (datagram : Datagram) : Type 0 where
@@ -78,11 +78,11 @@ landing_fate at from to place copy datagram =
     with_ttl copy.ttl (fate_at (without_copy at.world from to place) to (at.world.network.state.node to) from copy.label datagram)
 
 -- The copy that has landed goes on: the act leads to a world that the network is, in which its datagram is still handled, and its lines
--- stand behind those of before.
+-- stand after those of before.
 pub record Lands (at : Instant) (from to : NodeId) (place : ℕ) (lines new_lines : List ReportLine) (new : NetworkView) : Type 0 where
   pub number : ℕ
   pub datagram : Datagram
-  pub behind : Acted
-  pub is : act at.world (Land from to place) ≡ Ok behind
-  pub stands : IsLanding (record at { world = behind.world }) number datagram new
-  pub told : new_lines ≡ lines ++ behind.lines
+  pub thereafter : Acted
+  pub is : act at.world (Land from to place) ≡ Ok thereafter
+  pub stands : IsLanding (record at { world = thereafter.world }) number datagram new
+  pub told : new_lines ≡ lines ++ thereafter.lines

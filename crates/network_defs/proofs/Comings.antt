@@ -28,13 +28,13 @@ one_done what old new does =
 row_one : (what : Act) (old new : Small) → Does network cores what old new → row (what ∷ []) (world old) ≡ Done (quiet what ∷ []) (world new)
 row_one what old new does = λ i. and_then (one_done what old new does i) (row [])
 
-abbrev behind : List Happened → Outcome → Outcome
-behind before rest = elim rest [ Done more new ↦ Done (before ++ more) new | Halted more node ↦ Halted (before ++ more) node ]
+abbrev thereafter : List Happened → Outcome → Outcome
+thereafter before rest = elim rest [ Done more new ↦ Done (before ++ more) new | Halted more node ↦ Halted (before ++ more) node ]
 
 row_two : (first second : Act) (old between new : Small) → Does network cores first old between → Does network cores second between new
     → row (first ∷ second ∷ []) (world old) ≡ Done (quiet first ∷ quiet second ∷ []) (world new)
 row_two first second old between new does does_more =
-    (λ i. and_then (one_done first old between does i) (row (second ∷ []))) ∙ ap (behind (quiet first ∷ [])) (row_one second between new does_more)
+    (λ i. and_then (one_done first old between does i) (row (second ∷ []))) ∙ ap (thereafter (quiet first ∷ [])) (row_one second between new does_more)
 
 -- ---- events
 

@@ -129,7 +129,7 @@ idle_edge_step place now part call own new calls same made =
     (λ i. label_row place now part (one_call (calls i) ++ changed_leaves (leaves place no_control) (leaves place (same i))) >>? λ row. Some
     (record { edge = record { control = same i; part = part_after part row; raised = raises_stay now maps.empty call own calls i }; row = row }))
     ∙ (λ i. label_row place now part (own ∷ no_changed_leaves place i) >>? λ row. Some (record { edge = edge_of (part_after part row); row = row }))
-    ∙ (λ i. (made i >>? λ next. label_row place now next.part [] >>? λ behind. Some (record { old = part; call = own; new = next } ∷ behind)) >>?
+    ∙ (λ i. (made i >>? λ next. label_row place now next.part [] >>? λ thereafter. Some (record { old = part; call = own; new = next } ∷ thereafter)) >>?
     λ row. Some (record { edge = edge_of (part_after part row); row = row }))
 
 no_bgp_puts : (place : EdgePlace) → bgp_puts place no_control no_control ≡ []

@@ -18,7 +18,7 @@ use Rattle.network_defs.specs.Events.{Outcome, Done, Halted, and_then, one_act, 
 use Rattle.network_defs.specs.Nodes.{NodeState, Edge, CoreNode, Nodes, place_of}
 use Rattle.network_defs.specs.World.{World, Datagram, LinkCopy, scenario_of, clock_of, with_copies}
 
--- The world behind an act, and behind a row of acts, if none lacks a label, has the property.
+-- The world after an act, and after a row of acts, if none lacks a label, has the property.
 abbrev pub Gives : (World → Type 0) → Result Acted NodeId → Type 0
 Gives P (Err node) = ⊤
 Gives P (Ok new) = P new.world
@@ -41,9 +41,9 @@ then_comes P Q (Halted acts node) next p h = tt
 then_comes P Q (Done acts world) next p h = by (next world) (h world p)
   where
     by : (o : Outcome) → Comes Q o → Comes Q (elim o
-        [ Done behind new ↦ Done (acts ++ behind) new | Halted behind node ↦ Halted (acts ++ behind) node ])
-    by (Halted behind node) q = tt
-    by (Done behind new) q = q
+        [ Done thereafter new ↦ Done (acts ++ thereafter) new | Halted thereafter node ↦ Halted (acts ++ thereafter) node ])
+    by (Halted thereafter node) q = tt
+    by (Done thereafter new) q = q
 
 -- ---- rows, turns and rounds
 

@@ -15,10 +15,10 @@ one_outcome reached acts other next last e f = (cc, cc)
 pub one_run : (old : World) (number : ℕ) (events : List Timed) (trace other : List Traced) (new last : World) → Runs old number events trace new
     → Runs old number events other last → (trace ≡ other) × (new ≡ last)
 one_run old number [] trace other new last run run1 = (run.0 ∙ sym run1.0, run.1 ∙ sym run1.1)
-one_run old number (timed ∷ more) trace other new last (acts, next, rest, ends, says, run) (others, then_next, behind, ends1, says1, run1) =
+one_run old number (timed ∷ more) trace other new last (acts, next, rest, ends, says, run) (others, then_next, thereafter, ends1, says1, run1) =
     let same = one_outcome (outcome old timed) acts others next then_next ends ends1 in
     let from_there =
-    one_run then_next (number + 1) more rest behind new last (subst (λ (world : World). Runs world (number + 1) more rest new) same.1 run) run1 in
+    one_run then_next (number + 1) more rest thereafter new last (subst (λ (world : World). Runs world (number + 1) more rest new) same.1 run) run1 in
     (says ∙ (λ i. traced number (same.0 i) ++ from_there.0 i) ∙ sym says1, from_there.1)
 
 -- The cores of a script's scenario are one, and so is the run of its first events.

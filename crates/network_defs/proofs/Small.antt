@@ -98,7 +98,7 @@ either : {A : Type 0} (b : Bool) (x : A) → cond b x x ≡ x
 either true x = refl
 either false x = refl
 
--- a call behind which the network is one of these again, and nothing is put
+-- a call after which the network is one of these again, and nothing is put
 abbrev Makes : Scenario → Cores → NodeCall → Small → Small → Type 0
 Makes scenario cores call old new = nodes_called call (nodes_of scenario cores old) ≡ Some (record { state = nodes_of scenario cores new; puts = [] })
 
@@ -216,7 +216,7 @@ at_one scenario cores n acts old new turns =
     (λ i. with_network (world_of scenario cores old) [] (turns i) n)
     ∙ (λ i. Ok (record { world = world_of scenario cores new; lines = no_lines scenario i }))
 
--- an act without lines, behind which the network is one of these again
+-- an act without lines, after which the network is one of these again
 abbrev pub Does : Scenario → Cores → Act → Small → Small → Type 0
 Does scenario cores what old new = act (world_of scenario cores old) what ≡ Ok (record { world = world_of scenario cores new; lines = [] })
 

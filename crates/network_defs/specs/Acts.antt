@@ -46,7 +46,7 @@ pub data Act : Type 0 where
   SetCost : (a b : NodeId) → (cost : ℕ) → Act
   Reroute : (node : NodeId) → Act
 
--- The network behind an act, and the act's lines.
+-- The network after an act, and the act's lines.
 pub record Acted : Type 0 where
   pub world : World
   pub lines : List ReportLine
@@ -61,7 +61,7 @@ put_line puts over = elim (octets_over over puts) [ [] ↦ [] | octet ∷ more �
 abbrev pub put_lines : Scenario → List Put → List ReportLine
 put_lines scenario puts = flat_map (put_line puts) (directions scenario)
 
--- the act's lines and the network behind it, where there is one
+-- the act's lines and the network after it, where there is one
 abbrev pub with_network : World → List ReportLine → Option (Behind (octets.OctetNetwork Nodes)) → NodeId → Result Acted NodeId
 with_network world before None node = Err node
 with_network world before (Some new) node =
@@ -159,7 +159,7 @@ abbrev pub with_aged : Result Acted NodeId → Result Acted NodeId
 with_aged (Err node) = Err node
 with_aged (Ok new) = Ok (record new { world = aged new.world })
 
--- The network behind an act, or the node that lacks a label. Time passes and costs change at no node, and never lack one.
+-- The network after an act, or the node that lacks a label. Time passes and costs change at no node, and never lack one.
 abbrev pub act : World → Act → Result Acted NodeId
 act world (Tick ticks) = with_aged (at_node world (record { 0 = 0 }) [] (octets.Call (Elapse ticks) ∷ []))
 act world (Timers n) = at_node world n [] (octets.Call (Own n steps.Timers) ∷ [])

@@ -31,18 +31,18 @@ pub record Happened : Type 0 where
   pub act : Option Act
   pub lines : List ReportLine
 
--- What comes of a row of acts: what happened, and the network behind it; or what happened before an act that lacks a label, and the
+-- What comes of a row of acts: what happened, and the network after it; or what happened before an act that lacks a label, and the
 -- node that lacks it.
 pub data Outcome : Type 0 where
   Done : (acts : List Happened) → (world : World) → Outcome
   Halted : (acts : List Happened) → (node : NodeId) → Outcome
 
--- more acts behind, if the first ones were done
+-- more acts after, if the first ones were done
 abbrev pub and_then : Outcome → (World → Outcome) → Outcome
 and_then (Halted before node) next = Halted before node
 and_then (Done before world) next = elim (next world) [
-  | Done behind new ↦ Done (before ++ behind) new
-  | Halted behind node ↦ Halted (before ++ behind) node
+  | Done thereafter new ↦ Done (before ++ thereafter) new
+  | Halted thereafter node ↦ Halted (before ++ thereafter) node
 ]
 
 abbrev pub one_act : World → Act → Outcome
@@ -113,7 +113,7 @@ landings world way = replicate (length (world.copies way.0 way.1)) (Land way.0 w
 abbrev pub drain_round : World → Outcome
 drain_round world = row (flat_map (landings world) (link_ways (scenario_of world))) world
 
--- The TTL of a copy is at most 255 and falls at each landing, so behind so many rounds no copy is on a link; a round without copies
+-- The TTL of a copy is at most 255 and falls at each landing, so after so many rounds no copy is on a link; a round without copies
 -- does nothing.
 abbrev pub drained : World → Outcome
 drained world = times drain_round 255 world

@@ -68,7 +68,7 @@ raised =
     ∷ did 3 Tell (state 0 3)
     ∷ []
 
--- Behind one tick more than the life of a copy the four holds are due. When they are run, the BGP session alone is not ready.
+-- After one tick more than the life of a copy the four holds are due. When they are run, the BGP session alone is not ready.
 abbrev pub holds : List Timed
 holds =
     at 5 (events.Tick 2)
@@ -93,7 +93,7 @@ held =
     ∷ did 11 Tell (state 0 1)
     ∷ []
 
--- The first session is lost. It may not be raised while its ends are up; behind both notices it is, and its holds begin anew.
+-- The first session is lost. It may not be raised while its ends are up; after both notices it is, and its holds begin anew.
 abbrev pub losses : List Timed
 losses =
     at 13 (events.Lose Ldp first_edge core_node)

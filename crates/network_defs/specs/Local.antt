@@ -59,7 +59,7 @@ put_since kind from to trace = flat_map (λ step. flat_map (put_by kind from to)
 abbrev pub taken_since : Kind → NodeId → NodeId → List Traced → List ℕ
 taken_since kind from to trace = flat_map (λ step. flat_map (taken_by kind from to) step.happened.lines) (since_raise kind from to trace)
 
--- whether the node's end of the session is up behind an act: from its raise until it notices a loss or the node restarts
+-- whether the node's end of the session is up after an act: from its raise until it notices a loss or the node restarts
 abbrev pub is_up_after : Kind → NodeId → NodeId → Bool → Option Act → Bool
 is_up_after kind n peer before (Some (RaiseFirst own a b)) = before || (same_kind kind own && (a.0 == n.0) && (b.0 == peer.0))
 is_up_after kind n peer before (Some (RaiseSecond own a b)) = before || (same_kind kind own && (b.0 == n.0) && (a.0 == peer.0))

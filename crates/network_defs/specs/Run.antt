@@ -64,7 +64,7 @@ pub record Halts (cores : Cores) (script : Script) (report : List Entry) (node :
   pub whole : report
       ≡ report_of (trace ++ traced (length before) acts) ++ record { event = length before; lines = lines.Halt timed.line node ∷ [] } ∷ []
 
--- ---- behind some events
+-- ---- after some events
 
 -- What `settle` is to leave: no octet in transit, and no timer due.
 abbrev pub IsSettled : World → Type 0

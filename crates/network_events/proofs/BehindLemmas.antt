@@ -1,4 +1,4 @@
--- What is known of the world of a network that is behind events of a scenario.
+-- What is known of the world of a network that is after events of a scenario.
 use Rattle.std.proofs.Common.{◌≡◌, ◌∙◌, refl, sym, subst, ℕ, ◌+◌, List, [], ◌∷◌, Option, None, Some}
 use Rattle.std.specs.List.{AllByRecursion}
 use Rattle.scenario_defs.specs.Rules.{IsEventOf, Rules}
@@ -21,7 +21,7 @@ use Rattle.network_acts.specs.Words.{AreLinked}
 use Rattle.network_events.specs.Behind.{IsBehind, between_events}
 use Rattle.network_events.specs.Meeting.{IsReady}
 use Rattle.network_events.specs.WorldView.{WorldView}
-use Rattle.network_events.proofs.FlowLemmas.{flows_behind}
+use Rattle.network_events.proofs.FlowLemmas.{flows_after}
 use Rattle.network_events.proofs.KeptLemmas.{IsEven, comes_done, event_even, start_alike}
 use Rattle.network_events.proofs.LinkLemmas.{are_linked}
 
@@ -41,7 +41,7 @@ event_kept scenario timed is old acts next e kept = by (refusal old timed.event)
         ≡ Done acts next → Kept scenario next
     by None free made = record {
       even = comes_done (IsEven scenario) (done old timed.event) acts next made (event_even timed.event scenario old kept.even);
-      flows = flows_behind old timed.event acts next free made (subst (λ (s : Scenario). IsEventOf s timed.event) (sym kept.even.own) is) kept.flows;
+      flows = flows_after old timed.event acts next free made (subst (λ (s : Scenario). IsEventOf s timed.event) (sym kept.even.own) is) kept.flows;
     }
     by (Some reason) free made = subst (Kept scenario) (let same : old ≡ next = cc in same) kept
 
@@ -55,32 +55,32 @@ runs_kept scenario (timed ∷ more) of_it old number trace new run kept =
 -- ---- between two events
 
 module _ (cores : Cores) (scenario : Scenario) (events : List Timed) (trace : List Traced) (world : World) (view : WorldView)
-    (behind : IsBehind cores scenario events trace world view) where
+    (thereafter : IsBehind cores scenario events trace world view) where
   abbrev any_script : Script
   any_script = record { scenario = scenario; events = events; end = 0 }
 
   linked : Linked scenario world
-  linked = run_is_linked cores any_script events trace world (links_once scenario behind.rules) behind.run
+  linked = run_is_linked cores any_script events trace world (links_once scenario thereafter.rules) thereafter.run
 
   kept : Kept scenario world
-  kept = runs_kept scenario events behind.events_of (start scenario cores) 0 trace world behind.run
+  kept = runs_kept scenario events thereafter.events_of (start scenario cores) 0 trace world thereafter.run
       (record { even = record { own = refl; alike = start_alike scenario cores }; flows = tt })
 
-  pub scenario_behind : scenario_of world ≡ scenario
-  scenario_behind = linked.network.nodes.place
+  pub scenario_after : scenario_of world ≡ scenario
+  scenario_after = linked.network.nodes.place
 
   -- the network's scenario is that of the events
   pub network_scenario : view.network.scenario ≡ scenario
-  network_scenario = behind.stands.scenario ∙ scenario_behind
+  network_scenario = thereafter.stands.scenario ∙ scenario_after
 
-  pub links_behind : AreLinked world
-  links_behind =
-      are_linked world (subst Rules (sym scenario_behind) behind.rules)
-      (subst (λ (s : Scenario). AreSound s world) (sym scenario_behind) linked.sound)
+  pub links_after : AreLinked world
+  links_after =
+      are_linked world (subst Rules (sym scenario_after) thereafter.rules)
+      (subst (λ (s : Scenario). AreSound s world) (sym scenario_after) linked.sound)
 
   pub ready_there : IsReady (between_events cores world)
   ready_there = record {
     resting = record { rest = refl; alike = kept.even.alike };
-    linked = links_behind;
+    linked = links_after;
     flows = kept.flows;
   }

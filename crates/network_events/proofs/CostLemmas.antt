@@ -150,7 +150,7 @@ module _ (count nodes : ℕ) (old mid : NetworkView) (lines mid_lines : List Rep
       (λ world. and_then (row (reroutes count) world) (row (acts.Reroute own ∷ []))) (row (reroutes (count + 1))) old new lines new_lines halt
       (λ world. sym (nodes_more (λ n. acts.Reroute n) count world)) (both_does new new_lines (Err halt) one)))
 
--- behind the turns of all nodes nothing is under way
+-- after the turns of all nodes nothing is under way
 pub reroutes_all : (nodes : ℕ) (old new : NetworkView) (lines new_lines : List ReportLine) → nodes ≡ length old.scenario.nodes
     → Does IsRepriced (with_first nodes) (row (reroutes nodes)) old new lines new_lines (Ok tt)
     → Does IsRepriced (λ m. at_rest) (row (reroutes nodes)) old new lines new_lines (Ok tt)

@@ -67,16 +67,16 @@ made_makes Fits one old new lines new_lines (Ok done) made = λ at fits is. made
 -- ---- a datagram that enters
 
 -- what stands in between two rows of acts
-pub two_rows : (first more : List Act) (world mid new : World) (acts behind : List Happened) → row first world ≡ Done acts mid
-    → row more mid ≡ Done behind new → row (first ++ more) world ≡ Done (acts ++ behind) new
-two_rows first more world mid new acts behind e f = row_append first more world ∙ then_done acts mid (row more) (row first world) e behind new f
+pub two_rows : (first more : List Act) (world mid new : World) (acts thereafter : List Happened) → row first world ≡ Done acts mid
+    → row more mid ≡ Done thereafter new → row (first ++ more) world ≡ Done (acts ++ thereafter) new
+two_rows first more world mid new acts thereafter e f = row_append first more world ∙ then_done acts mid (row more) (row first world) e thereafter new f
 
 module _ (site : SiteId) (packet : Packet) where
   -- no VRF has been entered yet
   pub enters_none : (network : NetworkView) (lines : List ReportLine) → EntersAt site packet [] network network lines lines
   enters_none network lines at datagram is = record { acts = []; world = at.world; is = refl; stands = is.stands; told = sym (append-nil lines) }
 
-  -- the network behind it is such a world as well
+  -- the network after it is such a world as well
   pub sent_again : (vrfs : List VrfId) (old new : NetworkView) (lines new_lines : List ReportLine) → EntersAt site packet vrfs old new lines new_lines
       → IsSomeSent site packet old → IsSomeSent site packet new
   sent_again vrfs old new lines new_lines enters (at, datagram, is) =
@@ -139,11 +139,11 @@ module _ (site : SiteId) (packet : Packet) where
   entered_at : (vrf : VrfId) (new : NetworkView) (lines new_lines : List ReportLine) (at : Instant) (datagram : Datagram)
       → Enters at vrf datagram lines new_lines new → HasEntered at (vrf ∷ []) datagram lines new_lines new
   entered_at vrf new lines new_lines at datagram enters = record {
-    acts = record { act = Some (Enter vrf); lines = enters.behind.lines } ∷ [];
-    world = enters.behind.world;
-    is = one_done at.world (Enter vrf) enters.behind enters.is;
+    acts = record { act = Some (Enter vrf); lines = enters.thereafter.lines } ∷ [];
+    world = enters.thereafter.world;
+    is = one_done at.world (Enter vrf) enters.thereafter enters.is;
     stands = enters.stands;
-    told = enters.told ∙ ap (λ (l : List ReportLine). lines ++ l) (sym (append-nil enters.behind.lines));
+    told = enters.told ∙ ap (λ (l : List ReportLine). lines ++ l) (sym (append-nil enters.thereafter.lines));
   }
 
   module _ (vrf : VrfId) (old : NetworkView) where
@@ -170,14 +170,14 @@ module _ (site : SiteId) (packet : Packet) where
     no_vrf (Some found) h = absurd (none-some found.edge (sym h))
 
     abbrev acted : Acted → Result Acted NodeId
-    acted behind = Ok behind
+    acted thereafter = Ok thereafter
 
     -- nothing enters at a VRF that the scenario does not have
     pub enters_nowhere : edge_of_vrf old.scenario vrf ≡ None → (lines : List ReportLine) → EntersAt site packet (vrf ∷ []) old old lines lines
     enters_nowhere e lines at datagram is =
         let none = no_vrf (slice_get (scenario_of at.world).vrfs vrf.0) (subst (λ (s : Scenario). edge_of_vrf s vrf ≡ None) is.stands.scenario e) in
         entered_at vrf old lines lines at datagram (record {
-          behind = record { world = at.world; lines = [] };
+          thereafter = record { world = at.world; lines = [] };
           is = ap (λ (o : Option Vrf). acted (entering at.world vrf o (datagram_at at.world (length at.world.datagrams)))) none;
           stands = is.stands;
           told = sym (append-nil lines);
@@ -208,20 +208,20 @@ module _ (site : SiteId) (packet : Packet) (old mid : NetworkView) where
   some_sent accepts (at, ready, is) = (record at { world = with_datagram sent_one at.world }, sent_one, accepted accepts at ready is)
 
   -- the datagram is still being sent once it has entered
-  pub some_behind : Accepts → (vrfs : List VrfId) (behind : NetworkView) (lines new_lines : List ReportLine)
-      → EntersAt site packet vrfs mid behind lines new_lines
-      → IsSome IsReady old → IsSomeHandling Any behind
-  some_behind accepts vrfs behind lines new_lines enters (at, ready, is) =
+  pub some_after : Accepts → (vrfs : List VrfId) (thereafter : NetworkView) (lines new_lines : List ReportLine)
+      → EntersAt site packet vrfs mid thereafter lines new_lines
+      → IsSome IsReady old → IsSomeHandling Any thereafter
+  some_after accepts vrfs thereafter lines new_lines enters (at, ready, is) =
       let has = enters (record at { world = with_datagram sent_one at.world }) sent_one (accepted accepts at ready is) in
       (record at { world = has.world }, length has.world.datagrams, sent_one, tt, has.stands)
 
-  pub sent_all : Accepts → (vrfs : List VrfId) → vrfs ≡ entered old.scenario site → (behind new : NetworkView) (lines new_lines : List ReportLine)
-      → EntersAt site packet vrfs mid behind lines new_lines
+  pub sent_all : Accepts → (vrfs : List VrfId) → vrfs ≡ entered old.scenario site → (thereafter new : NetworkView) (lines new_lines : List ReportLine)
+      → EntersAt site packet vrfs mid thereafter lines new_lines
       → (octets : List ℕ) → octets ≡ packet.octets
-      → ((at : Instant) (number : ℕ) (datagram : Datagram) → IsHandling at number datagram behind → octets ≡ datagram.octets → IsWorld at new)
+      → ((at : Instant) (number : ℕ) (datagram : Datagram) → IsHandling at number datagram thereafter → octets ≡ datagram.octets → IsWorld at new)
       → (at : Instant) → IsReady at → IsWorld at old
       → Did at at.moment (sent site packet.source packet.group packet.octets at.world) lines new_lines new
-  sent_all accepts vrfs all behind new lines new_lines enters octets text finishes at ready is =
+  sent_all accepts vrfs all thereafter new lines new_lines enters octets text finishes at ready is =
       let has = enters (record at { world = with_datagram sent_one at.world }) sent_one (accepted accepts at ready is) in
       let same : vrfs ≡ entered (scenario_of at.world) site = all ∙ ap (λ (s : Scenario). entered s site) is.scenario in
       record {

@@ -1,4 +1,4 @@
--- What is done to a network, act by act: one act, and more acts behind.
+-- What is done to a network, act by act: one act, and more acts after.
 use Rattle.std.proofs.Common.{◌≡◌, ◌∙◌, refl, sym, ap, subst, ◌++◌, Bool, true, false, List, [], ◌∷◌, append_assoc, Some, Result, Ok, Err, OnOk}
 use Rattle.std.proofs.lemmas.List.Concat.{flat_map-append}
 use Rattle.std.proofs.lemmas.List.{append-nil}
@@ -19,28 +19,28 @@ use Rattle.network_events.specs.declared.halt.Halt.TheVariants as halts
 
 -- ---- outcomes
 
-pub lines_behind : (first more : List Happened) → lines_in (first ++ more) ≡ lines_in first ++ lines_in more
-lines_behind first more = flat_map-append (λ (happened : Happened). happened.lines) first more
+pub lines_after : (first more : List Happened) → lines_in (first ++ more) ≡ lines_in first ++ lines_in more
+lines_after first more = flat_map-append (λ (happened : Happened). happened.lines) first more
 
--- lines behind lines
-pub two_told : (lines mid_lines new_lines : List ReportLine) (before behind : List Happened) → mid_lines ≡ lines ++ lines_in before
-    → new_lines ≡ mid_lines ++ lines_in behind → new_lines ≡ lines ++ lines_in (before ++ behind)
-two_told lines mid_lines new_lines before behind one two =
-    two ∙ (ap (λ (l : List ReportLine). l ++ lines_in behind) one ∙ (append_assoc lines (lines_in before) (lines_in behind)
-    ∙ ap (λ (l : List ReportLine). lines ++ l) (sym (lines_behind before behind))))
+-- lines after lines
+pub two_told : (lines mid_lines new_lines : List ReportLine) (before thereafter : List Happened) → mid_lines ≡ lines ++ lines_in before
+    → new_lines ≡ mid_lines ++ lines_in thereafter → new_lines ≡ lines ++ lines_in (before ++ thereafter)
+two_told lines mid_lines new_lines before thereafter one two =
+    two ∙ (ap (λ (l : List ReportLine). l ++ lines_in thereafter) one ∙ (append_assoc lines (lines_in before) (lines_in thereafter)
+    ∙ ap (λ (l : List ReportLine). lines ++ l) (sym (lines_after before thereafter))))
 
--- an outcome that is done, with another one behind
+-- an outcome that is done, with another one after
 pub then_done : (acts : List Happened) (world : World) (next : World → Outcome) (first : Outcome) → first ≡ Done acts world
-    → (behind : List Happened) (new : World) → next world ≡ Done behind new
-    → and_then first next ≡ Done (acts ++ behind) new
-then_done acts world next first e behind new f =
+    → (thereafter : List Happened) (new : World) → next world ≡ Done thereafter new
+    → and_then first next ≡ Done (acts ++ thereafter) new
+then_done acts world next first e thereafter new f =
     ap (λ (o : Outcome). and_then o next) e ∙ ap
     (λ (o : Outcome). elim o [ Done more w ↦ Done (acts ++ more) w | Halted more n ↦ Halted (acts ++ more) n ]) f
 
 pub then_halted : (acts : List Happened) (world : World) (next : World → Outcome) (first : Outcome) → first ≡ Done acts world
-    → (behind : List Happened) (n : NodeId) → next world ≡ Halted behind n
-    → and_then first next ≡ Halted (acts ++ behind) n
-then_halted acts world next first e behind n f =
+    → (thereafter : List Happened) (n : NodeId) → next world ≡ Halted thereafter n
+    → and_then first next ≡ Halted (acts ++ thereafter) n
+then_halted acts world next first e thereafter n f =
     ap (λ (o : Outcome). and_then o next) e ∙ ap
     (λ (o : Outcome). elim o [ Done more w ↦ Done (acts ++ more) w | Halted more m ↦ Halted (acts ++ more) m ]) f
 
@@ -50,9 +50,9 @@ halted_first acts n next first e = ap (λ (o : Outcome). and_then o next) e
 
 -- ---- one act
 
-pub one_done : (world : World) (one : Act) (behind : Acted) → act world one ≡ Ok behind
-    → row (one ∷ []) world ≡ Done (record { act = Some one; lines = behind.lines } ∷ []) behind.world
-one_done world one behind e =
+pub one_done : (world : World) (one : Act) (thereafter : Acted) → act world one ≡ Ok thereafter
+    → row (one ∷ []) world ≡ Done (record { act = Some one; lines = thereafter.lines } ∷ []) thereafter.world
+one_done world one thereafter e =
     ap (λ (r : Result Acted NodeId). and_then (elim r
     [ Ok new ↦ Done (record { act = Some one; lines = new.lines } ∷ []) new.world | Err node ↦ Halted [] node ]) (row [])) e
 
@@ -65,11 +65,11 @@ pub made_did : (at : Instant) (moment : Moment) (one : Act) (lines new_lines : L
     → Made at moment one lines new_lines new
     → Did at moment (row (one ∷ []) at.world) lines new_lines new
 made_did at moment one lines new_lines new made = record {
-  acts = record { act = Some one; lines = made.behind.lines } ∷ [];
-  world = made.behind.world;
-  is = one_done at.world one made.behind made.is;
+  acts = record { act = Some one; lines = made.thereafter.lines } ∷ [];
+  world = made.thereafter.world;
+  is = one_done at.world one made.thereafter made.is;
   stands = made.stands;
-  told = made.told ∙ ap (λ (l : List ReportLine). lines ++ l) (sym (append-nil made.behind.lines));
+  told = made.told ∙ ap (λ (l : List ReportLine). lines ++ l) (sym (append-nil made.thereafter.lines));
 }
 
 abbrev stopped : Halt → Result (Unit {0}) Halt
@@ -105,7 +105,7 @@ act_does Fits moment one n old new lines new_lines (Err faults.NoLabel) acts = r
 }
 act_does Fits moment one n old new lines new_lines (Err faults.NoMemory) acts = record { done = tt; lacks = λ m e. absurd (no_memory_lacks m e) }
 
--- ---- more behind
+-- ---- more after
 
 module _ (F G : Instant → Type 0) (f g : Moment → Moment) (first next : World → Outcome) (old mid new : NetworkView)
     (lines mid_lines new_lines : List ReportLine) where

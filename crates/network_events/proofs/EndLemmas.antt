@@ -1,4 +1,4 @@
--- Which ends of a session are up behind the acts by which it comes up or its loss is noticed.
+-- Which ends of a session are up after the acts by which it comes up or its loss is noticed.
 use Rattle.std.proofs.Common.{◌≡◌, ◌∙◌, refl, sym, ap, subst, ◌==◌, ◌&&◌, ◌||◌, inl, inr, ◌<◌, not, Bool, true, false, cond, List, [], ◌∷◌, length, Option, Some, None, find, Result, Ok, Err}
 use Rattle.std.proofs.lemmas.Bool.{and_parts, or_cases}
 use Rattle.std.proofs.lemmas.Option.{same_Some}
@@ -26,7 +26,7 @@ use Rattle.network_defs.specs.System.{Own, system}
 use Rattle.network_defs.specs.World.{World, scenario_of}
 use Rattle.network_defs.proofs.Kept.{Comes, Gives, both_give, one_comes, then_comes}
 use Rattle.network_acts.specs.wire_laws.Edges.{IsWay, begins}
-use Rattle.network_acts.specs.wire_laws.Ends.{HasCall, end_behind, is_raise}
+use Rattle.network_acts.specs.wire_laws.Ends.{HasCall, end_after, is_raise}
 use Rattle.network_acts.specs.wire_laws.Ways.{IsFound}
 use Rattle.network_acts.proofs.wire_laws.EndLemmas.{calls_ends}
 use Rattle.network_acts.proofs.wire_laws.WayLemmas.{reversed, session_found, two_ends, way_has}
@@ -45,16 +45,16 @@ use Rattle.network_events.proofs.RowLemmas.{does_as, halts_as, row_append}
 
 -- ---- acts that end with a call of a node
 
--- the ends of the world are those behind the call
+-- the ends of the world are those after the call
 abbrev pub EndsBehind : World → NodeId → Call → World → Type 0
-EndsBehind old n call new = (kind : Kind) (m peer : NodeId) → is_up new kind m peer ≡ end_behind n call kind m peer (is_up old kind m peer)
+EndsBehind old n call new = (kind : Kind) (m peer : NodeId) → is_up new kind m peer ≡ end_after n call kind m peer (is_up old kind m peer)
 
 module _ (world : World) (n : NodeId) (call : Call) (base : OctetNetwork Nodes) (same : base.state ≡ world.network.state) (has : HasCall n base call)
   where
     called_ends : (new : Behind (OctetNetwork Nodes)) → octet_act system base (octets.Call (Own n call)) ≡ Some new
         → EndsBehind world n call (record world { network = new.network })
     called_ends new e kind m peer =
-        calls_ends base new n call e has kind m peer ∙ ap (λ (state : Nodes). end_behind n call kind m peer (is_end_up kind (state.node m) peer)) same
+        calls_ends base new n call e has kind m peer ∙ ap (λ (state : Nodes). end_after n call kind m peer (is_end_up kind (state.node m) peer)) same
 
     one_ends : Gives (EndsBehind world n call) (with_network world [] (octet_run system base (octets.Call (Own n call) ∷ [])) n)
     one_ends = by (octet_act system base (octets.Call (Own n call))) refl
@@ -89,7 +89,7 @@ first_ends world kind a b has =
       stream = λ over. cond (is_of_session kind a b over) unfed (world.network.stream over);
     }) refl has
 
--- what an act gives holds behind the row of it alone
+-- what an act gives holds after the row of it alone
 pub one_row : (P : World → Type 0) (world : World) (one : Act) → Gives P (act world one) → Comes P (row (one ∷ []) world)
 one_row P world one gives = then_comes P P (one_act world one) (row []) (one_comes P world one gives) (λ next p. p)
 
@@ -104,7 +104,7 @@ pub ends_within : (scenario : Scenario) → Rules scenario → (kind : Kind) (a 
 ends_within scenario rules kind a b way = two_ends scenario rules kind a b (way_has scenario kind a b way)
 
 -- a call at one node leaves the end of another one
-pub other_stays : (n m : NodeId) → (n ≡ m → ⊥) → (call : Call) (kind : Kind) (peer : NodeId) (old : Bool) → end_behind n call kind m peer old ≡ old
+pub other_stays : (n m : NodeId) → (n ≡ m → ⊥) → (call : Call) (kind : Kind) (peer : NodeId) (old : Bool) → end_after n call kind m peer old ≡ old
 other_stays n m apart call kind peer old = by (m.0 == n.0) (node_apart m n (λ e. apart (sym e)))
   where
     by : (here : Bool) → here ≡ false → cond (here && begins call kind peer) (is_raise call) old ≡ old
@@ -112,7 +112,7 @@ other_stays n m apart call kind peer old = by (m.0 == n.0) (node_apart m n (λ e
     by false e = refl
 
 -- the end that notices the loss is down
-pub noticed_down : (a b : NodeId) (kind : Kind) (old : Bool) → end_behind a (Noticed kind b) kind a b old ≡ false
+pub noticed_down : (a b : NodeId) (kind : Kind) (old : Bool) → end_after a (Noticed kind b) kind a b old ≡ false
 noticed_down a b kind old = λ i. cond (node_itself a a refl i && session_itself kind b i) false old
 
 -- ---- a session that is raised
@@ -143,13 +143,13 @@ module _ (kind : Kind) (a b : NodeId) where
       let scenario : Scenario = scenario_of at.world in
       let ends = ends_within scenario (rules_of at network is) kind a b raisable.way in
       let has = raise_has (standing_of at) network.plane is.plane a ends.0 kind b raisable.way in
-      let behind : FirstUp at.world world = comes_done (FirstUp at.world) (row (acts.RaiseFirst kind a b ∷ []) at.world) happened world e
+      let thereafter : FirstUp at.world world = comes_done (FirstUp at.world) (row (acts.RaiseFirst kind a b ∷ []) at.world) happened world e
       (one_row (FirstUp at.world) at.world (acts.RaiseFirst kind a b) (gives at.world raisable.second ends.2 has)) in
       record {
-        within = subst (λ (s : Scenario). b.0 < length s.nodes) (sym behind.scenario) ends.1;
+        within = subst (λ (s : Scenario). b.0 < length s.nodes) (sym thereafter.scenario) ends.1;
         current = rests_at at raisable.resting b;
-        way = subst (λ (s : Scenario). IsWay s (direction kind a b)) (sym behind.scenario) raisable.way;
-        down = behind.down;
+        way = subst (λ (s : Scenario). IsWay s (direction kind a b)) (sym thereafter.scenario) raisable.way;
+        down = thereafter.down;
         rising = λ over other. other;
       }
     where
@@ -165,7 +165,7 @@ module _ (kind : Kind) (a b : NodeId) where
           by (Ok new) h =
               record { scenario = h.0.scenario; down = h.1 kind b a ∙ (other_stays a b apart (Raised kind b) kind a (is_up old kind b a) ∙ down) }
 
-  -- no end is to come up behind both acts
+  -- no end is to come up after both acts
   pub risen : (at : Instant) → IsResting at → none_rising (with_rising kind a b at.moment) ≡ at.moment
   risen at resting = (λ i. none_rising (with_rising kind a b (resting.rest i))) ∙ sym resting.rest
 

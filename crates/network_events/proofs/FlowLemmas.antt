@@ -1,4 +1,4 @@
--- Datagrams stay, and are of their flows behind every event.
+-- Datagrams stay, and are of their flows after every event.
 use Rattle.std.specs.Prelude.{⊤, ◌==◌, ◌/◌, nat_lt, slice_index}
 use Rattle.std.proofs.Common.{◌≡◌, ◌∙◌, ℕ, ◌≤◌, Bool, true, false, cond, List, length, Option, None, Some, Result, Ok, Err, refl, sym, ap, subst, arith}
 use Rattle.std.specs.List.{AllByRecursion}
@@ -149,8 +149,8 @@ brought_flows world (events.Packet site octets) free is =
 brought_flows world other free is = tt
 
 -- After an event that is not refused the datagrams are of their flows, where they were before.
-pub flows_behind : (world : World) (event : Event) (acts : List Happened) (new : World) → refusal world event ≡ None
+pub flows_after : (world : World) (event : Event) (acts : List Happened) (new : World) → refusal world event ≡ None
     → done world event ≡ Done acts new → IsEventOf (scenario_of world) event → AreOfFlows world → AreOfFlows new
-flows_behind world event acts new free e is flows =
+flows_after world event acts new free e is flows =
     subst (AllByRecursion IsOfFlow) (sym (done_sends world event acts new e))
     (each_append IsOfFlow world.datagrams (brought_by event) flows (brought_flows world event free is))

@@ -209,11 +209,11 @@ module _ (session : Session) where
               old mid old lines mid_lines lines (as_parted (Ok tt) one)
               (λ at p is happened world e stands. first_leads first second at old p is happened world e) (some.0, parted some.0 some.1 some.2, some.2)
 
-          healed_behind : (new : NetworkView) (new_lines : List ReportLine) (result : Result (Unit {0}) Halt)
+          healed_after : (new : NetworkView) (new_lines : List ReportLine) (result : Result (Unit {0}) Halt)
               → Does (IsParted session false second) same_moment (λ next. and_then (second_turn second next) (row (raise_acts session))) mid new
               mid_lines new_lines result
               → Does IsResting same_moment (healed session) old new lines new_lines result
-          healed_behind new new_lines result two =
+          healed_after new new_lines result two =
               healed_by new new_lines result
               (then_does (IsParted session first second) (IsParted session false second) same_moment same_moment (first_turn first)
               (λ next. and_then (second_turn second next) (row (raise_acts session)))
@@ -234,7 +234,7 @@ module _ (session : Session) where
                 mid_lines last_lines (Err halt)
                 → Does IsResting same_moment (healed session) old last lines last_lines (Err halt)
             second_stops halt two =
-                healed_behind last last_lines (Err halt)
+                healed_after last last_lines (Err halt)
                 (first_halts (IsParted session false second) (IsParted session false second) same_moment same_moment (second_turn second)
                 (row (raise_acts session)) mid last last mid_lines last_lines last_lines halt
                 (as_second (Err halt) two))
@@ -254,7 +254,7 @@ module _ (session : Session) where
                   → Does (IsRaisable session.kind session.a session.b) same_moment (row (raise_acts session)) last new last_lines new_lines result
                   → Does IsResting same_moment (healed session) old new lines new_lines result
               heals new new_lines result three =
-                  healed_behind new new_lines result
+                  healed_after new new_lines result
                   (then_does (IsParted session false second) (IsParted session false false) same_moment same_moment (second_turn second)
                   (row (raise_acts session)) mid last new mid_lines last_lines new_lines
                   (as_second (Ok tt) two) (λ at p is happened world e stands. second_leads second at mid p is happened world e) result

@@ -201,12 +201,12 @@ landing_more old mid new ways way lines mid_lines new_lines on one = record {
         stands = more.stands;
         told = two_told lines mid_lines new_lines first.acts more.acts first.told more.told;
       };
-  some = behind on.some;
+  some = thereafter on.some;
   scenario = own on.some ∙ on.scenario;
 }
   where
-    behind : IsSome MayDrain mid → IsSome MayDrain new
-    behind (at, may, is) = let did = one at may is in
+    thereafter : IsSome MayDrain mid → IsSome MayDrain new
+    thereafter (at, may, is) = let did = one at may is in
         (record at { world = did.world }, may_again mid new (way ∷ []) mid_lines new_lines at may did, did.stands)
 
     own : IsSome MayDrain mid → new.scenario ≡ mid.scenario
@@ -339,11 +339,11 @@ module _ (old mid new : NetworkView) (count : ℕ) (lines mid_lines new_lines : 
         let first = before at may is in
         let more = last at may is in
         row_flows (round_row first.world) first.world more.world more.acts more.is (on.flows at may is);
-    some = behind on.some;
+    some = thereafter on.some;
   }
     where
-      behind : IsSome MayDrain mid → IsSome MayDrain new
-      behind (at, may, is) =
+      thereafter : IsSome MayDrain mid → IsSome MayDrain new
+      thereafter (at, may, is) =
           let did = round.does at may is in (
             record at { world = did.world },
             record {

@@ -44,15 +44,15 @@ read_off world =
 stands_so : (world : World) → WorldStands (scenario_of world) (read_off world) world
 stands_so world = record { nodes = record { place = refl; clock = refl; ends = λ n peer. refl }; joined = λ kind a b. refl }
 
--- which sessions are joined behind an act
-abbrev pub joined_behind : Act → (Kind → NodeId → NodeId → Bool) → Kind → NodeId → NodeId → Bool
-joined_behind (Lose own u n) old kind a b = old kind a b && not (is_that own u n kind a b)
-joined_behind (RaiseFirst own u n) old kind a b = old kind a b || is_that own u n kind a b
-joined_behind (Restart m) old kind a b = old kind a b && not ((a.0 == m.0) || (b.0 == m.0))
-joined_behind other old kind a b = old kind a b
+-- which sessions are joined after an act
+abbrev pub joined_after : Act → (Kind → NodeId → NodeId → Bool) → Kind → NodeId → NodeId → Bool
+joined_after (Lose own u n) old kind a b = old kind a b && not (is_that own u n kind a b)
+joined_after (RaiseFirst own u n) old kind a b = old kind a b || is_that own u n kind a b
+joined_after (Restart m) old kind a b = old kind a b && not ((a.0 == m.0) || (b.0 == m.0))
+joined_after other old kind a b = old kind a b
 
 stand_joined : (scenario : Scenario) (one : Act) (old : SessionsStand) (kind : Kind) (a b : NodeId)
-    → (act_stand scenario one old).joined kind a b ≡ joined_behind one old.joined kind a b
+    → (act_stand scenario one old).joined kind a b ≡ joined_after one old.joined kind a b
 stand_joined scenario (Tick ticks) old kind a b = refl
 stand_joined scenario (Timers n) old kind a b = refl
 stand_joined scenario (Move own from to count) old kind a b = refl
@@ -73,7 +73,7 @@ stand_joined scenario (Reroute n) old kind a b = refl
 pub record Follows (one : Act) (old new : World) : Type 0 where
   pub scenario : scenario_of new ≡ scenario_of old
   pub joined : (kind : Kind) (a b : NodeId) → new.network.joined (direction kind a b)
-      ≡ joined_behind one (λ own u n. old.network.joined (direction own u n)) kind a b
+      ≡ joined_after one (λ own u n. old.network.joined (direction own u n)) kind a b
 
 pub act_follows : (world : World) (one : Act) → Gives (Follows one world) (act world one)
 act_follows world one = by (act world one) (act_gives (scenario_of world) (read_off world) world one (stands_so world))
@@ -102,11 +102,11 @@ either_way true false = refl
 either_way false true = refl
 either_way false false = refl
 
-pub behind_even : (one : Act) (old : Kind → NodeId → NodeId → Bool) → AreEven old → AreEven (joined_behind one old)
-behind_even (Lose own u n) old even kind a b = λ i. even kind a b i && not (that_even own u n kind a b i)
-behind_even (RaiseFirst own u n) old even kind a b = λ i. even kind a b i || that_even own u n kind a b i
-behind_even (Restart m) old even kind a b = λ i. even kind a b i && not (either_way (a.0 == m.0) (b.0 == m.0) i)
-behind_even other old even kind a b = even kind a b
+pub after_even : (one : Act) (old : Kind → NodeId → NodeId → Bool) → AreEven old → AreEven (joined_after one old)
+after_even (Lose own u n) old even kind a b = λ i. even kind a b i && not (that_even own u n kind a b i)
+after_even (RaiseFirst own u n) old even kind a b = λ i. even kind a b i || that_even own u n kind a b i
+after_even (Restart m) old even kind a b = λ i. even kind a b i && not (either_way (a.0 == m.0) (b.0 == m.0) i)
+after_even other old even kind a b = even kind a b
 
 -- ---- both
 
@@ -122,7 +122,7 @@ act_even scenario one world even = by (act world one) (act_follows world one)
     by (Err node) h = tt
     by (Ok new) h = record {
       own = h.scenario ∙ even.own;
-      alike = λ kind a b. h.joined kind a b ∙ (behind_even one (λ own u n. world.network.joined (direction own u n)) even.alike kind a b
+      alike = λ kind a b. h.joined kind a b ∙ (after_even one (λ own u n. world.network.joined (direction own u n)) even.alike kind a b
           ∙ sym (h.joined kind b a));
     }
 
@@ -174,29 +174,29 @@ pub comes_done : (P : World → Type 0) (o : Outcome) (acts : List Happened) (wo
 comes_done P o acts world e comes = subst (Comes P) e comes
 
 module _ (first : World → Outcome) (keeps : KeepsEven first) (old mid : NetworkView) (lines mid_lines : List ReportLine) where
-  even_behind : (at : Instant) → IsResting at → (acts : List Happened) (world : World) → first at.world ≡ Done acts world
+  even_after : (at : Instant) → IsResting at → (acts : List Happened) (world : World) → first at.world ≡ Done acts world
       → IsEven (scenario_of at.world) world
-  even_behind at resting acts world e =
+  even_after at resting acts world e =
       comes_done (IsEven (scenario_of at.world)) (first at.world) acts world e
       (keeps (scenario_of at.world) at.world (record { own = refl; alike = resting.alike }))
 
   pub rests_on : (next : World → Outcome) (new : NetworkView) (new_lines : List ReportLine)
       → Leads IsResting IsResting same_moment same_moment first next old mid new lines mid_lines new_lines
-  rests_on next new new_lines at resting is acts world e stands = record { rest = resting.rest; alike = (even_behind at resting acts world e).alike }
+  rests_on next new new_lines at resting is acts world e stands = record { rest = resting.rest; alike = (even_after at resting acts world e).alike }
 
   module _ (does : Does IsResting same_moment first old mid lines mid_lines (Ok tt)) (some : IsSome IsResting old) where
     pub still_some : IsSome IsResting mid
     still_some =
         let did = does.done some.0 some.1 some.2 in (
           record { cores = some.0.cores; moment = some.0.moment; world = did.world },
-          record { rest = some.1.rest; alike = (even_behind some.0 some.1 did.acts did.world did.is).alike },
+          record { rest = some.1.rest; alike = (even_after some.0 some.1 did.acts did.world did.is).alike },
           did.stands,
         )
 
     pub same_scenario : mid.scenario ≡ old.scenario
     same_scenario =
         let did = does.done some.0 some.1 some.2 in
-        did.stands.scenario ∙ ((even_behind some.0 some.1 did.acts did.world did.is).own ∙ sym some.2.scenario)
+        did.stands.scenario ∙ ((even_after some.0 some.1 did.acts did.world did.is).own ∙ sym some.2.scenario)
 
 -- ---- runs
 

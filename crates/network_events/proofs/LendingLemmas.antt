@@ -1,4 +1,4 @@
--- What a world lends is what the runs say that it is behind.
+-- What a world lends is what the runs say that it is after.
 use Rattle.std.proofs.Common.{◌≡◌, ◌∙◌, sym, ap, subst}
 use Rattle.mv_base.specs.declared.ids.NodeId.{NodeId}
 use Rattle.scenario_defs.specs.declared.event.Kind.TheVariants as kinds
@@ -12,15 +12,15 @@ use Rattle.network_acts.proofs.Handed.{has_held, is_named, two_copies}
 use Rattle.network_events.specs.Behind.{IsBehind, between_events}
 use Rattle.network_events.specs.Lending.{InEachRun, IsCore, IsEdge, IsPool}
 use Rattle.network_events.specs.WorldView.{WorldView}
-use Rattle.network_events.proofs.BehindLemmas.{links_behind, scenario_behind}
+use Rattle.network_events.proofs.BehindLemmas.{links_after, scenario_after}
 
 -- ---- nodes
 
 module _ (own now : WorldView) (same : own ≡ now) (n : NodeId) where
   pub edge_lent : (edge : EdgeView) → ((at : Instant) → IsWorld at own.network → IsEdgeThere (standing_of at) n edge) → InEachRun now (IsEdge n edge)
-  edge_lent edge there cores scenario events trace world behind =
-      let is = there (between_events cores world) (subst (IsBehind cores scenario events trace world) (sym same) behind).stands in
-      let scenario_is = scenario_behind cores scenario events trace world now behind in
+  edge_lent edge there cores scenario events trace world thereafter =
+      let is = there (between_events cores world) (subst (IsBehind cores scenario events trace world) (sym same) thereafter).stands in
+      let scenario_is = scenario_after cores scenario events trace world now thereafter in
       record {
         home = is.home ∙ ap (λ (s : Scenario). home_of s n) scenario_is;
         unspent = is.unspent;
@@ -32,9 +32,9 @@ module _ (own now : WorldView) (same : own ≡ now) (n : NodeId) where
 
   pub core_lent : (labels : NodeData) → ((at : Instant) → IsWorld at own.network → IsCoreThere (standing_of at) n labels)
       → InEachRun now (IsCore n labels)
-  core_lent labels there cores scenario events trace world behind =
-      let is = there (between_events cores world) (subst (IsBehind cores scenario events trace world) (sym same) behind).stands in
-      let scenario_is = scenario_behind cores scenario events trace world now behind in
+  core_lent labels there cores scenario events trace world thereafter =
+      let is = there (between_events cores world) (subst (IsBehind cores scenario events trace world) (sym same) thereafter).stands in
+      let scenario_is = scenario_after cores scenario events trace world now thereafter in
       record {
         place = is.place ∙ ap (λ (s : Scenario). node_place s n) scenario_is;
         unspent = is.unspent;
@@ -46,10 +46,10 @@ module _ (own now : WorldView) (same : own ≡ now) (n : NodeId) where
 -- ---- buffers
 
 pool_of : (view : WorldView) → IsShared view.network.datagrams.copies → InEachRun view (λ scenario world. IsPool world view)
-pool_of view account cores scenario events trace world behind =
-    let idle = behind.stands.datagrams in
+pool_of view account cores scenario events trace world thereafter =
+    let idle = thereafter.stands.datagrams in
     let copies = view.network.datagrams.copies in
-    let links = links_behind cores scenario events trace world view behind in
+    let links = links_after cores scenario events trace world view thereafter in
     record {
       copies = idle.stores.copies;
       buffers = λ from to place kept at.

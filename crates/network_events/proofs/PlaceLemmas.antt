@@ -34,8 +34,8 @@ has_vrf-is site vrf (iface ∷ more) = by (is_of_site site iface) refl (has_vrf-
     by : (b : Bool) → is_of_site site iface ≡ b → has_vrf (vrfs_of site more) vrf
         ≡ list_any (λ other. is_of_site site other && is_of_vrf vrf other) more
         → has_vrf (vrfs_of site (iface ∷ more)) vrf ≡ list_any (λ other. is_of_site site other && is_of_vrf vrf other) (iface ∷ more)
-    by true h behind = rw h (rw behind refl)
-    by false h behind = rw h behind
+    by true h thereafter = rw h (rw thereafter refl)
+    by false h thereafter = rw h thereafter
 
 -- Those of the VRFs that are among those of the site's interfaces are the ones at which it is attached.
 pub among_from-entered : (scenario : Scenario) (site : SiteId) (number : ℕ) (vrfs : List Vrf)

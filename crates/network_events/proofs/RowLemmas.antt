@@ -21,28 +21,28 @@ use Rattle.network_events.proofs.DoLemmas.{Leads, first_halts, made_did, no_memo
 pub none_first : (world : World) (next : World → Outcome) → and_then (Done [] world) next ≡ next world
 none_first world next = by (next world)
   where
-    by : (o : Outcome) → elim o [ Done behind new ↦ Done ([] ++ behind) new | Halted behind n ↦ Halted ([] ++ behind) n ] ≡ o
-    by (Done behind new) = refl
-    by (Halted behind n) = refl
+    by : (o : Outcome) → elim o [ Done thereafter new ↦ Done ([] ++ thereafter) new | Halted thereafter n ↦ Halted ([] ++ thereafter) n ] ≡ o
+    by (Done thereafter new) = refl
+    by (Halted thereafter n) = refl
 
-pub none_behind : (o : Outcome) → and_then o (λ world. Done [] world) ≡ o
-none_behind (Halted acts n) = refl
-none_behind (Done acts world) = ap (λ (l : List Happened). Done l world) (append-nil acts)
+pub none_after : (o : Outcome) → and_then o (λ world. Done [] world) ≡ o
+none_after (Halted acts n) = refl
+none_after (Done acts world) = ap (λ (l : List Happened). Done l world) (append-nil acts)
 
 pub then_then : (o : Outcome) (f g : World → Outcome) → and_then (and_then o f) g ≡ and_then o (λ world. and_then (f world) g)
 then_then (Halted acts n) f g = refl
 then_then (Done acts world) f g = by (f world)
   where
     last : (more : List Happened) (o : Outcome) → ◌≡◌ {A = Outcome}
-        (elim o [ Done behind new ↦ Done ((acts ++ more) ++ behind) new | Halted behind n ↦ Halted ((acts ++ more) ++ behind) n ])
-        (elim (elim o as (λ _. Outcome) [ Done behind new ↦ Done (more ++ behind) new | Halted behind n ↦ Halted (more ++ behind) n ])
-        [ Done behind new ↦ Done (acts ++ behind) new | Halted behind n ↦ Halted (acts ++ behind) n ])
-    last more (Done behind new) = ap (λ (l : List Happened). Done l new) (append_assoc acts more behind)
-    last more (Halted behind n) = ap (λ (l : List Happened). Halted l n) (append_assoc acts more behind)
+        (elim o [ Done thereafter new ↦ Done ((acts ++ more) ++ thereafter) new | Halted thereafter n ↦ Halted ((acts ++ more) ++ thereafter) n ])
+        (elim (elim o as (λ _. Outcome) [ Done thereafter new ↦ Done (more ++ thereafter) new | Halted thereafter n ↦ Halted (more ++ thereafter) n ])
+        [ Done thereafter new ↦ Done (acts ++ thereafter) new | Halted thereafter n ↦ Halted (acts ++ thereafter) n ])
+    last more (Done thereafter new) = ap (λ (l : List Happened). Done l new) (append_assoc acts more thereafter)
+    last more (Halted thereafter n) = ap (λ (l : List Happened). Halted l n) (append_assoc acts more thereafter)
 
     by : (o : Outcome) → ◌≡◌ {A = Outcome} (and_then
-        (elim o [ Done behind new ↦ Done (acts ++ behind) new | Halted behind n ↦ Halted (acts ++ behind) n ]) g)
-        (elim (and_then o g) [ Done behind new ↦ Done (acts ++ behind) new | Halted behind n ↦ Halted (acts ++ behind) n ])
+        (elim o [ Done thereafter new ↦ Done (acts ++ thereafter) new | Halted thereafter n ↦ Halted (acts ++ thereafter) n ]) g)
+        (elim (and_then o g) [ Done thereafter new ↦ Done (acts ++ thereafter) new | Halted thereafter n ↦ Halted (acts ++ thereafter) n ])
     by (Halted more n) = refl
     by (Done more new) = last more (g new)
 
@@ -62,7 +62,7 @@ module _ {A : Type 0} (turn : A → World → Outcome) where
       (λ i. and_then (turn x world) (λ next. each_append first more next i)) ∙ sym (then_then (turn x world) (each turn first) (each turn more))
 
   pub each_one : (x : A) (world : World) → each turn (x ∷ []) world ≡ turn x world
-  each_one x world = none_behind (turn x world)
+  each_one x world = none_after (turn x world)
 
   -- one turn more
   pub each_more : (first : List A) (x : A) (world : World) → each turn (first ++ x ∷ []) world ≡ and_then (each turn first world) (turn x)
@@ -83,7 +83,7 @@ module _ (round : World → Outcome) where
 
   -- one round more
   pub times_more : (count : ℕ) (world : World) → times round (count + 1) world ≡ and_then (times round count world) round
-  times_more count world = times_append count 1 world ∙ (λ i. and_then (times round count world) (λ next. none_behind (round next) i))
+  times_more count world = times_append count 1 world ∙ (λ i. and_then (times round count world) (λ next. none_after (round next) i))
 
   -- rounds that do nothing
   pub times_idle : (count : ℕ) (world : World) → round world ≡ Done [] world → times round count world ≡ Done [] world
@@ -179,7 +179,7 @@ passes_does F f one old new lines passes = record {
       let made = passes at fits is in
       made_did at (f at.moment) one lines lines new
       (record {
-        behind = made.behind;
+        thereafter = made.thereafter;
         is = made.is;
         stands = made.stands;
         told =
@@ -224,7 +224,7 @@ module _ (F G : Instant → Type 0) (first next whole : World → Outcome) (old 
       (λ at fits is. (fits, sym (split at.world), refl))
       (first_halts F F same_moment same_moment first next old mid mid lines mid_lines mid_lines halt one)
 
-  -- what is behind it does nothing
+  -- what is after it does nothing
   pub rest_idle : Does F same_moment first old mid lines mid_lines (Ok tt)
       → ((at : Instant) → F at → IsWorld at old → (world : World) → (acts : List Happened) → first at.world ≡ Done acts world
       → IsWorld (record { cores = at.cores; moment = at.moment; world = world }) mid → next world ≡ Done [] world)

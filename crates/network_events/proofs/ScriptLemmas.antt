@@ -1,4 +1,4 @@
--- A network that is behind the first events of a script: what is true of the next one, and what it is behind then.
+-- A network that is after the first events of a script: what is true of the next one, and what it is after then.
 use Rattle.std.proofs.Common.{◌≡◌, ◌∙◌, refl, sym, ap, subst, arith, ℕ, zero, suc, ◌+◌, ◌*◌, ◌≤◌, ◌<◌, List, [], ◌∷◌, ◌++◌, length, take, get_or, slice_get, Option, Some, None}
 use Rattle.std.specs.Prelude.{fold}
 use Rattle.std.specs.List.{AllByRecursion}
@@ -82,7 +82,7 @@ clock_few past iface entry is =
 -- ---- the next event of a script
 
 module _ (cores : Cores) (script : Script) (rules : ScriptRules script) (count : ℕ) (trace : List Traced) (world : World) (view : WorldView)
-    (behind : IsBehind cores script.scenario (take count script.events) trace world view) (timed : Timed)
+    (thereafter : IsBehind cores script.scenario (take count script.events) trace world view) (timed : Timed)
     (at : slice_get script.events count ≡ Some timed) where
   abbrev first : List Timed
   first = take count script.events
@@ -99,30 +99,30 @@ module _ (cores : Cores) (script : Script) (rules : ScriptRules script) (count :
   -- it is one of the scenario
   pub next_event : IsEventOf view.network.scenario timed.event
   next_event =
-      subst (λ (s : Scenario). IsEventOf s timed.event) (sym (network_scenario cores script.scenario first trace world view behind)) own_event
+      subst (λ (s : Scenario). IsEventOf s timed.event) (sym (network_scenario cores script.scenario first trace world view thereafter)) own_event
 
   clock_small : clock_of world ≤ length first * 1000000
   clock_small =
       let past = past_of script.scenario first trace in
       let iface : IfaceId = record { 0 = 0 } in
       let entry : JoinEntry = entries.Star (V4 []) in
-      let e = entries_told cores script.scenario first trace world rules.scenario (rises_first 0 count script.events rules.lines) behind.run in
+      let e = entries_told cores script.scenario first trace world rules.scenario (rises_first 0 count script.events rules.lines) thereafter.run in
       subst (λ (k : ℕ). k ≤ length first * 1000000) (e.clock iface entry)
       (clock_few past iface entry (all_take (λ (t : Timed). IsEventOf script.scenario t.event) count script.events rules.events))
 
   -- and the clock after it is small
   pub next_clock : view.network.plane.clock + ticks_of timed.event < 9223372036854775808
   next_clock =
-      let clock : clock_of world ≡ view.network.plane.clock = behind.stands.plane.around.clock in
+      let clock : clock_of world ≡ view.network.plane.clock = thereafter.stands.plane.around.clock in
       let few = rules.few in
       let ticks = ticks_few script.scenario timed.event own_event in
       omega (arith, clock, clock_small, few_first, less, few, ticks)
 
-  -- the network that is behind it too
-  pub behind_next : (acts : List Happened) (next : World) (now : WorldView)
+  -- the network that is after it too
+  pub after_next : (acts : List Happened) (next : World) (now : WorldView)
       → IsBehind cores script.scenario (first ++ timed ∷ []) (trace ++ traced (length first) acts) next now
       → IsBehind cores script.scenario (take (count + 1) script.events) (trace ++ traced count acts) next now
-  behind_next acts next now is =
+  after_next acts next now is =
       subst (λ (l : List Timed). IsBehind cores script.scenario l (trace ++ traced count acts) next now)
       (sym (take_next script.events count timed at))
       (subst (λ (k : ℕ). IsBehind cores script.scenario (first ++ timed ∷ []) (trace ++ traced k acts) next now) few_first is)

@@ -1,4 +1,4 @@
--- A step of a network that is behind events of a scenario.
+-- A step of a network that is after events of a scenario.
 use Rattle.std.proofs.Common.{◌≡◌, ◌∙◌, refl, sym, ap, subst, arith, ℕ, ◌+◌, Bool, true, false, List, [], ◌∷◌, ◌++◌, length, append-nil, Option, Some, None, Result, Ok, Err, OnOk, ◌⊎◌, inl, inr}
 use Rattle.std.proofs.lemmas.Option.{none-some}
 use Rattle.mv_base.specs.declared.ids.NodeId.{NodeId}
@@ -29,15 +29,15 @@ use Rattle.network_events.specs.declared.halt.Halt.TheVariants as halts
 use Rattle.network_events.proofs.BehindLemmas.{network_scenario, ready_there}
 use Rattle.network_events.proofs.RunLemmas.{runs_more}
 
--- ---- from each run that the network is behind
+-- ---- from each run that the network is after
 
 module _ (cores : Cores) (scenario : Scenario) (events : List Timed) (trace : List Traced) (world : World) (view : WorldView)
-    (behind : IsBehind cores scenario events trace world view) where
+    (thereafter : IsBehind cores scenario events trace world view) where
   abbrev own_scenario : view.network.scenario ≡ scenario
-  own_scenario = network_scenario cores scenario events trace world view behind
+  own_scenario = network_scenario cores scenario events trace world view thereafter
 
   ready : IsReady (between_events cores world)
-  ready = ready_there cores scenario events trace world view behind
+  ready = ready_there cores scenario events trace world view thereafter
 
   module _ (timed : Timed) (is : IsEventOf view.network.scenario timed.event) (new : NetworkView) (halt : Option Halt) where
     abbrev now : WorldView
@@ -51,7 +51,7 @@ module _ (cores : Cores) (scenario : Scenario) (events : List Timed) (trace : Li
     run_more acts next e =
         let number : 0 + length events ≡ length events = omega arith in
         subst (λ (k : ℕ). Runs (start scenario cores) 0 (events ++ timed ∷ []) (trace ++ traced k acts) next) number
-        (runs_more events (start scenario cores) 0 trace world timed acts next behind.run e)
+        (runs_more events (start scenario cores) 0 trace world timed acts next thereafter.run e)
 
     refused_outcome : (reason : Refusal) → refusal world timed.event ≡ Some reason
         → outcome world timed ≡ Done (record { act = None; lines = told.Refused timed.line reason ∷ [] } ∷ []) world
@@ -78,10 +78,10 @@ module _ (cores : Cores) (scenario : Scenario) (events : List Timed) (trace : Li
       acts = acts;
       next = next;
       is = is_done;
-      behind = record {
-        rules = behind.rules;
-        of_scenario = behind.of_scenario;
-        events_of = each_append (λ (t : Timed). IsEventOf scenario t.event) events (timed ∷ []) behind.events_of (own_event, tt);
+      thereafter = record {
+        rules = thereafter.rules;
+        of_scenario = thereafter.of_scenario;
+        events_of = each_append (λ (t : Timed). IsEventOf scenario t.event) events (timed ∷ []) thereafter.events_of (own_event, tt);
         run = run_more acts next is_done;
         stands = stands;
         going = going;
@@ -94,14 +94,14 @@ module _ (cores : Cores) (scenario : Scenario) (events : List Timed) (trace : Li
         → Meets timed.event view.network new [] mid answer → IsTold timed.line answer mid own → new_lines ≡ lines ++ own
         → halt ≡ None → Advances cores scenario events trace world timed lines new_lines now
     advances lines mid own new_lines (Ok None) meets written appended going =
-        let both = meets.made refl (between_events cores world) ready behind.stands in
+        let both = meets.made refl (between_events cores world) ready thereafter.stands in
         let did = both.1 in
         gone did.acts did.world (done_outcome both.0 ∙ did.is) did.stands lines own new_lines (written ∙ (append-nil mid ∙ did.told)) appended going
     advances lines mid own new_lines (Ok (Some reason)) meets written appended going =
         let all = meets.refused reason refl in
-        let why = all.0 (between_events cores world) ready behind.stands in
+        let why = all.0 (between_events cores world) ready thereafter.stands in
         gone (record { act = None; lines = told.Refused timed.line reason ∷ [] } ∷ []) world (refused_outcome reason why)
-        (subst (IsWorld (between_events cores world)) (sym all.1) behind.stands) lines own new_lines
+        (subst (IsWorld (between_events cores world)) (sym all.1) thereafter.stands) lines own new_lines
         (written ∙ ap (λ (l : List ReportLine). l ++ told.Refused timed.line reason ∷ []) all.2) appended going
     advances lines mid own new_lines (Err h) meets written appended going = absurd written
 
@@ -110,7 +110,7 @@ module _ (cores : Cores) (scenario : Scenario) (events : List Timed) (trace : Li
         → Meets timed.event view.network new [] mid answer → answer ≡ Err (halts.NoLabel n) → own ≡ mid
         → new_lines ≡ lines ++ own → Lacks world timed n lines new_lines
     lacks_here n lines mid own new_lines answer meets e written appended =
-        let both = meets.lacks n e (between_events cores world) ready behind.stands in
+        let both = meets.lacks n e (between_events cores world) ready thereafter.stands in
         record {
           acts = both.1.acts;
           is = done_outcome both.0 ∙ both.1.is;
@@ -124,12 +124,12 @@ module _ (view : WorldView) (reached : IsReached view) where
   pub some_ready : IsSome IsReady view.network
   some_ready =
       let r = reached in
-      (between_events r.cores r.world, ready r.cores r.scenario r.events r.trace r.world view r.behind, r.behind.stands)
+      (between_events r.cores r.world, ready r.cores r.scenario r.events r.trace r.world view r.thereafter, r.thereafter.stands)
 
   own_rules : Rules view.network.scenario
   own_rules =
       let r = reached in
-      subst Rules (sym (network_scenario r.cores r.scenario r.events r.trace r.world view r.behind)) r.behind.rules
+      subst Rules (sym (network_scenario r.cores r.scenario r.events r.trace r.world view r.thereafter)) r.thereafter.rules
 
   pub given_event : (event : Event) → IsEventOf view.network.scenario event → EventHasOctets event → IsGiven view.network.scenario event
   given_event event is octets = record { of_it = is; sound = sound_event view.network.scenario event own_rules is octets }
@@ -140,7 +140,7 @@ pub begun : (scenario : Scenario) (network : NetworkView) → Rules scenario →
     → IsBegun scenario (record { network = network; halt = None })
 begun scenario network rules same first = record {
   scenario_is = same;
-  behind = λ cores of_scenario. record {
+  thereafter = λ cores of_scenario. record {
     rules = rules;
     of_scenario = of_scenario;
     events_of = tt;
@@ -158,23 +158,23 @@ begun_reached scenario view begun own = record {
   events = [];
   trace = [];
   world = start scenario own.0;
-  behind = begun.behind own.0 own.1;
+  thereafter = begun.thereafter own.0 own.1;
 }
 
--- one that went through an event is behind it
+-- one that went through an event is after it
 pub still_reached : (line : ℕ) (event : Event) (old new : WorldView) (lines new_lines : List ReportLine) (result : Result (Unit {0}) Halt)
     → ((h : Halt) → result ≡ Err h → ⊥) → Steps line event old new lines new_lines result
     → IsReached old → IsReached new
 still_reached line event old new lines new_lines (Err h) fine steps r = absurd (fine h refl)
 still_reached line event old new lines new_lines (Ok tt) fine steps r =
-    let a = steps.made r.cores r.scenario r.events r.trace r.world r.behind in
+    let a = steps.made r.cores r.scenario r.events r.trace r.world r.thereafter in
     record {
       cores = r.cores;
       scenario = r.scenario;
       events = r.events ++ at_line line event ∷ [];
       trace = r.trace ++ traced (length r.events) a.acts;
       world = a.next;
-      behind = a.behind;
+      thereafter = a.thereafter;
     }
 
 -- ---- the step
@@ -217,9 +217,9 @@ module _ (line : ℕ) (event : Event) (old : WorldView) (going : old.halt ≡ No
       → IsBehind cores scenario events trace world old → (n : NodeId)
       → (halts.NoLabel n ≡ halts.NoMemory) ⊎ ((answer ≡ Err (halts.NoLabel n)) × (own ≡ mid)) → new_lines ≡ lines ++ own
       → Lacks world (at_line line event) n lines new_lines
-  lacking cores scenario events trace world behind n (inl f) appended = absurd (label_or_memory n (sym f))
-  lacking cores scenario events trace world behind n (inr both) appended =
-      lacks_here cores scenario events trace world old behind (at_line line event) is new None n lines mid own new_lines answer meets both.0 both.1
+  lacking cores scenario events trace world thereafter n (inl f) appended = absurd (label_or_memory n (sym f))
+  lacking cores scenario events trace world thereafter n (inr both) appended =
+      lacks_here cores scenario events trace world old thereafter (at_line line event) is new None n lines mid own new_lines answer meets both.0 both.1
       appended
 
   pub step_halts : (h : Halt) (told result : Result (Unit {0}) Halt) → result ≡ Err h → Tells line answer mid own told
@@ -227,10 +227,10 @@ module _ (line : ℕ) (event : Event) (old : WorldView) (going : old.halt ≡ No
       → Steps line event old (record { network = new; halt = Some h }) lines new_lines (Err h)
   step_halts h told result e tells appends = record {
     made = tt;
-    lacks = λ n f unhalted cores scenario events trace world behind.
+    lacks = λ n f unhalted cores scenario events trace world thereafter.
         let label = same_halt h (halts.NoLabel n) f in
         let whole = appends.all (λ memory. label_or_memory n (sym (same_halt h halts.NoMemory (sym e ∙ memory)) ∙ label)) in
-        lacking cores scenario events trace world behind n
+        lacking cores scenario events trace world thereafter n
         (subst (λ (k : Halt). (k ≡ halts.NoMemory) ⊎ ((answer ≡ Err k) × (own ≡ mid))) label (tells.lacks h (sym whole.0 ∙ e))) whole.1;
     wanting = λ memory unhalted. appends.wanting (e ∙ memory);
     spent = λ k f. ap (λ (x : Halt). Some x) (same_halt h k f);
@@ -244,8 +244,8 @@ module _ (line : ℕ) (event : Event) (old : WorldView) (going : old.halt ≡ No
   step_goes halt none told (Ok tt) fine tells appends =
       let whole = appends.all (λ memory. not_stopped halts.NoMemory memory) in
       record {
-        made = λ cores scenario events trace world behind.
-            advances cores scenario events trace world old behind (at_line line event) is new halt lines mid own new_lines answer meets
+        made = λ cores scenario events trace world thereafter.
+            advances cores scenario events trace world old thereafter (at_line line event) is new halt lines mid own new_lines answer meets
             (tells.made (sym whole.0)) whole.1 none;
         lacks = λ n f. absurd (not_stopped (halts.NoLabel n) f);
         wanting = λ f. absurd (not_stopped halts.NoMemory f);

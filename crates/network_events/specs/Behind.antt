@@ -40,7 +40,7 @@ pub record IsReached (view : WorldView) : Type 0 where
   pub events : List Timed
   pub trace : List Traced
   pub world : World
-  pub behind : IsBehind cores scenario events trace world view
+  pub thereafter : IsBehind cores scenario events trace world view
 
 -- The event's acts are done, and the network is after it too; the lines of the acts were appended to those of before.
 pub record Advances (cores : Cores) (scenario : Scenario) (events : List Timed) (trace : List Traced) (world : World) (timed : Timed)
@@ -48,7 +48,7 @@ pub record Advances (cores : Cores) (scenario : Scenario) (events : List Timed) 
   pub acts : List Happened
   pub next : World
   pub is : outcome world timed ≡ Done acts next
-  pub behind : IsBehind cores scenario (events ++ timed ∷ []) (trace ++ traced (length events) acts) next new
+  pub thereafter : IsBehind cores scenario (events ++ timed ∷ []) (trace ++ traced (length events) acts) next new
   pub told : new_lines ≡ lines ++ lines_in acts
 
 -- One of the event's acts lacks a label at that node; the lines of the acts before it were appended to those of before.
@@ -79,4 +79,4 @@ pub record Steps (line : ℕ) (event : Event) (old new : WorldView) (lines new_l
 -- Nothing has happened yet in the network of that scenario, by whatever cores it has.
 pub record IsBegun (scenario : Scenario) (view : WorldView) : Type 0 where
   pub scenario_is : view.network.scenario ≡ scenario
-  pub behind : (cores : Cores) → AreCoresOf scenario cores → IsBehind cores scenario [] [] (start scenario cores) view
+  pub thereafter : (cores : Cores) → AreCoresOf scenario cores → IsBehind cores scenario [] [] (start scenario cores) view

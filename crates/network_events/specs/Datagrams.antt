@@ -41,7 +41,7 @@ of_memory (Err wanting) = Err halts.NoMemory
 -- ---- a datagram that enters
 
 -- The last datagram, which is being handled, has entered at these VRFs: the acts lead to a world that the network is, in which it is still
--- handled, and their lines stand behind those of before.
+-- handled, and their lines stand after those of before.
 pub record HasEntered (at : Instant) (vrfs : List VrfId) (datagram : Datagram) (lines new_lines : List ReportLine) (new : NetworkView)
     : Type 0 where
   pub acts : List Happened

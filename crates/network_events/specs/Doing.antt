@@ -13,7 +13,7 @@ use Rattle.network_acts.specs.Words.{Moment}
 use Rattle.network_events.specs.declared.halt.Halt.{Halt}
 use Rattle.network_events.specs.declared.halt.Halt.TheVariants as halts
 
--- The acts are done: the network is the world behind them, at that moment, and their lines stand behind those of before.
+-- The acts are done: the network is the world after them, at that moment, and their lines stand after those of before.
 pub record Did (at : Instant) (moment : Moment) (outcome : Outcome) (lines new_lines : List ReportLine) (new : NetworkView) : Type 0 where
   pub acts : List Happened
   pub world : World
@@ -21,7 +21,7 @@ pub record Did (at : Instant) (moment : Moment) (outcome : Outcome) (lines new_l
   pub stands : IsWorld (record { cores = at.cores; moment = moment; world = world }) new
   pub told : new_lines ≡ lines ++ lines_in acts
 
--- One of the acts lacks a label at that node, and the lines of the acts before it stand behind those of before.
+-- One of the acts lacks a label at that node, and the lines of the acts before it stand after those of before.
 pub record Lacked (outcome : Outcome) (n : NodeId) (lines new_lines : List ReportLine) : Type 0 where
   pub acts : List Happened
   pub is : outcome ≡ Halted acts n

@@ -1,4 +1,4 @@
--- The parts of a world that it lends, and what they are in the runs that it is behind.
+-- The parts of a world that it lends, and what they are in the runs that it is after.
 use Rattle.std.specs.Prelude.{◌≡◌, ◌↔◌, ◌==◌, ℕ, List, [], map, count_by, slice_get, None, Some}
 use Rattle.std.specs.FinMap as maps
 use Rattle.mv_base.specs.declared.ids.NodeId.{NodeId}
@@ -19,7 +19,7 @@ pub use Rattle.network_acts.specs.Words.{EdgeView, IsLive, KeptCopy, data_of, he
 use Rattle.network_events.specs.Behind.{IsBehind}
 use Rattle.network_events.specs.WorldView.{WorldView}
 
--- this holds in every run that the network is behind, of its scenario and of the world of the definitions
+-- this holds in every run that the network is after, of its scenario and of the world of the definitions
 abbrev pub InEachRun : WorldView → (Scenario → World → Type 0) → Type 0
 InEachRun view Holds =
     (cores : Cores) (scenario : Scenario) (events : List Timed) (trace : List Traced) (world : World) →

@@ -14,7 +14,7 @@ use network_acts::Network;
 use scenario_defs::{Lines, Refusal};
 use std::alloc::Global;
 
-/// The TTL of a copy is at most 255 and falls at each landing, so behind so many rounds no copy is on a link.
+/// The TTL of a copy is at most 255 and falls at each landing, so after so many rounds no copy is on a link.
 const ROUNDS: usize = 255;
 
 /// Ways of links, each from one end to the other.

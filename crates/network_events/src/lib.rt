@@ -2,7 +2,7 @@
 //! or its acts are done one after another by calls of `network_acts`, and its lines go out; or it lacks a label, and
 //! the network halts. `Meets` in `specs/Meeting.antt` is the contract of an event, `Does` in `Doing.antt` that of a row
 //! of acts: in a loop over acts what was done so far is the prefix of the row. `World` (`world.rt`) goes through a
-//! script: `of`, `step`, `close`, and the parts that it lends (its edges, core nodes and buffers); `Behind` says which
+//! script: `of`, `step`, `close`, and the parts that it lends (its edges, core nodes and buffers); `After` says which
 //! network is after the first events, `Lending` what the lent parts are in each run. `dispatch.rt` takes an event by
 //! its kind, and there is a file for sessions and `heal`, for `settle`, for nodes and time, costs, Join/Prune messages
 //! and notes (RFC 7761 section 4.5, RFC 6514 section 14), selections (RFC 6514 section 12.1), datagrams (RFC 6513

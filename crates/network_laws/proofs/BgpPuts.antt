@@ -69,9 +69,9 @@ advertised_put old new is =
     h)).0))
 
 changes_put : (old new : Table) → IsTable old → IsTable new → AllByRecursion IsBgpPut (changes same_value old new)
-changes_put old new is behind =
+changes_put old new is thereafter =
     each_append IsBgpPut (withdrawals (lost old new)) (advertisements (news same_value old new)) (withdrawn_put old new is)
-    (advertised_put old new behind)
+    (advertised_put old new thereafter)
 
 -- ---- a step
 

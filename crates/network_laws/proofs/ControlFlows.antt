@@ -13,7 +13,7 @@ use Rattle.mv_base.specs.Octets.{IsOctets}
 use Rattle.mv_base.specs.declared.addr.Addr.{Addr}
 use Rattle.mv_base.specs.declared.addr.Addr.TheVariants.{V4, V6}
 use Rattle.mv_base.specs.declared.ids.NodeId.{NodeId}
-use Rattle.mv_base.proofs.Fields.{octets_before, octets_behind, wide16}
+use Rattle.mv_base.proofs.Fields.{octets_before, octets_after, wide16}
 use Rattle.mv_base.specs.declared.prefix.Prefix.{Prefix}
 use Rattle.bgp_values.specs.declared.mvpn_nlri.route.Afi.{Afi}
 use Rattle.bgp_values.specs.declared.mvpn_nlri.route.Afi.TheVariants.{Ipv4, Ipv6}
@@ -75,14 +75,14 @@ import_sound comm import eight e =
     (record { addr = V4 (take 4 (drop 2 comm.0)); number = from_be_bytes w16 (drop 6 comm.0) }) import e in
     let len : length (take 4 (drop 2 comm.0)) ≡ 4 = omega (arith, length-take 4 (drop 2 comm.0), length-drop 2 comm.0, eight.0) in
     subst (λ (own : Import). IsHost own.addr × (own.number < 65536)) same
-    ((len, octets_before 4 (drop 2 comm.0) (octets_behind 2 comm.0 eight.1)), wide16.below (drop 6 comm.0) (octets_behind 6 comm.0 eight.1))
+    ((len, octets_before 4 (drop 2 comm.0) (octets_after 2 comm.0 eight.1)), wide16.below (drop 6 comm.0) (octets_after 6 comm.0 eight.1))
 
 source_as_sound : (comm : ExtComm) (source_as : ℕ) → AreEight comm.0 → source_as_in comm ≡ Some source_as → source_as < 65536
 source_as_sound comm source_as eight e =
     let same =
     tested (pointwise nat_eq (take 2 comm.0) (0x00 ∷ 0x09 ∷ []) && pointwise nat_eq (drop 4 comm.0) (0 ∷ 0 ∷ 0 ∷ 0 ∷ []))
     (from_be_bytes w16 (take 2 (drop 2 comm.0))) source_as e in
-    subst (λ (n : ℕ). n < 65536) same (wide16.below (take 2 (drop 2 comm.0)) (octets_before 2 (drop 2 comm.0) (octets_behind 2 comm.0 eight.1)))
+    subst (λ (n : ℕ). n < 65536) same (wide16.below (take 2 (drop 2 comm.0)) (octets_before 2 (drop 2 comm.0) (octets_after 2 comm.0 eight.1)))
 
 abbrev SoundBy : JoinBy → Type 0
 SoundBy by = IsHost by.import.addr × (by.import.number < 65536) × (by.source_as < 65536)

@@ -10,7 +10,7 @@ use Rattle.mv_base.specs.declared.prefix.Prefix.{Prefix}
 use Rattle.mv_base.specs.declared.rd.Rd.{Rd}
 use Rattle.mv_base.specs.framing.Units.{Spelled, octets_of, AreUnits}
 use Rattle.mv_base.specs.framing.Parts.{ArePartsAfter}
-use Rattle.mv_base.proofs.framing.Cuts.{IsOctets-before, IsOctets-behind}
+use Rattle.mv_base.proofs.framing.Cuts.{IsOctets-before, IsOctets-after}
 use Rattle.mldp.specs.declared.mldp_fec.fec.Fec.{Fec}
 use Rattle.bgp_values.specs.declared.pmsi_attr.pmsi.Pmsi.{Pmsi}
 use Rattle.bgp_values.specs.declared.pmsi_attr.pmsi.Tunnel.{Tunnel}
@@ -35,21 +35,21 @@ use Rattle.network_defs.specs.edge_defs.Place.{is_lsp_opaque}
 use Rattle.network_laws.specs.Sound.{AreEight, IsSoundFec, SoundKey}
 use Rattle.network_laws.proofs.Lists.{each_flat}
 
-behind_one : (octet : ℕ) (octets : List ℕ) → IsOctets (octet ∷ octets) → IsOctets octets
-behind_one octet octets fits i = fits (suc i)
+thereafter_one : (octet : ℕ) (octets : List ℕ) → IsOctets (octet ∷ octets) → IsOctets octets
+thereafter_one octet octets fits i = fits (suc i)
 
 -- ---- keys
 
 address_octets : (addr : Addr) → IsOctets (nlri.sized addr) → IsOctets (addr_octets addr)
-address_octets (V4 octets) fits = behind_one 32 octets fits
-address_octets (V6 octets) fits = behind_one 128 octets fits
+address_octets (V4 octets) fits = thereafter_one 32 octets fits
+address_octets (V6 octets) fits = thereafter_one 128 octets fits
 
 active_octets : (rd : List ℕ) (source group : Addr) (kind len : ℕ) → IsOctets (kind ∷ (len ∷ (rd ++ (nlri.sized source ++ nlri.sized group))))
     → IsOctets (addr_octets source) × IsOctets (addr_octets group)
 active_octets rd source group kind len fits =
-    let both = IsOctets-behind rd (nlri.sized source ++ nlri.sized group) (λ i. fits (suc (suc i))) in (
+    let both = IsOctets-after rd (nlri.sized source ++ nlri.sized group) (λ i. fits (suc (suc i))) in (
       address_octets source (IsOctets-before (nlri.sized source) (nlri.sized group) both),
-      address_octets group (IsOctets-behind (nlri.sized source) (nlri.sized group) both),
+      address_octets group (IsOctets-after (nlri.sized source) (nlri.sized group) both),
     )
 
 route_sound : (afi : Afi) (route : Route) (text : List ℕ) → nlri.Spells afi route text → IsOctets text → SoundKey (Mcast afi route)
@@ -67,8 +67,8 @@ route_sound afi (routes.Active rd source group) text s fits =
 unicast_sound : (afi : Afi) (rd : Rd) (prefix : Prefix) (text : List ℕ) → SpellsVpn afi rd prefix text → IsOctets text → AreEight rd.0
 unicast_sound afi rd prefix text s fits = (
   s.rd_len,
-  IsOctets-before rd.0 s.octets (IsOctets-behind s.label (rd.0 ++ s.octets)
-      (behind_one (88 + prefix.bits) (s.label ++ (rd.0 ++ s.octets)) (subst IsOctets s.parts fits))),
+  IsOctets-before rd.0 s.octets (IsOctets-after s.label (rd.0 ++ s.octets)
+      (thereafter_one (88 + prefix.bits) (s.label ++ (rd.0 ++ s.octets)) (subst IsOctets s.parts fits))),
 )
 
 key_sound : (family : Family) (key : Key) (text : List ℕ) → SpellsKey family key text → IsOctets text → SoundKey key
@@ -86,7 +86,7 @@ units_sound : (family : Family) (units : List (Spelled Key)) → AreUnits (Spell
 units_sound family [] s fits = tt
 units_sound family (unit ∷ units) s fits = (
   unit_sound family unit.messages unit.octets s.0 (IsOctets-before unit.octets (octets_of units) fits),
-  units_sound family units s.1 (IsOctets-behind unit.octets (octets_of units) fits),
+  units_sound family units s.1 (IsOctets-after unit.octets (octets_of units) fits),
 )
 
 keys_sound : (family : Family) (keys : List Key) (octets rest : List ℕ) → AreKeys family keys octets rest → IsOctets octets
@@ -102,7 +102,7 @@ comms_sound : (comms : List ExtComm) → AreComms comms → IsOctets (flat_map (
 comms_sound [] s fits = tt
 comms_sound (comm ∷ comms) s fits = (
   (s.0, IsOctets-before comm.0 (flat_map (λ other. other.0) comms) fits),
-  comms_sound comms s.1 (IsOctets-behind comm.0 (flat_map (λ other. other.0) comms) fits),
+  comms_sound comms s.1 (IsOctets-after comm.0 (flat_map (λ other. other.0) comms) fits),
 )
 
 -- the tunnel, where it is an LSP, is a FEC that has a spelling
@@ -126,7 +126,7 @@ by_tunnel (tunnels.Mldp own) h fits fec e = subst IsSoundFec (passes (is_p2mp ow
 
 tunnel_sound : (pmsi : Pmsi) (text : List ℕ) → pmsis.Spells pmsi text → IsOctets text → SoundTunnel (Some pmsi)
 tunnel_sound pmsi text s fits =
-    by_tunnel pmsi.tunnel s.tunnel (IsOctets-behind (pmsis.header s.flags pmsi s.low) (pmsis.identifier pmsi.tunnel) (subst IsOctets s.octets fits))
+    by_tunnel pmsi.tunnel s.tunnel (IsOctets-after (pmsis.header s.flags pmsi s.low) (pmsis.identifier pmsi.tunnel) (subst IsOctets s.octets fits))
 
 -- ---- attributes
 
@@ -138,9 +138,9 @@ SoundAttribute other = Unit {0}
 
 reachable_sound : (reachable : Reachable) (value : List ℕ) → SpellsReachable reachable value → IsOctets value → AllByRecursion SoundKey reachable.keys
 reachable_sound reachable value s fits =
-    let behind = IsOctets-behind (pair s.family) (length s.hop ∷ (s.hop ++ (s.reserved ∷ s.nlri))) (subst IsOctets s.parts fits) in
-    let last = IsOctets-behind s.hop (s.reserved ∷ s.nlri) (behind_one (length s.hop) (s.hop ++ (s.reserved ∷ s.nlri)) behind) in
-    keys_sound s.family reachable.keys s.nlri [] s.routes (behind_one s.reserved s.nlri last)
+    let thereafter = IsOctets-after (pair s.family) (length s.hop ∷ (s.hop ++ (s.reserved ∷ s.nlri))) (subst IsOctets s.parts fits) in
+    let last = IsOctets-after s.hop (s.reserved ∷ s.nlri) (thereafter_one (length s.hop) (s.hop ++ (s.reserved ∷ s.nlri)) thereafter) in
+    keys_sound s.family reachable.keys s.nlri [] s.routes (thereafter_one s.reserved s.nlri last)
 
 value_sound : (attribute : Attribute) (value : List ℕ) → SpellsValue attribute value → IsOctets value → SoundAttribute attribute
 value_sound (Reach (Some reachable)) value s fits = reachable_sound reachable value s fits
@@ -152,7 +152,7 @@ value_sound (Passed kind) value s fits = tt
 
 attribute_sound : (attribute : Attribute) (text : List ℕ) → SpellsAttribute attribute text → IsOctets text → SoundAttribute attribute
 attribute_sound attribute text s fits =
-    value_sound attribute s.value s.means (IsOctets-behind (len_field s.flags (length s.value)) s.value
+    value_sound attribute s.value s.means (IsOctets-after (len_field s.flags (length s.value)) s.value
     (λ i. (subst IsOctets s.parts fits) (suc (suc i))))
 
 pub attributes_sound : (before : List Attribute) (octets : List ℕ) (attributes : List Attribute) (rest : List ℕ)
@@ -162,7 +162,7 @@ attributes_sound before octets [] rest s fits = tt
 attributes_sound before octets (attribute ∷ attributes) rest s fits =
     let whole = subst IsOctets s.4 fits in (
       attribute_sound attribute s.0 s.2 (IsOctets-before s.0 s.1 whole),
-      attributes_sound (before ++ attribute ∷ []) s.1 attributes rest s.5 (IsOctets-behind s.0 s.1 whole),
+      attributes_sound (before ++ attribute ∷ []) s.1 attributes rest s.5 (IsOctets-after s.0 s.1 whole),
     )
 
 -- ---- what attributes say together

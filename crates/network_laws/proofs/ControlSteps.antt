@@ -48,9 +48,9 @@ updated_sound now peer message old h new = by_found (maps.get old.peers peer) re
     ])
     by_found None e = h
     by_found (Some taken) e =
-        let behind : Taken = fold (taken_change now) taken (changes_of message) in
-        with_peers old (maps.insert old.peers peer behind) h
-        (put_meets node_cmp_total node_cmp_exact SoundPeer old.peers peer behind h.peers
+        let thereafter : Taken = fold (taken_change now) taken (changes_of message) in
+        with_peers old (maps.insert old.peers peer thereafter) h
+        (put_meets node_cmp_total node_cmp_exact SoundPeer old.peers peer thereafter h.peers
         (all_changes_sound now taken (changes_of message) (h.peers peer taken e) new))
 
 nothing_taken : SoundTaken maps.empty

@@ -5,7 +5,7 @@ use Rattle.std.specs.Int.{w16, to_be_bytes}
 use Rattle.std.specs.Prelude.{length}
 use Rattle.std.specs.FinMap as maps
 use Rattle.mv_base.specs.Octets.{IsOctets}
-use Rattle.mv_base.proofs.framing.Cuts.{IsOctets-before, IsOctets-behind}
+use Rattle.mv_base.proofs.framing.Cuts.{IsOctets-before, IsOctets-after}
 use Rattle.bgp_values.specs.declared.pmsi_attr.pmsi.Pmsi.{Pmsi}
 use Rattle.mv_base.specs.declared.route_targets.communities.ExtComm.{ExtComm}
 use Rattle.bgp_messages.specs.bgp_attributes.Spelling as attributes
@@ -70,9 +70,9 @@ body_sound : (update : Update) (body : List ℕ) → SpellsBody update body → 
 body_sound update body s fits =
     let whole = subst IsOctets s.parts fits in
     let lens =
-    IsOctets-behind (to_be_bytes w16 (length s.withdrawn)) (s.withdrawn ++ (to_be_bytes w16 (length s.list) ++ (s.list ++ s.rest))) whole in
-    let len = IsOctets-behind s.withdrawn (to_be_bytes w16 (length s.list) ++ (s.list ++ s.rest)) lens in
-    let list = IsOctets-before s.list s.rest (IsOctets-behind (to_be_bytes w16 (length s.list)) (s.list ++ s.rest) len) in
+    IsOctets-after (to_be_bytes w16 (length s.withdrawn)) (s.withdrawn ++ (to_be_bytes w16 (length s.list) ++ (s.list ++ s.rest))) whole in
+    let len = IsOctets-after s.withdrawn (to_be_bytes w16 (length s.list) ++ (s.list ++ s.rest)) lens in
+    let list = IsOctets-before s.list s.rest (IsOctets-after (to_be_bytes w16 (length s.list)) (s.list ++ s.rest) len) in
     let sound = attributes_sound [] s.list s.spelled.0 [] s.spelled.1 list in
     update_sound update (subst (λ (own : Update). AllByRecursion SoundAdvert own.reach) (sym s.spelled.2) (reach_sound s.spelled.0 sound))
 
@@ -87,7 +87,7 @@ pub changes_sound : (message : Message) (text : List ℕ) → SpellsMessage (mes
 changes_sound message text s fits =
     let same : message ≡ s.message = first message s.message s.one in
     subst (λ (own : Message). AllByRecursion SoundChange (changes_of own)) (sym same)
-    (means_sound s.message s.kind s.body s.means (IsOctets-behind (header (19 + length s.body) s.kind) s.body (subst IsOctets s.parts fits)))
+    (means_sound s.message s.kind s.body s.means (IsOctets-after (header (19 + length s.body) s.kind) s.body (subst IsOctets s.parts fits)))
   where
     first : (a b : Message) → a ∷ [] ≡ b ∷ [] → a ≡ b
     first a b e = cc

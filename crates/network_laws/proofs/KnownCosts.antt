@@ -1,4 +1,4 @@
--- Behind each event every node knows the present costs.
+-- After each event every node knows the present costs.
 use Rattle.std.specs.Prelude.{if◌then◌else◌}
 use Rattle.std.proofs.Common.{◌≡◌, ◌<◌, ◌≤◌, ℕ, zero, suc, ◌+◌, ◌==◌, inl, inr, List, [], ◌∷◌, map, length, Option, Some, None, refl, sym, ap, subst, ◌∙◌, arith}
 use Rattle.std.specs.List.{AllByRecursion}
@@ -38,7 +38,7 @@ use Rattle.network_laws.proofs.SteadyEvents.{IsNoCost, steady_event}
 
 -- ---- nodes that act on the present costs
 
--- the costs behind a node that acts on the present ones
+-- the costs after a node that acts on the present ones
 abbrev follows : NodeId → Costs → Costs
 follows at old = record old { known = λ n. if n.0 == at.0 then old.links else old.known n }
 
@@ -117,7 +117,7 @@ know_by scenario cores costs world same h e k = record {
   present = λ n lt. subst (λ (c : Costs). c.known n ≡ c.links) (sym h) (k n lt);
 }
 
--- what is known behind an outcome
+-- what is known after an outcome
 abbrev KnownBehind : Scenario → Cores → World → Type 0
 KnownBehind scenario cores next =
     (costs : Costs) × WorldCosts costs next × (costs.cores ≡ cores) × ((n : NodeId) → n.0 < length scenario.nodes → costs.known n ≡ costs.links)

@@ -53,11 +53,11 @@ is_changed old new fec = not (sets.contains old fec && sets.contains new fec)
 
 pub changed_leaves_are_sound : (old new : FinSet fec_cmp) → ((fec : Fec) → sets.contains old fec ≡ true → IsSoundFec fec)
     → ((fec : Fec) → sets.contains new fec ≡ true → IsSoundFec fec) → AllByRecursion IsSoundLabelCall (changed_leaves old new)
-changed_leaves_are_sound old new before behind =
+changed_leaves_are_sound old new before thereafter =
     let both : List Fec = in_order (sets.union old new) in
     let all : AllByRecursion IsSoundFec both = each_in_order fec_cmp_total IsSoundFec (sets.union old new) (λ fec e.
     elim (or_cases (sets.contains old fec) (sets.contains new fec) (sym (sets.contains-union fec_cmp_total old new fec) ∙ e))
-    [ inl h ↦ before fec h | inr h ↦ behind fec h ]) in
+    [ inl h ↦ before fec h | inr h ↦ thereafter fec h ]) in
     let some : AllByRecursion IsSoundFec (filter (is_changed old new) both) = each_filter IsSoundFec (is_changed old new) both all in
     each_map IsSoundLabelCall (call_for new) (filter (is_changed old new) both)
     (each_weaker IsSoundFec (λ fec. IsSoundLabelCall (call_for new fec)) (λ fec s. of_both_calls IsSoundLabelCall fec (sets.contains new fec) s s)
@@ -77,9 +77,9 @@ own_call_sound (steps.Customer call) s = tt
 -- the label calls of a step of an edge
 pub edge_calls_are_sound : (place : EdgePlace) (old new : Control) (call : steps.Call) → SoundControl old → SoundControl new → TakesSound call
     → AllByRecursion IsSoundLabelCall (one_call (own_label_call call) ++ changed_leaves (leaves place old) (leaves place new))
-edge_calls_are_sound place old new call before behind s =
+edge_calls_are_sound place old new call before thereafter s =
     each_append IsSoundLabelCall (one_call (own_label_call call)) (changed_leaves (leaves place old) (leaves place new)) (own_call_sound call s)
-    (changed_leaves_are_sound (leaves place old) (leaves place new) (leaves_are_sound place old before) (leaves_are_sound place new behind))
+    (changed_leaves_are_sound (leaves place old) (leaves place new) (leaves_are_sound place old before) (leaves_are_sound place new thereafter))
 
 -- the label call of a core node
 pub own_call_is_sound : (call : steps.Call) (own : labels.Call) → TakesSound call → own_label_call call ≡ Some own → IsSoundLabelCall own
@@ -123,10 +123,10 @@ row_without_ends n addr place now part [] row r h e =
 row_without_ends n addr place now part (call ∷ more) row r h e =
     let own = label_place place.scenario place.core place.me in
     let first =
-    bind_some (label_step own now part call) (λ new. label_row place now new.part more >>? λ behind. Some
-    (record { old = part; call = call; new = new } ∷ behind)) row e in
+    bind_some (label_step own now part call) (λ new. label_row place now new.part more >>? λ thereafter. Some
+    (record { old = part; call = call; new = new } ∷ thereafter)) row e in
     let rest =
-    bind_some (label_row place now first.0.part more) (λ behind. Some (record { old = part; call = call; new = first.0 } ∷ behind)) row first.2 in
+    bind_some (label_row place now first.0.part more) (λ thereafter. Some (record { old = part; call = call; new = first.0 } ∷ thereafter)) row first.2 in
     let step : LabelStep = record { old = part; call = call; new = first.0 } in
     let then_none = row_without_ends n addr place now first.0.part more rest.0 r.1 (ends_stay_empty own now part call first.0 r.0 h first.1) rest.1 in
     let none = no_ends_no_puts n addr own now step (own_ends_stay_empty own now part call r.0 h) in

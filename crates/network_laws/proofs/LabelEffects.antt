@@ -88,7 +88,7 @@ twice_sound (fec ∷ more) s = (s.0, (s.0, twice_sound more s.1))
 
 -- ---- effects
 
--- A call's own effect, and the trees that settle behind it, are sound.
+-- A call's own effect, and the trees that settle after it, are sound.
 abbrev IsSoundEffect : Stepped × List Fec → Type 0
 IsSoundEffect own = IsSoundStep own.0.part own.0.puts × AllByRecursion IsSoundFec own.1
 

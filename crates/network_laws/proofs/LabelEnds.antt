@@ -1,4 +1,4 @@
--- A node of which no end is up puts nothing, and none is up behind a step but where an end comes up.
+-- A node of which no end is up puts nothing, and none is up after a step but where an end comes up.
 use Rattle.std.proofs.Common.{◌≡◌, ℕ, ◌+◌, ◌++◌, cond, Bool, true, false, List, [], ◌∷◌, map, Option, Some, None, refl, sym, ap, subst, ◌∙◌}
 use Rattle.std.specs.Ordering.{eq_by_cmp}
 use Rattle.std.specs.FinMap as maps
@@ -67,12 +67,12 @@ no_ends_no_puts n addr place now step e = ap (map (label_put n addr)) (none_put 
 
 -- ---- steps
 
-ends_behind : (ends : FinMap node_cmp End) (puts : List labels.Put) → ends ≡ maps.empty → ends_after ends puts ≡ maps.empty
-ends_behind ends [] e = e
-ends_behind ends (put ∷ more) e =
+ends_thereafter : (ends : FinMap node_cmp End) (puts : List labels.Put) → ends ≡ maps.empty → ends_after ends puts ≡ maps.empty
+ends_thereafter ends [] e = e
+ends_thereafter ends (put ∷ more) e =
     ap (λ (o : Option End). elim o [ None ↦ ends_after ends more | Some end ↦ ends_after (maps.insert ends put.to (told end)) more ])
     (ap (λ (m : FinMap node_cmp End). maps.get m put.to) e ∙ no_end put.to)
-    ∙ ends_behind ends more e
+    ∙ ends_thereafter ends more e
 
 mapping_ends : (part : LabelData) (branch : Branch) (t : Bool) → HasNoEnds part
     → HasNoEnds (cond t (record part { branches = sets.insert part.branches branch }) part)
@@ -89,7 +89,7 @@ none_run life now =
     ap (λ (all : List (NodeId × End)). maps.from_entries {R = node_cmp} (map (λ (entry : NodeId × End). (entry.0, hold_run life now entry.1)) all))
     (no_entries node_cmp End)
 
--- behind the call's own effect
+-- after the call's own effect
 pub own_ends_stay_empty : (place : Place) (now : ℕ) (part : LabelData) (call : Call) → IsNoRaise call → part.ends ≡ maps.empty
     → (effect place now part call).0.part.ends ≡ maps.empty
 own_ends_stay_empty place now part (Taken from (messages.Mapping fec label)) c e = mapping_ends part (branch_to from fec label) (place.is_tree fec) e
@@ -126,4 +126,4 @@ ends_stay_empty place now part call new c h e =
     let own = effect place now part call in
     let x = map_some counted (settle_all place own.1 own.0) new e in
     subst (λ (s : Stepped). HasNoEnds s.part) x.2
-    (ends_behind x.0.part.ends x.0.puts (settle_ends place own.1 own.0 x.0 x.1 (own_ends_stay_empty place now part call c h)))
+    (ends_thereafter x.0.part.ends x.0.puts (settle_ends place own.1 own.0 x.0 x.1 (own_ends_stay_empty place now part call c h)))

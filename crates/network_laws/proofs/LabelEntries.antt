@@ -41,8 +41,8 @@ module _ {K X : Type 0} {R : K → K → Ordering} (total : IsTotalOrder R) wher
       equal Less e = absurd cc
       equal Greater e = absurd cc
 
-  behind : (e : K × X) (es : List (K × X)) (q : K) (v : X) → T (below_all R e.0 es) → find R q es ≡ Some v → find R q (e ∷ es) ≡ Some v
-  behind e es q v low is = elim (cases_Bool (eq_by_cmp R q e.0)) [
+  thereafter : (e : K × X) (es : List (K × X)) (q : K) (v : X) → T (below_all R e.0 es) → find R q es ≡ Some v → find R q (e ∷ es) ≡ Some v
+  thereafter e es q v low is = elim (cases_Bool (eq_by_cmp R q e.0)) [
     | inl t ↦ absurd (none-some v (sym (missed R e.0 es low) ∙ sym (tied_alike q e.0 t es) ∙ is))
     | inr f ↦ cond-false (eq_by_cmp R q e.0) (Some e.1) (find R q es) f ∙ is
   ]
@@ -52,7 +52,7 @@ module _ {K X : Type 0} {R : K → K → Ordering} (total : IsTotalOrder R) wher
   each_found P (e ∷ es) rises each = (
     each e (cond-true (eq_by_cmp R e.0 e.0) (Some e.1) (find R e.0 es) (ap is_eq (tied_itself total e.0))),
     each_found P es (back_of (below_all R e.0 es) (is_sorted R es) rises)
-        (λ f is. each f (behind e es f.0 f.1 (front_of (below_all R e.0 es) (is_sorted R es) rises) is)),
+        (λ f is. each f (thereafter e es f.0 f.1 (front_of (below_all R e.0 es) (is_sorted R es) rises) is)),
   )
 
   pub each_entry : (P : K × X → Type 0) (m : FinMap R X) → ((k : K) (v : X) → maps.get m k ≡ Some v → P (k, v)) → AllByRecursion P (maps.entries m)

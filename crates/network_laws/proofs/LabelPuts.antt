@@ -114,10 +114,10 @@ row_stays_sound place now part [] row s c e =
 row_stays_sound place now part (call ∷ more) row s c e =
     let own = label_place place.scenario place.core place.me in
     let first =
-    bind_some (label_step own now part call) (λ new. label_row place now new.part more >>? λ behind. Some
-    (record { old = part; call = call; new = new } ∷ behind)) row e in
+    bind_some (label_step own now part call) (λ new. label_row place now new.part more >>? λ thereafter. Some
+    (record { old = part; call = call; new = new } ∷ thereafter)) row e in
     let rest =
-    bind_some (label_row place now first.0.part more) (λ behind. Some (record { old = part; call = call; new = first.0 } ∷ behind)) row first.2 in
+    bind_some (label_row place now first.0.part more) (λ thereafter. Some (record { old = part; call = call; new = first.0 } ∷ thereafter)) row first.2 in
     let now_sound = step_sound own now part call first.0 s c.0 first.1 in
     let then_sound = row_stays_sound place now first.0.part more rest.0 now_sound.0 c.1 rest.1 in
     subst (λ (steps : List LabelStep). SoundPart (part_after part steps) × AllByRecursion PutsSound steps)

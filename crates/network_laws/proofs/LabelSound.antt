@@ -37,11 +37,11 @@ IsSoundPut put = IsWritable put.message × IsOctets (written_body put.message)
 -- ---- octets
 
 -- a number in front
-octets_behind16 : (n : ℕ) (b : List ℕ) → IsOctets b → IsOctets (to_be_bytes w16 n ++ b)
-octets_behind16 n b p = octets_append (to_be_bytes w16 n) b (octets_of_16 n) p
+octets_after16 : (n : ℕ) (b : List ℕ) → IsOctets b → IsOctets (to_be_bytes w16 n ++ b)
+octets_after16 n b p = octets_append (to_be_bytes w16 n) b (octets_of_16 n) p
 
 tlv_octets : (kind : ℕ) (value : List ℕ) → IsOctets value → IsOctets (tlv 0 kind value)
-tlv_octets kind value p = octets_behind16 (0 * 2 ^ 14 + kind) (to_be_bytes w16 (length value) ++ value) (octets_behind16 (length value) value p)
+tlv_octets kind value p = octets_after16 (0 * 2 ^ 14 + kind) (to_be_bytes w16 (length value) ++ value) (octets_after16 (length value) value p)
 
 tlvs_octets : (fec : Fec) (label : ℕ) → IsOctets (fecs.written fec) → IsOctets (written_tlvs fec label)
 tlvs_octets fec label p =
@@ -51,8 +51,8 @@ tlvs_octets fec label p =
 message_octets : (id : ℕ) (message : LabelMessage) → IsOctets (written_body message) → IsOctets (written_message id message)
 message_octets id message p =
     let body : List ℕ = written_body message in
-    octets_behind16 (type_of message) (to_be_bytes w16 (4 + length body) ++ (to_be_bytes w32 id ++ body))
-    (octets_behind16 (4 + length body) (to_be_bytes w32 id ++ body) (octets_append (to_be_bytes w32 id) body (octets_of_32 id) p))
+    octets_after16 (type_of message) (to_be_bytes w16 (4 + length body) ++ (to_be_bytes w32 id ++ body))
+    (octets_after16 (4 + length body) (to_be_bytes w32 id ++ body) (octets_append (to_be_bytes w32 id) body (octets_of_32 id) p))
 
 -- what is written of a message is octets
 pub pdu_octets : (addr : Addr) (id : ℕ) (message : LabelMessage) → IsOctets (addr_octets addr) → IsOctets (written_body message)
@@ -62,8 +62,8 @@ pdu_octets addr id message own p =
     let ident : List ℕ = addr_octets addr ++ 0 ∷ 0 ∷ [] in
     let ident_fits : IsOctets ident =
     octets_append (addr_octets addr) (0 ∷ 0 ∷ []) own (octets_cons 0 (0 ∷ []) (omega arith) (octets_cons 0 [] (omega arith) no_octets)) in
-    octets_behind16 1 (to_be_bytes w16 (6 + length text) ++ (ident ++ text))
-    (octets_behind16 (6 + length text) (ident ++ text) (octets_append ident text ident_fits (message_octets id message p)))
+    octets_after16 1 (to_be_bytes w16 (6 + length text) ++ (ident ++ text))
+    (octets_after16 (6 + length text) (ident ++ text) (octets_append ident text ident_fits (message_octets id message p)))
 
 -- ---- puts
 

@@ -37,9 +37,9 @@ module _ {X : Type 0} (P : X → Type 0) where
   each_flat f (y ∷ ys) p = each_append (f y) (flat_map f ys) p.0 (each_flat f ys p.1)
 
   -- an element among others
-  pub each_inner : (before : List X) (x : X) (behind : List X) → AllByRecursion P (before ++ x ∷ behind) → P x
-  each_inner [] x behind p = p.0
-  each_inner (y ∷ ys) x behind p = each_inner ys x behind p.1
+  pub each_inner : (before : List X) (x : X) (thereafter : List X) → AllByRecursion P (before ++ x ∷ thereafter) → P x
+  each_inner [] x thereafter p = p.0
+  each_inner (y ∷ ys) x thereafter p = each_inner ys x thereafter p.1
 
   pub each_filter : (test : X → Bool) (xs : List X) → AllByRecursion P xs → AllByRecursion P (filter test xs)
   each_filter test [] p = tt

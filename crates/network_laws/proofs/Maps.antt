@@ -59,13 +59,13 @@ module _ {K V : Type 0} {R : K → K → Ordering} where
         | false ↦ λ tied rest. found_is exact P k v es a.1 rest
       ] refl h
 
-  found_behind : IsTotalOrder R → (e : K × V) (es : List (K × V)) → T (is_sorted R (e ∷ es)) → (k : K) (v : V) → find R k es ≡ Some v → (b : Bool)
+  found_after : IsTotalOrder R → (e : K × V) (es : List (K × V)) → T (is_sorted R (e ∷ es)) → (k : K) (v : V) → find R k es ≡ Some v → (b : Bool)
       → eq_by_cmp R k e.0 ≡ b → cond b (Some e.1) (find R k es) ≡ Some v
-  found_behind total e es sorted k v h true tied =
+  found_after total e es sorted k v h true tied =
       let none = none_below R e.0 es (first (below_all R e.0 es) (is_sorted R es) sorted) in
       let same = find_tied R total k e.0 ((Equal-is (R k e.0)).0 tied) es in
       absurd (let bad : Some v ≡ None = sym h ∙ sym same ∙ none in cc)
-  found_behind total e es sorted k v h false tied = h
+  found_after total e es sorted k v h false tied = h
 
   each_sorted : IsTotalOrder R → (P : K → V → Type 0) (es : List (K × V)) → T (is_sorted R es) → ((k : K) (v : V) → find R k es ≡ Some v → P k v)
       → AllEntries P es
@@ -73,7 +73,7 @@ module _ {K V : Type 0} {R : K → K → Ordering} where
   each_sorted total P (e ∷ es) sorted f = (
     f e.0 e.1 (ap (λ (b : Bool). cond b (Some e.1) (find R e.0 es)) (ap is_eq (tied_itself total e.0))),
     each_sorted total P es (second (below_all R e.0 es) (is_sorted R es) sorted)
-        (λ k v h. f k v (found_behind total e es sorted k v h (eq_by_cmp R k e.0) refl)),
+        (λ k v h. f k v (found_after total e es sorted k v h (eq_by_cmp R k e.0) refl)),
   )
 
   -- what holds of each key with its value holds of each entry

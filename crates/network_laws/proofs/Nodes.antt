@@ -75,8 +75,8 @@ module _ (scenario : Scenario) (nodes : Nodes) (s : Sound scenario nodes) where
         puts = bgp_puts place edge.control new.edge.control ++ flat_map (label_puts n (addr_of nodes.scenario n) (own_place n) nodes.clock) new.row;
       }
 
-      behind_row : List LabelStep → EdgeStepped
-      behind_row row =
+      after_row : List LabelStep → EdgeStepped
+      after_row row =
           record {
             edge = record { control = control; part = part_after edge.part row; raised = raised_after nodes.clock edge.raised call };
             row =
@@ -84,22 +84,22 @@ module _ (scenario : Scenario) (nodes : Nodes) (s : Sound scenario nodes) where
           }
 
       by : (o : Option (List LabelStep)) → label_row place nodes.clock edge.part calls ≡ o
-          → Keeps (Sound scenario) ((o >>? λ row. Some (behind_row row)) >>? λ new. Some (stepped new))
+          → Keeps (Sound scenario) ((o >>? λ row. Some (after_row row)) >>? λ new. Some (stepped new))
       by None e = tt
       by (Some row) e =
-          let behind =
+          let thereafter =
           row_stays_sound place nodes.clock edge.part calls row sound.1
           (edge_calls_are_sound place edge.control control call sound.0 control_is good.takes) e in (
             each_append IsSpelledPut (bgp_puts place edge.control control)
                 (flat_map (label_puts n (addr_of nodes.scenario n) (own_place n) nodes.clock) row)
                 (bgp_puts_are_put place edge.control control its_lines sound.0 control_is (is_within n lt))
-                (row_puts_are_put n (addr_of nodes.scenario n) (own_place n) nodes.clock row (router n lt) behind.1),
+                (row_puts_are_put n (addr_of nodes.scenario n) (own_place n) nodes.clock row (router n lt) thereafter.1),
             changed_node scenario nodes n (Edge (record {
               control = control;
               part = part_after edge.part row;
               raised =
                   raised_after nodes.clock edge.raised call;
-            })) s (control_is, behind.0) (λ past. absurd (omega (arith, lt, past))),
+            })) s (control_is, thereafter.0) (λ past. absurd (omega (arith, lt, past))),
           )
 
   -- ---- a core node

@@ -34,16 +34,16 @@ Stays scenario network = Sound scenario network.state × ((pending : Direction �
 abbrev pub WorldStays : Scenario → World → Type 0
 WorldStays scenario world = Stays scenario world.network
 
--- the network behind acts, if there is one
+-- the network after acts, if there is one
 abbrev StaysBehind : Scenario → Option (Behind (OctetNetwork Nodes)) → Type 0
 StaysBehind scenario None = ⊤
 StaysBehind scenario (Some new) = Stays scenario new.network
 
 -- ---- rows of acts on octets
 
-stays_behind : (scenario : Scenario) (old : OctetNetwork Nodes) (acts : List (OctetAct (SoundCall scenario))) → Stays scenario old
+stays_after : (scenario : Scenario) (old : OctetNetwork Nodes) (acts : List (OctetAct (SoundCall scenario))) → Stays scenario old
     → StaysBehind scenario (octet_run (sound_system scenario) old acts)
-stays_behind scenario old acts stays = by (octet_run (sound_system scenario) old acts) refl
+stays_after scenario old acts stays = by (octet_run (sound_system scenario) old acts) refl
   where
     by : (o : Option (Behind (OctetNetwork Nodes))) → octet_run (sound_system scenario) old acts ≡ o → StaysBehind scenario o
     by None e = tt
@@ -82,7 +82,7 @@ move_stays scenario old over count stays =
     subst (StaysBehind scenario)
     (ap (λ (found : Option (Behind (OctetNetwork Nodes))). (if old.joined over then found else Some (record { network = old; puts = [] })) >>? λ next.
     with_earlier next.puts (Some (record { network = next.network; puts = [] }))) (taken_alike scenario over new.waiting left))
-    (stays_behind scenario old (octets.Move over count ∷ []) stays)
+    (stays_after scenario old (octets.Move over count ∷ []) stays)
 
 aged_stays : (scenario : Scenario) (found : Result Acted NodeId) → Gives (WorldStays scenario) found → Gives (WorldStays scenario) (with_aged found)
 aged_stays scenario (Err node) h = tt
@@ -109,44 +109,44 @@ pub act_stays : (scenario : Scenario) (one : Act) → SoundAct scenario one → 
 act_stays scenario (Tick ticks) sound world s =
     aged_stays scenario (at_node world (record { 0 = 0 }) [] (octets.Call (Elapse ticks) ∷ []))
     (network_stays scenario world [] (octet_run system world.network (octets.Call (Elapse ticks) ∷ [])) (record { 0 = 0 })
-    (stays_behind scenario world.network (sound_call scenario (Elapse ticks) tt ∷ []) s))
+    (stays_after scenario world.network (sound_call scenario (Elapse ticks) tt ∷ []) s))
 act_stays scenario (Timers n) sound world s =
     network_stays scenario world [] (octet_run system world.network (octets.Call (Own n steps.Timers) ∷ [])) n
-    (stays_behind scenario world.network (sound_call scenario (Own n steps.Timers) (sound, tt) ∷ []) s)
+    (stays_after scenario world.network (sound_call scenario (Own n steps.Timers) (sound, tt) ∷ []) s)
 act_stays scenario (Move kind from to count) sound world s =
     network_stays scenario world (lines.Take kind from to (take count (world.network.transit (direction kind from to))) ∷ [])
     (octet_run system world.network (octets.Move (direction kind from to) count ∷ [])) to
     (move_stays scenario world.network (direction kind from to) count s)
 act_stays scenario (Lose kind a b) sound world s =
     network_stays scenario world [] (octet_run system world.network (octets.Lose (is_of_session kind a b) ∷ [])) a
-    (stays_behind scenario world.network (octets.Lose (is_of_session kind a b) ∷ []) s)
+    (stays_after scenario world.network (octets.Lose (is_of_session kind a b) ∷ []) s)
 act_stays scenario (Notice kind a b) sound world s =
     network_stays scenario world [] (octet_run system world.network
     (octets.Forget (is_from_peer kind a b) ∷ octets.Call (Own a (steps.Noticed kind b)) ∷ [])) a
-    (stays_behind scenario world.network (octets.Forget (is_from_peer kind a b) ∷ sound_call scenario (Own a (steps.Noticed kind b)) (sound, tt) ∷ [])
+    (stays_after scenario world.network (octets.Forget (is_from_peer kind a b) ∷ sound_call scenario (Own a (steps.Noticed kind b)) (sound, tt) ∷ [])
     s)
 act_stays scenario (RaiseFirst kind a b) sound world s =
     network_stays scenario world [] (octet_run system world.network
     (octets.Join (is_of_session kind a b) ∷ octets.Call (Own a (steps.Raised kind b)) ∷ [])) a
-    (stays_behind scenario world.network (octets.Join (is_of_session kind a b) ∷ sound_call scenario (Own a (steps.Raised kind b)) (sound, tt) ∷ [])
+    (stays_after scenario world.network (octets.Join (is_of_session kind a b) ∷ sound_call scenario (Own a (steps.Raised kind b)) (sound, tt) ∷ [])
     s)
 act_stays scenario (RaiseSecond kind a b) sound world s =
     network_stays scenario world [] (octet_run system world.network (octets.Call (Own b (steps.Raised kind a)) ∷ [])) b
-    (stays_behind scenario world.network (sound_call scenario (Own b (steps.Raised kind a)) (sound, tt) ∷ []) s)
+    (stays_after scenario world.network (sound_call scenario (Own b (steps.Raised kind a)) (sound, tt) ∷ []) s)
 act_stays scenario (Restart n) sound world s =
     network_stays scenario world [] (octet_run system world.network (octets.Lose (is_at n) ∷ octets.Forget (leads_to n) ∷ octets.Call (Reset n) ∷ []))
     n
-    (stays_behind scenario world.network (octets.Lose (is_at n) ∷ octets.Forget (leads_to n) ∷ sound_call scenario (Reset n) tt ∷ []) s)
+    (stays_after scenario world.network (octets.Lose (is_at n) ∷ octets.Forget (leads_to n) ∷ sound_call scenario (Reset n) tt ∷ []) s)
 act_stays scenario (At n call) sound world s =
     network_stays scenario world [] (octet_run system world.network (octets.Call (Own n call) ∷ [])) n
-    (stays_behind scenario world.network (sound_call scenario (Own n call) sound ∷ []) s)
+    (stays_after scenario world.network (sound_call scenario (Own n call) sound ∷ []) s)
 act_stays scenario (Enter vrf) sound world s = enter_keeps (Stays scenario) world vrf s
 act_stays scenario (Land from to place) sound world s = land_keeps (Stays scenario) world from to place s
 act_stays scenario (Drop from to place) sound world s = s
 act_stays scenario Tell sound world s = s
 act_stays scenario (SetCost a b cost) sound world s =
     network_stays scenario world [] (octet_run system world.network (octets.Call (Price a b cost) ∷ [])) a
-    (stays_behind scenario world.network (sound_call scenario (Price a b cost) sound ∷ []) s)
+    (stays_after scenario world.network (sound_call scenario (Price a b cost) sound ∷ []) s)
 act_stays scenario (Reroute n) sound world s =
     network_stays scenario world [] (octet_run system world.network (octets.Call (Follow n) ∷ [])) n
-    (stays_behind scenario world.network (sound_call scenario (Follow n) sound ∷ []) s)
+    (stays_after scenario world.network (sound_call scenario (Follow n) sound ∷ []) s)

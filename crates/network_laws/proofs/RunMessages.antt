@@ -3,7 +3,7 @@ use Rattle.std.proofs.Common.{◌≡◌, ℕ, List, [], ◌∷◌, ◌++◌, len
 use Rattle.std.specs.Prelude.{Result, Ok, Err}
 use Rattle.std.specs.Int.{w16, to_be_bytes}
 use Rattle.std.specs.List.{AllByRecursion}
-use Rattle.mv_base.proofs.framing.Cuts.{IsOctets-before, IsOctets-behind}
+use Rattle.mv_base.proofs.framing.Cuts.{IsOctets-before, IsOctets-after}
 use Rattle.mv_base.specs.Address.{addr_octets, IsAddr}
 use Rattle.mv_base.specs.Octets.{IsOctets}
 use Rattle.mv_base.specs.declared.addr.Addr.{Addr}
@@ -76,11 +76,11 @@ one_family (V6 own) (V6 a) (V6 b) p q = refl
 one_family (V6 own) (V6 a) (V4 b) p q = absurd q
 one_family (V6 own) (V4 a) b p q = absurd p
 
--- the address behind its family, encoding, flags and mask length
+-- the address after its family, encoding, flags and mask length
 masked_octets : (own : Addr) (flags : ℕ) (addr : Addr) (rest : List ℕ) → IsOctets (masked (family_of own) flags addr ++ rest)
     → IsOctets (addr_octets addr)
 masked_octets own flags addr rest fits =
-    IsOctets-behind (family_octet (family_of own) ∷ 0 ∷ flags ∷ mask_len (family_of own) ∷ []) (addr_octets addr)
+    IsOctets-after (family_octet (family_of own) ∷ 0 ∷ flags ∷ mask_len (family_of own) ∷ []) (addr_octets addr)
     (IsOctets-before (masked (family_of own) flags addr) rest fits)
 
 -- What octets that spell elements end to end make of each.
@@ -89,7 +89,7 @@ all_spelled : {A : Type 0} (S : A → List ℕ → Type 0) (P : A → Type 0) �
 all_spelled S P meets [] text are fits = tt
 all_spelled S P meets (x ∷ more) text (first, others, spells, rest, parts) fits =
     let both : IsOctets (first ++ others) = subst IsOctets parts fits in
-    (meets x first spells (IsOctets-before first others both), all_spelled S P meets more others rest (IsOctets-behind first others both))
+    (meets x first spells (IsOctets-before first others both), all_spelled S P meets more others rest (IsOctets-after first others both))
 
 -- a source of the family of that address
 abbrev IsSpelled : Addr → JpSource → Type 0
@@ -98,7 +98,7 @@ IsSpelled own source = IsOf (family_of own) source.addr × IsOctets (addr_octets
 source_spelled : (own : Addr) (source : JpSource) (text : List ℕ) → SpellsSource (family_of own) source text → IsOctets text → IsSpelled own source
 source_spelled own source text s fits = (
   s.addr,
-  IsOctets-behind (family_octet (family_of own) ∷ 0 ∷ s.flags ∷ mask_len (family_of own) ∷ []) (addr_octets source.addr)
+  IsOctets-after (family_octet (family_of own) ∷ 0 ∷ s.flags ∷ mask_len (family_of own) ∷ []) (addr_octets source.addr)
       (subst IsOctets s.octets fits),
 )
 
@@ -115,10 +115,10 @@ group_spelled own group text s fits =
     let pruned = to_be_bytes w16 (length group.prunes) in
     let whole : IsOctets (masked (family_of own) s.flags group.group ++ (joined ++ (pruned ++ (s.joins ++ s.prunes)))) =
     subst IsOctets s.octets fits in
-    let behind : IsOctets (joined ++ (pruned ++ (s.joins ++ s.prunes))) =
-    IsOctets-behind (masked (family_of own) s.flags group.group) (joined ++ (pruned ++ (s.joins ++ s.prunes))) whole in
+    let thereafter : IsOctets (joined ++ (pruned ++ (s.joins ++ s.prunes))) =
+    IsOctets-after (masked (family_of own) s.flags group.group) (joined ++ (pruned ++ (s.joins ++ s.prunes))) whole in
     let both : IsOctets (s.joins ++ s.prunes) =
-    IsOctets-behind pruned (s.joins ++ s.prunes) (IsOctets-behind joined (pruned ++ (s.joins ++ s.prunes)) behind) in
+    IsOctets-after pruned (s.joins ++ s.prunes) (IsOctets-after joined (pruned ++ (s.joins ++ s.prunes)) thereafter) in
     let is = s.is.multicast in
     let octets = masked_octets own s.flags group.group (joined ++ (pruned ++ (s.joins ++ s.prunes))) whole in
     let sound : IsGroupAddr group.group = ((spelled_addr own group.group is.0, octets), spelled_multicast group.group is.1) in
@@ -130,22 +130,22 @@ group_spelled own group text s fits =
       joins = all_spelled (SpellsSource (family_of own)) (λ source. SoundEntry (entry_of group.group source)) meets group.joins s.joins s.joined
           (IsOctets-before s.joins s.prunes both);
       prunes = all_spelled (SpellsSource (family_of own)) (λ source. SoundEntry (entry_of group.group source)) meets group.prunes s.prunes s.pruned
-          (IsOctets-behind s.joins s.prunes both);
+          (IsOctets-after s.joins s.prunes both);
     }
 
 fields_spelled : (message : JoinPrune) (text : List ℕ) → SpellsFields message text → IsOctets text → SoundMessage message
 fields_spelled message text s fits =
     let held = to_be_bytes w16 message.holdtime in
     let whole : IsOctets (unicast message.neighbour ++ (s.reserved ∷ length message.groups ∷ (held ++ s.groups))) = subst IsOctets s.octets fits in
-    let behind : IsOctets (held ++ s.groups) =
-    IsOctets-behind (s.reserved ∷ length message.groups ∷ []) (held ++ s.groups)
-    (IsOctets-behind (unicast message.neighbour) (s.reserved ∷ length message.groups ∷ (held ++ s.groups)) whole) in
+    let thereafter : IsOctets (held ++ s.groups) =
+    IsOctets-after (s.reserved ∷ length message.groups ∷ []) (held ++ s.groups)
+    (IsOctets-after (unicast message.neighbour) (s.reserved ∷ length message.groups ∷ (held ++ s.groups)) whole) in
     all_spelled (SpellsGroup (family_of message.neighbour)) SoundGroup (group_spelled message.neighbour) message.groups s.groups s.each
-    (IsOctets-behind held s.groups behind)
+    (IsOctets-after held s.groups thereafter)
 
 message_spelled : (message : JoinPrune) (text : List ℕ) → Spells message text → IsOctets text → SoundMessage message
 message_spelled message text s fits =
-    fields_spelled message s.fields s.spelled (IsOctets-behind (0x23 ∷ s.reserved ∷ to_be_bytes w16 _) s.fields (subst IsOctets s.octets fits))
+    fields_spelled message s.fields s.spelled (IsOctets-after (0x23 ∷ s.reserved ∷ to_be_bytes w16 _) s.fields (subst IsOctets s.octets fits))
 
 pub read_is_sound : (iface : IfaceId) (octets : List ℕ) → IsOctets octets → IsSoundGiven (read_at iface octets)
 read_is_sound iface octets fits = by (decoded octets) refl

@@ -53,14 +53,14 @@ pub fn octets_of_the_network_carry_messages()
 {}
 
 /// In every run of a sound scenario, by events of sound values, the nodes stay sound, and the octets in transit over each session that
-/// is joined, behind what its receiver holds back, are whole units. So no stream of a joined session has a fault.
+/// is joined, after what its receiver holds back, are whole units. So no stream of a joined session has a fault.
 pub fn runs_stay_sound()
     ensures { (cores : Cores) (script : Script) (events : List Timed) (trace : List Traced) (new : World) → SoundScenario script.scenario →
         AllByRecursion (λ (timed : Timed). IsSoundEvent script.scenario timed.event) events → Run cores script events trace new →
         Sound script.scenario new.network.state × ((pending : Direction → List SessionMessage) × AreLines new.network pending) }
 {}
 
-/// Behind each event of such a run every node of the scenario has acted on the present costs of the links, and knows the core by them.
+/// After each event of such a run every node of the scenario has acted on the present costs of the links, and knows the core by them.
 pub fn nodes_know_the_present_costs()
     ensures { (cores : Cores) (script : Script) (events : List Timed) (trace : List Traced) (new : World) →
         SoundRun cores script events trace new → KnowCosts script.scenario cores new.network.state }

@@ -46,7 +46,7 @@ abbrev pub Makes : Topology → ℕ → NodeStep → NetworkNode → NetworkNode
 Makes core now step old new =
     (network : Nodes) (n : NodeId) → Stands network n core now old → (state : AnyNode) → IsNode state old → IsNode (step network n state) new
 
--- in each such network it lacks a label behind the step
+-- in each such network it lacks a label after the step
 abbrev pub Lacks : Topology → ℕ → NodeStep → NetworkNode → Type 0
 Lacks core now step old =
     (network : Nodes) (n : NodeId) → Stands network n core now old → (state : AnyNode) → IsNode state old →

@@ -1,4 +1,4 @@
--- An edge behind a step, and a label node behind the calls of the step.
+-- An edge after a step, and a label node after the calls of the step.
 use Rattle.std.proofs.Common.{◌≡◌, ◌∙◌, refl, sym, ap, subst, ℕ, List, [], ◌∷◌, ◌++◌, map, Option, None, Some}
 use Rattle.std.specs.List.{flat_map}
 use Rattle.std.specs.FinMap as maps
@@ -20,12 +20,12 @@ use Rattle.edge_defs.specs.Steps.{Call, Customer, Update, Label, Raised, Noticed
 use Rattle.edge_defs.specs.Steps.{EdgeStepped, LabelStep, edge_step, control_step, own_label_call, changed_leaves, label_row, part_after, raised_after}
 use Rattle.edge_defs.specs.Tunnels.{leaves}
 use Rattle.network_defs.specs.mvpn_model.Sessions.{edges}
-use Rattle.network_defs.specs.node_defs.EdgeState.{EdgeState, behind, called, called_unless, edge_puts, prepared, stepped_unless, waiting_at, with_puts}
+use Rattle.network_defs.specs.node_defs.EdgeState.{EdgeState, thereafter, called, called_unless, edge_puts, prepared, stepped_unless, waiting_at, with_puts}
 use Rattle.network_defs.specs.node_defs.Puts.{bgp_put, bgp_puts, label_puts, update_unit}
 use Rattle.node_laws.specs.Places.{AreLabelOctets, label_session, node_place}
 use Rattle.node_laws.specs.Rows.{IsLabelNode, all_called, label_calls}
 use Rattle.node_laws.proofs.OctetLemmas.{lost_waits, waiting_less, waiting_then}
-use Rattle.node_laws.proofs.RowLemmas.{changes_notice_none, lacks_behind, octets_from, part_behind, prepared_by, puts_again, raises_behind, then_none}
+use Rattle.node_laws.proofs.RowLemmas.{changes_notice_none, lacks_after, octets_from, part_thereafter, prepared_by, puts_again, raises_after, then_none}
 
 -- ---- what precedes a step
 
@@ -104,11 +104,11 @@ module _ (place : EdgePlace) (now : ℕ) (call : Call) where
   after old new = record (prepared call old) { edge = new.edge; waiting = with_puts (edge_puts place now old.edge new) (prepared call old).waiting }
 
   pub edge_called : (old : EdgeState) (o : Option EdgeStepped) → old.spent ≡ None → edge_step place now old.edge call ≡ o
-      → called place now old call ≡ behind place now (prepared call old) o
+      → called place now old call ≡ thereafter place now (prepared call old) o
   edge_called old o e h =
       (λ i. called_unless (e i) place now old call)
       ∙ (λ i. stepped_unless ((edge_spent call old ∙ e) i) place now (prepared call old) call)
-      ∙ (λ i. behind place now (prepared call old) ((ap (λ (d : EdgeData). edge_step place now d call) (edge_data call old) ∙ h) i))
+      ∙ (λ i. thereafter place now (prepared call old) ((ap (λ (d : EdgeData). edge_step place now d call) (edge_data call old) ∙ h) i))
 
   pub edge_after : (old : EdgeState) (new : EdgeStepped) → old.spent ≡ None → edge_step place now old.edge call ≡ Some new
       → called place now old call ≡ after old new
@@ -132,11 +132,11 @@ module _ (place : EdgePlace) (now : ℕ) (call : Call) where
         row = row;
       }
 
-  pub node_behind : (old : EdgeState) (node : LabelNode) (new : EdgeStepped) → IsLabelNode old node → old.spent ≡ None
+  pub node_after : (old : EdgeState) (node : LabelNode) (new : EdgeStepped) → IsLabelNode old node → old.spent ≡ None
       → edge_step place now old.edge call ≡ Some new
       → IsLabelNode (called place now old call) (all_called (node_place place.scenario place.me) place.core now node
       (label_calls place now old.edge.control call))
-  node_behind old node new is e h =
+  node_after old node new is e h =
       let calls = label_calls place now old.edge.control call in
       let changes = changed_leaves (leaves place old.edge.control) (leaves place (control_step place now old.edge.control call)) in
       let none = changes_notice_none (leaves place old.edge.control) (leaves place (control_step place now old.edge.control call)) in
@@ -144,20 +144,20 @@ module _ (place : EdgePlace) (now : ℕ) (call : Call) where
       let row : List LabelStep = made.0 in
       let made_row : label_row place now node.part calls ≡ Some row = (λ i. label_row place now (is.part i) calls) ∙ made.1 in
       let unspent : node.spent ≡ None = is.spent ∙ e in
-      let there = part_behind place now node calls row unspent made_row in
+      let there = part_thereafter place now node calls row unspent made_row in
       let bgp = bgp_puts place old.edge.control (control_step place now old.edge.control call) in
       let told = flat_map (label_puts place.me (addr_of place.scenario place.me) (label_place place.scenario place.core place.me) now) row in
       let own = octets_from place now node (own_label_call call) changes row (with_puts bgp (prepared call old).waiting) none unspent made_row
       (bgp_stays place old.edge.control (control_step place now old.edge.control call) (prepared call old).waiting
       (prepared_by (own_label_call call) node).waiting (edge_waits call old node is.waiting)) in
-      let behind_calls = all_called (node_place place.scenario place.me) place.core now node calls in
-      subst (λ (x : EdgeState). IsLabelNode x behind_calls) (sym (edge_after old new e h))
-      (subst (λ (x : EdgeStepped). IsLabelNode (after old x) behind_calls) (same_Some (made_by old row) new made.2) (record {
+      let after_calls = all_called (node_place place.scenario place.me) place.core now node calls in
+      subst (λ (x : EdgeState). IsLabelNode x after_calls) (sym (edge_after old new e h))
+      (subst (λ (x : EdgeStepped). IsLabelNode (after old x) after_calls) (same_Some (made_by old row) new made.2) (record {
         part = there.part ∙ ap (λ (p : LabelData). part_after p row) is.part;
         waiting =
-            subst (λ (w : FinMap peer_cmp (List ℕ)). AreLabelOctets w behind_calls.waiting) (sym (puts_again bgp told (prepared call old).waiting))
+            subst (λ (w : FinMap peer_cmp (List ℕ)). AreLabelOctets w after_calls.waiting) (sym (puts_again bgp told (prepared call old).waiting))
             own;
-        raises = raises_behind place now node (own_label_call call) (leaves place old.edge.control)
+        raises = raises_after place now node (own_label_call call) (leaves place old.edge.control)
             (leaves place (control_step place now old.edge.control call)) unspent
             ∙ edge_raises call old node is.raises;
         spent = there.unspent ∙ sym (edge_spent call old ∙ e);
@@ -171,5 +171,5 @@ module _ (place : EdgePlace) (now : ℕ) (call : Call) where
       let calls = label_calls place now old.edge.control call in
       let lacking : label_row place now old.edge.part calls ≡ None = then_none (label_row place now old.edge.part calls) (made_by old) h in (
         ap (λ (x : EdgeState). x.spent) (edge_called old None e h),
-        lacks_behind place now node calls (is.spent ∙ e) ((λ i. label_row place now (is.part i) calls) ∙ lacking),
+        lacks_after place now node calls (is.spent ∙ e) ((λ i. label_row place now (is.part i) calls) ∙ lacking),
       )

@@ -1,4 +1,4 @@
--- An edge whose parts are kept apart, behind a call.
+-- An edge whose parts are kept apart, after a call.
 use Rattle.std.proofs.Common.{◌≡◌, ◌≢◌, ◌∙◌, refl, sym, ap, subst, ℕ, List, ◌++◌, Option, None, Some}
 use Rattle.std.proofs.lemmas.Option.{none-some, same_Some}
 use Rattle.std.specs.FinMap as maps
@@ -21,9 +21,9 @@ use Rattle.node_laws.specs.Parts.{HasParts}
 use Rattle.node_laws.specs.Places.{node_place}
 use Rattle.node_laws.specs.Rows.{IsLabelNode, all_called, label_calls}
 use Rattle.node_laws.specs.Waits.{bgp_session, kept_for, update_octets}
-use Rattle.node_laws.proofs.EdgeLemmas.{both_lack, edge_after, edge_called, made_by, node_behind}
+use Rattle.node_laws.proofs.EdgeLemmas.{both_lack, edge_after, edge_called, made_by, node_after}
 use Rattle.node_laws.proofs.PeerLemmas.{step_waits}
-use Rattle.node_laws.proofs.RowLemmas.{lacks_behind, part_behind}
+use Rattle.node_laws.proofs.RowLemmas.{lacks_after, part_thereafter}
 
 module _ (place : EdgePlace) (now : ℕ) (call : Call) (state : EdgeState) where
   step_control : (new : EdgeStepped) → edge_step place now state.edge call ≡ Some new
@@ -55,12 +55,12 @@ module _ (place : EdgePlace) (now : ℕ) (call : Call) (state : EdgeState) where
         ≡ all_called (node_place place.scenario place.me) place.core now node (label_calls place now c call)
     calls_are c e = ap (λ (x : Control). all_called (node_place place.scenario place.me) place.core now node (label_calls place now x call)) e
 
-    behind_is : (new : EdgeStepped) → edge_step place now state.edge call ≡ Some new
+    after_is : (new : EdgeStepped) → edge_step place now state.edge call ≡ Some new
         → IsLabelNode (called place now state call)
         (all_called (node_place place.scenario place.me) place.core now node (label_calls place now control call))
-    behind_is new h =
+    after_is new h =
         subst (λ (n : LabelNode). IsLabelNode (called place now state call) n) (calls_are control has.keeps)
-        (node_behind place now call state node new has.label has.unspent h)
+        (node_after place now call state node new has.label has.unspent h)
 
     pub parts_lack : (all_called (node_place place.scenario place.me) place.core now node (label_calls place now control call)).spent
         ≡ Some LacksLabel → (called place now state call).spent ≡ Some LacksLabel
@@ -68,7 +68,7 @@ module _ (place : EdgePlace) (now : ℕ) (call : Call) (state : EdgeState) where
       where
         by : (o : Option EdgeStepped) → edge_step place now state.edge call ≡ o → (called place now state call).spent ≡ Some LacksLabel
         by None e = (both_lack place now call state node has.label has.unspent e).0
-        by (Some new) e = sym (behind_is new e).spent ∙ h
+        by (Some new) e = sym (after_is new e).spent ∙ h
 
     module _ (new_control : Control) (new_node : LabelNode) (new_waiting : NodeId → List ℕ)
         (stepped : new_control ≡ control_step place now control call)
@@ -76,15 +76,15 @@ module _ (place : EdgePlace) (now : ℕ) (call : Call) (state : EdgeState) where
         (unspent : new_node.spent ≡ None)
         (puts : (peer : NodeId) → Among peer (edges place.scenario) → peer ≢ place.me
         → new_waiting peer ≡ kept_for call peer (waiting peer) ++ update_octets (put_to place control new_control peer)) where
-      control_behind : (new : EdgeStepped) → edge_step place now state.edge call ≡ Some new → (called place now state call).edge.control ≡ new_control
-      control_behind new h =
+      control_after : (new : EdgeStepped) → edge_step place now state.edge call ≡ Some new → (called place now state call).edge.control ≡ new_control
+      control_after new h =
           ap (λ (x : EdgeState). x.edge.control) (edge_after place now call state new has.unspent h)
           ∙ (step_control new h ∙ (ap (λ (c : Control). control_step place now c call) has.keeps ∙ sym stepped))
 
-      waits_behind : (new : EdgeStepped) → edge_step place now state.edge call ≡ Some new → (peer : NodeId) → Among peer (edges place.scenario)
+      waits_after : (new : EdgeStepped) → edge_step place now state.edge call ≡ Some new → (peer : NodeId) → Among peer (edges place.scenario)
           → peer ≢ place.me
           → waiting_at (called place now state call).waiting (bgp_session peer) ≡ new_waiting peer
-      waits_behind new h peer among other =
+      waits_after new h peer among other =
           let same : new.edge.control ≡ new_control =
           step_control new h ∙ (ap (λ (c : Control). control_step place now c call) has.keeps ∙ sym stepped) in
           step_waits place now call state new peer has.unspent h among
@@ -104,12 +104,12 @@ module _ (place : EdgePlace) (now : ℕ) (call : Call) (state : EdgeState) where
           by None e = absurd (none-some LacksLabel (sym unspent ∙ lacking e))
           by (Some new) e =
               let label : IsLabelNode (called place now state call) new_node =
-              subst (λ (n : LabelNode). IsLabelNode (called place now state call) n) (sym made) (behind_is new e) in
+              subst (λ (n : LabelNode). IsLabelNode (called place now state call) n) (sym made) (after_is new e) in
               record {
                 unspent = sym label.spent ∙ unspent;
-                keeps = control_behind new e;
+                keeps = control_after new e;
                 label = label;
-                peers = waits_behind new e;
+                peers = waits_after new e;
               }
 
 -- ---- leaves
@@ -128,7 +128,7 @@ leaves_made place now call control node new_node e same made unspent = by (label
 
     by : (o : Option (List LabelStep)) → label_row place now node.part calls ≡ o
         → new_node.part.leaves ≡ leaves place (control_step place now control call)
-    by None h = absurd (none-some LacksLabel (sym unspent ∙ (ap (λ (n : LabelNode). n.spent) made ∙ lacks_behind place now node calls e h)))
+    by None h = absurd (none-some LacksLabel (sym unspent ∙ (ap (λ (n : LabelNode). n.spent) made ∙ lacks_after place now node calls e h)))
     by (Some row) h =
         let stepped : EdgeStepped =
         record {
@@ -143,5 +143,5 @@ leaves_made place now call control node new_node e same made unspent = by (label
               record { control = control_step place now control call; part = part_after node.part row; raised = raised_after now maps.empty call };
           row = row;
         })) h in
-        let part : new_node.part ≡ part_after node.part row = ap (λ (n : LabelNode). n.part) made ∙ (part_behind place now node calls row e h).part in
+        let part : new_node.part ≡ part_after node.part row = ap (λ (n : LabelNode). n.part) made ∙ (part_thereafter place now node calls row e h).part in
         ap (λ (p : LabelData). p.leaves) part ∙ leaves_follow place now «data» call stepped same step

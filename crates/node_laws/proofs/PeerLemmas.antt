@@ -95,7 +95,7 @@ module _ (me : NodeId) (told : NodeId → List (Change Key Value)) where
       ∙ none_waits peer more (λ a. none (inr a)) (with_puts (map (bgp_put me to) (told to)) waiting)
       ∙ other_stays me to peer (apart peer to (λ e. none (inl e))) (told to) waiting
 
-  -- the changes to the peer wait for it behind what waits already
+  -- the changes to the peer wait for it after what waits already
   abbrev Waits : NodeId → List NodeId → Type 0
   Waits peer peers =
       (waiting : FinMap peer_cmp (List ℕ)) → waiting_at (with_puts (to_all peers) waiting) (bgp_session peer) ≡ waiting_at waiting (bgp_session peer)

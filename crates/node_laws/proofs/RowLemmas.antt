@@ -9,7 +9,7 @@ use Rattle.std.proofs.lemmas.Option.{same_Some, none-some}
 use Rattle.mv_base.specs.Number.{◌>>?◌}
 use Rattle.mldp.specs.declared.mldp_fec.fec.Fec.{Fec}
 use Rattle.label_defs.specs.Keys.{fec_cmp}
-use Rattle.label_defs.specs.Node.{Spent, LacksLabel, LabelNode, prepared, behind, called, called_unless, with_pdus}
+use Rattle.label_defs.specs.Node.{Spent, LacksLabel, LabelNode, prepared, thereafter, called, called_unless, with_pdus}
 use Rattle.label_defs.specs.Members.{in_order}
 use Rattle.label_defs.specs.Settling.{Stepped}
 use Rattle.label_defs.specs.Steps.{Call, Taken, Want, Unwant, Raised, Noticed, Timers, Rerouted, label_step, step_puts}
@@ -65,7 +65,7 @@ none_lost (Noticed peer) waiting e = absurd cc
 none_lost Timers waiting e = refl
 none_lost Rerouted waiting e = refl
 
--- the node behind what precedes the first call
+-- the node after what precedes the first call
 abbrev pub prepared_by : Option Call → LabelNode → LabelNode
 prepared_by None node = node
 prepared_by (Some call) node = prepared call node
@@ -122,7 +122,7 @@ module _ (place : EdgePlace) (now : ℕ) where
   all_at node [] = node
   all_at node (call ∷ more) = all_at (at node call) more
 
-  -- the node behind a label step that was made
+  -- the node after a label step that was made
   abbrev after : LabelNode → Call → Stepped → LabelNode
   after node call new = record (prepared call node) {
     part = new.part;
@@ -135,7 +135,7 @@ module _ (place : EdgePlace) (now : ℕ) where
       → label_step (label_place place.scenario place.core place.me) now node.part call ≡ Some new → at node call ≡ after node call new
   at_after node call new e s =
       (λ i. called_unless (e i) (addr_of place.scenario place.me) (label_place place.scenario place.core place.me) now node call)
-      ∙ (λ i. behind (addr_of place.scenario place.me) (label_place place.scenario place.core place.me) now (prepared call node) call (s i))
+      ∙ (λ i. thereafter (addr_of place.scenario place.me) (label_place place.scenario place.core place.me) now (prepared call node) call (s i))
       ∙ (λ i. record (prepared call node) {
         part = new.part;
         waiting =
@@ -147,7 +147,7 @@ module _ (place : EdgePlace) (now : ℕ) where
       → label_step (label_place place.scenario place.core place.me) now node.part call ≡ None → (at node call).spent ≡ Some LacksLabel
   at_lacking node call e s =
       (λ i. (called_unless (e i) (addr_of place.scenario place.me) (label_place place.scenario place.core place.me) now node call).spent)
-      ∙ (λ i. (behind (addr_of place.scenario place.me) (label_place place.scenario place.core place.me) now (prepared call node) call (s i)).spent)
+      ∙ (λ i. (thereafter (addr_of place.scenario place.me) (label_place place.scenario place.core place.me) now (prepared call node) call (s i)).spent)
 
   stays : (calls : List Call) (node : LabelNode) (cause : Spent) → node.spent ≡ Some cause → all_at node calls ≡ node
   stays [] node cause e = refl
@@ -167,12 +167,12 @@ module _ (place : EdgePlace) (now : ℕ) where
       let rest =
       bind_some (label_row place now first.0.part more) (λ made. Some (record { old = node.part; call = call; new = first.0 } ∷ made)) row first.2
       in
-      let behind = row_parts more (after node call first.0) rest.0 (prepared_spent call node ∙ e) rest.1 in
+      let thereafter = row_parts more (after node call first.0) rest.0 (prepared_spent call node ∙ e) rest.1 in
       subst (λ (made : List LabelStep). IsBehindRow node.part made (all_at (at node call) more))
       (same_Some (record { old = node.part; call = call; new = first.0 } ∷ rest.0) row rest.2)
       (subst (λ (n : LabelNode). IsBehindRow node.part (record { old = node.part; call = call; new = first.0 } ∷ rest.0) (all_at n more))
       (sym (at_after node call first.0 e first.1))
-      (record { unspent = behind.unspent; part = behind.part }))
+      (record { unspent = thereafter.unspent; part = thereafter.part }))
 
   row_lacks : (calls : List Call) (node : LabelNode) → node.spent ≡ None → label_row place now node.part calls ≡ None
       → (all_at node calls).spent ≡ Some LacksLabel
@@ -204,7 +204,7 @@ module _ (place : EdgePlace) (now : ℕ) where
       all_wait place.me (addr_of place.scenario place.me) (step_puts (label_place place.scenario place.core place.me) now node.part call new.puts)
       waiting (prepared call node).waiting same
 
-  -- a row behind its first call
+  -- a row after its first call
   abbrev Waits : List Call → Type 0
   Waits more =
       (node : LabelNode) (row : List LabelStep) (waiting : FinMap peer_cmp (List ℕ)) → node.spent ≡ None
@@ -256,7 +256,7 @@ module _ (place : EdgePlace) (now : ℕ) where
       (λ i. (called_unless (e i) (addr_of place.scenario place.me) (label_place place.scenario place.core place.me) now node call).raises)
       ∙ by (label_step (label_place place.scenario place.core place.me) now node.part call)
     where
-      by : (o : Option Stepped) → (behind (addr_of place.scenario place.me) (label_place place.scenario place.core place.me) now (prepared call node)
+      by : (o : Option Stepped) → (thereafter (addr_of place.scenario place.me) (label_place place.scenario place.core place.me) now (prepared call node)
           call o).raises ≡ (prepared call node).raises
       by None = refl
       by (Some new) = refl
@@ -297,18 +297,18 @@ module _ (place : EdgePlace) (now : ℕ) where
       ap (λ (n : LabelNode). all_called (node_place place.scenario place.me) place.core now n more) (same_called node call)
       ∙ same_row more (at node call)
 
-  pub part_behind : (node : LabelNode) (calls : List Call) (row : List LabelStep) → node.spent ≡ None → label_row place now node.part calls ≡ Some row
+  pub part_thereafter : (node : LabelNode) (calls : List Call) (row : List LabelStep) → node.spent ≡ None → label_row place now node.part calls ≡ Some row
       → IsBehindRow node.part row (all_called (node_place place.scenario place.me) place.core now node calls)
-  part_behind node calls row e h = subst (λ (n : LabelNode). IsBehindRow node.part row n) (sym (same_row calls node)) (row_parts calls node row e h)
+  part_thereafter node calls row e h = subst (λ (n : LabelNode). IsBehindRow node.part row n) (sym (same_row calls node)) (row_parts calls node row e h)
 
-  pub lacks_behind : (node : LabelNode) (calls : List Call) → node.spent ≡ None → label_row place now node.part calls ≡ None
+  pub lacks_after : (node : LabelNode) (calls : List Call) → node.spent ≡ None → label_row place now node.part calls ≡ None
       → (all_called (node_place place.scenario place.me) place.core now node calls).spent ≡ Some LacksLabel
-  lacks_behind node calls e h = ap (λ (n : LabelNode). n.spent) (same_row calls node) ∙ row_lacks calls node e h
+  lacks_after node calls e h = ap (λ (n : LabelNode). n.spent) (same_row calls node) ∙ row_lacks calls node e h
 
-  pub raises_behind : (node : LabelNode) (own : Option Call) (old new : FinSet fec_cmp) → node.spent ≡ None
+  pub raises_after : (node : LabelNode) (own : Option Call) (old new : FinSet fec_cmp) → node.spent ≡ None
       → (all_called (node_place place.scenario place.me) place.core now node (one_call own ++ changed_leaves old new)).raises
       ≡ (prepared_by own node).raises
-  raises_behind node own old new e =
+  raises_after node own old new e =
       ap (λ (n : LabelNode). n.raises) (same_row (one_call own ++ changed_leaves old new) node) ∙ own_raises own old new node e
 
   pub octets_from : (node : LabelNode) (own : Option Call) (calls : List Call) (row : List LabelStep) (waiting : FinMap peer_cmp (List ℕ))
@@ -320,10 +320,10 @@ module _ (place : EdgePlace) (now : ℕ) where
       subst (λ (n : LabelNode). AreLabelOctets (with_puts (row_puts row) waiting) n.waiting) (sym (same_row (one_call own ++ calls) node))
       (own_waits own calls none node row waiting e h same)
 
-  pub octets_behind : (node : LabelNode) (own : Option Call) (calls : List Call) (row : List LabelStep) (waiting : FinMap peer_cmp (List ℕ))
+  pub octets_after : (node : LabelNode) (own : Option Call) (calls : List Call) (row : List LabelStep) (waiting : FinMap peer_cmp (List ℕ))
       → list_any is_noticed calls ≡ false → node.spent ≡ None
       → label_row place now node.part (one_call own ++ calls) ≡ Some row → AreLabelOctets waiting node.waiting
       → AreLabelOctets (with_puts (row_puts row) (without_lost own waiting))
       (all_called (node_place place.scenario place.me) place.core now node (one_call own ++ calls)).waiting
-  octets_behind node own calls row waiting none e h same =
+  octets_after node own calls row waiting none e h same =
       octets_from node own calls row (without_lost own waiting) none e h (own_prepared own node waiting same)

@@ -12,21 +12,21 @@ use Rattle.network_defs.specs.session_defs.Message.{SessionMessage, Bgp, Label}
 use Rattle.network_defs.specs.session_defs.PeerSession.{PeerSession, kind_number, peer_cmp}
 use Rattle.edge_defs.specs.Place.{EdgePlace}
 use Rattle.edge_defs.specs.Steps.{Call, EdgeStepped, edge_step}
-use Rattle.network_defs.specs.node_defs.EdgeState.{EdgeState, all_taken, behind, call_of, called, called_unless, handed, handed_out, handed_unless, prepared, stepped, stepped_unless, waiting_at}
+use Rattle.network_defs.specs.node_defs.EdgeState.{EdgeState, all_taken, thereafter, call_of, called, called_unless, handed, handed_out, handed_unless, prepared, stepped, stepped_unless, waiting_at}
 use Rattle.node_laws.proofs.EdgeLemmas.{edge_called}
 use Rattle.node_laws.proofs.OctetLemmas.{peer_total, waiting_less}
 
 -- ---- streams
 
-behind_streams : (place : EdgePlace) (now : ℕ) (old : EdgeState) (new : Option EdgeStepped) → (behind place now old new).streams ≡ old.streams
-behind_streams place now old None = refl
-behind_streams place now old (Some new) = refl
+after_streams : (place : EdgePlace) (now : ℕ) (old : EdgeState) (new : Option EdgeStepped) → (thereafter place now old new).streams ≡ old.streams
+after_streams place now old None = refl
+after_streams place now old (Some new) = refl
 
 pub unspent_streams : (place : EdgePlace) (now : ℕ) (call : Call) (old : EdgeState) → old.spent ≡ None
     → (called place now old call).streams ≡ (prepared call old).streams
 unspent_streams place now call old e =
     ap (λ (x : EdgeState). x.streams) (edge_called place now call old (edge_step place now old.edge call) e refl)
-    ∙ behind_streams place now (prepared call old) (edge_step place now old.edge call)
+    ∙ after_streams place now (prepared call old) (edge_step place now old.edge call)
 
 pub spent_stays : (place : EdgePlace) (now : ℕ) (call : Call) (old : EdgeState) (cause : Spent) → old.spent ≡ Some cause
     → called place now old call ≡ old

@@ -15,12 +15,12 @@ use Rattle.edge_defs.specs.Tunnels.{leaves}
 use Rattle.network_defs.specs.node_defs.EdgeState.{EdgeState}
 use Rattle.node_laws.specs.Places.{AreLabelOctets, label_session}
 
--- the node behind calls, one after another
+-- the node after calls, one after another
 abbrev pub all_called : NodePlace → Core → ℕ → LabelNode → List Call → LabelNode
 all_called place core now node [] = node
 all_called place core now node (call ∷ more) = all_called place core now (called place core now node call) more
 
--- The node behind a row of label steps: it is not spent, and its label part is the one behind the row.
+-- The node after a row of label steps: it is not spent, and its label part is the one after the row.
 pub record IsBehindRow (before : LabelData) (row : List LabelStep) (node : LabelNode) : Type 0 where
   pub unspent : node.spent ≡ None
   pub part : node.part ≡ part_after before row

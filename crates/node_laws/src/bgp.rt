@@ -17,7 +17,7 @@ ghost use Rattle.network_defs.specs.node_defs.Puts.{bgp_puts};
 ghost use Rattle.node_laws.specs.Places.{label_session};
 ghost use Rattle.node_laws.specs.Waits.{bgp_session, kept_for, update_octets};
 
-/// The changes that an edge puts to a peer wait for it, in UPDATE messages behind what waits already (RFC 4271 section 4.3). For a node
+/// The changes that an edge puts to a peer wait for it, in UPDATE messages after what waits already (RFC 4271 section 4.3). For a node
 /// that is no edge, and for a neighbour over LDP, what waits stays as it is.
 pub fn bgp_octets_wait()
     ensures peers { (place : EdgePlace) (old new : Control) (waiting : FinMap peer_cmp (List ℕ)) (peer : NodeId) →
@@ -31,7 +31,7 @@ pub fn bgp_octets_wait()
         waiting_at (with_puts (bgp_puts place old new) waiting) (label_session peer) ≡ waiting_at waiting (label_session peer) }
 {}
 
-/// Behind a step of an edge, what waits for a BGP peer is what the call leaves of it, and then the UPDATE messages of the changes that
+/// After a step of an edge, what waits for a BGP peer is what the call leaves of it, and then the UPDATE messages of the changes that
 /// the step puts to it (RFC 4271 section 4.3). For a node that is no edge, it is what the call leaves.
 pub fn peers_octets_wait()
     ensures peers { (place : EdgePlace) (now : ℕ) (call : Call) (old : EdgeState) (new : EdgeStepped) (peer : NodeId) →

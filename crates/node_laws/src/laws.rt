@@ -28,7 +28,7 @@ pub fn places_are_one()
     ensures addr { (scenario : Scenario) (me : NodeId) → addr_of scenario me ≡ addr_in (node_place scenario me) }
 {}
 
-/// What a label step puts waits at an edge as at a label node: in PDUs behind what waits for each neighbour. What waits for BGP peers
+/// What a label step puts waits at an edge as at a label node: in PDUs after what waits for each neighbour. What waits for BGP peers
 /// stays as it is.
 pub fn label_octets_wait()
     ensures labels { (me : NodeId) (addr : Addr) (place : Place) (now : ℕ) (step : LabelStep) (waiting : FinMap peer_cmp (List ℕ))
@@ -40,7 +40,7 @@ pub fn label_octets_wait()
         ≡ waiting_at waiting (record { kind = kinds.Bgp; peer = peer }) }
 {}
 
-/// A row of calls of a label node leaves it as the row of an edge's label steps says: it is not spent, and its label part is that behind
+/// A row of calls of a label node leaves it as the row of an edge's label steps says: it is not spent, and its label part is that after
 /// the row. Where there is no such row, a call needed more labels than were free, and the node is spent.
 pub fn rows_are_calls()
     ensures made { (place : EdgePlace) (now : ℕ) (node : LabelNode) (calls : List Call) (row : List LabelStep) →
@@ -51,7 +51,7 @@ pub fn rows_are_calls()
         (all_called (node_place place.scenario place.me) place.core now node calls).spent ≡ Some LacksLabel }
 {}
 
-/// What a row of label steps puts waits at an edge as at a label node behind the calls. The first of them may be that the loss of a
+/// What a row of label steps puts waits at an edge as at a label node after the calls. The first of them may be that the loss of a
 /// session is noticed, which drops what waits for it; no tree of which the edge becomes or stops being a leaf is such a call.
 pub fn row_octets_wait()
     ensures labels { (place : EdgePlace) (now : ℕ) (node : LabelNode) (own : Option Call) (changes : List Call) (row : List LabelStep)
@@ -65,7 +65,7 @@ pub fn row_octets_wait()
     ensures changes { (old new : FinSet fec_cmp) → list_any is_noticed (changed_leaves old new) ≡ false }
 {}
 
-/// Where an edge has its label part in a label node, it has it there behind each call: in the node behind the calls of the step, one
+/// Where an edge has its label part in a label node, it has it there after each call: in the node after the calls of the step, one
 /// after another. Where there is no step of the edge, both are spent.
 pub fn edges_have_label_nodes()
     ensures made { (place : EdgePlace) (now : ℕ) (call : EdgeCall) (old : EdgeState) (node : LabelNode) (new : EdgeStepped) →

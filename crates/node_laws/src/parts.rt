@@ -15,9 +15,9 @@ ghost use Rattle.node_laws.specs.Places.{node_place};
 ghost use Rattle.node_laws.specs.Rows.{all_called, label_calls};
 ghost use Rattle.node_laws.specs.Waits.{kept_for, update_octets};
 
-/// An edge whose parts each make a call makes it: where what it keeps is that of the step, its label node is behind the calls of the step,
+/// An edge whose parts each make a call makes it: where what it keeps is that of the step, its label node is after the calls of the step,
 /// and the UPDATE messages of the changes wait for each peer. Where the label node lacks a label, the edge does. Where the label node was
-/// a leaf of the trees of which the edge is to be one, it is so behind the calls. When the end of each BGP session came up is told by the
+/// a leaf of the trees of which the edge is to be one, it is so after the calls. When the end of each BGP session came up is told by the
 /// call alone.
 pub fn parts_make_a_step()
     ensures made { (place : EdgePlace) (now : ℕ) (call : Call) (state : EdgeState) (control new_control : Control) (node new_node : LabelNode)

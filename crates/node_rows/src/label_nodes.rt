@@ -325,7 +325,7 @@ fn spelled(alloc: Global, said: &[Said]) -> Result<Vec<u8>, NoMemory> {
 /// waits for.
 type Standing = (bool, bool, bool, u64);
 
-/// A node, its clock and what it does; what is put then, and how the nodes stand behind it.
+/// A node, its clock and what it does; what is put then, and how the nodes stand after it.
 type Row = (u8, u64, Act, &'static [Said], Standing);
 
 /// A mapping is 0, a withdraw 2, and a release 3.
@@ -409,12 +409,12 @@ fn stand(net: &Net) -> Standing {
 
 /// Whether all is as the row says.
 fn is_so(net: &mut Net, alloc: Global, row: &Row) -> Result<bool, NoMemory> {
-    let (node, now, own, said, behind) = *row;
+    let (node, now, own, said, thereafter) = *row;
     let done = act_at(net, node, own, now);
     let mut seen = Vec::new(alloc);
     let taken = carry_all(net, now, &mut seen)?;
     let said = spelled(alloc, said)?;
-    Ok(done && taken && seen.as_slice() == said.as_slice() && stand(net) == behind)
+    Ok(done && taken && seen.as_slice() == said.as_slice() && stand(net) == thereafter)
 }
 
 /// How many rows from the first on are so.

@@ -69,7 +69,7 @@ fn maps_leaves_and_rests(rt: HostRuntime) -> Result<(), Fail> {
     uses.wake(16);
     let again = map(&rt, &mut uses, &third, NodeId(3));
     let lost = uses.lose(NodeId(3)).is_ok();
-    let behind = (
+    let thereafter = (
         uses.mapped(&third),
         uses.mapped(&second),
         uses.is_up(NodeId(3)),
@@ -86,8 +86,8 @@ fn maps_leaves_and_rests(rt: HostRuntime) -> Result<(), Fail> {
     assert_eq!(rt; waits, true);
     assert_eq!(rt; again, Some(16));
     assert_eq!(rt; lost, true);
-    assert_eq!(rt; behind.0, None);
-    assert_eq!(rt; behind.1, Some(17));
-    assert_eq!(rt; behind.2, false);
+    assert_eq!(rt; thereafter.0, None);
+    assert_eq!(rt; thereafter.1, Some(17));
+    assert_eq!(rt; thereafter.2, false);
     Ok(())
 }

@@ -42,7 +42,7 @@ use Rattle.edge_defs.proofs.KeyLemmas.{note_total, note_exact, key_total, key_ex
 use Rattle.edge_words.specs.edge_laws.Network.{EdgeNetwork, place_of}
 use Rattle.edge_words.specs.calm_laws.Calm.{AreOfOneVpn}
 use Rattle.edge_words.proofs.calm_laws.Entries.{IsHeld, OfInclusive, OfUnicast, OfSelective, OfActive, OfJoin, is_held, kind_of, unicast_kind, selective_kind, join_kind, own_held}
-use Rattle.edge_words.proofs.calm_laws.Lists.{passes, among_front, among_behind, among_either, among_map, map_among, among_flat_map, flat_map_among, filter_among, among_filter, any_from, any_among, among_found, found_among}
+use Rattle.edge_words.proofs.calm_laws.Lists.{passes, among_front, among_after, among_either, among_map, map_among, among_flat_map, flat_map_among, filter_among, among_filter, any_from, any_among, among_found, found_among}
 use Rattle.edge_words.proofs.calm_laws.Maps.{entry_get, get_entry}
 use Rattle.edge_words.proofs.calm_laws.Tables.{taken_is, held_taken, taken_held, among_peers, far_up}
 use Rattle.edge_words.proofs.calm_laws.Targets.{same_itself, same_back, shares_by, admitted_target, among_comms, vpn_admits}
@@ -279,8 +279,8 @@ module _ (scenario : Scenario) (cores : Cores) (world : World) (k : Known scenar
       in
       let held =
       own_held place (w.node f) n root key value b
-      (inr (among_behind entry (unicast_routes place root) (selective_routes place (w.node f) root ++ active_routes place (w.node f) root)
-      (among_behind entry (selective_routes place (w.node f) root) (active_routes place (w.node f) root) in_routes))) in
+      (inr (among_after entry (unicast_routes place root) (selective_routes place (w.node f) root ++ active_routes place (w.node f) root)
+      (among_after entry (selective_routes place (w.node f) root) (active_routes place (w.node f) root) in_routes))) in
       let u = active_held place (w.node f) n (afi_of note.source) root.vrf.rd note.source note.group held.0
       (is_held place (w.node f) n key held.0 held.1) in
       let alike : root ≡ u.root = one_rd place root u.root k.rules b u.of_root u.named in
@@ -296,7 +296,7 @@ module _ (scenario : Scenario) (cores : Cores) (world : World) (k : Known scenar
       let here : Among flow (active_from own (f, table)) =
       among_found (imported_active own.vrf) (key, taken.0) flow (maps.entries table) (get_entry key_exact table key taken.0 taken.1) read in
       known_flow n own note.source note.group
-      (among_behind flow (map noted_flow (notes_of (place_of w n) control own.id)) (flat_map (active_from own) (maps.entries control.peers))
+      (among_after flow (map noted_flow (notes_of (place_of w n) control own.id)) (flat_map (active_from own) (maps.entries control.peers))
       (among_flat_map (active_from own) (f, table) flow (maps.entries control.peers)
       (among_peers control f (far_up w f n (rule scenario cores world k) calm)) here))
 

@@ -1,4 +1,4 @@
--- What is known behind a run up to a line of zeros.
+-- What is known after a run up to a line of zeros.
 use Rattle.std.proofs.Common.{◌≡◌, ◌<◌, ◌≤◌, ◌++◌, Bool, true, false, ◌&&◌, cond, List, [], length, slice_get, Some, None, refl, sym, ap, subst}
 use Rattle.std.specs.FinSet as sets
 use Rattle.std.proofs.lemmas.Option.{same_Some, none-some, slice_get_within}

@@ -29,7 +29,7 @@ use Rattle.network_defs.specs.Costs.{Cores}
 use Rattle.edge_defs.specs.Upstream.{upstream_for}
 use Rattle.edge_defs.proofs.KeyLemmas.{flow_total}
 use Rattle.edge_words.specs.edge_laws.Network.{EdgeNetwork, place_of}
-use Rattle.edge_words.proofs.calm_laws.Lists.{among_front, among_behind, among_map, among_flat_map, among_filter, any_from, any_among, among_found}
+use Rattle.edge_words.proofs.calm_laws.Lists.{among_front, among_after, among_map, among_flat_map, among_filter, any_from, any_among, among_found}
 use Rattle.edge_words.proofs.calm_laws.Maps.{some_found, get_entry}
 use Rattle.edge_words.proofs.calm_laws.Upstreams.{is_flow_of}
 use Rattle.edge_words.proofs.calm_laws.Vrfs.{one_number}
@@ -187,7 +187,7 @@ module _ (scenario : Scenario) (cores : Cores) (world : World) (k : Known scenar
             (among_found (joined_by place own) at flow (maps.keys control.entries) listed joins)
         | inr t ↦
             let found = any_among (same_flow source group) (active_flows place control own) t in
-            among_behind flow joined (active_flows place control own)
+            among_after flow joined (active_flows place control own)
             (subst (λ (f : FlowRoute). Among f (active_flows place control own)) (as_flow source group found.0 found.2) found.1)
       ]
 

@@ -1,4 +1,4 @@
--- What each call of a node keeps holds behind every run.
+-- What each call of a node keeps holds after every run.
 use Rattle.std.specs.Prelude.{⊤, find, replicate, if◌then◌else◌}
 use Rattle.std.proofs.Common.{◌≡◌, ℕ, zero, suc, ◌+◌, ◌-◌, not, ◌&&◌, ◌++◌, map, take, drop, length, List, [], ◌∷◌, Option, Some, None, Result, Ok, Err, inl, inr, refl, sym, subst, ◌∙◌}
 use Rattle.std.specs.List.{AllByRecursion, flat_map, position_or_len}
@@ -61,7 +61,7 @@ IsOfSession Fits n other = ⊥
 abbrev pub AreFit : (Kind → NodeId → NodeId → Type 0) → Session → Type 0
 AreFit Fits session = Fits session.kind session.a session.b × Fits session.kind session.b session.a
 
--- the network behind octet acts
+-- the network after octet acts
 abbrev pub NetworkLeads : (OctetNetwork Nodes → Type 0) → Option (Behind (OctetNetwork Nodes)) → Type 0
 NetworkLeads P None = ⊤
 NetworkLeads P (Some new) = P new.network

@@ -45,7 +45,7 @@ use Rattle.edge_words.specs.edge_laws.Network.{EdgeNetwork, place_of}
 use Rattle.edge_words.specs.calm_laws.Calm.{AreOfOneVpn}
 use Rattle.edge_words.proofs.calm_laws.Comms.{joins_by}
 use Rattle.edge_words.proofs.calm_laws.Entries.{IsHeld, OfInclusive, OfUnicast, OfSelective, OfActive, OfJoin, is_held, kind_of, selective_kind, active_kind, join_kind, own_held}
-use Rattle.edge_words.proofs.calm_laws.Lists.{passes, among_choice, among_front, among_behind, among_either, among_map, map_among, among_flat_map, flat_map_among, any_from, any_among, among_found, found_among}
+use Rattle.edge_words.proofs.calm_laws.Lists.{passes, among_choice, among_front, among_after, among_either, among_map, map_among, among_flat_map, flat_map_among, any_from, any_among, among_found, found_among}
 use Rattle.edge_words.proofs.calm_laws.Maps.{entry_get, get_entry}
 use Rattle.edge_words.proofs.calm_laws.Originated.{unicast_held}
 use Rattle.edge_words.proofs.calm_laws.Tables.{taken_is, held_taken, taken_held, among_peers, far_up}
@@ -303,7 +303,7 @@ module _ (scenario : Scenario) (cores : Cores) (world : World) (k : Known scenar
       among_found (known_route (place_of w n) own.vrf f) (key, taken.0) known (maps.entries table) (get_entry key_exact table key taken.0 taken.1)
       read in (
         known,
-        among_behind known (map of_site (local_routes sc own.id)) (flat_map (known_from (place_of w n) own.vrf) (maps.entries control.peers))
+        among_after known (map of_site (local_routes sc own.id)) (flat_map (known_from (place_of w n) own.vrf) (maps.entries control.peers))
             (among_flat_map (known_from (place_of w n) own.vrf) (f, table) known (maps.entries control.peers)
             (among_peers control f (far_up w f n (rule scenario cores world k) calm)) here),
         refl,

@@ -1,4 +1,4 @@
--- Behind every run each VRF chooses by its rule.
+-- After every run each VRF chooses by its rule.
 use Rattle.std.proofs.Common.{◌≡◌, ℕ, ◌/◌, ◌-◌, ◌^◌, true, List, refl, sym, ap, subst, ◌∙◌}
 use Rattle.std.specs.Int.{w32, w128, from_be_bytes}
 use Rattle.std.proofs.lemmas.Bool.{eq-eqb, eqb-true}

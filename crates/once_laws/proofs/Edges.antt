@@ -41,7 +41,7 @@ use Rattle.rule_laws.specs.Edges.{as_message, edge_network}
 use Rattle.rule_laws.proofs.Rows.{IsEdgeNode}
 use Rattle.once_laws.specs.Facts.{EdgeFact, NodeFact}
 use Rattle.once_laws.proofs.Behind.{Known}
-use Rattle.once_laws.proofs.Pairs.{CalmSession, calm_sessions, each_behind, each_unmapped}
+use Rattle.once_laws.proofs.Pairs.{CalmSession, calm_sessions, each_after, each_unmapped}
 use Rattle.once_laws.proofs.Rests.{nothing_pending}
 use Rattle.once_laws.proofs.Zeros.{none_counted}
 use Rattle.network_laws.proofs.Lists.{each_front}
@@ -67,7 +67,7 @@ two_of P (x ∷ later) all a b (inr ina) (inl eb) ne =
     (each_among (λ (n : NodeId). P (bgp_session x n)) a later
     (each_unmapped P (bgp_session x) later (each_front P (map (bgp_session x) later) (bgp_sessions later) all)) ina))
 two_of P (x ∷ later) all a b (inr ina) (inr inb) ne =
-    two_of P later (each_behind P (map (bgp_session x) later) (bgp_sessions later) all) a b ina inb ne
+    two_of P later (each_after P (map (bgp_session x) later) (bgp_sessions later) all) a b ina inb ne
 
 edge_listed : (number k : ℕ) (nodes : List Node) (node : Node) → slice_get nodes k ≡ Some node → node.edge ≡ true
     → Among (record { 0 = number + k }) (edges_from number nodes)

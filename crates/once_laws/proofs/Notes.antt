@@ -1,4 +1,4 @@
--- The sources that the events note are those that the edges have noted, behind every run.
+-- The sources that the events note are those that the edges have noted, after every run.
 use Rattle.std.specs.Prelude.{⊤}
 use Rattle.std.proofs.Common.{not, ◌&&◌, ◌||◌, ◌≡◌, ℕ, ◌+◌, ◌==◌, Bool, true, false, cond, List, [], ◌∷◌, Option, Some, None, refl, sym, ap, subst, ◌∙◌}
 use Rattle.std.specs.Cmp.{both_ways, Equal-is}
@@ -192,7 +192,7 @@ message_leaves n (Some given) = λ old. refl
 
 -- ---- events that change notes
 
--- what the events tell behind one more
+-- what the events tell after one more
 abbrev noted_then : Scenario → Event → Noted → Noted
 noted_then scenario event noted note = noted_by scenario note.iface note.source note.group event (noted note)
 
@@ -440,7 +440,7 @@ start_notes scenario cores = record {
   rests = λ over. unfed_rests over.kind;
 }
 
--- Behind every run the sources that are noted at an interface are those that its edge has noted.
+-- After every run the sources that are noted at an interface are those that its edge has noted.
 pub notes_told : (core : Cores) (scenario : Scenario) (all : List Timed) (trace : List Traced) (world : World) → Rules scenario → Rises 0 all
     → Runs (start scenario core) 0 all trace world
     → NotesAreTold (record { scenario = scenario; events = all; refused = refused_lines (report_of trace) }) world

@@ -177,7 +177,7 @@ module _ (scenario : Scenario) (cores : Cores) (world : World) (k : Known scenar
           (false_from_ne_true (receives_by past datagram.site datagram.source datagram.group iface)
           (λ t. (let l = listed (vrf_of_site sc datagram.site) refl (sym received ∙ t) in none-some l.3.0 (sym e ∙ l.3.1)))))
 
--- Behind such a run choices are calm, where what interfaces ask for is what the events tell.
+-- After such a run choices are calm, where what interfaces ask for is what the events tell.
 pub choice_calm : (cores : Cores) (script : Script) (events : List Timed) (trace : List Traced) (world : World)
     → CalmRun cores script events trace world → (past : Past) → past.scenario ≡ script.scenario → AsksAreTold past world × NotesAreTold past world
     → (datagram : Datagram) → CalmChoice world.network (receives_by past datagram.site datagram.source datagram.group) datagram

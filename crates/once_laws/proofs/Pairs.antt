@@ -26,14 +26,14 @@ use Rattle.once_laws.specs.Zeros.{Zeros, CalmPair}
 use Rattle.network_laws.proofs.Lists.{each_front}
 use Rattle.network_laws.proofs.BgpPlaces.{all_both}
 
-pub each_behind : {X : Type 0} (P : X → Type 0) (xs ys : List X) → AllByRecursion P (xs ++ ys) → AllByRecursion P ys
-each_behind P [] ys h = h
-each_behind P (x ∷ xs) ys h = each_behind P xs ys h.1
+pub each_after : {X : Type 0} (P : X → Type 0) (xs ys : List X) → AllByRecursion P (xs ++ ys) → AllByRecursion P ys
+each_after P [] ys h = h
+each_after P (x ∷ xs) ys h = each_after P xs ys h.1
 
 pub each_flat : {X Y : Type 0} (P : Y → Type 0) (f : X → List Y) (xs : List X) → AllByRecursion P (flat_map f xs)
     → AllByRecursion (λ x. AllByRecursion P (f x)) xs
 each_flat P f [] h = tt
-each_flat P f (x ∷ xs) h = (each_front P (f x) (flat_map f xs) h, each_flat P f xs (each_behind P (f x) (flat_map f xs) h))
+each_flat P f (x ∷ xs) h = (each_front P (f x) (flat_map f xs) h, each_flat P f xs (each_after P (f x) (flat_map f xs) h))
 
 pub each_unmapped : {X Y : Type 0} (P : Y → Type 0) (f : X → Y) (xs : List X) → AllByRecursion P (map f xs) → AllByRecursion (λ x. P (f x)) xs
 each_unmapped P f [] h = tt
@@ -92,7 +92,7 @@ link_pairs world rules alike z =
     (λ link ends s. link_pair world alike link ends s) scenario.links
     (recursion_from_All (HasEnds (length scenario.nodes)) scenario.links rules.core.topology.ends)
     (each_unmapped (CalmSession world) ldp_session scenario.links
-    (each_behind (CalmSession world) (bgp_sessions (edges scenario)) (map ldp_session scenario.links) (calm_sessions world z)))
+    (each_after (CalmSession world) (bgp_sessions (edges scenario)) (map ldp_session scenario.links) (calm_sessions world z)))
 
 by_ends : (world : World) (link : Link) (u n : NodeId) → ((link.a.0 ≡ u.0) × (link.b.0 ≡ n.0)) ⊎ ((link.a.0 ≡ n.0) × (link.b.0 ≡ u.0))
     → Pair world link.a link.b → Pair world u n

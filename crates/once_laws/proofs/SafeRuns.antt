@@ -23,7 +23,7 @@ use Rattle.network_laws.specs.Sound.{SoundScenario}
 use Rattle.network_laws.specs.SoundRun.{SoundRun}
 use Rattle.network_laws.proofs.Lists.{each_front, each_weaker}
 use Rattle.rule_laws.specs.Outs.{IsAdmittedOut, IsAdmittedLine}
-use Rattle.rule_laws.proofs.Halting.{each_behind}
+use Rattle.rule_laws.proofs.Halting.{each_after}
 use Rattle.rule_laws.proofs.Start.{run_says}
 use Rattle.delivery_laws.specs.Once.{in_network}
 use Rattle.delivery_laws.proofs.Accepted.{TellsAccepted, tells_accepted}
@@ -90,7 +90,7 @@ module _ (cores : Cores) (script : Script) (sound : SoundScenario script.scenari
   abbrev AreSoundEvents : List Timed → Type 0
   AreSoundEvents events = AllByRecursion (λ (timed : Timed). IsSoundEvent script.scenario timed.event) events
 
-  -- the lines of later events, behind a run of the first ones
+  -- the lines of later events, after a run of the first ones
   runs_safe : (more before : List Timed) → AreSoundEvents (before ++ more) → TellsAccepted refused begin (before ++ more)
       → (early : List Traced) (old : World) → Run cores script before early old
       → (number : ℕ) → number ≡ length before → (trace : List Traced) (new : World) → Runs old number more trace new
@@ -118,7 +118,7 @@ module _ (cores : Cores) (script : Script) (sound : SoundScenario script.scenari
       let all : Says run.1.datagrams so_far = run_says script.scenario cores upto so_far run.1 sound sound_upto joined in
       let here : Says run.1.datagrams own =
       each_front (λ (step : Traced). AllByRecursion (IsAdmittedLine script.scenario run.1.datagrams) step.happened.lines) own []
-      (each_behind (λ (step : Traced). AllByRecursion (IsAdmittedLine script.scenario run.1.datagrams) step.happened.lines) early (own ++ []) all)
+      (each_after (λ (step : Traced). AllByRecursion (IsAdmittedLine script.scenario run.1.datagrams) step.happened.lines) early (own ++ []) all)
       in
       let own_safe : Safe script.scenario events refused (report_of own) = acts_safe script.scenario refused events number run.0
       (subst (λ (list : List Datagram). Says list own) (sent ∙ ap (λ (l : List Timed). in_networks (datagrams refused 0 l)) (sym taken)) here) in

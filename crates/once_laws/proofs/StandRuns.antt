@@ -1,4 +1,4 @@
--- What interfaces ask for by the events is what the edges keep, behind every run.
+-- What interfaces ask for by the events is what the edges keep, after every run.
 use Rattle.std.specs.Prelude.{⊤}
 use Rattle.std.proofs.Common.{◌≡◌, ℕ, ◌+◌, ◌==◌, ◌||◌, ◌&&◌, not, Bool, true, false, cond, List, [], ◌∷◌, slice_get, option_map, Option, Some, None, refl, sym, ap, subst, ◌∙◌, arith}
 use Rattle.std.specs.List.{AllByRecursion, fold}
@@ -85,7 +85,7 @@ may_free : (n : NodeId) (call : steps.Call) → IsOfSession Free n call → MayS
 may_free n (steps.Customer call) h = absurd h
 may_free n other h = tt
 
--- ---- octets at rest, behind any event
+-- ---- octets at rest, after any event
 
 abbrev AnyNodes : Nodes → Type 0
 AnyNodes nodes = ⊤
@@ -138,7 +138,7 @@ quiet_event scenario c told world event w s r =
     (event_holds (Stands scenario c told) Free (λ nodes f. all_fit (sessions nodes.scenario)) MayStand may_free (step scenario c told) world event w
     (record { nodes = s; rests = r }))
 
--- what the events tell behind one more
+-- what the events tell after one more
 abbrev told_after : Scenario → ℕ → Event → Told → Told
 told_after scenario c event told iface entry = expiry_by scenario iface entry c event (told iface entry)
 
@@ -496,7 +496,7 @@ start_tells scenario cores = record {
   rests = λ over. unfed_rests over.kind;
 }
 
--- Behind every run the entries that count are those of the events.
+-- After every run the entries that count are those of the events.
 pub entries_told : (cores : Cores) (scenario : Scenario) (all : List Timed) (trace : List Traced) (world : World) → Rules scenario → Rises 0 all
     → Runs (start scenario cores) 0 all trace world
     → EntriesAreTold (record { scenario = scenario; events = all; refused = refused_lines (report_of trace) }) world
@@ -524,7 +524,7 @@ asks_by_counts : (c : ℕ) (active : Bool) (x y z u v w : Option Expiry) → cou
     → asks_by c active x y z ≡ asks_by c active u v w
 asks_by_counts c active x y z u v w p q r = λ i. p i || (q i && not (r i) && active)
 
--- Behind every run interfaces ask by the entries of their edges, given which sources the events note.
+-- After every run interfaces ask by the entries of their edges, given which sources the events note.
 pub asks_told : (cores : Cores) (scenario : Scenario) (all : List Timed) (trace : List Traced) (world : World) → Rules scenario → Rises 0 all
     → Runs (start scenario cores) 0 all trace world
     → AsksAreTold (record { scenario = scenario; events = all; refused = refused_lines (report_of trace) }) world

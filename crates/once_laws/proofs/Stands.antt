@@ -191,7 +191,7 @@ step_kept place now n old steps.Rerouted w iface entry = refl
 step_kept place now n old steps.Timers w iface entry =
     ap (remaining now) (get-kept old.entries now (record { iface = iface; entry = entry })) ∙ remaining_twice now (kept_of old iface entry)
 
--- what an edge keeps behind a step
+-- what an edge keeps after a step
 pub edge_control : (place : EdgePlace) (now : ℕ) (edge : EdgeData) (call : steps.Call)
     → Holds (λ (new : EdgeStepped). new.edge.control ≡ control_step place now edge.control call) (edge_step place now edge call)
 edge_control place now edge call =

@@ -1,4 +1,4 @@
--- Sound runs behind which `state` tells of zeros alone.
+-- Sound runs after which `state` tells of zeros alone.
 use Rattle.std.specs.Prelude.{◌≡◌, List}
 use Rattle.scenario_defs.specs.Rules.{Rises}
 use Rattle.scenario_defs.specs.declared.event.Script.{Script}
@@ -10,7 +10,7 @@ use Rattle.network_defs.specs.Run.{Traced}
 use Rattle.network_defs.specs.World.{World}
 use Rattle.network_laws.specs.SoundRun.{SoundRun}
 
--- A sound run, the lines of whose events rise, and behind which `state` tells of zeros alone.
+-- A sound run, the lines of whose events rise, and after which `state` tells of zeros alone.
 pub record CalmRun (cores : Cores) (script : Script) (events : List Timed) (trace : List Traced) (world : World) : Type 0 where
   pub sound : SoundRun cores script events trace world
   pub rises : Rises 0 events

@@ -40,7 +40,7 @@ pub fn zeros_are_calm()
     ensures { (world : World) → state_line world ≡ lines.State 0 0 0 0 0 → Zeros world }
 {}
 
-/// Behind a run of a sound scenario, by its cores and by sound events, and where `state` tells of zeros alone: the labels of each tree
+/// After a run of a sound scenario, by its cores and by sound events, and where `state` tells of zeros alone: the labels of each tree
 /// that has a node of the scenario as its root are calm.
 pub fn labels_are_calm()
     ensures { (cores : Cores) (script : Script) (events : List Timed) (trace : List Traced) (world : World) →
@@ -57,14 +57,14 @@ pub fn tunnels_are_trees()
         CalmTree world.network fec vrf.edge }
 {}
 
-/// Behind every run the entries of interfaces that count are those that the events tell.
+/// After every run the entries of interfaces that count are those that the events tell.
 pub fn entries_are_told()
     ensures { (cores : Cores) (script : Script) (events : List Timed) (trace : List Traced) (world : World) →
         Rules script.scenario → Rises 0 events → Run cores script events trace world →
         EntriesAreTold (past_of script.scenario events trace) world }
 {}
 
-/// Behind every run of a sound scenario, by its cores and by sound events, an entry that counts by the events has a source and a group
+/// After every run of a sound scenario, by its cores and by sound events, an entry that counts by the events has a source and a group
 /// of one family.
 pub fn entries_are_of_one_family()
     ensures { (cores : Cores) (script : Script) (events : List Timed) (trace : List Traced) (world : World) →
@@ -72,7 +72,7 @@ pub fn entries_are_of_one_family()
         EntriesAreOfOneFamily (past_of script.scenario events trace) world }
 {}
 
-/// Behind every run a source is noted at an interface by the events exactly where the interface's edge has noted it there: by each
+/// After every run a source is noted at an interface by the events exactly where the interface's edge has noted it there: by each
 /// `active` that was accepted, up to an `idle` of the same flow there or a restart of the edge.
 pub fn notes_are_told()
     ensures { (cores : Cores) (script : Script) (events : List Timed) (trace : List Traced) (world : World) →
@@ -80,7 +80,7 @@ pub fn notes_are_told()
         NotesAreTold (past_of script.scenario events trace) world }
 {}
 
-/// Behind every run an interface asks for a flow by its events exactly where it asks by the entries of its edge, given whether the
+/// After every run an interface asks for a flow by its events exactly where it asks by the entries of its edge, given whether the
 /// events note the source in its VPN.
 pub fn asks_are_told()
     ensures { (cores : Cores) (script : Script) (events : List Timed) (trace : List Traced) (world : World) →
@@ -94,7 +94,7 @@ pub fn homes_are_longest()
         (home scenario vrf source ≡ Some site) ↔ IsSiteOfLongest scenario vrf source site }
 {}
 
-/// Behind a run as that of `labels_are_calm` each receiver of a datagram is served by one of the VRFs at which it enters, each other
+/// After a run as that of `labels_are_calm` each receiver of a datagram is served by one of the VRFs at which it enters, each other
 /// interface by none, and the tunnels are trees.
 pub fn choices_are_calm()
     ensures { (cores : Cores) (script : Script) (events : List Timed) (trace : List Traced) (world : World) →
@@ -102,7 +102,7 @@ pub fn choices_are_calm()
         CalmChoice world.network (receives_datagram (past_of script.scenario events trace) datagram) datagram }
 {}
 
-/// Behind every run of a sound scenario, by its cores and by sound events, each VRF of an edge chooses by its rule over all routes that
+/// After every run of a sound scenario, by its cores and by sound events, each VRF of an edge chooses by its rule over all routes that
 /// the edge knows.
 pub fn each_choice_is_by_the_rule()
     ensures { (cores : Cores) (script : Script) (events : List Timed) (trace : List Traced) (world : World) →

@@ -1,4 +1,4 @@
--- What stands in the entries behind a message, and behind a run of the timers.
+-- What stands in the entries after a message, and after a run of the timers.
 use Rattle.std.proofs.Common.{◌≡◌, ℕ, ◌==◌, ◌&&◌, ◌||◌, Bool, true, false, cond, List, [], ◌∷◌, ◌++◌, map, Option, None, Some, inl, inr, refl, sym, ap, subst, ◌∙◌, arith}
 use Rattle.std.specs.Prelude.{is_some}
 use Rattle.std.specs.List.{list_any, flat_map}
@@ -135,7 +135,7 @@ pruned-named iface (group ∷ more) entry h =
 
 -- ---- what the message does not name
 
--- An entry that is not there and that the message neither joins nor prunes is not there behind it.
+-- An entry that is not there and that the message neither joins nor prunes is not there after it.
 pub unnamed : (entry : JoinEntry) (mention : Mention) (clock holdtime : ℕ) → mention.joined ≡ false → mention.pruned ≡ false
     → expiry_after entry mention clock holdtime None ≡ None
 unnamed (Star group) mention clock holdtime j p = rw (p, j) refl
@@ -159,7 +159,7 @@ is_absent : (o : Option Expiry) → is_some o ≡ false → o ≡ None
 is_absent None h = refl
 is_absent (Some x) h = absurd cc
 
--- An entry that was not there and is not named is not there behind the message.
+-- An entry that was not there and is not named is not there after the message.
 then_none : (entries : Entries) (iface : IfaceId) (message : JoinPrune) (clock : ℕ) (at : IfaceEntry) →
     is_among (keys entries) at ≡ false → is_among (named_in iface message) at ≡ false → expiry_then entries iface message clock at ≡ None
 then_none entries iface message clock at a n = own (at.iface.0 == iface.0) refl
@@ -178,7 +178,7 @@ then_none entries iface message clock at a n = own (at.iface.0 == iface.0) refl
         (unpruned iface message at.entry same)
     own false e = absent
 
--- Behind a message each entry has the expiry that the message leaves it.
+-- After a message each entry has the expiry that the message leaves it.
 pub get-applied : (entries : Entries) (iface : IfaceId) (message : JoinPrune) (clock : ℕ) (at : IfaceEntry)
     → get (applied entries iface message clock) at ≡ expiry_then entries iface message clock at
 get-applied entries iface message clock at =
@@ -193,7 +193,7 @@ get-applied entries iface message clock at =
         let none = or_parts _ _ (sym (list_any-append (eq_by_cmp entry_cmp at) (keys entries) (named_in iface message)) ∙ e) in
         sym (then_none entries iface message clock at none.0 none.1)
 
--- Behind a run of the timers the entries that ended are gone.
+-- After a run of the timers the entries that ended are gone.
 pub get-kept : (entries : Entries) (clock : ℕ) (at : IfaceEntry) → get (kept_at entries clock) at ≡ remaining clock (get entries at)
 get-kept entries clock at =
     get-retain_keys entries (λ key. counts clock (get entries key)) at

@@ -31,15 +31,15 @@ two_addrs a b c d e =
 
 one_entry : (a b : JoinEntry) → entry_key a ≡ entry_key b → a ≡ b
 one_entry (Star g) (Star h) e =
-    let behind : addr_front g ≡ addr_front h = cc in
-    ap (λ (x : Addr). Star x) (one_addr g h behind)
+    let thereafter : addr_front g ≡ addr_front h = cc in
+    ap (λ (x : Addr). Star x) (one_addr g h thereafter)
 one_entry (Source s g) (Source t h) e =
-    let behind : addr_front s ++ addr_front g ≡ addr_front t ++ addr_front h = cc in
-    let both = two_addrs s t g h behind in
+    let thereafter : addr_front s ++ addr_front g ≡ addr_front t ++ addr_front h = cc in
+    let both = two_addrs s t g h thereafter in
     λ i. Source (both.0 i) (both.1 i)
 one_entry (Rpt s g) (Rpt t h) e =
-    let behind : addr_front s ++ addr_front g ≡ addr_front t ++ addr_front h = cc in
-    let both = two_addrs s t g h behind in
+    let thereafter : addr_front s ++ addr_front g ≡ addr_front t ++ addr_front h = cc in
+    let both = two_addrs s t g h thereafter in
     λ i. Rpt (both.0 i) (both.1 i)
 one_entry (Star g) (Source t h) e = absurd cc
 one_entry (Star g) (Rpt t h) e = absurd cc
@@ -51,8 +51,8 @@ one_entry (Rpt s g) (Source t h) e = absurd cc
 one_at : (a b : IfaceEntry) → iface_entry_key a ≡ iface_entry_key b → a ≡ b
 one_at a b e =
     let number : a.iface.0 ≡ b.iface.0 = cc in
-    let behind : entry_key a.entry ≡ entry_key b.entry = cc in
-    let entry = one_entry a.entry b.entry behind in
+    let thereafter : entry_key a.entry ≡ entry_key b.entry = cc in
+    let entry = one_entry a.entry b.entry thereafter in
     λ i. record { iface = record { 0 = number i }; entry = entry i }
 
 pub entry_cmp_exact : IsAntisymmetric entry_cmp

@@ -40,7 +40,7 @@ expiry_at entries iface entry = get entries (record { iface = iface; entry = ent
 
 -- ---- what a message makes of them
 
--- the expiry of an entry behind a message at the interface that is taken at the clock
+-- the expiry of an entry after a message at the interface that is taken at the clock
 abbrev pub expiry_then : Entries → IfaceId → JoinPrune → ℕ → IfaceEntry → Option Expiry
 expiry_then entries iface message clock at =
     if at.iface.0 == iface.0 then expiry_after at.entry (mention_of message at.entry) clock message.holdtime (get entries at) else
@@ -58,7 +58,7 @@ with_expiries expiry [] = []
 with_expiries expiry (at ∷ more) =
     elim (expiry at) [ None ↦ with_expiries expiry more | Some found ↦ (at, found) ∷ with_expiries expiry more ]
 
--- The entries behind a message at the interface: of those that were there and those that it names, each that has an expiry
+-- The entries after a message at the interface: of those that were there and those that it names, each that has an expiry
 -- then.
 abbrev pub applied : Entries → IfaceId → JoinPrune → ℕ → Entries
 applied entries iface message clock =
@@ -74,7 +74,7 @@ are_too_many entries = nat_lt entry_limit (len entries)
 
 -- ---- timers
 
--- the entries behind a run of the timers at the clock: those that end after it
+-- the entries after a run of the timers at the clock: those that end after it
 abbrev pub kept_at : Entries → ℕ → Entries
 kept_at entries clock = retain_keys entries (λ at. counts clock (get entries at))
 

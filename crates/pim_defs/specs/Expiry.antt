@@ -33,6 +33,6 @@ latest clock holdtime (Some old) = later old (held_until clock holdtime)
 abbrev pub extended : ℕ → ℕ → Option Expiry → Option Expiry
 extended clock holdtime old = if is_after (latest clock holdtime old) clock then Some (latest clock holdtime old) else old
 
--- the expiry behind a run of the timers at the clock: an entry that has ended is removed
+-- the expiry after a run of the timers at the clock: an entry that has ended is removed
 abbrev pub remaining : ℕ → Option Expiry → Option Expiry
 remaining clock old = if counts clock old then old else None

@@ -47,7 +47,7 @@ abbrev pub mention_of : JoinPrune → JoinEntry → Mention
 mention_of message entry =
     record { joined = joins message entry; pruned = prunes message entry; shared = joins message (Star (group_of entry)) }
 
--- The expiry of an (S,G,rpt) prune behind a message. First, Join(*,G) ends the prunes of its group that the message does
+-- The expiry of an (S,G,rpt) prune after a message. First, Join(*,G) ends the prunes of its group that the message does
 -- not repeat; second, Join(S,G,rpt) ends its prune; last, Prune(S,G,rpt) extends it.
 abbrev pub rpt_after : Mention → ℕ → ℕ → Option Expiry → Option Expiry
 rpt_after mention clock holdtime old =
@@ -55,13 +55,13 @@ rpt_after mention clock holdtime old =
     let unjoined = if mention.joined then None else kept in
     if mention.pruned then extended clock holdtime unjoined else unjoined
 
--- The expiry of a (*,G) or (S,G) join behind a message: a join extends it, and then a prune ends it at once.
+-- The expiry of a (*,G) or (S,G) join after a message: a join extends it, and then a prune ends it at once.
 abbrev pub joined_after : Mention → ℕ → ℕ → Option Expiry → Option Expiry
 joined_after mention clock holdtime old =
     if mention.pruned then None else
     if mention.joined then extended clock holdtime old else old
 
--- The expiry of an entry behind a message that says this of it, taken at the clock. Prune(*,G) leaves rpt prunes.
+-- The expiry of an entry after a message that says this of it, taken at the clock. Prune(*,G) leaves rpt prunes.
 abbrev pub expiry_after : JoinEntry → Mention → ℕ → ℕ → Option Expiry → Option Expiry
 expiry_after (Rpt source group) mention clock holdtime old = rpt_after mention clock holdtime old
 expiry_after other mention clock holdtime old = joined_after mention clock holdtime old

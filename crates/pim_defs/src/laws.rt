@@ -7,7 +7,7 @@ ghost use Rattle.scenario_defs.specs.declared.event.IfaceEntry.{IfaceEntry};
 ghost use Rattle.pim_defs.specs.Expiry.{remaining};
 ghost use Rattle.pim_defs.specs.Entries.{Entries, applied, expiry_then, kept_at};
 
-/// Behind a message each entry has the expiry that the message leaves it; behind a run of the timers the entries that
+/// After a message each entry has the expiry that the message leaves it; after a run of the timers the entries that
 /// have ended are gone.
 pub fn each_entry()
     ensures message { (entries : Entries) (iface : IfaceId) (message : JoinPrune) (clock : ℕ) (at : IfaceEntry) →

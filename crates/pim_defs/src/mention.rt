@@ -63,7 +63,7 @@ pub fn mention_of(message: &JoinPrune, entry: &JoinEntry) -> Mention
     }
 }
 
-/// The expiry of an (S,G,rpt) prune behind a message.
+/// The expiry of an (S,G,rpt) prune after a message.
 fn rpt_after(mention: Mention, clock: u64, holdtime: u16, old: Option<Expiry>) -> Option<Expiry>
     requires { clock < 2 ^ 63 }
     ensures { result ≡ rpt_after mention clock holdtime old }
@@ -81,7 +81,7 @@ fn rpt_after(mention: Mention, clock: u64, holdtime: u16, old: Option<Expiry>) -
     }
 }
 
-/// The expiry of a (*,G) or (S,G) join behind a message.
+/// The expiry of a (*,G) or (S,G) join after a message.
 fn joined_after(mention: Mention, clock: u64, holdtime: u16, old: Option<Expiry>) -> Option<Expiry>
     requires { clock < 2 ^ 63 }
     ensures { result ≡ joined_after mention clock holdtime old }
@@ -95,7 +95,7 @@ fn joined_after(mention: Mention, clock: u64, holdtime: u16, old: Option<Expiry>
     }
 }
 
-/// The expiry of an entry behind a message that says this of it, taken at the clock.
+/// The expiry of an entry after a message that says this of it, taken at the clock.
 pub fn expiry_after(
     entry: &JoinEntry,
     mention: Mention,

@@ -33,7 +33,7 @@ pub own_family : (addr : Addr) → IsAddr addr → IsOf (family_of addr) addr
 own_family (V4 octets) is = is
 own_family (V6 octets) is = is
 
--- ---- an octet that has one value alone, and a field behind it
+-- ---- an octet that has one value alone, and a field after it
 
 record After {A : Type 0} (value : ℕ) (T : A → List ℕ → Type 0) (z : A) (text : List ℕ) : Type 0 where
   pub back : List ℕ
@@ -57,7 +57,7 @@ after_reader {A} value own lt s T G reader =
     back : (z : A) (text : List ℕ) → After value T z text → Both (IsKnown value) (λ octet. T) z text
     back z text a = record { x = value; front = value ∷ []; back = a.back; first = (refl, refl); second = a.spells; parts = a.parts }
 
--- ---- the family of the message and encoding, and a field behind them
+-- ---- the family of the message and encoding, and a field after them
 
 abbrev encoded_at : {A : Type 0} → Family → (List ℕ → Read A) → List ℕ → Read A
 encoded_at family s = after_at (family_octet family) faults.Family (after_at 0 faults.Encoding s)
@@ -78,13 +78,13 @@ encoded_reader family s T G reader =
 
 -- ---- a unicast address
 
-abbrev unicast_behind : Family → List ℕ → Read Addr
-unicast_behind family = after_at 0 faults.Encoding (address_at family)
+abbrev unicast_after : Family → List ℕ → Read Addr
+unicast_after family = after_at 0 faults.Encoding (address_at family)
 
 abbrev UnicastText : Addr → List ℕ → Type 0
 UnicastText = Both IsFamily (λ family. After 0 (SpellsAddress family))
 
-unicast_same : (octets : List ℕ) → unicast_at octets ≡ then_at family_at unicast_behind octets
+unicast_same : (octets : List ℕ) → unicast_at octets ≡ then_at family_at unicast_after octets
 unfolding unicast_at
 unicast_same octets = refl
 
@@ -113,8 +113,8 @@ unicast_back addr text s =
 pub unicast_reader : IsReader unicast_at SpellsUnicast UnicastFails
 unicast_reader =
     said_reader unicast_at UnicastText SpellsUnicast UnicastFails unicast_there unicast_back
-    (same_reader (then_at family_at unicast_behind) unicast_at _ _ unicast_same
-    (then_reader family_at IsFamily FamilyFails unicast_behind (λ family. After 0 (SpellsAddress family))
+    (same_reader (then_at family_at unicast_after) unicast_at _ _ unicast_same
+    (then_reader family_at IsFamily FamilyFails unicast_after (λ family. After 0 (SpellsAddress family))
     (λ family. Then (IsKnown 0) (KnownFails 0 faults.Encoding) (λ encoding. Lacks (addr_len family))) family_reader
     (λ family. after_reader 0 faults.Encoding (omega arith) (address_at family) (SpellsAddress family) (Lacks (addr_len family))
     (address_reader family))))
@@ -163,7 +163,7 @@ source_back family source text s =
     let mask = mask_len family in
     let address : MaskedSource family source.kind source (mask ∷ octets) =
     record { back = octets; spells = record { x = source.addr; is = refl; spells = (s.addr, refl) }; parts = refl } in
-    let behind : Both IsKind (MaskedSource family) source (s.flags ∷ mask ∷ octets) =
+    let thereafter : Both IsKind (MaskedSource family) source (s.flags ∷ mask ∷ octets) =
     record {
       x = source.kind;
       front = s.flags ∷ [];
@@ -173,7 +173,7 @@ source_back family source text s =
       parts =
           refl;
     } in
-    record { back = 0 ∷ s.flags ∷ mask ∷ octets; spells = record { back = s.flags ∷ mask ∷ octets; spells = behind; parts = refl }; parts = s.octets }
+    record { back = 0 ∷ s.flags ∷ mask ∷ octets; spells = record { back = s.flags ∷ mask ∷ octets; spells = thereafter; parts = refl }; parts = s.octets }
 
 pub source_reader : (family : Family) → IsReader (source_at family) (SpellsSource family) (SourceFails family)
 source_reader family =
@@ -224,9 +224,9 @@ group_address_back family addr text s =
     let mask = mask_len family in
     let address : MaskedGroup family s.flags addr (mask ∷ octets) =
     record { back = octets; spells = record { multicast = s.multicast; octets = refl }; parts = refl } in
-    let behind : Both IsOctet (MaskedGroup family) addr (s.flags ∷ mask ∷ octets) =
+    let thereafter : Both IsOctet (MaskedGroup family) addr (s.flags ∷ mask ∷ octets) =
     record { x = s.flags; front = s.flags ∷ []; back = mask ∷ octets; first = (s.octet, refl); second = address; parts = refl } in
-    record { back = 0 ∷ s.flags ∷ mask ∷ octets; spells = record { back = s.flags ∷ mask ∷ octets; spells = behind; parts = refl }; parts = s.octets }
+    record { back = 0 ∷ s.flags ∷ mask ∷ octets; spells = record { back = s.flags ∷ mask ∷ octets; spells = thereafter; parts = refl }; parts = s.octets }
 
 pub group_address_reader : (family : Family) → IsReader (group_address_at family) (SpellsGroupAddress family) (GroupAddressFails family)
 group_address_reader family =
@@ -388,14 +388,14 @@ groups_fields neighbour count holdtime = made_at (all_at (group_at (family_of ne
 abbrev GroupsText : Addr → ℕ → ℕ → JoinPrune → List ℕ → Type 0
 GroupsText neighbour count holdtime = Made (message_made neighbour holdtime) (AreCounted (SpellsGroup (family_of neighbour)) count)
 
-abbrev behind_neighbour : Addr → List ℕ → Read JoinPrune
-behind_neighbour neighbour =
+abbrev after_neighbour : Addr → List ℕ → Read JoinPrune
+after_neighbour neighbour =
     then_at octet_at (λ reserved. then_at octet_at (λ count. then_at number_at (λ holdtime. groups_fields neighbour count holdtime)))
 
 abbrev BehindNeighbour : Addr → JoinPrune → List ℕ → Type 0
 BehindNeighbour neighbour = Both IsOctet (λ reserved. Both IsOctet (λ count. Both IsNumber (λ holdtime. GroupsText neighbour count holdtime)))
 
-fields_same : (octets : List ℕ) → fields_at octets ≡ then_at unicast_at behind_neighbour octets
+fields_same : (octets : List ℕ) → fields_at octets ≡ then_at unicast_at after_neighbour octets
 unfolding fields_at
 fields_same octets = refl
 
@@ -404,9 +404,9 @@ pub each_group : (family : Family) (groups : List Group) (text : List ℕ) → A
 each_group family [] text h = tt
 each_group family (g ∷ gs) text (first, others, spells, more, parts) = (spells.is, each_group family gs others more)
 
-behind_reader : (neighbour : Addr) → IsReader (behind_neighbour neighbour) (BehindNeighbour neighbour)
+thereafter_reader : (neighbour : Addr) → IsReader (after_neighbour neighbour) (BehindNeighbour neighbour)
     (Then IsOctet (Lacks 1) (λ reserved. Then IsOctet (Lacks 1) (λ count. Then IsNumber (Lacks 2) (λ holdtime. GroupsFail neighbour count))))
-behind_reader neighbour =
+thereafter_reader neighbour =
     then_reader octet_at IsOctet (Lacks 1) (λ reserved. then_at octet_at
     (λ count. then_at number_at (λ holdtime. groups_fields neighbour count holdtime)))
     (λ reserved. Both IsOctet (λ count. Both IsNumber (λ holdtime. GroupsText neighbour count holdtime)))
@@ -461,7 +461,7 @@ fields_back message text s =
       second = record { x = message.groups; is = refl; spells = record { count = refl; each = s.each } };
       parts = refl;
     } in
-    let behind : BehindNeighbour message.neighbour message (s.reserved ∷ n ∷ (holdtime ++ s.groups)) = record {
+    let thereafter : BehindNeighbour message.neighbour message (s.reserved ∷ n ∷ (holdtime ++ s.groups)) = record {
       x = s.reserved;
       front = s.reserved ∷ [];
       back = n ∷ (holdtime ++ s.groups);
@@ -475,14 +475,14 @@ fields_back message text s =
       back = s.reserved ∷ n ∷ (holdtime ++ s.groups);
       first =
           (s.is.neighbour, refl);
-      second = behind;
+      second = thereafter;
       parts = s.octets;
     }
 
 pub fields_reader : IsReader fields_at SpellsFields FieldsFail
 fields_reader =
     said_reader fields_at (Both SpellsUnicast BehindNeighbour) SpellsFields FieldsFail fields_there fields_back
-    (same_reader (then_at unicast_at behind_neighbour) fields_at _ _ fields_same
-    (then_reader unicast_at SpellsUnicast UnicastFails behind_neighbour BehindNeighbour
+    (same_reader (then_at unicast_at after_neighbour) fields_at _ _ fields_same
+    (then_reader unicast_at SpellsUnicast UnicastFails after_neighbour BehindNeighbour
     (λ neighbour. Then IsOctet (Lacks 1) (λ reserved. Then IsOctet (Lacks 1)
-    (λ count. Then IsNumber (Lacks 2) (λ holdtime. GroupsFail neighbour count)))) unicast_reader behind_reader))
+    (λ count. Then IsNumber (Lacks 2) (λ holdtime. GroupsFail neighbour count)))) unicast_reader thereafter_reader))

@@ -3,9 +3,9 @@ use Rattle.std.proofs.Common.{◌≡◌, ℕ, zero, suc, ◌<◌, ◌⊎◌, Lis
 use Rattle.std.proofs.lemmas.List.{drop_at}
 use Rattle.mv_base.specs.Octets.{IsOctets}
 use Rattle.mv_base.specs.Cursor.{◌>>=◌}
-use Rattle.mv_base.proofs.Fields.{octets_behind, bind_ok, bind_err, ok_is, err_is}
+use Rattle.mv_base.proofs.Fields.{octets_after, bind_ok, bind_err, ok_is, err_is}
 use Rattle.pim_joinprune.specs.declared.fault.PimFault.{PimFault}
-use Rattle.pim_joinprune.specs.Fields.{Read, all_at, AreAll, AreCounted, AllFail, Then, here, behind, FieldFails, missing, wrong}
+use Rattle.pim_joinprune.specs.Fields.{Read, all_at, AreAll, AreCounted, AllFail, Then, here, thereafter, FieldFails, missing, wrong}
 
 -- what a reader answers is what stands at the front of octets, or its first fault
 pub record IsReader {A : Type 0} (read : List ℕ → Read A) (Spells : A → List ℕ → Type 0) (Fails : List ℕ → ℕ → PimFault → Type 0) : Type 0 where
@@ -14,10 +14,10 @@ pub record IsReader {A : Type 0} (read : List ℕ → Read A) (Spells : A → Li
   pub fails : (octets : List ℕ) (left : ℕ) (fault : PimFault) → IsOctets octets → read octets ≡ Err (left, fault) → Fails octets left fault
   pub faulty : (octets : List ℕ) (left : ℕ) (fault : PimFault) → Fails octets left fault → read octets ≡ Err (left, fault)
 
--- What stands behind a text is octets.
+-- What stands after a text is octets.
 pub rest_octets : (octets text rest : List ℕ) → IsOctets octets → octets ≡ text ++ rest → IsOctets rest
 rest_octets octets text rest fits parts =
-    subst IsOctets (drop_at text rest (length text) refl) (octets_behind (length text) (text ++ rest) (subst IsOctets parts fits))
+    subst IsOctets (drop_at text rest (length text) refl) (octets_after (length text) (text ++ rest) (subst IsOctets parts fits))
 
 -- Two texts at the front are one.
 two_fronts : (octets front after back rest : List ℕ) → octets ≡ front ++ after → after ≡ back ++ rest → octets ≡ (front ++ back) ++ rest
@@ -98,12 +98,12 @@ then_reader {A} {B} r S F s T G one two = record { taken = taken; again = again;
           | inl first ↦ here (one.fails octets left fault fits first)
           | inr a ↦
               let p = one.taken octets a.0 fits a.1 in
-              behind a.0.0 p.0 a.0.1 p.1 p.2 ((two a.0.0).fails a.0.1 left fault (rest_octets octets p.0 a.0.1 fits p.2) a.2)
+              thereafter a.0.0 p.0 a.0.1 p.1 p.2 ((two a.0.0).fails a.0.1 left fault (rest_octets octets p.0 a.0.1 fits p.2) a.2)
         ]
 
     faulty : (octets : List ℕ) (left : ℕ) (fault : PimFault) → Then S F G octets left fault → then_at r s octets ≡ Err (left, fault)
     faulty octets left fault (here first) = then_err r s octets (left, fault) (one.faulty octets left fault first)
-    faulty octets left fault (behind x text rest spells parts second) =
+    faulty octets left fault (thereafter x text rest spells parts second) =
         ap (then_at r s) parts ∙ then_ok r s (text ++ rest) x rest (one.again x text rest spells) ∙ (two x).faulty rest left fault second
 
 -- ---- a value made of what was read
@@ -217,10 +217,10 @@ all_first : {A : Type 0} (r : List ℕ → Read A) (n : ℕ) (octets : List ℕ)
 unfolding all_at
 all_first r n octets f e = rw e refl
 
-all_behind : {A : Type 0} (r : List ℕ → Read A) (n : ℕ) (octets : List ℕ) (x : A) (after : List ℕ) (f : ℕ × PimFault) → r octets ≡ Ok (x, after)
+all_after : {A : Type 0} (r : List ℕ → Read A) (n : ℕ) (octets : List ℕ) (x : A) (after : List ℕ) (f : ℕ × PimFault) → r octets ≡ Ok (x, after)
     → all_at r n after ≡ Err f → all_at r (suc n) octets ≡ Err f
 unfolding all_at
-all_behind r n octets x after f e g = rw (e, g) refl
+all_after r n octets x after f e g = rw (e, g) refl
 
 counted_more : {A : Type 0} (S : A → List ℕ → Type 0) (n : ℕ) (x : A) (xs : List A) (first others : List ℕ) → S x first → AreCounted S n xs others
     → AreCounted S (suc n) (x ∷ xs) (first ++ others)
@@ -297,7 +297,7 @@ all_faulty r S F reader (suc n) [] text rest left fault stand few is =
     ap (λ (ys : List ℕ). all_at r (suc n) (ys ++ rest)) stand ∙ all_first r n rest (left, fault) (reader.faulty rest left fault is)
 all_faulty r S F reader (suc n) (x ∷ xs) text rest left fault (first, others, spells, more, parts) few is =
     let whole : text ++ rest ≡ first ++ (others ++ rest) = ap (λ (ys : List ℕ). ys ++ rest) parts ∙ append_assoc first others rest in
-    ap (all_at r (suc n)) whole ∙ all_behind r n (first ++ (others ++ rest)) x (others ++ rest) (left, fault)
+    ap (all_at r (suc n)) whole ∙ all_after r n (first ++ (others ++ rest)) x (others ++ rest) (left, fault)
     (reader.again x first (others ++ rest) spells) (all_faulty r S F reader n xs others rest left fault more (omega (arith, few)) is)
 
 pub all_reader : {A : Type 0} (r : List ℕ → Read A) (S : A → List ℕ → Type 0) (F : List ℕ → ℕ → PimFault → Type 0) → IsReader r S F → (n : ℕ)

@@ -10,7 +10,7 @@ use Rattle.pim_joinprune.specs.declared.fault.PimFault.TheVariants as faults
 use Rattle.pim_joinprune.specs.declared.family.Family.{Family}
 use Rattle.pim_joinprune.specs.declared.source.JpSource.{JpSource}
 use Rattle.pim_joinprune.specs.declared.group.Group.{Group}
-use Rattle.pim_joinprune.specs.Fields.{AreAll, AreCounted, IsOctet, IsKnown, IsNumber, Lacks, FieldFails, missing, wrong, Then, here, behind}
+use Rattle.pim_joinprune.specs.Fields.{AreAll, AreCounted, IsOctet, IsKnown, IsNumber, Lacks, FieldFails, missing, wrong, Then, here, thereafter}
 use Rattle.pim_joinprune.specs.Spelling.{IsFamily, SpellsAddress, SpellsUnicast, IsKind, SpellsGroupAddress, SpellsSource, SpellsGroup, SpellsFields, unicast, masked}
 use Rattle.pim_joinprune.specs.FirstFault.{KnownFails, FamilyFails, KindFails, MulticastFails, UnicastFails, SourceFails, SourcesFail, GroupAddressFails, GroupFails, GroupsFail, FieldsFail, Trails, RestFails}
 use Rattle.pim_joinprune.specs.Families.{family_octet, addr_len, mask_len, family_of, IsOf}
@@ -20,7 +20,7 @@ use Rattle.pim_joinprune.proofs.PartReaders.{of_family}
 abbrev pub IsSized : {A : Type 0} → (A → List ℕ → Type 0) → ℕ → Type 0
 IsSized {A} S n = (x : A) (text : List ℕ) → S x text → length text ≤ n
 
--- a fault stands among the octets or right behind them, at most so many from the first
+-- a fault stands among the octets or right after them, at most so many from the first
 abbrev pub IsClose : (List ℕ → ℕ → PimFault → Type 0) → ℕ → Type 0
 IsClose F n = (octets : List ℕ) (left : ℕ) (fault : PimFault) → F octets left fault → (left ≤ length octets) × (length octets ≤ left + n)
 
@@ -37,7 +37,7 @@ then_close : {A : Type 0} (S : A → List ℕ → Type 0) (F : List ℕ → ℕ 
 then_close S F G n m sized close far octets left fault (here first) =
     let c = close octets left fault first in
     (c.0, omega (arith, c.1))
-then_close S F G n m sized close far octets left fault (behind x text rest spells parts second) =
+then_close S F G n m sized close far octets left fault (thereafter x text rest spells parts second) =
     let c = far x text spells rest left fault second in
     let s = sized x text spells in
     let len : length octets ≡ length text + length rest = ap (λ (xs : List ℕ). length xs) parts ∙ length-append text rest in
@@ -122,10 +122,10 @@ groups_sized family (g ∷ gs) text (first, others, spells, more, parts) =
 
 fields_sized : IsSized SpellsFields 668463142
 fields_sized message text s =
-    let behind : List ℕ = s.reserved ∷ length message.groups ∷ (to_be_bytes w16 message.holdtime ++ s.groups) in
-    let all : length text ≡ length (unicast message.neighbour) + length behind =
-    ap (λ (xs : List ℕ). length xs) s.octets ∙ length-append (unicast message.neighbour) behind in
-    let four : length behind ≡ length s.groups + 4 = omega arith in
+    let thereafter : List ℕ = s.reserved ∷ length message.groups ∷ (to_be_bytes w16 message.holdtime ++ s.groups) in
+    let all : length text ≡ length (unicast message.neighbour) + length thereafter =
+    ap (λ (xs : List ℕ). length xs) s.octets ∙ length-append (unicast message.neighbour) thereafter in
+    let four : length thereafter ≡ length s.groups + 4 = omega arith in
     omega (
       arith,
       all,
@@ -142,7 +142,7 @@ known_close value own octets left fault h =
     let c = field_close IsOctet (Lacks 1) _ own 0 (lacks_close 1) octets left fault h in
     (c.0, omega (arith, c.1))
 
--- an octet that has one value alone, and what is behind it
+-- an octet that has one value alone, and what is after it
 after_close : (value : ℕ) (own : PimFault) (G : List ℕ → ℕ → PimFault → Type 0) (m : ℕ) → IsClose G m
     → IsClose (Then (IsKnown value) (KnownFails value own) (λ octet. G)) (1 + m)
 after_close value own G m close =
@@ -224,7 +224,7 @@ fields_close =
     (λ neighbour text h. octet_close _ 669000003
     (λ reserved t r. octet_close _ 669000002 (λ count u k. number_close _ 669000000 (λ holdtime v d. groups_close neighbour count k.0))))
 
--- What stands behind the checksum has its fault within so many octets.
+-- What stands after the checksum has its fault within so many octets.
 pub rest_close : IsClose RestFails 669000022
 rest_close =
     then_close SpellsFields FieldsFail (λ message. Trails) 669000022 0 (λ message text s. omega (arith, fields_sized message text s)) fields_close

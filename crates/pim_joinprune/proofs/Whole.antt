@@ -6,11 +6,11 @@ use Rattle.std.proofs.lemmas.Bool.{eqb-true, eqb-false, eq-eqb, ne_eqb}
 use Rattle.std.proofs.lemmas.List.{append-nil, nil_from_length, length-append}
 use Rattle.mv_base.specs.Octets.{IsOctets}
 use Rattle.mv_base.specs.Cursor.{◌>>=◌, checked}
-use Rattle.mv_base.proofs.Fields.{wide16, octets_before, octets_behind, bind_ok, bind_err, checked_ok, checked_err, chosen, err_is}
+use Rattle.mv_base.proofs.Fields.{wide16, octets_before, octets_after, bind_ok, bind_err, checked_ok, checked_err, chosen, err_is}
 use Rattle.pim_joinprune.specs.declared.fault.PimFault.{PimFault}
 use Rattle.pim_joinprune.specs.declared.fault.PimFault.TheVariants as reasons
 use Rattle.pim_joinprune.specs.declared.message.JoinPrune.{JoinPrune}
-use Rattle.pim_joinprune.specs.Fields.{here, behind}
+use Rattle.pim_joinprune.specs.Fields.{here, thereafter}
 use Rattle.pim_joinprune.specs.Checksums.{sum_of}
 use Rattle.pim_joinprune.specs.Reading.{fields_at, whole_of, typed, summed, headed, message_of}
 use Rattle.pim_joinprune.specs.Spelling.{SpellsFields, Spells}
@@ -29,7 +29,7 @@ first_is a c b d e = ap (λ (f : ℕ × PimFault). f.0) e
 second_is : (a c : ℕ) (b d : PimFault) → at_fault a b ≡ at_fault c d → b ≡ d
 second_is a c b d e = ap (λ (f : ℕ × PimFault). f.1) e
 
--- ---- what stands behind the checksum
+-- ---- what stands after the checksum
 
 whole_ok : (octets : List ℕ) (m : JoinPrune) → fields_at octets ≡ Ok (m, []) → whole_of octets ≡ Ok m
 unfolding whole_of
@@ -67,7 +67,7 @@ rest_fails octets left fault fits e =
           let p = fields_reader.taken octets a.0 fits a.1 in
           let k = checked_err (eqb (length a.0.1) 0) (length a.0.1, reasons.Trailing) a.0.0 (left, fault) a.2 in
           let some = eqb-false _ _ k.0 in
-          behind a.0.0 p.0 a.0.1 p.1 p.2 (trail a.0.1 left fault some k.1)
+          thereafter a.0.0 p.0 a.0.1 p.1 p.2 (trail a.0.1 left fault some k.1)
     ]
   where
     trail : (rest : List ℕ) (left : ℕ) (fault : PimFault) → length rest ≢ 0 → at_fault left fault ≡ at_fault (length rest) reasons.Trailing
@@ -82,7 +82,7 @@ rest_fails octets left fault fits e =
 
 fails_rest : (octets : List ℕ) (left : ℕ) (fault : PimFault) → RestFails octets left fault → whole_of octets ≡ Err (left, fault)
 fails_rest octets left fault (here first) = whole_err octets (left, fault) (fields_reader.faulty octets left fault first)
-fails_rest octets left fault (behind m text rest spells parts t) =
+fails_rest octets left fault (thereafter m text rest spells parts t) =
     whole_more octets m rest (ap fields_at parts ∙ fields_reader.again m text rest spells) t.more ∙ rw (t.at, t.is) refl
 
 -- ---- version and type
@@ -155,13 +155,13 @@ headed_taken first reserved high low rest m fits e =
     let is : first ≡ 0x23 = typed_ok first (4 + length rest) a.0 a.1 in
     let k = checked_ok (eqb (sum_of first reserved rest) sum) (2 + length rest, reasons.Checksum) tt b.0 b.1 in
     let same : sum_of 0x23 reserved rest ≡ sum = ap (λ (n : ℕ). sum_of n reserved rest) (sym is) ∙ eqb-true _ _ k.0 in
-    let two : IsOctets (high ∷ low ∷ []) = octets_before 2 (high ∷ low ∷ rest) (octets_behind 2 octets fits) in
+    let two : IsOctets (high ∷ low ∷ []) = octets_before 2 (high ∷ low ∷ rest) (octets_after 2 octets fits) in
     let words : to_be_bytes w16 (sum_of 0x23 reserved rest) ≡ high ∷ low ∷ [] = ap (to_be_bytes w16) same ∙ wide16.back (high ∷ low ∷ []) refl two in
     record {
       reserved = reserved;
       octet = fits 1;
       fields = rest;
-      spelled = rest_taken rest m (octets_behind 4 octets fits) b.2;
+      spelled = rest_taken rest m (octets_after 4 octets fits) b.2;
       octets = ap (λ (n : ℕ). n ∷ reserved ∷ high ∷ low ∷ rest) is ∙ ap (λ (xs : List ℕ). 0x23 ∷ reserved ∷ (xs ++ rest)) (sym words);
     }
 
@@ -204,7 +204,7 @@ headed_fails first reserved high low rest left fault fits e =
         let octets : List ℕ = first ∷ reserved ∷ high ∷ low ∷ rest in
         let sum : ℕ = from_be_bytes w16 (high ∷ low ∷ []) in
         let head : octets ≡ 0x23 ∷ reserved ∷ high ∷ low ∷ rest = ap (λ (n : ℕ). n ∷ reserved ∷ high ∷ low ∷ rest) is in
-        let two : IsOctets (high ∷ low ∷ []) = octets_before 2 (high ∷ low ∷ rest) (octets_behind 2 octets fits) in
+        let two : IsOctets (high ∷ low ∷ []) = octets_before 2 (high ∷ low ∷ rest) (octets_after 2 octets fits) in
         let moved : sum_of 0x23 reserved rest ≡ sum_of first reserved rest = ap (λ (n : ℕ). sum_of n reserved rest) (sym is) in
         elim (bind_err (summed first reserved sum rest) (λ c. whole_of rest) (left, fault) e) [
           | inl wrong ↦
@@ -222,7 +222,7 @@ headed_fails first reserved high low rest left fault fits e =
               let same : sum_of 0x23 reserved rest ≡ sum = moved ∙ eqb-true _ _ k.0 in
               let words : to_be_bytes w16 (sum_of 0x23 reserved rest) ≡ high ∷ low ∷ [] =
               ap (to_be_bytes w16) same ∙ wide16.back (high ∷ low ∷ []) refl two in
-              let f = rest_fails rest left fault (octets_behind 4 octets fits) b.2 in
+              let f = rest_fails rest left fault (octets_after 4 octets fits) b.2 in
               let near = rest_close rest left fault f in
               let at : (4 + length rest - left) + left ≡ length (first ∷ reserved ∷ high ∷ low ∷ rest) = omega (arith, near.0) in (
                 4 + length rest - left,
@@ -284,7 +284,7 @@ unfolding message_of
 sum_answered reserved [] fields fits len differ = absurd (omega (arith, len))
 sum_answered reserved (a ∷ []) fields fits len differ = absurd (omega (arith, len))
 sum_answered reserved (a ∷ b ∷ []) fields fits len differ =
-    let two : IsOctets (a ∷ b ∷ []) = octets_before 2 (a ∷ b ∷ fields) (octets_behind 2 (0x23 ∷ reserved ∷ a ∷ b ∷ fields) fits) in
+    let two : IsOctets (a ∷ b ∷ []) = octets_before 2 (a ∷ b ∷ fields) (octets_after 2 (0x23 ∷ reserved ∷ a ∷ b ∷ fields) fits) in
     summed_err reserved (from_be_bytes w16 (a ∷ b ∷ [])) fields (λ same. differ (sym (ap (to_be_bytes w16) same ∙ wide16.back (a ∷ b ∷ []) refl two)))
 sum_answered reserved (a ∷ b ∷ c ∷ more) fields fits len differ = absurd (omega (arith, len))
 
@@ -311,7 +311,7 @@ fails_message octets place fault fits (faults.sum reserved sum fields parts len 
 fails_message octets place fault fits (faults.field reserved fields left parts wrong at) =
     (left, ap message_of parts ∙ summed_message reserved fields ∙ fails_rest fields left fault wrong, omega (arith, at))
 
--- A fault stands among the octets or right behind them, and its place has 32 bits.
+-- A fault stands among the octets or right after them, and its place has 32 bits.
 pub fault_within : (octets : List ℕ) (place : ℕ) (fault : PimFault) → FirstFault octets place fault → (place ≤ length octets) × (place < 2 ^ 32)
 fault_within octets place fault (faults.short few at is) = (omega (arith, at), omega (arith, at, few))
 fault_within octets place fault (faults.version first rest parts long other at is) = (omega (arith, at), omega (arith, at))

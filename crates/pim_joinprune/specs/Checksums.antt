@@ -16,12 +16,12 @@ all_pim_routers = 0xFF ∷ 2 ∷ 0 ∷ 0 ∷ 0 ∷ 0 ∷ 0 ∷ 0 ∷ 0 ∷ 0 ∷
 abbrev pub pseudo_header : ℕ → List ℕ
 pseudo_header len = router ++ (all_pim_routers ++ (to_be_bytes w32 (len % 2 ^ 32) ++ (0 ∷ 0 ∷ 0 ∷ 103 ∷ [])))
 
--- What is covered in front of a message with these octets behind its checksum: with IPv6, as the first of them says, the
+-- What is covered in front of a message with these octets after its checksum: with IPv6, as the first of them says, the
 -- pseudo-header.
 abbrev pub pseudo_of : List ℕ → List ℕ
 pseudo_of [] = []
 pseudo_of (family ∷ rest) = if family == 2 then pseudo_header (5 + length rest) else []
 
--- the checksum of a message: that of its octets with zeros in the checksum's place, behind what is covered in front of it
+-- the checksum of a message: that of its octets with zeros in the checksum's place, after what is covered in front of it
 unfoldable pub sum_of : ℕ → ℕ → List ℕ → ℕ
 sum_of first reserved fields = checksum (pseudo_of fields ++ (first ∷ reserved ∷ 0 ∷ 0 ∷ fields))

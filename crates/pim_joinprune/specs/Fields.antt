@@ -5,7 +5,7 @@ use Rattle.mv_base.specs.Cursor.{◌>>=◌}
 use Rattle.pim_joinprune.specs.declared.fault.PimFault.{PimFault}
 use Rattle.pim_joinprune.specs.declared.fault.PimFault.TheVariants as faults
 
--- the value of a field, and the octets behind it
+-- the value of a field, and the octets after it
 abbrev pub Read : Type 0 → Type 0
 Read A = Result (A × List ℕ) (ℕ × PimFault)
 
@@ -57,12 +57,12 @@ pub data FieldFails {A : Type 0}
   wrong : (x : A) (text rest : List ℕ) → Spells x text → octets ≡ text ++ rest → Wrong x → left ≡ length octets → fault ≡ own →
       FieldFails Spells Missing Wrong own octets left fault
 
--- One thing stands before another: the first fails, or it stands there whole and the one behind it fails.
+-- One thing stands before another: the first fails, or it stands there whole and the one after it fails.
 pub data Then {A : Type 0}
     (Spells : A → List ℕ → Type 0) (First : List ℕ → ℕ → PimFault → Type 0) (Behind : A → List ℕ → ℕ → PimFault → Type 0)
     (octets : List ℕ) (left : ℕ) (fault : PimFault) : Type 0 where
   here : First octets left fault → Then Spells First Behind octets left fault
-  behind : (x : A) (text rest : List ℕ) → Spells x text → octets ≡ text ++ rest → Behind x rest left fault →
+  thereafter : (x : A) (text rest : List ℕ) → Spells x text → octets ≡ text ++ rest → Behind x rest left fault →
       Then Spells First Behind octets left fault
 
 -- Of n elements end to end some stand whole, and the next fails.

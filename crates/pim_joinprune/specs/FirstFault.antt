@@ -19,7 +19,7 @@ KnownFails value own = FieldFails IsOctet (Lacks 1) (λ octet. octet ≢ value) 
 abbrev pub FamilyFails : List ℕ → ℕ → PimFault → Type 0
 FamilyFails = FieldFails IsOctet (Lacks 1) (λ octet. (octet ≢ 1) × (octet ≢ 2)) reasons.Family
 
--- family and encoding, and behind them an address
+-- family and encoding, and after them an address
 abbrev pub UnicastFails : List ℕ → ℕ → PimFault → Type 0
 UnicastFails =
     Then IsFamily FamilyFails (λ family.
@@ -73,13 +73,13 @@ FieldsFail =
     Then IsOctet (Lacks 1) (λ count.
     Then IsNumber (Lacks 2) (λ holdtime. GroupsFail neighbour count))))
 
--- octets stand behind the last group
+-- octets stand after the last group
 pub record Trails (octets : List ℕ) (left : ℕ) (fault : PimFault) : Type 0 where
   pub more : 0 < length octets
   pub at : left ≡ length octets
   pub is : fault ≡ reasons.Trailing
 
--- all that stands behind the checksum
+-- all that stands after the checksum
 abbrev pub RestFails : List ℕ → ℕ → PimFault → Type 0
 RestFails = Then SpellsFields FieldsFail (λ message. Trails)
 

@@ -110,7 +110,7 @@ group_at family octets = do
   prunes ← all_at (source_at family) pruned.0 joins.1
   Ok (record { group = group.0; joins = joins.0; prunes = prunes.0 }, prunes.1)
 
--- the fields behind the checksum
+-- the fields after the checksum
 unfoldable pub fields_at : List ℕ → Read JoinPrune
 fields_at octets = do
   neighbour ← unicast_at octets
@@ -120,7 +120,7 @@ fields_at octets = do
   groups ← all_at (group_at (family_of neighbour.0)) count.0 holdtime.1
   Ok (record { neighbour = neighbour.0; holdtime = holdtime.0; groups = groups.0 }, groups.1)
 
--- the same, where no octets stand behind them
+-- the same, where no octets stand after them
 unfoldable pub whole_of : List ℕ → Result JoinPrune (ℕ × PimFault)
 whole_of octets = do
   message ← fields_at octets

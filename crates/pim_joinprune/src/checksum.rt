@@ -29,7 +29,7 @@ fn pseudo_header(alloc: Global, len: usize) -> Result<Bytes, NoMemory>
     Ok(octets)
 }
 
-/// What the checksum covers in front of a message with those octets behind it.
+/// What the checksum covers in front of a message with those octets after it.
 fn pseudo_of(alloc: Global, fields: &[u8]) -> Result<Bytes, NoMemory>
     ensures { IfOk result (λ octets. octets ≡ pseudo_of fields.now) }
 {
@@ -39,7 +39,7 @@ fn pseudo_of(alloc: Global, fields: &[u8]) -> Result<Bytes, NoMemory>
     }
 }
 
-/// The checksum of a message with those octets behind it.
+/// The checksum of a message with those octets after it.
 #[tactic(auto, unfolding(crate::specs::Checksums::sum_of))]
 pub(crate) fn sum_of(alloc: Global, first: u8, reserved: u8, fields: &[u8]) -> Result<u16, NoMemory>
     ensures { IfOk result (λ sum. sum ≡ sum_of first reserved fields.now) }

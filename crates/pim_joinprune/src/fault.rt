@@ -10,7 +10,7 @@ pub enum PimFault {
     Version,
     /// The type is not 3, Join/Prune (RFC 7761 section 4.9).
     PimType,
-    /// The checksum is not that of the octets, with IPv6 behind a pseudo-header (RFC 7761 section 4.9; RFC 1071).
+    /// The checksum is not that of the octets, with IPv6 after a pseudo-header (RFC 7761 section 4.9; RFC 1071).
     Checksum,
     /// The first address family is neither 1, IPv4, nor 2, IPv6, or a later one is another (RFC 7761 section 4.9.1).
     Family,
@@ -22,7 +22,7 @@ pub enum PimFault {
     Flags,
     /// The address of a group is not multicast.
     NotMulticast,
-    /// Octets stand behind the last group.
+    /// Octets stand after the last group.
     Trailing,
 }
 

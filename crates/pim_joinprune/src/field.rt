@@ -1,4 +1,4 @@
-//! Fields at the front of octets. Each reader answers the field's value and the octets behind it.
+//! Fields at the front of octets. Each reader answers the field's value and the octets after it.
 ghost use Rattle.std.specs.Prelude.{◌≡◌, length};
 ghost use Rattle.pim_joinprune.specs.Answers.{Gives};
 ghost use Rattle.pim_joinprune.specs.Reading.{octet_at, known_at, number_at, octets_at, address_at, family_at, unicast_at};

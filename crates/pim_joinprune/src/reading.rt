@@ -42,7 +42,7 @@ fn check_sum(alloc: Global, first: u8, reserved: u8, sum: u16, rest: &[u8]) -> R
     Ok(())
 }
 
-/// The fields behind the checksum (RFC 7761 section 4.9.5).
+/// The fields after the checksum (RFC 7761 section 4.9.5).
 #[tactic(auto, unfolding(crate::specs::Reading::fields_at))]
 fn read_fields(alloc: Global, octets: &[u8]) -> Result<(JoinPrune, &[u8]), ReadFault>
     ensures { Gives (λ x. (x.0, x.1.now)) result (fields_at octets.now) }
@@ -62,7 +62,7 @@ fn read_fields(alloc: Global, octets: &[u8]) -> Result<(JoinPrune, &[u8]), ReadF
     ))
 }
 
-/// The same, where no octets stand behind them.
+/// The same, where no octets stand after them.
 #[tactic(auto, unfolding(crate::specs::Reading::whole_of))]
 fn read_whole(alloc: Global, octets: &[u8]) -> Result<JoinPrune, ReadFault>
     ensures { Gives (λ x. x) result (whole_of octets.now) }
@@ -118,7 +118,7 @@ fn read_placed(alloc: Global, bytes: &[u8]) -> Result<JoinPrune, DecodeFault>
 pub fn decode(alloc: Global, bytes: &[u8]) -> Result<JoinPrune, DecodeFault>
     // It is what reading from left to right gives, unless memory runs out.
     ensures exact { Decodes result (decoded bytes.now) }
-    // A fault stands within the octets or right behind them.
+    // A fault stands within the octets or right after them.
     ensures within { IsWithin result (length bytes.now) }
     // What is read is spelled.
     ensures spelled { IfOk result (λ message. Spells message bytes.now) }

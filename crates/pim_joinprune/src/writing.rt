@@ -16,7 +16,7 @@ use std::alloc::Global;
 /// Version 2 and type 3.
 const JOIN_PRUNE: u8 = 0x23;
 
-/// The fields behind the checksum.
+/// The fields after the checksum.
 fn fields_of(alloc: Global, message: &JoinPrune) -> Result<Bytes, NoMemory>
     requires { IsJoinPrune message.now }
     ensures { IfOk result (λ octets. octets ≡ fields_text message.now) }

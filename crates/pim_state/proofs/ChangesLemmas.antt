@@ -34,7 +34,7 @@ get-changed_by m [] at = refl
 get-changed_by m (change ∷ more) at =
     get-changed_by (changed m change.0 change.1) more at ∙ ap (λ (o : Option Expiry). then_at more o at) (get-changed m change.0 change.1 at)
 
--- Entries whose look-ups are those behind the changes are the map behind the changes.
+-- Entries whose look-ups are those after the changes are the map after the changes.
 pub made-changes : (es fs : List (IfaceEntry × Expiry)) (changes : List Change)
     → ((at : IfaceEntry) → lookup (is_at at) fs ≡ then_at changes (lookup (is_at at) es) at)
     → from_entries {R = entry_cmp} fs ≡ changed_by (from_entries es) changes
@@ -42,7 +42,7 @@ made-changes es fs changes h = same_map entry_cmp_total entry_cmp_exact _ _ (λ 
     get-lookup fs at ∙ (h at ∙ (ap (λ (o : Option Expiry). then_at changes o at) (sym (get-lookup es at))
     ∙ sym (get-changed_by (from_entries es) changes at))))
 
--- ---- how many entries there are behind the changes
+-- ---- how many entries there are after the changes
 
 -- of these entries those that are there
 abbrev present_in : Entries → List IfaceEntry → ℕ
@@ -111,9 +111,9 @@ len-changed : (m : Entries) (k : IfaceEntry) (w : Option Expiry) → len (change
 len-changed m k None = one-out (cond (is_some (get m k)) 1 0) (len (remove m k)) (len m) (len-removed m k)
 len-changed m k (Some v) = ap (λ (n : ℕ). n + cond (is_some (get m k)) 1 0) (len-insert entry_cmp_total m k v) ∙ one-in (is_some (get m k)) (len m)
 
-joined-sums : (last old new had gets behind more : ℕ) → new + had ≡ old + gets → last + behind ≡ new + more
-    → last + (had + behind) ≡ old + (gets + more)
-joined-sums last old new had gets behind more h k = omega (arith, h, k)
+joined-sums : (last old new had gets thereafter more : ℕ) → new + had ≡ old + gets → last + thereafter ≡ new + more
+    → last + (had + thereafter) ≡ old + (gets + more)
+joined-sums last old new had gets thereafter more h k = omega (arith, h, k)
 
 -- Of entries that are changed once each, those that were there are gone, and those that have an expiry then are there.
 pub len-changed_by : (m : Entries) (changes : List Change) → IsDistinct is_at (keys_of changes)
@@ -121,21 +121,21 @@ pub len-changed_by : (m : Entries) (changes : List Change) → IsDistinct is_at 
 len-changed_by m [] h = refl
 len-changed_by m (change ∷ more) h =
     let next = changed m change.0 change.1 in
-    let behind = len-changed_by next more (IsDistinct-tail is_at change.0 (keys_of more) h) in
+    let thereafter = len-changed_by next more (IsDistinct-tail is_at change.0 (keys_of more) h) in
     let same = present-apart m change.0 change.1 (keys_of more) (IsDistinct-head is_at change.0 (keys_of more) h) in
     let rest : len (changed_by next more) + present_in m (keys_of more) ≡ len next + count_by is_some (values_of more) =
-    ap (λ (n : ℕ). len (changed_by next more) + n) (sym same) ∙ behind in
+    ap (λ (n : ℕ). len (changed_by next more) + n) (sym same) ∙ thereafter in
     ap (λ (n : ℕ). len (changed_by next more) + n) (count-cons (λ a. is_some (get m a)) change.0 (keys_of more))
     ∙ (joined-sums (len (changed_by next more)) (len m) (len next) (cond (is_some (get m change.0)) 1 0) (cond (is_some change.1) 1 0)
     (present_in m (keys_of more)) (count_by is_some (values_of more)) (len-changed m change.0 change.1) rest
     ∙ ap (λ (n : ℕ). len m + n) (sym (count-cons is_some change.1 (values_of more))))
 
 -- The same, of a map as the list of its entries.
-pub count-behind : (es : List (IfaceEntry × Expiry)) (changes : List Change) (size kept present : ℕ) → IsDistinct is_at (keys_of es)
+pub count-after : (es : List (IfaceEntry × Expiry)) (changes : List Change) (size kept present : ℕ) → IsDistinct is_at (keys_of es)
     → IsDistinct is_at (keys_of changes) →
     size ≡ length es → kept ≡ count_by is_some (values_of changes) → present ≡ count_by (λ at. is_some (lookup (is_at at) es)) (keys_of changes)
     → len (changed_by (from_entries es) changes) + present ≡ size + kept
-count-behind es changes size kept present u d s k p =
+count-after es changes size kept present u d s k p =
     let found : present_in (from_entries es) (keys_of changes) ≡ count_by (λ at. is_some (lookup (is_at at) es)) (keys_of changes) =
     λ i. count_by (λ at. is_some (get-lookup es at i)) (keys_of changes) in
     sums (len (changed_by (from_entries es) changes)) present (present_in (from_entries es) (keys_of changes)) (len (from_entries {R = entry_cmp} es))

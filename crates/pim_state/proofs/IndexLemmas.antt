@@ -284,7 +284,7 @@ after-there clock (Some expiry) = by (is_after expiry clock)
     by true = refl
     by false = refl
 
--- An entry that is there behind the changes was there, or is one of those that are there then.
+-- An entry that is there after the changes was there, or is one of those that are there then.
 pub then-kept : (changes : List (IfaceEntry × Option Expiry)) (now : Option Expiry) (at : IfaceEntry) (first found : Bool)
     → (not (is_some now) || first) ≡ true → found ≡ (first || is_kept changes at) → (not (is_some (then_at changes now at)) || found) ≡ true
 then-kept [] now at first found h f = ap (λ (b : Bool). not (is_some now) || b) (f ∙ or-false first) ∙ h
@@ -317,7 +317,7 @@ unchanged (change ∷ more) now at h = by (is_at change.0 at) (is_some change.1)
     by false true k rest = rest k
     by false false k rest = rest k
 
--- Once the entries that are there behind the changes are listed, and the changed ones that are not are listed no longer, those are
+-- Once the entries that are there after the changes are listed, and the changed ones that are not are listed no longer, those are
 -- listed that are there.
 pub then-exact : (changes : List (IfaceEntry × Option Expiry)) (now : Option Expiry) (at : IfaceEntry) (found changed : Bool)
     → found ≡ (is_some now || is_kept changes at) → changed ≡ is_changed changes at

@@ -97,9 +97,9 @@ count-put p k v (e ∷ es) none =
       | Less ↦ λ r n. count-cons p v (e.1 ∷ values_of es)
       | Equal ↦ λ r n. absurd (not_some e.1 n)
       | Greater ↦ λ r n.
-          let behind = count-put p k v es n in
+          let thereafter = count-put p k v es n in
           count-cons p e.1 (values_of (put entry_cmp k v es))
-          ∙ (ap (λ (n : ℕ). cond (p e.1) 1 0 + n) behind
+          ∙ (ap (λ (n : ℕ). cond (p e.1) 1 0 + n) thereafter
           ∙ (swapped (cond (p e.1) 1 0) (cond (p v) 1 0) (count_by p (values_of es))
           ∙ ap (λ (n : ℕ). cond (p v) 1 0 + n) (sym (count-cons p e.1 (values_of es)))))
     ] refl none
@@ -159,7 +159,7 @@ apart-left clock q (e ∷ es) h = by (is_after e.1 clock) (apart-left clock q es
     by true none = rw h.0 none
     by false none = none
 
--- Behind a run of the timers each entry is there that was and has not ended.
+-- After a run of the timers each entry is there that was and has not ended.
 pub lookup-left : (clock : ℕ) (q : IfaceEntry) (es : List (IfaceEntry × Expiry)) → IsDistinct is_at (keys_of es)
     → lookup (is_at q) (left_at clock es) ≡ remaining clock (lookup (is_at q) es)
 lookup-left clock q [] h = refl

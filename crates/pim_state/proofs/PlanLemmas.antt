@@ -145,10 +145,10 @@ in-joined index at group (own ∷ more) h l = by (is_entry (Star group) own) ref
 
     by : (b : Bool) → is_entry (Star group) own ≡ b → (b || is_among more (Star group)) ≡ true → (is_among more (Star group) ≡ true → rest ≡ true)
         → (list_any (is_at at) (pruned_by index own) || rest) ≡ true
-    by true e j behind =
+    by true e j thereafter =
         or_left _ rest (subst (λ (x : JoinEntry). list_any (is_at at) (pruned_by index x) ≡ true)
         (same_entry_equal (Star group) own (sym (entry-same (Star group) own) ∙ e)) l)
-    by false e j behind = or_right _ rest (behind j)
+    by false e j thereafter = or_right _ rest (thereafter j)
 
 -- Of an index that lists the entries that are there, the lists of the groups joined have all that the message may end.
 pub all-ended : (arrival : Arrival) (entries : Expiries) (index : EntryIndex) (at : IfaceEntry) → IsExact entries index

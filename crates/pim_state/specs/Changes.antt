@@ -11,12 +11,12 @@ abbrev pub changed : Entries → IfaceEntry → Option Expiry → Entries
 changed entries at None = remove entries at
 changed entries at (Some expiry) = insert entries at expiry
 
--- the entries behind the changes, in turn
+-- the entries after the changes, in turn
 abbrev pub changed_by : Entries → List (IfaceEntry × Option Expiry) → Entries
 changed_by entries [] = entries
 changed_by entries (change ∷ more) = changed_by (changed entries change.0 change.1) more
 
--- the expiry of an entry behind the changes, by the one before
+-- the expiry of an entry after the changes, by the one before
 abbrev pub then_at : List (IfaceEntry × Option Expiry) → Option Expiry → IfaceEntry → Option Expiry
 then_at [] now at = now
 then_at (change ∷ more) now at = then_at more (if is_at change.0 at then change.1 else now) at

@@ -1,4 +1,4 @@
--- What becomes of the entries of an interface behind a message, by what the message joins and prunes.
+-- What becomes of the entries of an interface after a message, by what the message joins and prunes.
 use Rattle.std.specs.Prelude.{◌≡◌, ◌==◌, ◌&&◌, Bool, false, List, Option, Some, is_some, if◌then◌else◌}
 use Rattle.std.specs.List.{list_any}
 use Rattle.std.specs.declared.hash.FoldHasher.{FoldHasher}
@@ -46,7 +46,7 @@ pub record Tells (arrival : Arrival) (message : JoinPrune) : Type 0 where
   pub pruned : (entry : JoinEntry) → is_among arrival.prunes.keys entry ≡ prunes message entry
   pub held : arrival.holdtime ≡ message.holdtime
 
--- the expiry of an entry of the interface behind the message, by the one before
+-- the expiry of an entry of the interface after the message, by the one before
 abbrev pub then_of : Arrival → JoinEntry → Option Expiry → Option Expiry
 then_of arrival entry old = expiry_after entry (mention_in arrival.joins.keys arrival.prunes.keys entry) arrival.clock arrival.holdtime old
 

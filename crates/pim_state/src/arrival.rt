@@ -142,7 +142,7 @@ impl Arrival {
         }
     }
 
-    /// The expiry of the entry behind the message.
+    /// The expiry of the entry after the message.
     fn expiry_then(&self, entry: &JoinEntry, old: Option<Expiry>) -> Option<Expiry>
         requires { self.now.clock < 2 ^ 63 }
         ensures { result ≡ then_of self.now entry.now old }

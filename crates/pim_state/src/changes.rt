@@ -33,7 +33,7 @@ fn count_present(entries: &IndexMap<IfaceEntry, Expiry>, changes: &Changes) -> u
         .count()
 }
 
-/// How many entries there are behind the changes.
+/// How many entries there are after the changes.
 pub(crate) fn count_after(entries: &IndexMap<IfaceEntry, Expiry>, changes: &Changes) -> usize
     ensures { result ≡ len (changed_by (from_entries entries.now.entries) changes.now.entries) }
 {

@@ -101,7 +101,7 @@ impl Downstream {
         }
     }
 
-    /// What stands behind a message that the interface takes at the clock. Where that would be more entries than an edge
+    /// What stands after a message that the interface takes at the clock. Where that would be more entries than an edge
     /// holds, or there is no memory, nothing changes.
     pub fn take(&mut self, iface: IfaceId, message: &JoinPrune, now: u64) -> Result<(), TakeFault>
         requires { now < 2 ^ 63 }
@@ -145,7 +145,7 @@ impl Downstream {
         arrival.changes(alloc, &self.entries, &self.index)
     }
 
-    /// How many entries would stand behind the message.
+    /// How many entries would stand after the message.
     pub fn entries_after(
         &self,
         alloc: Global,

@@ -51,7 +51,7 @@ change_goes place part fec e =
     (sym (not_ready part (place.upstream fec) e))
     (by_goes (has_tree part fec) (mapped_label part fec) (holder_of part fec) (place.upstream fec) (free_label part))
 
--- there is a node behind the change, with the same sessions
+-- there is a node after the change, with the same sessions
 pub record Goes_on (part : LabelData) (result : Option LabelData) : Type 0 where
   pub new : LabelData
   pub is : result ≡ Some new
@@ -73,7 +73,7 @@ no_ends_after (put ∷ more) =
     (maps.get-empty node_cmp put.to)
     ∙ no_ends_after more
 
--- a label step is made, and no session is up behind it
+-- a label step is made, and no session is up after it
 pub record Made (result : Option Stepped) : Type 0 where
   pub new : Stepped
   pub is : result ≡ Some new
@@ -102,7 +102,7 @@ turned : (place : Place) (now : ℕ) (part : LabelData) (wants : Bool) (fec : Fe
 turned place now part true fec e = settled place (record part { leaves = sets.insert part.leaves fec }) fec e
 turned place now part false fec e = settled place (record part { leaves = sets.remove part.leaves fec }) fec e
 
--- a row of label steps is made, and no session is up behind it
+-- a row of label steps is made, and no session is up after it
 pub record RowMade (part : LabelData) (result : Option (List LabelStep)) : Type 0 where
   pub row : List LabelStep
   pub is : result ≡ Some row
@@ -111,12 +111,12 @@ pub record RowMade (part : LabelData) (result : Option (List LabelStep)) : Type 
 row_by : (place : EdgePlace) (now : ℕ) (part : LabelData) (call : Call) (more : List Call)
     → (made : Made (label_step (label_place place.scenario place.core place.me) now part call))
     → RowMade made.new.part (label_row place now made.new.part more) → RowMade part (label_row place now part (call ∷ more))
-row_by place now part call more made behind = record {
-  row = record { old = part; call = call; new = made.new } ∷ behind.row;
+row_by place now part call more made thereafter = record {
+  row = record { old = part; call = call; new = made.new } ∷ thereafter.row;
   is = ap (λ (o : Option Stepped). o >>? λ new. label_row place now new.part more >>? λ row. Some
       (record { old = part; call = call; new = new } ∷ row)) made.is
-      ∙ ap (λ (o : Option (List LabelStep)). o >>? λ row. Some (record { old = part; call = call; new = made.new } ∷ row)) behind.is;
-  ends = behind.ends;
+      ∙ ap (λ (o : Option (List LabelStep)). o >>? λ row. Some (record { old = part; call = call; new = made.new } ∷ row)) thereafter.is;
+  ends = thereafter.ends;
 }
 
 -- whichever trees those are of which the node becomes or stops being a leaf

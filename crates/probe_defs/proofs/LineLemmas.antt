@@ -28,7 +28,7 @@ use Rattle.network_defs.specs.session_defs.PeerSession.{fault_at, stream_at}
 use Rattle.edge_streams.specs.Kept.{bgp_stream, fault_as}
 use Rattle.edge_streams.proofs.DrainLemmas.{stream_put}
 use Rattle.edge_streams.proofs.FedAs.{fed_same}
-use Rattle.probe_defs.specs.Given.{Comes, behind, begun, given, peer_session}
+use Rattle.probe_defs.specs.Given.{Comes, thereafter, begun, given, peer_session}
 use Rattle.probe_defs.specs.Lines.{joins_of, octets_of}
 use Rattle.probe_defs.specs.Probed.{edge_with, joined, table_of}
 use Rattle.probe_defs.specs.declared.probe.ProbeLine.{ProbeLine}
@@ -61,7 +61,7 @@ module _ (place : EdgePlace) (peer : NodeId) where
 
   -- ---- octets
 
-  -- what the session's stream is behind a piece
+  -- what the session's stream is after a piece
   abbrev next_stream : List ℕ → EdgeState → Stream
   next_stream piece old = fed (front_of kinds.Bgp) (stream_at old.streams (peer_session peer)) piece
 
@@ -187,10 +187,10 @@ module _ (place : EdgePlace) (peer : NodeId) where
     stream = ap (λ (streams : _). stream_at streams (peer_session peer)) fresh_goes.streams ∙ stream_put maps.empty (peer_session peer) unfed;
   }
 
-  pub behind_keeps : (lines : List ProbeLine) → IsOctets (octets_of lines) → Keeps (octets_of lines) (joins_of lines) (behind place peer lines)
-  behind_keeps lines fits = lines_go [] [] (begun place peer) lines fits begun_keeps
+  pub after_keeps : (lines : List ProbeLine) → IsOctets (octets_of lines) → Keeps (octets_of lines) (joins_of lines) (thereafter place peer lines)
+  after_keeps lines fits = lines_go [] [] (begun place peer) lines fits begun_keeps
 
-  pub comes : (lines : List ProbeLine) → IsOctets (octets_of lines) → Comes place peer lines (behind place peer lines)
+  pub comes : (lines : List ProbeLine) → IsOctets (octets_of lines) → Comes place peer lines (thereafter place peer lines)
   comes lines fits =
-      let keeps = behind_keeps lines fits in
+      let keeps = after_keeps lines fits in
       record { unspent = keeps.goes.unspent; keeps = keeps.goes.keeps; stream = ap (λ (s : Stream). s.fault) keeps.stream }

@@ -24,7 +24,7 @@ use Rattle.edge_defs.specs.Keys.{Table}
 use Rattle.edge_defs.specs.Place.{EdgePlace}
 use Rattle.edge_defs.specs.Steps.{Call, Customer, EdgeStepped, LabelStep, Pim, Raised, Update, changed_leaves, control_step, label_row, one_call, own_label_call, part_after, raised_after, refreshed, taken_change}
 use Rattle.edge_defs.specs.Tunnels.{leaves}
-use Rattle.network_defs.specs.node_defs.EdgeState.{EdgeState, behind, stepped, stepped_unless}
+use Rattle.network_defs.specs.node_defs.EdgeState.{EdgeState, thereafter, stepped, stepped_unless}
 use Rattle.probe_defs.specs.Probed.{as_table_change, edge_with, taken_at_once}
 use Rattle.probe_defs.proofs.LabelLemmas.{row_made}
 use Rattle.probe_defs.proofs.TableLemmas.{changes_at_once, none_at_once}
@@ -37,15 +37,15 @@ pub record Goes (control : Control) (state : EdgeState) : Type 0 where
   pub ends : state.edge.part.ends ≡ maps.empty
   pub keeps : state.edge.control ≡ control
 
--- it goes on behind a step, with the same streams
+-- it goes on after a step, with the same streams
 pub record Stepped (old : EdgeState) (control : Control) (new : EdgeState) : Type 0 where
   pub goes : Goes control new
   pub streams : new.streams ≡ old.streams
 
-behind_step : (place : EdgePlace) (old : EdgeState) (call : Call) (control : Control) → old.spent ≡ None → (row : List LabelStep)
+after_step : (place : EdgePlace) (old : EdgeState) (call : Call) (control : Control) → old.spent ≡ None → (row : List LabelStep)
     → (part_after old.edge.part row).ends ≡ maps.empty
     → control_step place 0 old.edge.control call ≡ control
-    → Stepped old control (behind place 0 old (Some
+    → Stepped old control (thereafter place 0 old (Some
     (record {
       edge =
           record {
@@ -56,7 +56,7 @@ behind_step : (place : EdgePlace) (old : EdgeState) (call : Call) (control : Con
           };
       row = row;
     })))
-behind_step place old call control unspent row ends keeps = record { goes = record { unspent = unspent; ends = ends; keeps = keeps }; streams = refl }
+after_step place old call control unspent row ends keeps = record { goes = record { unspent = unspent; ends = ends; keeps = keeps }; streams = refl }
 
 pub step_goes : (place : EdgePlace) (old : EdgeState) (call : Call) (control next : Control) → own_label_call call ≡ None → Goes control old
     → control_step place 0 control call ≡ next → Stepped old next (stepped place 0 old call)
@@ -70,17 +70,17 @@ step_goes place old call control next none goes is =
     (filter (λ fec. not (sets.contains before fec && sets.contains after fec)) (in_order (sets.union before after))) goes.ends in
     let made : Option (List LabelStep) → Option EdgeStepped = λ o. o >>? λ row.
     Some (record { edge = record { control = now; part = part_after old.edge.part row; raised = raised_after 0 old.edge.raised call }; row = row }) in
-    let same : stepped place 0 old call ≡ behind place 0 old
+    let same : stepped place 0 old call ≡ thereafter place 0 old
     (Some (record {
       edge = record { control = now; part = part_after old.edge.part row.row; raised = raised_after 0 old.edge.raised call };
       row =
           row.row;
     })) =
     ap (λ (spent : Option Spent). stepped_unless spent place 0 old call) goes.unspent
-    ∙ ap (λ (own : Option labels.Call). behind place 0 old (made (label_row place 0 old.edge.part (one_call own ++ changed_leaves before after))))
+    ∙ ap (λ (own : Option labels.Call). thereafter place 0 old (made (label_row place 0 old.edge.part (one_call own ++ changed_leaves before after))))
     none
-    ∙ ap (λ (o : Option (List LabelStep)). behind place 0 old (made o)) row.is in
-    subst (Stepped old next) (sym same) (behind_step place old call next goes.unspent row.row row.ends keeps)
+    ∙ ap (λ (o : Option (List LabelStep)). thereafter place 0 old (made o)) row.is in
+    subst (Stepped old next) (sym same) (after_step place old call next goes.unspent row.row row.ends keeps)
 
 -- ---- what it keeps
 
@@ -104,7 +104,7 @@ put_again peer one other = maps.same_map node_cmp_total node_cmp_exact _ _ (λ q
 abbrev kept_with : EdgePlace → Entries → FinMap node_cmp Taken → Control
 kept_with place entries peers = refreshed place 0 (record no_control { entries = entries; peers = peers })
 
--- the peer's table behind changes, where it has one
+-- the peer's table after changes, where it has one
 abbrev with_changes : FinMap node_cmp Taken → NodeId → Message → Option Taken → FinMap node_cmp Taken
 with_changes peers peer message o =
     elim o as (λ _. FinMap node_cmp Taken) [ None ↦ peers | Some taken ↦ maps.insert peers peer (fold (taken_change 0) taken (changes_of message)) ]

@@ -4,7 +4,7 @@ use Rattle.mv_base.specs.Octets.{IsOctets}
 use Rattle.mv_base.specs.framing.Cut.{Cut, cut}
 use Rattle.mv_base.specs.framing.Feed.{Fed, fed, fed_unless, moved}
 use Rattle.mv_base.specs.framing.Units.{octets_of}
-use Rattle.mv_base.proofs.framing.Cuts.{IsOctets-behind, cut_fails, cut_splits}
+use Rattle.mv_base.proofs.framing.Cuts.{IsOctets-after, cut_fails, cut_splits}
 use Rattle.mv_base.proofs.framing.Feeds.{at_once, fed_is}
 use Rattle.mv_base.proofs.framing.Feedings.{no_fault}
 use Rattle.bgp_messages.proofs.bgp_update.Messages.{message_format}
@@ -30,7 +30,7 @@ stream_with octets = at_once (length octets) (cut_of octets)
 abbrev pub drained : BgpStream → BgpStream
 drained d = record d { waiting = [] }
 
--- What a drained stream hands out is what comes behind the messages before.
+-- What a drained stream hands out is what comes after the messages before.
 pub record Adds (d : BgpStream) (piece : List ℕ) : Type 0 where
   pub added : List Message
   pub fed_is : fed message_front (drained d) piece ≡ record (fed message_front d piece) { waiting = added }
@@ -60,11 +60,11 @@ yields_by : (octets : List ℕ) → IsOctets octets → (stop : Option (ℕ × S
 yields_by octets fits None e =
     let is = cut_splits message_front SpellsMessage message_format.stream.framing octets fits e in
     let rest : List ℕ = (cut_of octets).rest in
-    let rest_fits : IsOctets rest = IsOctets-behind (octets_of is.0.begins.units) rest (subst IsOctets is.0.begins.parts fits) in
+    let rest_fits : IsOctets rest = IsOctets-after (octets_of is.0.begins.units) rest (subst IsOctets is.0.begins.parts fits) in
     (rest, is.0, no_fault message_front SpellsMessage UnitFault 4096 message_format rest rest_fits is.1)
 yields_by octets fits (Some f) e =
     let is = cut_fails message_front SpellsMessage message_format.stream.framing octets f fits e in
-    let rest_fits : IsOctets is.rest = IsOctets-behind (octets_of is.begins.units) is.rest (subst IsOctets is.begins.parts fits) in (
+    let rest_fits : IsOctets is.rest = IsOctets-after (octets_of is.begins.units) is.rest (subst IsOctets is.begins.parts fits) in (
       f.0,
       record {
         first = is.first;

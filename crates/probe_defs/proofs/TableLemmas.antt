@@ -135,7 +135,7 @@ changes_at_once table (change ∷ more) =
 
 -- ---- messages
 
--- the table behind messages
+-- the table after messages
 abbrev pub table_on : Table → List Message → Table
 table_on table messages = applied_all table (map as_table_change (flat_map changes_of messages))
 

@@ -25,7 +25,7 @@ use Rattle.probe_defs.specs.declared.probe.ProbeLine.TheVariants.{Join, Piece}
 abbrev pub peer_session : NodeId → PeerSession
 peer_session peer = session kinds.Bgp peer
 
--- the edge behind a line, at clock 0: a customer's message for the interface's own address, or octets of the peer
+-- the edge after a line, at clock 0: a customer's message for the interface's own address, or octets of the peer
 abbrev pub given : EdgePlace → NodeId → EdgeState → ProbeLine → EdgeState
 given place peer old (Join iface source group) =
     called place 0 old (Customer (Pim iface (join_of (own_addr place.scenario iface) (Source source group))))
@@ -35,11 +35,11 @@ given place peer old (Piece octets) = took place 0 (peer_session peer) octets ol
 abbrev pub begun : EdgePlace → NodeId → EdgeState
 begun place peer = called place 0 (fresh_state place.scenario.labels) (Raised kinds.Bgp peer)
 
--- and behind these lines
-abbrev pub behind : EdgePlace → NodeId → List ProbeLine → EdgeState
-behind place peer lines = fold (given place peer) (begun place peer) lines
+-- and after these lines
+abbrev pub thereafter : EdgePlace → NodeId → List ProbeLine → EdgeState
+thereafter place peer lines = fold (given place peer) (begun place peer) lines
 
--- what a reader finds in octets: the whole messages, and the first fault behind them, at the place as it is told
+-- what a reader finds in octets: the whole messages, and the first fault after them, at the place as it is told
 abbrev pub messages_in : List ℕ → List Message
 messages_in octets = (cut message_front octets).messages
 

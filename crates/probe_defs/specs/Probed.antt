@@ -39,7 +39,7 @@ use Rattle.probe_defs.specs.declared.probe.ProbeReport.{ProbeReport}
 
 -- ---- the octets
 
--- The octets are these messages, whole and end to end; behind them no message is whole, and nothing is at fault yet, or there is the first
+-- The octets are these messages, whole and end to end; after them no message is whole, and nothing is at fault yet, or there is the first
 -- fault, at a place, where a place past the greatest number is told as that number.
 abbrev pub Yield : List ℕ → List Message → Option (ℕ × StreamFault) → Type 0
 Yield octets messages None = (rest : List ℕ) × Splits SpellsMessage octets messages rest × NoFault UnitFault rest
@@ -70,7 +70,7 @@ imports_of scenario edge table =
 
 -- ---- what the edge wants
 
--- the entries of customers behind these joins, each a message of its own, at clock 0
+-- the entries of customers after these joins, each a message of its own, at clock 0
 abbrev pub joined : Scenario → List IfaceEntry → Entries
 joined scenario joins =
     fold (λ entries at. applied entries at.iface (join_of (own_addr scenario at.iface) at.entry) 0) maps.empty joins
@@ -92,7 +92,7 @@ wants_of place peer table joins = in_order (leaves place (edge_with place peer t
 
 -- ---- the report
 
--- What is told of the edge behind the lines: with the table of the whole messages before the first fault of the octets, the routes that
+-- What is told of the edge after the lines: with the table of the whole messages before the first fault of the octets, the routes that
 -- its VRFs take, the tunnels that it wants, and that first fault. Whichever way the core is told, the tunnels are these.
 pub record Probed (scenario : Scenario) (edge peer : NodeId) (lines : List ProbeLine) (report : ProbeReport) : Type 0 where
   pub messages : List Message

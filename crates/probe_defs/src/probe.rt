@@ -29,7 +29,7 @@ pub struct Import {
 
 pub type Imports = Seq<Import>;
 
-/// What is told of the edge behind all lines: the routes that its VRFs take from the peer, the tunnels of which it is a leaf, and the
+/// What is told of the edge after all lines: the routes that its VRFs take from the peer, the tunnels of which it is a leaf, and the
 /// first fault of the peer's octets, with its place, if they have one.
 #[derive(Drop)]
 pub struct ProbeReport {

@@ -1,4 +1,4 @@
--- The lines before the line `probe`, and those behind it, one more.
+-- The lines before the line `probe`, and those after it, one more.
 use Rattle.std.proofs.Common.{◌≡◌, ℕ, zero, suc, ◌+◌, ◌<◌, ◌⊎◌, inl, inr, List, [], ◌∷◌, ◌++◌, length, take, drop, refl, sym, ap, subst, ◌∙◌, arith}
 use Rattle.std.specs.Prelude.{Result, Ok, Err}
 use Rattle.std.specs.Str.Lines.{lines}
@@ -112,6 +112,6 @@ no_more [] n e l = omega (arith, l)
 no_more (row ∷ rows) zero e l = absurd cc
 no_more (row ∷ rows) (suc n) e l = no_more rows n e (omega (arith, l))
 
-pub some_behind : (octets : List ℕ) (rows : List (List ℕ)) (n : ℕ) → lines octets ≡ drop n rows → n < length rows → 0 < length octets
-some_behind [] rows n e l = absurd (no_more rows n e l)
-some_behind (first ∷ more) rows n e l = omega arith
+pub some_after : (octets : List ℕ) (rows : List (List ℕ)) (n : ℕ) → lines octets ≡ drop n rows → n < length rows → 0 < length octets
+some_after [] rows n e l = absurd (no_more rows n e l)
+some_after (first ∷ more) rows n e l = omega arith

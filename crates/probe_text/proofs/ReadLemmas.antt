@@ -124,7 +124,7 @@ own_meets draft edge row a =
     bind_meets _ (iface_at draft row a) _ (λ iface i. then_meets _ _ _ _
     (λ own. ok_meets (λ (iface : IfaceId). is_iface_at draft.scenario edge iface ≡ true) iface own))
 
--- ---- lines behind it
+-- ---- lines after it
 
 join_words_meets : (draft : Drafted) (edge : NodeId) (row : Row) (a b c : Placed)
     → Meets (IsLineAt draft.scenario edge) (join_words draft edge row a b c)
@@ -160,7 +160,7 @@ piece_line_meets scenario edge row (a ∷ []) =
     bind_meets _ (payload_at row a) _ (λ octets p. ok_meets (IsPiece scenario edge) (Piece octets) (record { fits = tt; joinless = refl }))
 piece_line_meets scenario edge row (a ∷ b ∷ more) = err_meets _ _
 
--- A line more, behind so many joins.
+-- A line more, after so many joins.
 record IsMore (scenario : Scenario) (edge : NodeId) (joins : ℕ) (line : ProbeLine) : Type 0 where
   pub fits : IsLineAt scenario edge line
   pub few : joins + length (joins_of (line ∷ [])) ≤ join_limit

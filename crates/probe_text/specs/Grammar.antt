@@ -55,7 +55,7 @@ declaring draft row (first ∷ rest) =
 unfoldable pub declared_by : Drafted → ℕ → List ℕ → Result Line TextFault
 declared_by draft number octets = words_in number octets >>= λ words. declaring draft (row_of number octets) words
 
--- what the lines from that number on declare, behind what is declared
+-- what the lines from that number on declare, after what is declared
 abbrev pub declared_from : Drafted → ℕ → List (List ℕ) → Result Drafted TextFault
 declared_from draft number [] = Ok draft
 declared_from draft number (octets ∷ more) =
@@ -83,7 +83,7 @@ probe_line draft number octets =
     then (words_in number octets >>= λ words. ends_line draft (row_of number octets) words)
     else fault number 1 reasons.Apart
 
--- ---- the lines behind it
+-- ---- the lines after it
 
 -- whether the interface is of a VRF of the edge
 abbrev pub is_iface_at : Scenario → NodeId → IfaceId → Bool
@@ -114,7 +114,7 @@ piece_line row [] = fault row.number row.after reasons.Count
 piece_line row (a ∷ []) = payload_at row a >>= λ octets. Ok (Piece octets)
 piece_line row (a ∷ b ∷ more) = fault row.number b.column reasons.Count
 
--- a line by its first word, behind so many joins; nothing where it has no word
+-- a line by its first word, after so many joins; nothing where it has no word
 unfoldable pub given_words : Drafted → NodeId → ℕ → Row → List Placed → Result (Option ProbeLine) TextFault
 given_words draft edge joins row [] = Ok None
 given_words draft edge joins row (first ∷ rest) =
@@ -131,7 +131,7 @@ abbrev pub with_line : List ProbeLine → Option ProbeLine → List ProbeLine
 with_line done None = done
 with_line done (Some line) = done ++ line ∷ []
 
--- the lines from that number on, behind these
+-- the lines from that number on, after these
 abbrev pub given_from : Drafted → NodeId → List ProbeLine → ℕ → List (List ℕ) → Result (List ProbeLine) TextFault
 given_from draft edge done number [] = Ok done
 given_from draft edge done number (octets ∷ more) =

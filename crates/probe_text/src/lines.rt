@@ -115,7 +115,7 @@ fn join_words(
     })
 }
 
-/// A line `join` by the words behind the first one.
+/// A line `join` by the words after the first one.
 #[tactic(auto, unfolding(crate::specs::Grammar::join_line))]
 fn join_line(draft: &Draft, edge: NodeId, row: Row, words: &[Word]) -> Result<ProbeLine, TextFault>
     ensures { result ≡ join_line draft.now edge row (map placed_word words.now) }
@@ -127,7 +127,7 @@ fn join_line(draft: &Draft, edge: NodeId, row: Row, words: &[Word]) -> Result<Pr
     }
 }
 
-/// A line `piece` by the words behind the first one.
+/// A line `piece` by the words after the first one.
 #[tactic(auto, unfolding(crate::specs::Grammar::piece_line))]
 fn piece_line(alloc: Global, row: Row, words: &[Word]) -> Result<ProbeLine, ReadFault>
     ensures { Gives result (piece_line row (map placed_word words.now)) }
@@ -178,7 +178,7 @@ pub(crate) fn probe_line(
     Ok(ends_line(draft, row_of(number, octets), &words)?)
 }
 
-/// A line of the probe by its words, behind so many joins.
+/// A line of the probe by its words, after so many joins.
 #[tactic(auto, unfolding(crate::specs::Grammar::given_words))]
 fn given_words(
     alloc: Global,
@@ -205,7 +205,7 @@ fn given_words(
     Err(ReadFault::Text(fault_at(row.number, first.column, Reason::Word)))
 }
 
-/// What a line of the probe says, behind so many joins.
+/// What a line of the probe says, after so many joins.
 #[tactic(auto, unfolding(crate::specs::Grammar::given_by))]
 pub(crate) fn given_by(
     alloc: Global,

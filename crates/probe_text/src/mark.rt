@@ -25,8 +25,8 @@ fn first_word(line: &[u8]) -> &[u8]
     ensures { result.now ≡ first_word line.now }
 {
     let mut rest = line;
-    'spaces: while let [b' ', behind @ ..] = rest {
-        rest = behind;
+    'spaces: while let [b' ', thereafter @ ..] = rest {
+        rest = thereafter;
     }
     up_to_space(rest)
 }
@@ -48,12 +48,12 @@ pub(crate) fn probe_place(text: &[u8]) -> Result<usize, usize>
     let mut place = 0;
     let mut rest = text;
     'lines: while !rest.is_empty() {
-        let (line, behind) = split_line(rest);
+        let (line, thereafter) = split_line(rest);
         if is_probe_line(line) {
             return Ok(place);
         }
         place += 1;
-        rest = behind;
+        rest = thereafter;
     }
     Err(place)
 }

@@ -17,11 +17,11 @@ use scenario_defs::Script;
 use scenario_lines::scenario_draft::Draft;
 use std::alloc::Global;
 
-/// What the first lines of a text declare, and the text behind them.
+/// What the first lines of a text declare, and the text after them.
 #[derive(Drop)]
 struct Front<'a> {
     draft: Draft,
-    behind: &'a [u8],
+    thereafter: &'a [u8],
 }
 
 /// Reads so many first lines as those of a scenario.
@@ -29,16 +29,16 @@ fn read_front<'a>(alloc: Global, text: &'a [u8], place: usize) -> Result<Front<'
     requires short { length text.now ≤ TEXT_LIMIT }
     requires within { place < length (lines text.now) }
     ensures draft { IfOk result (λ front. declared_from empty_draft 1 (take place (lines text.now)) ≡ Ok front.draft) }
-    ensures behind { IfOk result (λ front. lines front.behind.now ≡ drop place (lines text.now)) }
+    ensures thereafter { IfOk result (λ front. lines front.thereafter.now ≡ drop place (lines text.now)) }
     ensures topology { IfOk result (λ front. IsTopology (length front.draft.scenario.nodes) front.draft.scenario.links) }
-    ensures count { IfOk result (λ front. place + length front.behind.now ≤ TEXT_LIMIT) }
+    ensures count { IfOk result (λ front. place + length front.thereafter.now ≤ TEXT_LIMIT) }
     ensures fault { IfErr result (λ stop. Fails stop (declared_from empty_draft 1 (take place (lines text.now)))) }
 {
     let mut draft = Draft::new(alloc);
     let mut done = 0;
     let mut rest = text;
     'lines: while done < place {
-        let (line, behind) = split_line(rest);
+        let (line, thereafter) = split_line(rest);
         let number = done as u32 + 1;
         let said = match declared_by(alloc, &draft, number, line) {
             Ok(said) => said,
@@ -46,11 +46,11 @@ fn read_front<'a>(alloc: Global, text: &'a [u8], place: usize) -> Result<Front<'
         };
         draft.add(number, said)?;
         done += 1;
-        rest = behind;
+        rest = thereafter;
     }
     Ok(Front {
         draft,
-        behind: rest,
+        thereafter: rest,
     })
 }
 
@@ -89,7 +89,7 @@ fn add_line(
     }
 }
 
-/// Reads the lines from that number on, which are behind the line `probe`.
+/// Reads the lines from that number on, which are after the line `probe`.
 fn read_lines(
     alloc: Global,
     draft: &Draft,
@@ -106,11 +106,11 @@ fn read_lines(
     let mut number = first;
     let mut rest = text;
     'lines: while !rest.is_empty() {
-        let (line, behind) = split_line(rest);
+        let (line, thereafter) = split_line(rest);
         let one = given_by(alloc, draft, edge, joins, number, line)?;
         joins = add_line(&mut given, joins, one)?;
         number += 1;
-        rest = behind;
+        rest = thereafter;
     }
     Ok(given)
 }
@@ -119,12 +119,12 @@ fn read_lines(
 fn read_probe(alloc: Global, front: Front<'_>, number: u32) -> Result<ProbeText, ReadFault>
     requires topology { IsTopology (length front.draft.scenario.nodes) front.draft.scenario.links }
     requires some { 0 < number }
-    requires short { number + length front.behind.now ≤ TEXT_LIMIT + 1 }
-    requires line { 0 < length front.behind.now }
-    ensures { Gives result (probe_from front.entry.draft number (lines front.entry.behind.now)) }
+    requires short { number + length front.thereafter.now ≤ TEXT_LIMIT + 1 }
+    requires line { 0 < length front.thereafter.now }
+    ensures { Gives result (probe_from front.entry.draft number (lines front.entry.thereafter.now)) }
 {
-    let Front { draft, behind } = front;
-    let (line, rest) = split_line(behind);
+    let Front { draft, thereafter } = front;
+    let (line, rest) = split_line(thereafter);
     let ends = probe_line(alloc, &draft, number, line)?;
     let lines = read_lines(alloc, &draft, ends.edge, number + 1, rest)?;
     let Script { scenario, .. } = draft.into_script(number);

@@ -27,9 +27,9 @@ pub fn put_digits(out: &mut Bytes, octets: &[u8]) -> Result<(), NoMemory>
 {
     let mut rest = octets;
     while rest.len() > PIECE {
-        let (piece, behind) = rest.split_at(PIECE);
+        let (piece, thereafter) = rest.split_at(PIECE);
         put_piece(out, piece)?;
-        rest = behind;
+        rest = thereafter;
     }
     put_piece(out, rest)
 }

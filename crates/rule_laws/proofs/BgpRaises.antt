@@ -1,4 +1,4 @@
--- Both ends of a BGP session come up, one after the other, and all is kept behind both: at the level of messages.
+-- Both ends of a BGP session come up, one after the other, and all is kept after both: at the level of messages.
 use Rattle.std.proofs.Common.{◌≡◌, ◌≢◌, ◌==◌, ◌&&◌, Bool, true, false, cond, inl, inr, List, [], ◌∷◌, ◌++◌, map, Some, refl, sym, ap, subst, ◌∙◌}
 use Rattle.std.specs.Cmp.{tied_itself}
 use Rattle.std.specs.Ordering.{eq_by_cmp, is_eq}
@@ -23,7 +23,7 @@ use Rattle.edge_defs.specs.Steps as steps
 use Rattle.edge_defs.specs.Steps.{control_step}
 use Rattle.edge_words.specs.edge_laws.Acts as acts
 use Rattle.edge_words.specs.edge_laws.Acts.{is_up, stepped, with_joined}
-use Rattle.edge_words.specs.edge_laws.Network.{EdgeNetwork, behind}
+use Rattle.edge_words.specs.edge_laws.Network.{EdgeNetwork, thereafter}
 use Rattle.edge_words.specs.edge_laws.Rule.{Rule}
 use Rattle.rule_laws.proofs.Honest.{EdgeRule, act_both}
 use Rattle.network_defs.specs.Acts.{is_of_session}
@@ -38,9 +38,9 @@ use Rattle.network_laws.proofs.NodeCalls.{IsGoodCall}
 use Rattle.rule_laws.specs.Edges.{InTransit, as_message, Carries, edge_network}
 use Rattle.rule_laws.specs.Labels.{Copies, label_network}
 use Rattle.rule_laws.proofs.Calls.{Base, AllKept, Good, call_parts, call_good, up_by}
-use Rattle.rule_laws.proofs.EdgeCalls.{EdgesNext, changes_behind, carries_behind, edges_behind, edge_rule_behind}
+use Rattle.rule_laws.proofs.EdgeCalls.{EdgesNext, changes_after, carries_after, edges_after, edge_rule_after}
 use Rattle.rule_laws.proofs.Raises.{joined_now, between, or_false}
-use Rattle.rule_laws.proofs.Rows.{IsEdgeNode, CalledRow, control_behind, UpWhereJoined}
+use Rattle.rule_laws.proofs.Rows.{IsEdgeNode, CalledRow, control_after, UpWhereJoined}
 
 -- nothing is in transit where the session is not joined
 nothing_there : (w : EdgeNetwork) → Rule w → (a b : NodeId) → a ≢ b → (w.direction a b).joined ≡ false → (w.direction a b).transit ≡ []
@@ -63,10 +63,10 @@ joined_carries false old changes e h = e
 
 -- what a call makes of the control of an edge
 edge_control : (nodes : Nodes) (n : NodeId) (call : steps.Call) → IsEdgeNode (nodes.node n)
-    → control_behind nodes n (nodes.node n) call ≡ control_step (place_of nodes n) nodes.clock (control_of (nodes.node n)) call
+    → control_after nodes n (nodes.node n) call ≡ control_step (place_of nodes n) nodes.clock (control_of (nodes.node n)) call
 edge_control nodes n call is = by (nodes.node n) is
   where
-    by : (state : NodeState) → IsEdgeNode state → control_behind nodes n state call
+    by : (state : NodeState) → IsEdgeNode state → control_after nodes n state call
         ≡ control_step (place_of nodes n) nodes.clock (control_of state) call
     by (Edge edge) own = refl
     by (CoreNode part) own = absurd own
@@ -142,18 +142,18 @@ module _ (scenario : Scenario) (network : MessageNetwork Nodes) (copies : Copies
     bgp_middle_alike u n apart = ((parts.2 []).rule.session u n apart).alike
 
     abbrev after_a : Control
-    after_a = control_behind state a (state.node a) (steps.Raised kinds.Bgp b)
+    after_a = control_after state a (state.node a) (steps.Raised kinds.Bgp b)
 
     abbrev next : InTransit
-    next = changes_behind first changes a after_a
+    next = changes_after first changes a after_a
 
     carries_middle : Carries middle next
-    carries_middle = carries_behind first changes a (steps.Raised kinds.Bgp b) new parts.0 carries_first base_first.peers
+    carries_middle = carries_after first changes a (steps.Raised kinds.Bgp b) new parts.0 carries_first base_first.peers
 
     middle_is : edge_network middle next ≡ stepped (with_joined a b w) a (steps.Raised kinds.Bgp b)
     middle_is =
-        edges_behind first changes a (steps.Raised kinds.Bgp b) new parts.0
-        ∙ ap (behind (with_joined a b w) a) (edge_control state a (steps.Raised kinds.Bgp b) (good.base.kinds a is_a))
+        edges_after first changes a (steps.Raised kinds.Bgp b) new parts.0
+        ∙ ap (thereafter (with_joined a b w) a) (edge_control state a (steps.Raised kinds.Bgp b) (good.base.kinds a is_a))
 
     both_rule : EdgeRule (stepped (edge_network middle next) b (steps.Raised kinds.Bgp a))
     both_rule =
@@ -167,7 +167,7 @@ module _ (scenario : Scenario) (network : MessageNetwork Nodes) (copies : Copies
         (and_from (a.0 == a.0) (b.0 == b.0) (node_itself a a refl) (node_itself b b refl))))).0
 
     next_b : EdgesNext middle b (steps.Raised kinds.Bgp a)
-    next_b = (next, carries_middle, edge_rule_behind middle next b (steps.Raised kinds.Bgp a) (parts.1.kinds b still_edge) both_rule)
+    next_b = (next, carries_middle, edge_rule_after middle next b (steps.Raised kinds.Bgp a) (parts.1.kinds b still_edge) both_rule)
 
     up_b : UpWhereJoined middle b (part_of (middle.state.node b)) (steps.Raised kinds.Bgp a)
     up_b to joined = up_by scenario middle copies datagrams parts.1 parts.2 b to joined

@@ -17,7 +17,7 @@ use Rattle.label_defs.proofs.KeyLemmas.{node_equal, node_apart, node_cmp_total, 
 use Rattle.label_defs.proofs.IdLemmas.{effect_ends}
 use Rattle.label_defs.proofs.SetLemmas.{cut_other}
 use Rattle.label_defs.proofs.TimerLemmas.{timed_end}
-use Rattle.label_laws.specs.Network.{LabelNetwork, behind}
+use Rattle.label_laws.specs.Network.{LabelNetwork, thereafter}
 use Rattle.label_laws.specs.Acts.{Deliver, Timers, Notice, left_in_transit, delivered, noticed}
 use Rattle.label_laws.specs.Rule.{Kept}
 use Rattle.network_defs.specs.session_defs.Message.{SessionMessage, Bgp, Label, same_direction}
@@ -36,8 +36,8 @@ use Rattle.network_laws.proofs.NodeCalls.{IsGoodCall}
 use Rattle.rule_laws.specs.Labels.{Copies, labels_in, label_network}
 use Rattle.rule_laws.proofs.Numbers.{NumbersOk, HasRoom, step_numbers}
 use Rattle.rule_laws.proofs.Leaves.{leaves_are_trees}
-use Rattle.rule_laws.proofs.Rows.{act_gives, FirstKept, row_kept, own_effect, CalledRow, TreesBehind, called_row, UpWhereJoined, called_is, control_behind, IsEdgeNode}
-use Rattle.rule_laws.proofs.EdgeCalls.{EdgesKept, PeersAreEdges, EdgesNext, edges_kept, rule_behind, edge_rule_behind, IsEdgeFit, fit_rule}
+use Rattle.rule_laws.proofs.Rows.{act_gives, FirstKept, row_kept, own_effect, CalledRow, TreesBehind, called_row, UpWhereJoined, called_is, control_after, IsEdgeNode}
+use Rattle.rule_laws.proofs.EdgeCalls.{EdgesKept, PeersAreEdges, EdgesNext, edges_kept, rule_after, edge_rule_after, IsEdgeFit, fit_rule}
 use Rattle.rule_laws.specs.Edges.{InTransit, as_message, edge_network}
 use Rattle.bgp_messages.specs.declared.bgp_attributes.key.Key.{Key}
 use Rattle.bgp_messages.specs.declared.bgp_attributes.update.Message.{Message}
@@ -69,9 +69,9 @@ pub record Good (scenario : Scenario) (network : MessageNetwork Nodes) (copies :
 
 -- ---- a call of a node
 
-pub trees_behind : (scenario : Scenario) (nodes : Nodes) → Sound scenario nodes → (n : NodeId) (call : steps.Call) → IsGoodCall call
+pub trees_after : (scenario : Scenario) (nodes : Nodes) → Sound scenario nodes → (n : NodeId) (call : steps.Call) → IsGoodCall call
     → TreesBehind nodes n (nodes.node n) call
-trees_behind scenario nodes s n call good = by (nodes.node n) (s.node n)
+trees_after scenario nodes s n call good = by (nodes.node n) (s.node n)
   where
     by : (state : NodeState) → SoundNode state → TreesBehind nodes n state call
     by (Edge edge) own =
@@ -87,10 +87,10 @@ pub kind_at : (b : Bool) (x y : NodeState) → (b ≡ true → IsEdgeNode x) →
 kind_at true x y p q = p refl
 kind_at false x y p q = q
 
-pub behind_numbers : (nodes : Nodes) (n : NodeId) (state : NodeState) (call : steps.Call) → HasRoom (control_of state) call
-    → NumbersOk (control_of state) → NumbersOk (control_behind nodes n state call)
-behind_numbers nodes n (Edge edge) call room h = step_numbers (place_of nodes n) nodes.clock edge.control call room h
-behind_numbers nodes n (CoreNode part) call room h = h
+pub after_numbers : (nodes : Nodes) (n : NodeId) (state : NodeState) (call : steps.Call) → HasRoom (control_of state) call
+    → NumbersOk (control_of state) → NumbersOk (control_after nodes n state call)
+after_numbers nodes n (Edge edge) call room h = step_numbers (place_of nodes n) nodes.clock edge.control call room h
+after_numbers nodes n (CoreNode part) call room h = h
 
 -- what a call of a node keeps of its own, and of the network of label nodes
 pub call_parts : (scenario : Scenario) (network : MessageNetwork Nodes) (copies : Copies) (datagrams : List Datagram) → Base scenario network
@@ -103,7 +103,7 @@ pub call_parts : (scenario : Scenario) (network : MessageNetwork Nodes) (copies 
 call_parts scenario network copies datagrams base n call new e good room sound up first =
     let nodes : Nodes = network.state in
     let old : LabelData = part_of (nodes.node n) in
-    let c = called_row nodes n (nodes.node n) call new refl (trees_behind scenario nodes base.sound n call good) e in (
+    let c = called_row nodes n (nodes.node n) call new refl (trees_after scenario nodes base.sound n call good) e in (
       c,
       record {
         sound = sound;
@@ -111,7 +111,7 @@ call_parts scenario network copies datagrams base n call new e good room sound u
         numbers =
             λ m. subst (λ (state : Nodes). NumbersOk (control_of (state.node m))) (sym c.state)
             (numbers_at (m.0 == n.0) c.node (nodes.node m)
-            (subst NumbersOk (sym c.control) (behind_numbers nodes n (nodes.node n) call room (base.numbers n))) (base.numbers m));
+            (subst NumbersOk (sym c.control) (after_numbers nodes n (nodes.node n) call room (base.numbers n))) (base.numbers m));
         peers = λ u m joined. (let p = base.peers u m joined in (subst (λ (state : Nodes). is_edge state.scenario m ≡ true) (sym c.state) p.0, p.1));
         kinds = λ m. subst (λ (state : Nodes). is_edge state.scenario m ≡ true → IsEdgeNode (state.node m)) (sym c.state) (λ t.
             kind_at (m.0 == n.0) c.node (nodes.node m) (λ here. c.kind (base.kinds n (ap (is_edge nodes.scenario) (sym (node_equal m n here)) ∙ t)))
@@ -220,10 +220,10 @@ fit_first : (network : MessageNetwork Nodes) (copies : Copies) (datagrams : List
     → Kept (label_network network copies datagrams) → FirstKept network copies datagrams n (own_label_call call)
 fit_first network copies datagrams n (steps.Noticed kinds.Ldp peer) fit k = λ first e.
     let w : LabelNetwork = label_network network copies datagrams in
-    act_gives w (Notice n peer) (behind w n first) ((λ i. noticed w n peer (fit.0 i) (fit.1 i)) ∙ ap (option_map (behind w n)) e) k
+    act_gives w (Notice n peer) (thereafter w n first) ((λ i. noticed w n peer (fit.0 i) (fit.1 i)) ∙ ap (option_map (thereafter w n)) e) k
 fit_first network copies datagrams n steps.Timers fit k =
     λ first e. (let w : LabelNetwork = label_network network copies datagrams in
-    act_gives w (Timers n) (behind w n first) (ap (option_map (behind w n)) e) k)
+    act_gives w (Timers n) (thereafter w n first) (ap (option_map (thereafter w n)) e) k)
 fit_first network copies datagrams n (steps.Noticed kinds.Bgp peer) fit k = k
 fit_first network copies datagrams n (steps.Raised kinds.Ldp peer) fit k = absurd fit
 fit_first network copies datagrams n (steps.Raised kinds.Bgp peer) fit k = k
@@ -251,7 +251,7 @@ own_good scenario network copies datagrams good n call fit fits is new e sound =
     call_good scenario network copies datagrams good.base n call new e is (fit_room network n call fit) sound
     (up_there scenario network copies datagrams good n call (fit_cut network n call fit))
     (λ later. fit_first network copies (datagrams ++ later) n call fit (good.kept later))
-    (good.edges.0, good.edges.1, rule_behind network good.edges.0 n call good.edges.2 (fit_rule network good.edges.0 n call fits good.edges.2))
+    (good.edges.0, good.edges.1, rule_after network good.edges.0 n call good.edges.2 (fit_rule network good.edges.0 n call fits good.edges.2))
 
 -- ---- a message is taken
 
@@ -285,8 +285,8 @@ label_first scenario network copies datagrams good a b message rest joined e lat
     let t = (good.kept later).rule.session b a (λ same. joined_apart scenario network good.base a b joined (sym same)) in
     let up : is_up (w.node b) a ≡ true = t.ends (sym s.alike ∙ joined) in
     let gone : LabelNetwork = left_in_transit w a b (labels_in rest) in
-    subst (λ (v : LabelNetwork). Kept (behind v b first)) (left_is network copies (datagrams ++ later) a b rest)
-    (act_gives w (Deliver a b) (behind gone b first) ((λ i. delivered w a b (other i) (up i) (labels_in (e i))) ∙ ap (option_map (behind gone b)) is)
+    subst (λ (v : LabelNetwork). Kept (thereafter v b first)) (left_is network copies (datagrams ++ later) a b rest)
+    (act_gives w (Deliver a b) (thereafter gone b first) ((λ i. delivered w a b (other i) (up i) (labels_in (e i))) ∙ ap (option_map (thereafter gone b)) is)
     (good.kept later))
 
 left_base : (scenario : Scenario) (network : MessageNetwork Nodes) (over : Direction) (rest : List SessionMessage) → Base scenario network
@@ -335,7 +335,7 @@ update_next scenario network copies datagrams good a b message rest joined e = b
           next,
           (λ u n. cond_carries ((u.0 == a.0) && (n.0 == b.0)) rest (network.transit (direction kinds.Bgp u n)) more (changes u n) tail
               (good.edges.1 u n)),
-          edge_rule_behind gone next b (steps.Update a message) (good.base.kinds b p.0)
+          edge_rule_after gone next b (steps.Update a message) (good.base.kinds b p.0)
               (subst (λ (m : Message). EdgeRule (edge_acts.stepped (edge_acts.left_in_transit w a b more) b (steps.Update a m))) (sym head) step),
         )
 
@@ -352,7 +352,7 @@ take_good scenario network copies datagrams good kinds.Ldp a b (Label message) r
     (label_first scenario network copies datagrams good a b message rest joined e) (
       good.edges.0,
       good.edges.1,
-      rule_behind network good.edges.0 b (steps.Label a message) good.edges.2
+      rule_after network good.edges.0 b (steps.Label a message) good.edges.2
           (fit_rule network good.edges.0 b (steps.Label a message) tt good.edges.2),
     )
 take_good scenario network copies datagrams good kinds.Bgp a b (Bgp message) rest of is joined e new made sound =

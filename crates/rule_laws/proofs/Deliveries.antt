@@ -28,25 +28,25 @@ use Rattle.rule_laws.proofs.Calls.{Good, left, IsOfKind, take_good}
 
 -- ---- the kind of a message
 
-pub bgp_in : (before : List SessionMessage) (message : SessionMessage) (behind : List SessionMessage) (plain : List Message)
-    → before ++ message ∷ behind ≡ map (λ own. Bgp own) plain → IsOfKind kinds.Bgp message
-bgp_in [] message behind [] e = absurd cc
-bgp_in [] message behind (own ∷ plain) e = let head : message ≡ Bgp own = cc in subst (IsOfKind kinds.Bgp) (sym head) tt
-bgp_in (other ∷ before) message behind [] e = absurd cc
-bgp_in (other ∷ before) message behind (own ∷ plain) e = let tail : before ++ message ∷ behind ≡ map (λ one. Bgp one) plain = cc in
-    bgp_in before message behind plain tail
+pub bgp_in : (before : List SessionMessage) (message : SessionMessage) (thereafter : List SessionMessage) (plain : List Message)
+    → before ++ message ∷ thereafter ≡ map (λ own. Bgp own) plain → IsOfKind kinds.Bgp message
+bgp_in [] message thereafter [] e = absurd cc
+bgp_in [] message thereafter (own ∷ plain) e = let head : message ≡ Bgp own = cc in subst (IsOfKind kinds.Bgp) (sym head) tt
+bgp_in (other ∷ before) message thereafter [] e = absurd cc
+bgp_in (other ∷ before) message thereafter (own ∷ plain) e = let tail : before ++ message ∷ thereafter ≡ map (λ one. Bgp one) plain = cc in
+    bgp_in before message thereafter plain tail
 
-pub label_in : (before : List SessionMessage) (message : SessionMessage) (behind : List SessionMessage) (plain : List LabelMessage)
-    → before ++ message ∷ behind ≡ map (λ own. Label own) plain → IsOfKind kinds.Ldp message
-label_in [] message behind [] e = absurd cc
-label_in [] message behind (own ∷ plain) e = let head : message ≡ Label own = cc in subst (IsOfKind kinds.Ldp) (sym head) tt
-label_in (other ∷ before) message behind [] e = absurd cc
-label_in (other ∷ before) message behind (own ∷ plain) e = let tail : before ++ message ∷ behind ≡ map (λ one. Label one) plain = cc in
-    label_in before message behind plain tail
+pub label_in : (before : List SessionMessage) (message : SessionMessage) (thereafter : List SessionMessage) (plain : List LabelMessage)
+    → before ++ message ∷ thereafter ≡ map (λ own. Label own) plain → IsOfKind kinds.Ldp message
+label_in [] message thereafter [] e = absurd cc
+label_in [] message thereafter (own ∷ plain) e = let head : message ≡ Label own = cc in subst (IsOfKind kinds.Ldp) (sym head) tt
+label_in (other ∷ before) message thereafter [] e = absurd cc
+label_in (other ∷ before) message thereafter (own ∷ plain) e = let tail : before ++ message ∷ thereafter ≡ map (λ one. Label one) plain = cc in
+    label_in before message thereafter plain tail
 
 pub of_kind : (kind : Kind) (message : SessionMessage) → IsCarried kind message → IsOfKind kind message
-of_kind kinds.Bgp message c = bgp_in c.before message c.behind c.put.0.0 c.put.0.1
-of_kind kinds.Ldp message c = label_in c.before message c.behind c.put.0.0 c.put.0.1
+of_kind kinds.Bgp message c = bgp_in c.before message c.thereafter c.put.0.0 c.put.0.1
+of_kind kinds.Ldp message c = label_in c.before message c.thereafter c.put.0.0 c.put.0.1
 
 -- ---- one step
 

@@ -18,7 +18,7 @@ use Rattle.edge_defs.specs.Steps as steps
 use Rattle.edge_defs.specs.Steps.{control_step}
 use Rattle.edge_words.specs.edge_laws.Acts as acts
 use Rattle.edge_words.specs.edge_laws.Acts.{is_up, stepped}
-use Rattle.edge_words.specs.edge_laws.Network.{EdgeNetwork, behind}
+use Rattle.edge_words.specs.edge_laws.Network.{EdgeNetwork, thereafter}
 use Rattle.rule_laws.proofs.Honest.{EdgeRule, act_both}
 use Rattle.rule_laws.proofs.Numbers.{HasRoom}
 use Rattle.network_defs.specs.Counts.{direction}
@@ -26,7 +26,7 @@ use Rattle.network_defs.specs.Nodes.{NodeState, Edge, CoreNode, Nodes, is_edge, 
 use Rattle.network_defs.specs.Refusals.{control_of}
 use Rattle.rule_laws.specs.Edges.{InTransit, as_message, Carries, edge_network}
 use Rattle.rule_laws.proofs.EdgePuts.{over_bgp, bgp_here, bgp_elsewhere}
-use Rattle.rule_laws.proofs.Rows.{IsEdgeNode, CalledRow, control_behind, bgp_behind, turned}
+use Rattle.rule_laws.proofs.Rows.{IsEdgeNode, CalledRow, control_after, bgp_after, turned}
 
 -- The changes in transit, and the rule of the network of edges.
 abbrev pub EdgesKept : MessageNetwork Nodes → Type 0
@@ -74,7 +74,7 @@ same_control : (b : Bool) (x y : Control) → (b ≡ true → y ≡ x) → y ≡
 same_control true x y h = h refl
 same_control false x y h = refl
 
-core_idle : (network : EdgeNetwork) (n : NodeId) → network.node n ≡ no_control → network ≡ behind network n no_control
+core_idle : (network : EdgeNetwork) (n : NodeId) → network.node n ≡ no_control → network ≡ thereafter network n no_control
 core_idle network n e = λ i. record network {
   node = λ m. same_control (m.0 == n.0) no_control (network.node m) (λ t. ap network.node (node_equal m n t) ∙ e) i;
   direction = λ u m. record (network.direction u m) {
@@ -88,21 +88,21 @@ core_idle network n e = λ i. record network {
 
 -- ---- a step
 
--- the changes in transit behind a step of a node
-abbrev pub changes_behind : MessageNetwork Nodes → InTransit → NodeId → Control → InTransit
-changes_behind network changes n new u m =
+-- the changes in transit after a step of a node
+abbrev pub changes_after : MessageNetwork Nodes → InTransit → NodeId → Control → InTransit
+changes_after network changes n new u m =
     cond ((u.0 == n.0) && network.joined (direction kinds.Bgp u m))
     (changes u m ++ put_to (place_of network.state n) (control_of (network.state.node n)) new m) (changes u m)
 
 puts_carry : (nodes : Nodes) (n to : NodeId) (state : NodeState) (call : steps.Call) → is_edge nodes.scenario to ≡ true
-    → over_bgp n to (bgp_behind nodes n state call)
-    ≡ map as_message (put_to (place_of nodes n) (control_of state) (control_behind nodes n state call) to)
+    → over_bgp n to (bgp_after nodes n state call)
+    ≡ map as_message (put_to (place_of nodes n) (control_of state) (control_after nodes n state call) to)
 puts_carry nodes n to (Edge edge) call e =
     bgp_here (place_of nodes n) edge.control (control_step (place_of nodes n) nodes.clock edge.control call) to e
 puts_carry nodes n to (CoreNode part) call e = sym (ap (map as_message) (core_puts (place_of nodes n) to))
 
 none_elsewhere : (nodes : Nodes) (n u to : NodeId) (state : NodeState) (call : steps.Call) → (n.0 == u.0) ≡ false
-    → over_bgp u to (bgp_behind nodes n state call) ≡ []
+    → over_bgp u to (bgp_after nodes n state call) ≡ []
 none_elsewhere nodes n u to (Edge edge) call e =
     bgp_elsewhere (place_of nodes n) edge.control (control_step (place_of nodes n) nodes.clock edge.control call) u to e
 none_elsewhere nodes n u to (CoreNode part) call e = refl
@@ -113,57 +113,57 @@ module _ (network : MessageNetwork Nodes) (changes : InTransit) (n : NodeId) (ca
   nodes = network.state
 
   abbrev after : Control
-  after = control_behind nodes n (nodes.node n) call
+  after = control_after nodes n (nodes.node n) call
 
-  pub carries_behind : Carries network changes → PeersAreEdges network → Carries (with_messages network new) (changes_behind network changes n after)
-  carries_behind carries peers u m =
+  pub carries_after : Carries network changes → PeersAreEdges network → Carries (with_messages network new) (changes_after network changes n after)
+  carries_after carries peers u m =
       carries_more (u.0 == n.0) (network.joined (direction kinds.Bgp u m)) (network.transit (direction kinds.Bgp u m))
       (messages_over (direction kinds.Bgp u m) new.puts) (changes u m) (put_to (place_of nodes n) (control_of (nodes.node n)) after m)
       (carries u m)
       (λ t joined.
       let same : u ≡ n = node_equal u n t in
-      c.bgp u m ∙ ap (λ (x : NodeId). over_bgp x m (bgp_behind nodes n (nodes.node n) call)) same
+      c.bgp u m ∙ ap (λ (x : NodeId). over_bgp x m (bgp_after nodes n (nodes.node n) call)) same
       ∙ puts_carry nodes n m (nodes.node n) call (peers u m joined).0)
       (λ f. c.bgp u m ∙ none_elsewhere nodes n u m (nodes.node n) call (turned u n f))
 
-  pub edges_behind : edge_network (with_messages network new) (changes_behind network changes n after) ≡ behind (edge_network network changes) n after
-  edges_behind =
+  pub edges_after : edge_network (with_messages network new) (changes_after network changes n after) ≡ thereafter (edge_network network changes) n after
+  edges_after =
       let net : Nodes → MessageNetwork Nodes = λ state. record (with_messages network new) { state = state } in
-      ap (λ (state : Nodes). edge_network (net state) (changes_behind network changes n after)) c.state
+      ap (λ (state : Nodes). edge_network (net state) (changes_after network changes n after)) c.state
       ∙ (λ i. record (edge_network network changes) {
         node = λ m. control_cond (m.0 == n.0) c.node (nodes.node m) after c.control i;
-        direction = λ u m. record { joined = network.joined (direction kinds.Bgp u m); transit = changes_behind network changes n after u m };
+        direction = λ u m. record { joined = network.joined (direction kinds.Bgp u m); transit = changes_after network changes n after u m };
       })
 
-  pub edges_kept : Carries network changes → PeersAreEdges network → EdgeRule (behind (edge_network network changes) n after)
+  pub edges_kept : Carries network changes → PeersAreEdges network → EdgeRule (thereafter (edge_network network changes) n after)
       → EdgesKept (with_messages network new)
-  edges_kept carries peers rule = (changes_behind network changes n after, carries_behind carries peers, subst EdgeRule (sym edges_behind) rule)
+  edges_kept carries peers rule = (changes_after network changes n after, carries_after carries peers, subst EdgeRule (sym edges_after) rule)
 
--- ---- the rule behind a step
+-- ---- the rule after a step
 
 -- a step of a node that is an edge, and of one that is none
-pub rule_behind : (network : MessageNetwork Nodes) (changes : InTransit) (n : NodeId) (call : steps.Call) → EdgeRule (edge_network network changes)
+pub rule_after : (network : MessageNetwork Nodes) (changes : InTransit) (n : NodeId) (call : steps.Call) → EdgeRule (edge_network network changes)
     → EdgeRule (stepped (edge_network network changes) n call)
-    → EdgeRule (behind (edge_network network changes) n (control_behind network.state n (network.state.node n) call))
-rule_behind network changes n call rule step = by (network.state.node n) refl
+    → EdgeRule (thereafter (edge_network network changes) n (control_after network.state n (network.state.node n) call))
+rule_after network changes n call rule step = by (network.state.node n) refl
   where
     by : (state : NodeState) → network.state.node n ≡ state
-        → EdgeRule (behind (edge_network network changes) n (control_behind network.state n state call))
+        → EdgeRule (thereafter (edge_network network changes) n (control_after network.state n state call))
     by (Edge edge) at =
-        subst (λ (control : Control). EdgeRule (behind (edge_network network changes) n
+        subst (λ (control : Control). EdgeRule (thereafter (edge_network network changes) n
         (control_step (place_of network.state n) network.state.clock control call))) (ap control_of at) step
     by (CoreNode part) at = subst EdgeRule (core_idle (edge_network network changes) n (ap control_of at)) rule
 
 -- the same of an edge alone
-pub edge_rule_behind : (network : MessageNetwork Nodes) (changes : InTransit) (n : NodeId) (call : steps.Call) → IsEdgeNode (network.state.node n)
+pub edge_rule_after : (network : MessageNetwork Nodes) (changes : InTransit) (n : NodeId) (call : steps.Call) → IsEdgeNode (network.state.node n)
     → EdgeRule (stepped (edge_network network changes) n call)
-    → EdgeRule (behind (edge_network network changes) n (control_behind network.state n (network.state.node n) call))
-edge_rule_behind network changes n call is step = by (network.state.node n) refl is
+    → EdgeRule (thereafter (edge_network network changes) n (control_after network.state n (network.state.node n) call))
+edge_rule_after network changes n call is step = by (network.state.node n) refl is
   where
     by : (state : NodeState) → network.state.node n ≡ state → IsEdgeNode state
-        → EdgeRule (behind (edge_network network changes) n (control_behind network.state n state call))
+        → EdgeRule (thereafter (edge_network network changes) n (control_after network.state n state call))
     by (Edge edge) at own =
-        subst (λ (control : Control). EdgeRule (behind (edge_network network changes) n
+        subst (λ (control : Control). EdgeRule (thereafter (edge_network network changes) n
         (control_step (place_of network.state n) network.state.clock control call))) (ap control_of at) step
     by (CoreNode part) at own = absurd own
 
@@ -171,7 +171,7 @@ edge_rule_behind network changes n call is step = by (network.state.node n) refl
 abbrev pub EdgesNext : MessageNetwork Nodes → NodeId → steps.Call → Type 0
 EdgesNext network n call =
     (changes : InTransit) × Carries network changes
-    × EdgeRule (behind (edge_network network changes) n (control_behind network.state n (network.state.node n) call))
+    × EdgeRule (thereafter (edge_network network changes) n (control_after network.state n (network.state.node n) call))
 
 -- What is asked of a call for the network of edges: a pattern is not selected twice, a loss is noticed at an end that is up of a session
 -- that is not joined; a message of a peer and a raise are acts of their own.

@@ -118,7 +118,7 @@ edges_are scenario number (node ∷ more) at =
       | false ↦ λ e. rest
     ] refl
 
--- each one of the list is before those behind it
+-- each one of the list is before those after it
 abbrev pub AreRising : List NodeId → Type 0
 AreRising [] = Unit {0}
 AreRising (n ∷ more) = AllByRecursion (λ (m : NodeId). n.0 < m.0) more × AreRising more

@@ -13,9 +13,9 @@ use Rattle.network_laws.proofs.Lists.{each_front}
 use Rattle.rule_laws.specs.SoundHalt.{SoundHalt}
 use Rattle.rule_laws.proofs.Plain.{IsQuiet, halts_quiet}
 
-pub each_behind : {X : Type 0} (P : X → Type 0) (xs ys : List X) → AllByRecursion P (xs ++ ys) → AllByRecursion P ys
-each_behind P [] ys h = h
-each_behind P (x ∷ xs) ys h = each_behind P xs ys h.1
+pub each_after : {X : Type 0} (P : X → Type 0) (xs ys : List X) → AllByRecursion P (xs ++ ys) → AllByRecursion P ys
+each_after P [] ys h = h
+each_after P (x ∷ xs) ys h = each_after P xs ys h.1
 
 module _ (cores : Cores) (script : Script) (report : List Entry) (node : NodeId) (s : SoundHalt cores script report node) where
   abbrev IsSound : Timed → Type 0
@@ -33,7 +33,7 @@ module _ (cores : Cores) (script : Script) (report : List Entry) (node : NodeId)
   }
 
   pub event_sound : IsSoundEvent script.scenario s.halt.timed.event
-  event_sound = (each_behind IsSound s.halt.before (s.halt.timed ∷ s.halt.after) all_sound).0
+  event_sound = (each_after IsSound s.halt.before (s.halt.timed ∷ s.halt.after) all_sound).0
 
   pub acts_quiet : AllByRecursion IsQuiet s.halt.acts
   acts_quiet = halts_quiet s.halt.world s.halt.timed s.halt.acts node s.halt.lacks

@@ -36,7 +36,7 @@ abbrev pub OctetsGood : Scenario → OctetNetwork Nodes → Copies → List Data
 OctetsGood scenario network copies datagrams =
     (pending : Direction → List SessionMessage) × AreLines network pending × Good scenario (seen network pending) copies datagrams
 
--- the same behind acts, if there is a network
+-- the same after acts, if there is a network
 abbrev pub BehindGood : Scenario → Copies → List Datagram → Option (Behind (OctetNetwork Nodes)) → Type 0
 BehindGood scenario copies datagrams None = ⊤
 BehindGood scenario copies datagrams (Some new) = OctetsGood scenario new.network copies datagrams
@@ -68,7 +68,7 @@ pub all_carried : (kind : Kind) (text : List ℕ) (before messages : List Sessio
     → AllByRecursion (IsCarried kind) messages
 all_carried kind text before [] put = tt
 all_carried kind text before (message ∷ messages) put = (
-  record { before = before; behind = messages; text = text; put = put },
+  record { before = before; thereafter = messages; text = text; put = put },
   all_carried kind text (before ++ message ∷ []) messages
       (subst (λ (ms : List SessionMessage). IsPut kind ms text) (grouped before message messages) put),
 )
@@ -121,8 +121,8 @@ move_good scenario copies datagrams old kind a b count (pending, lines, good) = 
         (alone (moved (sound_system scenario) old over count)
         (seen_good scenario copies datagrams (moved (sound_system scenario) old over count)
         (message_run (sound_system scenario) (seen old pending) (deliveries over m.first)) m.outcome
-        (λ behind is. delivered_good scenario copies datagrams kind a b m.first (first_carried kind m.first m.rest all) (seen old pending) m.rest good
-        e m.parts behind is)))
+        (λ thereafter is. delivered_good scenario copies datagrams kind a b m.first (first_carried kind m.first m.rest all) (seen old pending) m.rest good
+        e m.parts thereafter is)))
       where
         alone : (o : Option (Behind (OctetNetwork Nodes))) → BehindGood scenario copies datagrams o
             → BehindGood scenario copies datagrams (o >>? λ next. with_earlier next.puts (Some (record { network = next.network; puts = [] })))

@@ -72,9 +72,9 @@ module _ (Q : Happened → Type 0) where
   then_do (Done acts world) next s h = by (next world) (h world)
     where
       by : (o : Outcome) → AllDo o → AllDo (elim o
-          [ Done behind new ↦ Done (acts ++ behind) new | Halted behind node ↦ Halted (acts ++ behind) node ])
-      by (Done behind new) t = each_append Q acts behind s t
-      by (Halted behind node) t = each_append Q acts behind s t
+          [ Done thereafter new ↦ Done (acts ++ thereafter) new | Halted thereafter node ↦ Halted (acts ++ thereafter) node ])
+      by (Done thereafter new) t = each_append Q acts thereafter s t
+      by (Halted thereafter node) t = each_append Q acts thereafter s t
 
   one_does : (world : World) (one : Act) → Does one (act world one) → AllDo (one_act world one)
   one_does world one s = by (act world one) s
@@ -160,9 +160,9 @@ then_ends : (first : Outcome) (next : World → Outcome) → Ends first → ((wo
 then_ends (Halted acts node) next s h = s
 then_ends (Done acts world) next s h = by (next world) (h world)
   where
-    by : (o : Outcome) → Ends o → Ends (elim o [ Done behind new ↦ Done (acts ++ behind) new | Halted behind node ↦ Halted (acts ++ behind) node ])
-    by (Done behind new) t = tt
-    by (Halted behind node) t = t
+    by : (o : Outcome) → Ends o → Ends (elim o [ Done thereafter new ↦ Done (acts ++ thereafter) new | Halted thereafter node ↦ Halted (acts ++ thereafter) node ])
+    by (Done thereafter new) t = tt
+    by (Halted thereafter node) t = t
 
 row_ends : (acts : List Act) → AllByRecursion (λ one. (world : World) → Ends (one_act world one)) acts → (world : World) → Ends (row acts world)
 row_ends [] all world = tt

@@ -51,8 +51,8 @@ use Rattle.network_defs.specs.Nodes.{NodeState, Edge, CoreNode, is_edge}
 use Rattle.network_defs.specs.Refusals.{control_of}
 use Rattle.network_defs.specs.System.{node_called}
 use Rattle.network_defs.specs.Acts.{is_from_peer}
-use Rattle.rule_laws.proofs.Calls.{Good, trees_behind}
-use Rattle.rule_laws.proofs.Rows.{control_behind, called_row}
+use Rattle.rule_laws.proofs.Calls.{Good, trees_after}
+use Rattle.rule_laws.proofs.Rows.{control_after, called_row}
 use Rattle.rule_laws.proofs.BgpRaises.{bgp_middle_rule, bgp_middle_alike, bgp_raised_good}
 use Rattle.rule_laws.proofs.Raises.{joined_now, middle_rule, middle_alike, raised_good}
 use Rattle.rule_laws.proofs.Full.{rule_of, world_rule}
@@ -252,13 +252,13 @@ ldp_noticed scenario world a b far lt ne s off back up is_far =
           ∙ is_far;
     }
 
--- over BGP: by what the node keeps behind the call
+-- over BGP: by what the node keeps after the call
 gone_peer : (nodes : Nodes) (n peer : NodeId) (state : NodeState)
-    → edge_acts.is_up (control_behind nodes n state (steps.Noticed kinds.Bgp peer)) peer ≡ false
+    → edge_acts.is_up (control_after nodes n state (steps.Noticed kinds.Bgp peer)) peer ≡ false
 gone_peer nodes n peer (Edge edge) = ap is_some (cut_here node_cmp_total node_cmp_exact edge.control.peers peer)
 gone_peer nodes n peer (CoreNode part) = ap is_some (maps.get-empty {X = Taken} node_cmp peer)
 
--- the ends behind the call
+-- the ends after the call
 abbrev EndsThen : NodeId → NodeId → Bool → Nodes → Type 0
 EndsThen a b far nodes = (is_bgp_up (nodes.node a) b ≡ false) × (is_bgp_up (nodes.node b) a ≡ far)
 
@@ -266,7 +266,7 @@ bgp_ends : (scenario : Scenario) (nodes : Nodes) (a b : NodeId) (far : Bool) →
     → (new : Stepped Nodes) → node_called nodes a (nodes.node a) (steps.Noticed kinds.Bgp b) ≡ Some new → EndsThen a b far new.state
 bgp_ends scenario nodes a b far sound ne is_far new e =
     let call : steps.Call = steps.Noticed kinds.Bgp b in
-    let c = called_row nodes a (nodes.node a) call new refl (trees_behind scenario nodes sound a call (own_is_good call tt)) e in
+    let c = called_row nodes a (nodes.node a) call new refl (trees_after scenario nodes sound a call (own_is_good call tt)) e in
     let near : is_bgp_up c.node b ≡ false =
     sym (bgp_up_is c.node b) ∙ ap (λ (control : Control). edge_acts.is_up control b) c.control ∙ gone_peer nodes a b (nodes.node a) in
     subst (EndsThen a b far) (sym c.state) (

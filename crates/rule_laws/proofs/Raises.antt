@@ -1,4 +1,4 @@
--- Both ends of a session come up, one after the other, and the label rule holds behind both: at the level of messages.
+-- Both ends of a session come up, one after the other, and the label rule holds after both: at the level of messages.
 use Rattle.std.proofs.Common.{◌≡◌, ◌≢◌, ℕ, ◌==◌, ◌&&◌, ◌||◌, Bool, true, false, cond, inl, inr, List, [], ◌++◌, is_some, Some, refl, sym, ap, subst, ◌∙◌}
 use Rattle.std.specs.FinSet as sets
 use Rattle.std.proofs.lemmas.Bool.{and_parts, or_cases, or_from, false_from_ne_true}
@@ -15,7 +15,7 @@ use Rattle.label_defs.specs.Steps.{branch_to, raised_end}
 use Rattle.label_defs.specs.declared.end.End.{End}
 use Rattle.label_defs.proofs.KeyLemmas.{node_equal, node_apart, node_cmp_total, node_cmp_exact}
 use Rattle.label_defs.proofs.SetLemmas.{put_here}
-use Rattle.label_laws.specs.Network.{LabelNetwork, messages_to, sent, behind}
+use Rattle.label_laws.specs.Network.{LabelNetwork, messages_to, sent, thereafter}
 use Rattle.label_laws.specs.Acts as acts
 use Rattle.label_laws.specs.Acts.{with_joined, raised}
 use Rattle.label_laws.specs.Rule.{Kept, LabelRule}
@@ -40,14 +40,14 @@ use Rattle.rule_laws.specs.Labels.{Copies, labels_in, label_network}
 use Rattle.edge_words.specs.edge_laws.Network.{EdgeNetwork}
 use Rattle.rule_laws.proofs.Honest.{EdgeRule}
 use Rattle.rule_laws.specs.Edges.{edge_network}
-use Rattle.rule_laws.proofs.EdgeCalls.{EdgesKept, EdgesNext, edges_kept, rule_behind, fit_rule}
+use Rattle.rule_laws.proofs.EdgeCalls.{EdgesKept, EdgesNext, edges_kept, rule_after, fit_rule}
 use Rattle.rule_laws.proofs.Rows.{IsEdgeNode}
 use Rattle.rule_laws.proofs.Numbers.{NumbersOk}
 use Rattle.network_defs.specs.Refusals.{control_of}
 use Rattle.rule_laws.proofs.Puts.{row_puts}
 use Rattle.rule_laws.proofs.Risen.{risen, quiet, nothing_more, rule_before}
 use Rattle.rule_laws.proofs.Rows.{act_gives, part_cond, sum, row_of, FirstKept, wants_kept, CalledRow, called_row, called_is, UpWhereJoined}
-use Rattle.rule_laws.proofs.Calls.{Base, Good, kind_at, numbers_at, behind_numbers, trees_behind, call_good, stays_up, joined_up}
+use Rattle.rule_laws.proofs.Calls.{Base, Good, kind_at, numbers_at, after_numbers, trees_after, call_good, stays_up, joined_up}
 
 -- ---- steps of two nodes
 
@@ -60,15 +60,15 @@ two_nodes false false p q d apart = refl
 not_both : (a b m : NodeId) → a ≢ b → (m.0 == a.0) ≡ true → (m.0 == b.0) ≡ true → ⊥
 not_both a b m ne x y = ne (sym (node_equal m a x) ∙ node_equal m b y)
 
--- a node that puts nothing steps before another one, or behind it
+-- a node that puts nothing steps before another one, or after it
 commute : (w : LabelNetwork) (a b : NodeId) → a ≢ b → (part : LabelData) (s : settling.Stepped)
-    → behind (behind w b (quiet part)) a s ≡ behind (behind w a s) b (quiet part)
+    → thereafter (thereafter w b (quiet part)) a s ≡ thereafter (thereafter w a s) b (quiet part)
 commute w a b ne part s =
     let early : (u n : NodeId) → sent b [] w.direction u n ≡ (w.direction u n).transit =
     λ u n. nothing_more ((u.0 == b.0) && (w.direction u n).joined) (w.direction u n).transit in
-    let late : (u n : NodeId) → sent b [] (behind w a s).direction u n ≡ sent a s.puts w.direction u n =
+    let late : (u n : NodeId) → sent b [] (thereafter w a s).direction u n ≡ sent a s.puts w.direction u n =
     λ u n. nothing_more ((u.0 == b.0) && (w.direction u n).joined) (sent a s.puts w.direction u n) in
-    let turn : (u n : NodeId) → sent a s.puts (behind w b (quiet part)).direction u n ≡ sent b [] (behind w a s).direction u n = λ u n.
+    let turn : (u n : NodeId) → sent a s.puts (thereafter w b (quiet part)).direction u n ≡ sent b [] (thereafter w a s).direction u n = λ u n.
     ap (λ (ms : List LabelMessage). cond ((u.0 == a.0) && (w.direction u n).joined) (ms ++ messages_to n s.puts) ms) (early u n) ∙ sym (late u n) in
     λ i. record w {
       node = λ m. two_nodes (m.0 == a.0) (m.0 == b.0) s.part part (w.node m) (not_both a b m ne) i;
@@ -159,7 +159,7 @@ module _ (scenario : Scenario) (network : MessageNetwork Nodes) (copies : Copies
   next_a = (
     edges_first.0,
     edges_first.1,
-    rule_behind first edges_first.0 a (steps.Raised kinds.Ldp b) edges_first.2
+    rule_after first edges_first.0 a (steps.Raised kinds.Ldp b) edges_first.2
         (fit_rule first edges_first.0 a (steps.Raised kinds.Ldp b) tt edges_first.2),
   )
 
@@ -168,7 +168,7 @@ module _ (scenario : Scenario) (network : MessageNetwork Nodes) (copies : Copies
       (is : IsGoodCall (steps.Raised kinds.Ldp b)) (sound : Sound scenario new.state) where
     row_a : CalledRow state a (state.node a) (steps.Raised kinds.Ldp b) new
     row_a = called_row state a (state.node a) (steps.Raised kinds.Ldp b) new refl
-        (trees_behind scenario state good.base.sound a (steps.Raised kinds.Ldp b) is) called
+        (trees_after scenario state good.base.sound a (steps.Raised kinds.Ldp b) is) called
 
     up_a : UpWhereJoined first a part_a (steps.Raised kinds.Ldp b)
     up_a to joined = elim (or_cases (network.joined (direction kinds.Ldp a to)) (is_between a b a to) joined) [
@@ -194,7 +194,7 @@ module _ (scenario : Scenario) (network : MessageNetwork Nodes) (copies : Copies
       sound = sound;
       apart = base_first.apart;
       numbers = λ m. subst (λ (s : Nodes). NumbersOk (control_of (s.node m))) (sym row_a.state) (numbers_at (m.0 == a.0) row_a.node (state.node m)
-          (subst NumbersOk (sym row_a.control) (behind_numbers state a (state.node a) (steps.Raised kinds.Ldp b) tt (good.base.numbers a)))
+          (subst NumbersOk (sym row_a.control) (after_numbers state a (state.node a) (steps.Raised kinds.Ldp b) tt (good.base.numbers a)))
           (good.base.numbers m));
       peers = λ u m j. (let p = base_first.peers u m j in (subst (λ (s : Nodes). is_edge s.scenario m ≡ true) (sym row_a.state) p.0, p.1));
       kinds = λ m. subst (λ (s : Nodes). is_edge s.scenario m ≡ true → IsEdgeNode (s.node m)) (sym row_a.state) (λ t.
@@ -209,11 +209,11 @@ module _ (scenario : Scenario) (network : MessageNetwork Nodes) (copies : Copies
     next_b = (
       edges_middle.0,
       edges_middle.1,
-      rule_behind middle edges_middle.0 b (steps.Raised kinds.Ldp a) edges_middle.2
+      rule_after middle edges_middle.0 b (steps.Raised kinds.Ldp a) edges_middle.2
           (fit_rule middle edges_middle.0 b (steps.Raised kinds.Ldp a) tt edges_middle.2),
     )
 
-    middle_is : (all : List Datagram) → label_network middle copies all ≡ behind (label_network first copies all) a (sum part_a row_a.row)
+    middle_is : (all : List Datagram) → label_network middle copies all ≡ thereafter (label_network first copies all) a (sum part_a row_a.row)
     middle_is all = called_is first copies all a (steps.Raised kinds.Ldp b) new row_a up_a
 
     -- what the first end was called with, and the calls for its leaves
@@ -224,9 +224,9 @@ module _ (scenario : Scenario) (network : MessageNetwork Nodes) (copies : Copies
     risen_b = risen part_b a state.clock
 
     -- the label network in which both ends are up and the session is joined, before the calls for leaves
-    both_kept : (later : List Datagram) → Kept (behind (behind (label_network first copies (datagrams ++ later)) b (quiet risen_b)) a (quiet risen_a))
+    both_kept : (later : List Datagram) → Kept (thereafter (thereafter (label_network first copies (datagrams ++ later)) b (quiet risen_b)) a (quiet risen_a))
     both_kept later =
-        subst Kept same (act_gives w (acts.Raise a b) (with_joined a b (behind (behind w a (quiet risen_a)) b (quiet risen_b))) made
+        subst Kept same (act_gives w (acts.Raise a b) (with_joined a b (thereafter (thereafter w a (quiet risen_a)) b (quiet risen_b))) made
         (good.kept later))
       where
         w : LabelNetwork
@@ -236,21 +236,21 @@ module _ (scenario : Scenario) (network : MessageNetwork Nodes) (copies : Copies
         v = label_network first copies (datagrams ++ later)
 
         made : acts.act (label_network network copies (datagrams ++ later)) (acts.Raise a b)
-            ≡ Some (with_joined a b (behind (behind (label_network network copies (datagrams ++ later)) a (quiet risen_a)) b (quiet risen_b)))
+            ≡ Some (with_joined a b (thereafter (thereafter (label_network network copies (datagrams ++ later)) a (quiet risen_a)) b (quiet risen_b)))
         made =
             (λ i. raised (label_network network copies (datagrams ++ later)) a b (node_apart a b ne i) (off_a i) (off_b i))
             ∙ ap (λ (d : LabelData). Some (with_joined a b
-            (behind (behind (label_network network copies (datagrams ++ later)) a (quiet risen_a)) b (quiet (risen d a state.clock)))))
+            (thereafter (thereafter (label_network network copies (datagrams ++ later)) a (quiet risen_a)) b (quiet (risen d a state.clock)))))
             (node_there a risen_a (label_network network copies (datagrams ++ later)).node b back)
 
         nothing : (all : LabelNetwork) (one two : NodeId) (p q : LabelData) (u n : NodeId)
-            → sent two [] (behind all one (quiet p)).direction u n ≡ (all.direction u n).transit
+            → sent two [] (thereafter all one (quiet p)).direction u n ≡ (all.direction u n).transit
         nothing all one two p q u n =
             nothing_more ((u.0 == two.0) && (all.direction u n).joined) (sent one [] all.direction u n)
             ∙ nothing_more ((u.0 == one.0) && (all.direction u n).joined) (all.direction u n).transit
 
-        same : with_joined a b (behind (behind (label_network network copies (datagrams ++ later)) a (quiet risen_a)) b (quiet risen_b))
-            ≡ behind (behind (label_network first copies (datagrams ++ later)) b (quiet risen_b)) a (quiet risen_a)
+        same : with_joined a b (thereafter (thereafter (label_network network copies (datagrams ++ later)) a (quiet risen_a)) b (quiet risen_b))
+            ≡ thereafter (thereafter (label_network first copies (datagrams ++ later)) b (quiet risen_b)) a (quiet risen_a)
         same = λ i. record (label_network first copies (datagrams ++ later)) {
           node = λ m. two_nodes (m.0 == b.0) (m.0 == a.0) risen_b risen_a (part_of (state.node m)) (not_both b a m back) i;
           direction = λ u n. record ((label_network first copies (datagrams ++ later)).direction u n) {
@@ -265,7 +265,7 @@ module _ (scenario : Scenario) (network : MessageNetwork Nodes) (copies : Copies
     abbrev other_up : MessageNetwork Nodes
     other_up = record first { state = nodes.with_node state b (CoreNode risen_b) }
 
-    other_is : (all : List Datagram) → behind (label_network first copies all) b (quiet risen_b) ≡ label_network other_up copies all
+    other_is : (all : List Datagram) → thereafter (label_network first copies all) b (quiet risen_b) ≡ label_network other_up copies all
     other_is all =
         let v : LabelNetwork = label_network first copies all in
         λ i. record v {
@@ -274,33 +274,33 @@ module _ (scenario : Scenario) (network : MessageNetwork Nodes) (copies : Copies
               λ u n. record (v.direction u n) { transit = nothing_more ((u.0 == b.0) && (v.direction u n).joined) (v.direction u n).transit i };
         }
 
-    half_kept : (later : List Datagram) → Kept (behind (behind (label_network first copies (datagrams ++ later)) a (sum part_a row_a.row)) b
+    half_kept : (later : List Datagram) → Kept (thereafter (thereafter (label_network first copies (datagrams ++ later)) a (sum part_a row_a.row)) b
         (quiet risen_b))
     half_kept later =
         let all : List Datagram = datagrams ++ later in
         let r = row_of (place_of state a) state.clock part_a (labels.Raised b) row_a.wants row_a.row row_a.made in
         let own : r.new ≡ quiet risen_a = sym (same_Some (quiet risen_a) r.new r.made) in
-        let start : Kept (behind (label_network other_up copies all) a r.new) =
-        subst (λ (s : settling.Stepped). Kept (behind (label_network other_up copies all) a s)) (sym own)
-        (subst (λ (v : LabelNetwork). Kept (behind v a (quiet risen_a))) (other_is all) (both_kept later)) in
-        let row : Kept (behind (label_network other_up copies all) a
+        let start : Kept (thereafter (label_network other_up copies all) a r.new) =
+        subst (λ (s : settling.Stepped). Kept (thereafter (label_network other_up copies all) a s)) (sym own)
+        (subst (λ (v : LabelNetwork). Kept (thereafter v a (quiet risen_a))) (other_is all) (both_kept later)) in
+        let row : Kept (thereafter (label_network other_up copies all) a
         (record { part = part_after r.new.part r.rest; puts = r.new.puts ++ row_puts r.rest })) =
         wants_kept other_up copies all a row_a.wants row_a.are r.new r.rest r.others start in
-        let whole : Kept (behind (label_network other_up copies all) a (sum part_a row_a.row)) =
-        subst (λ (x : List LabelStep). Kept (behind (label_network other_up copies all) a (sum part_a x))) (sym r.parts) row in
+        let whole : Kept (thereafter (label_network other_up copies all) a (sum part_a row_a.row)) =
+        subst (λ (x : List LabelStep). Kept (thereafter (label_network other_up copies all) a (sum part_a x))) (sym r.parts) row in
         subst Kept (commute (label_network first copies all) a b ne risen_b (sum part_a row_a.row))
-        (subst (λ (v : LabelNetwork). Kept (behind v a (sum part_a row_a.row))) (sym (other_is all)) whole)
+        (subst (λ (v : LabelNetwork). Kept (thereafter v a (sum part_a row_a.row))) (sym (other_is all)) whole)
 
     -- The label rule holds between the two acts as well.
     pub middle_rule : LabelRule (label_network middle copies (datagrams ++ []))
     middle_rule =
-        let w : LabelNetwork = behind (label_network first copies (datagrams ++ [])) a (sum part_a row_a.row) in
+        let w : LabelNetwork = thereafter (label_network first copies (datagrams ++ [])) a (sum part_a row_a.row) in
         let b_is : w.node b ≡ part_b = node_there a (sum part_a row_a.row).part (label_network first copies (datagrams ++ [])).node b back in
         let no_branch : (fec : Fec) (label : ℕ) → sets.contains part_b.branches (branch_to a fec label) ≡ true → ⊥ =
         λ fec label has. (let up : is_up part_b a ≡ true = ((good.kept []).rule.view b a label back).branch fec has in let x : true ≡ false =
         sym up ∙ off_b in absurd cc) in
         subst LabelRule (sym (middle_is (datagrams ++ [])))
-        (rule_before w b a part_b state.clock b_is off_b no_branch (label_rule (behind w b (quiet risen_b)) (half_kept []).rule))
+        (rule_before w b a part_b state.clock b_is off_b no_branch (label_rule (thereafter w b (quiet risen_b)) (half_kept []).rule))
 
     pub middle_alike : (u n : NodeId) → u ≢ n → middle.joined (direction kinds.Ldp u n) ≡ middle.joined (direction kinds.Ldp n u)
     middle_alike u n apart = ((half_kept []).rule.session u n apart).alike
@@ -333,8 +333,8 @@ module _ (scenario : Scenario) (network : MessageNetwork Nodes) (copies : Copies
         let all : List Datagram = datagrams ++ later in
         let own : second ≡ quiet risen_b =
         sym (same_Some (quiet (risen (part_of (middle.state.node b)) a middle.state.clock)) second e) ∙ ap quiet risen_same in
-        subst (λ (s : settling.Stepped). Kept (behind (label_network middle copies all) b s)) (sym own)
-        (subst (λ (v : LabelNetwork). Kept (behind v b (quiet risen_b))) (sym (middle_is all)) (half_kept later))
+        subst (λ (s : settling.Stepped). Kept (thereafter (label_network middle copies all) b s)) (sym own)
+        (subst (λ (v : LabelNetwork). Kept (thereafter v b (quiet risen_b))) (sym (middle_is all)) (half_kept later))
 
     pub raised_good : (last : Stepped Nodes) → node_called middle.state b (middle.state.node b) (steps.Raised kinds.Ldp a) ≡ Some last
         → IsGoodCall (steps.Raised kinds.Ldp a) → Sound scenario last.state → Good scenario (with_messages middle last) copies datagrams

@@ -8,7 +8,7 @@ use Rattle.label_defs.specs.Settling as settling
 use Rattle.label_defs.specs.Steps as labels
 use Rattle.label_defs.specs.Steps.{label_step}
 use Rattle.label_defs.proofs.KeyLemmas.{node_equal, node_itself}
-use Rattle.label_laws.specs.Network.{LabelNetwork, behind}
+use Rattle.label_laws.specs.Network.{LabelNetwork, thereafter}
 use Rattle.label_laws.specs.Network as label_nodes
 use Rattle.label_laws.specs.Acts.{Reroute, with_upstream}
 use Rattle.label_laws.specs.Rule.{Kept}
@@ -27,7 +27,7 @@ use Rattle.network_laws.proofs.Nodes.{followed}
 use Rattle.rule_laws.specs.Edges.{edge_network}
 use Rattle.rule_laws.specs.Labels.{Copies, label_network}
 use Rattle.rule_laws.proofs.Calls.{Base, Good, call_good, joined_up}
-use Rattle.rule_laws.proofs.EdgeCalls.{EdgesNext, rule_behind}
+use Rattle.rule_laws.proofs.EdgeCalls.{EdgesNext, rule_after}
 use Rattle.rule_laws.proofs.Honest.{EdgeRule, act_both, cored_both}
 use Rattle.rule_laws.proofs.Rows.{act_gives, FirstKept, UpWhereJoined}
 use Rattle.rule_laws.proofs.Sessions.{silent_step}
@@ -85,8 +85,8 @@ module _ (scenario : Scenario) (network : MessageNetwork Nodes) (copies : Copies
       let v : LabelNetwork = with_upstream w n next in
       let P : LabelNetwork → Type 0 =
       λ x. (first : settling.Stepped) → label_step (label_nodes.place_of x n) x.clock (x.node n) labels.Rerouted ≡ Some first
-      → Kept (behind x n first) in
-      subst P (aimed (datagrams ++ later)) (λ first e. act_gives w (Reroute n next) (behind v n first) (ap (option_map (behind v n)) e)
+      → Kept (thereafter x n first) in
+      subst P (aimed (datagrams ++ later)) (λ first e. act_gives w (Reroute n next) (thereafter v n first) (ap (option_map (thereafter v n)) e)
       (good.kept later))
 
   -- the edge knows the core by the present costs
@@ -105,7 +105,7 @@ module _ (scenario : Scenario) (network : MessageNetwork Nodes) (copies : Copies
       let step : EdgeRule (edge_acts.stepped (edge_network turned good.edges.0) n steps.Rerouted) =
       subst (λ (x : EdgeNetwork). EdgeRule (edge_acts.stepped x n steps.Rerouted)) same_edges
       (act_both w (edge_acts.Reroute n new_core) tt good.edges.2) in
-      (good.edges.0, good.edges.1, rule_behind turned good.edges.0 n steps.Rerouted rule step)
+      (good.edges.0, good.edges.1, rule_after turned good.edges.0 n steps.Rerouted rule step)
 
   up_there : UpWhereJoined turned n (part_of (turned.state.node n)) steps.Rerouted
   up_there to joined = joined_up scenario network copies datagrams good n to joined

@@ -15,7 +15,7 @@ use Rattle.label_defs.specs.declared.end.End.{End}
 use Rattle.label_defs.specs.declared.label_use.LabelUse.{LabelUse}
 use Rattle.label_defs.proofs.KeyLemmas.{node_equal, node_cmp_total, node_cmp_exact, node_itself}
 use Rattle.label_defs.proofs.SetLemmas.{put_other}
-use Rattle.label_laws.specs.Network.{PacketCopy, LabelNetwork, behind}
+use Rattle.label_laws.specs.Network.{PacketCopy, LabelNetwork, thereafter}
 use Rattle.label_laws.specs.Rule.{CopyCase, is_mapped, is_leaving, is_resting, is_down, is_unheld, end_of, is_of_owner, IsUsedTowards, LabelRule}
 use Rattle.network_laws.proofs.Lists.{each_weaker}
 
@@ -37,7 +37,7 @@ none_up (Some end) e = absurd cc
 module _ (w : LabelNetwork) (b a : NodeId) (part : LabelData) (now : ℕ) (at : w.node b ≡ part) (off : is_up part a ≡ false)
     (no_branch : (fec : Fec) (label : ℕ) → sets.contains part.branches (branch_to a fec label) ≡ true → ⊥) where
   abbrev up : LabelNetwork
-  up = behind w b (quiet (risen part a now))
+  up = thereafter w b (quiet (risen part a now))
 
   -- the end that is up there
   abbrev is_that : NodeId → NodeId → Bool

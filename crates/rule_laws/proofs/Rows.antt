@@ -25,10 +25,10 @@ use Rattle.label_defs.specs.declared.put.Put as put
 use Rattle.label_defs.specs.Members.{in_order}
 use Rattle.label_defs.proofs.KeyLemmas.{node_equal, node_itself}
 use Rattle.label_defs.proofs.SettleLemmas.{bind_some}
-use Rattle.label_laws.specs.Network.{LabelNetwork, messages_to, sent, behind}
+use Rattle.label_laws.specs.Network.{LabelNetwork, messages_to, sent, thereafter}
 use Rattle.label_laws.specs.Acts.{Act, Want, Unwant, stepped, wanted, act}
 use Rattle.label_laws.specs.Rule.{Kept, OnNetwork}
-use Rattle.label_laws.proofs.Frames.{node_here, behind_again, behind_silent}
+use Rattle.label_laws.proofs.Frames.{node_here, after_again, after_silent}
 use Rattle.label_laws.proofs.Runs.{run_kept}
 use Rattle.network_defs.specs.session_defs.Message.{SessionMessage}
 use Rattle.network_defs.specs.session_defs.System.{Put, Stepped, MessageNetwork, messages_over, with_messages}
@@ -62,10 +62,10 @@ same_cond true x y h = sym (h refl)
 same_cond false x y h = refl
 
 -- a node that stays as it is, and puts nothing
-pub behind_idle : (w : LabelNetwork) (n : NodeId) → w ≡ behind w n (record { part = w.node n; puts = [] })
-behind_idle w n =
+pub after_idle : (w : LabelNetwork) (n : NodeId) → w ≡ thereafter w n (record { part = w.node n; puts = [] })
+after_idle w n =
     (λ i. record w { node = λ m. same_cond (m.0 == n.0) (w.node n) (w.node m) (λ e. ap w.node (sym (node_equal m n e))) i })
-    ∙ behind_silent w n (w.node n)
+    ∙ after_silent w n (w.node n)
 
 -- ---- calls for leaves
 
@@ -88,9 +88,9 @@ pub row_of : (place : EdgePlace) (now : ℕ) (part : LabelData) (call : labels.C
 row_of place now part call more row e =
     let first =
     bind_some (label_step (label_place place.scenario place.core place.me) now part call)
-    (λ new. label_row place now new.part more >>? λ behind. Some (record { old = part; call = call; new = new } ∷ behind)) row e in
+    (λ new. label_row place now new.part more >>? λ thereafter. Some (record { old = part; call = call; new = new } ∷ thereafter)) row e in
     let rest =
-    bind_some (label_row place now first.0.part more) (λ behind. Some (record { old = part; call = call; new = first.0 } ∷ behind)) row first.2 in
+    bind_some (label_row place now first.0.part more) (λ thereafter. Some (record { old = part; call = call; new = first.0 } ∷ thereafter)) row first.2 in
     record {
       new = first.0;
       made = first.1;
@@ -114,22 +114,22 @@ module _ (network : MessageNetwork Nodes) (copies : Copies) (datagrams : List Da
   own_place = label_place network.state.scenario (core_at network.state n) n
 
   step_is : (s new : settling.Stepped) (call : labels.Call) → label_step own_place network.state.clock s.part call ≡ Some new
-      → stepped (behind w n s) n call ≡ Some (behind w n (record { part = new.part; puts = s.puts ++ new.puts }))
+      → stepped (thereafter w n s) n call ≡ Some (thereafter w n (record { part = new.part; puts = s.puts ++ new.puts }))
   step_is s new call e =
-      let v : LabelNetwork = behind w n s in
-      ap (λ (d : LabelData). option_map (behind v n) (label_step own_place network.state.clock d call)) (node_here n s.part w.node)
-      ∙ ap (option_map (behind v n)) e
-      ∙ ap (λ (x : LabelNetwork). Some x) (behind_again w n s.part new.part s.puts new.puts)
+      let v : LabelNetwork = thereafter w n s in
+      ap (λ (d : LabelData). option_map (thereafter v n) (label_step own_place network.state.clock d call)) (node_here n s.part w.node)
+      ∙ ap (option_map (thereafter v n)) e
+      ∙ ap (λ (x : LabelNetwork). Some x) (after_again w n s.part new.part s.puts new.puts)
 
   want_kept : (s new : settling.Stepped) (call : labels.Call) → IsWant network.state.scenario call
-      → label_step own_place network.state.clock s.part call ≡ Some new → Kept (behind w n s)
-      → Kept (behind w n (record { part = new.part; puts = s.puts ++ new.puts }))
+      → label_step own_place network.state.clock s.part call ≡ Some new → Kept (thereafter w n s)
+      → Kept (thereafter w n (record { part = new.part; puts = s.puts ++ new.puts }))
   want_kept s new (labels.Want fec) is e k =
-      let v : LabelNetwork = behind w n s in
-      act_gives v (Want n fec) (behind w n (record { part = new.part; puts = s.puts ++ new.puts }))
+      let v : LabelNetwork = thereafter w n s in
+      act_gives v (Want n fec) (thereafter w n (record { part = new.part; puts = s.puts ++ new.puts }))
       (ap (wanted v n fec) is ∙ step_is s new (labels.Want fec) e) k
   want_kept s new (labels.Unwant fec) is e k =
-      act_gives (behind w n s) (Unwant n fec) (behind w n (record { part = new.part; puts = s.puts ++ new.puts }))
+      act_gives (thereafter w n s) (Unwant n fec) (thereafter w n (record { part = new.part; puts = s.puts ++ new.puts }))
       (step_is s new (labels.Unwant fec) e) k
   want_kept s new (labels.Taken from message) is e k = absurd is
   want_kept s new (labels.Raised peer) is e k = absurd is
@@ -138,37 +138,37 @@ module _ (network : MessageNetwork Nodes) (copies : Copies) (datagrams : List Da
   want_kept s new labels.Rerouted is e k = absurd is
 
   pub wants_kept : (calls : List labels.Call) → AllByRecursion (IsWant network.state.scenario) calls → (s : settling.Stepped) (row : List LabelStep)
-      → label_row (place_of network.state n) network.state.clock s.part calls ≡ Some row → Kept (behind w n s)
-      → Kept (behind w n (record { part = part_after s.part row; puts = s.puts ++ row_puts row }))
+      → label_row (place_of network.state n) network.state.clock s.part calls ≡ Some row → Kept (thereafter w n s)
+      → Kept (thereafter w n (record { part = part_after s.part row; puts = s.puts ++ row_puts row }))
   wants_kept [] are s row e k =
-      let P : List LabelStep → Type 0 = λ r. Kept (behind w n (record { part = part_after s.part r; puts = s.puts ++ row_puts r })) in
-      subst P (same_Some [] row e) (subst (λ (ps : List put.Put). Kept (behind w n (record { part = s.part; puts = ps }))) (sym (append-nil s.puts))
+      let P : List LabelStep → Type 0 = λ r. Kept (thereafter w n (record { part = part_after s.part r; puts = s.puts ++ row_puts r })) in
+      subst P (same_Some [] row e) (subst (λ (ps : List put.Put). Kept (thereafter w n (record { part = s.part; puts = ps }))) (sym (append-nil s.puts))
       k)
   wants_kept (call ∷ more) are s row e k =
       let r = row_of (place_of network.state n) network.state.clock s.part call more row e in
       let next : settling.Stepped = record { part = r.new.part; puts = s.puts ++ r.new.puts } in
       let rest = wants_kept more are.1 next r.rest r.others (want_kept s r.new call are.0 r.made k) in
-      let P : List LabelStep → Type 0 = λ x. Kept (behind w n (record { part = part_after s.part x; puts = s.puts ++ row_puts x })) in
-      subst P (sym r.parts) (subst (λ (ps : List put.Put). Kept (behind w n (record { part = part_after r.new.part r.rest; puts = ps })))
+      let P : List LabelStep → Type 0 = λ x. Kept (thereafter w n (record { part = part_after s.part x; puts = s.puts ++ row_puts x })) in
+      subst P (sym r.parts) (subst (λ (ps : List put.Put). Kept (thereafter w n (record { part = part_after r.new.part r.rest; puts = ps })))
       (append_assoc s.puts r.new.puts (row_puts r.rest)) rest)
 
   -- what the label step of the call itself gives keeps the rule
   abbrev pub FirstKept : Option labels.Call → Type 0
   FirstKept None = Kept w
-  FirstKept (Some call) = (first : settling.Stepped) → label_step own_place network.state.clock (w.node n) call ≡ Some first → Kept (behind w n first)
+  FirstKept (Some call) = (first : settling.Stepped) → label_step own_place network.state.clock (w.node n) call ≡ Some first → Kept (thereafter w n first)
 
   pub row_kept : (own : Option labels.Call) (wants : List labels.Call) → AllByRecursion (IsWant network.state.scenario) wants → FirstKept own
       → (row : List LabelStep) → label_row (place_of network.state n) network.state.clock (w.node n) (one_call own ++ wants) ≡ Some row
-      → Kept (behind w n (sum (w.node n) row))
-  row_kept None wants are first row e = wants_kept wants are (record { part = w.node n; puts = [] }) row e (subst Kept (behind_idle w n) first)
+      → Kept (thereafter w n (sum (w.node n) row))
+  row_kept None wants are first row e = wants_kept wants are (record { part = w.node n; puts = [] }) row e (subst Kept (after_idle w n) first)
   row_kept (Some call) wants are first row e =
       let r = row_of (place_of network.state n) network.state.clock (w.node n) call wants row e in
-      let P : List LabelStep → Type 0 = λ x. Kept (behind w n (sum (w.node n) x)) in
+      let P : List LabelStep → Type 0 = λ x. Kept (thereafter w n (sum (w.node n) x)) in
       subst P (sym r.parts) (wants_kept wants are r.new r.rest r.others (first r.new r.made))
 
 -- ---- ends that are up
 
--- the ends behind a step are those behind its effect
+-- the ends after a step are those after its effect
 step_ups : (place : Place) (now : ℕ) (part : LabelData) (call : labels.Call) (new : settling.Stepped) (to : NodeId)
     → label_step place now part call ≡ Some new → is_up new.part to ≡ is_up (effect place now part call).0.part to
 step_ups place now part call new to e =
@@ -197,7 +197,7 @@ wants_up place now to (call ∷ more) are part row e up =
     same_up labels.Timers is = absurd is
     same_up labels.Rerouted is = absurd is
 
--- the node behind the effect of the call itself
+-- the node after the effect of the call itself
 abbrev pub own_effect : Place → ℕ → LabelData → Option labels.Call → LabelData
 own_effect place now part None = part
 own_effect place now part (Some call) = (effect place now part call).0.part
@@ -216,9 +216,9 @@ row_ups place now (Some call) wants are part row e to up =
 -- ---- what a step of a node is
 
 -- what a call makes of what a node keeps of customers and of BGP
-abbrev pub control_behind : Nodes → NodeId → NodeState → steps.Call → Control
-control_behind nodes n (Edge edge) call = control_step (place_of nodes n) nodes.clock edge.control call
-control_behind nodes n (CoreNode part) call = no_control
+abbrev pub control_after : Nodes → NodeId → NodeState → steps.Call → Control
+control_after nodes n (Edge edge) call = control_step (place_of nodes n) nodes.clock edge.control call
+control_after nodes n (CoreNode part) call = no_control
 
 -- the node is an edge
 abbrev pub IsEdgeNode : NodeState → Type 0
@@ -226,9 +226,9 @@ IsEdgeNode (Edge edge) = Unit {0}
 IsEdgeNode (CoreNode part) = ⊥
 
 -- what it puts over BGP
-abbrev pub bgp_behind : Nodes → NodeId → NodeState → steps.Call → List Put
-bgp_behind nodes n (Edge edge) call = bgp_puts (place_of nodes n) edge.control (control_step (place_of nodes n) nodes.clock edge.control call)
-bgp_behind nodes n (CoreNode part) call = []
+abbrev pub bgp_after : Nodes → NodeId → NodeState → steps.Call → List Put
+bgp_after nodes n (Edge edge) call = bgp_puts (place_of nodes n) edge.control (control_step (place_of nodes n) nodes.clock edge.control call)
+bgp_after nodes n (CoreNode part) call = []
 
 -- The row of label steps of a step of a node: that of the call itself, if it has one, and those of the leaves.
 pub record CalledRow (nodes : Nodes) (n : NodeId) (old : NodeState) (call : steps.Call) (new : Stepped Nodes) : Type 0 where
@@ -239,9 +239,9 @@ pub record CalledRow (nodes : Nodes) (n : NodeId) (old : NodeState) (call : step
   pub node : NodeState
   pub state : new.state ≡ with_node nodes n node
   pub part : part_of node ≡ part_after (part_of old) row
-  pub control : control_of node ≡ control_behind nodes n old call
+  pub control : control_of node ≡ control_after nodes n old call
   pub kind : IsEdgeNode old → IsEdgeNode node
-  pub bgp : (u to : NodeId) → over_bgp u to new.puts ≡ over_bgp u to (bgp_behind nodes n old call)
+  pub bgp : (u to : NodeId) → over_bgp u to new.puts ≡ over_bgp u to (bgp_after nodes n old call)
   pub over : (u to : NodeId) → over_ldp u to new.puts
       ≡ over_ldp u to (flat_map (label_puts n (addr_of nodes.scenario n) (label_place nodes.scenario (core_at nodes n) n) nodes.clock) row)
 
@@ -277,7 +277,7 @@ edge_row nodes n edge call new trees e =
       puts = bgp_puts place edge.control made.edge.control
           ++ flat_map (label_puts n (addr_of nodes.scenario n) (label_place nodes.scenario (core_at nodes n) n) nodes.clock) made.row;
     } in
-    let behind_row : List LabelStep → EdgeStepped =
+    let after_row : List LabelStep → EdgeStepped =
     λ row. record {
       edge =
           record { control = control; part = part_after edge.part row; raised = raised_after nodes.clock edge.raised call };
@@ -286,8 +286,8 @@ edge_row nodes n edge call new trees e =
     let wants : List labels.Call = changed_leaves (leaves place edge.control) (leaves place control) in
     let calls : List labels.Call = one_call (own_label_call call) ++ wants in
     let x = bind_some (edge_step place nodes.clock edge call) (λ made. Some (stepped made)) new e in
-    let y = bind_some (label_row place nodes.clock edge.part calls) (λ row. Some (behind_row row)) x.0 x.1 in
-    let same : stepped (behind_row y.0) ≡ new = ap stepped (same_Some (behind_row y.0) x.0 y.2) ∙ same_Some (stepped x.0) new x.2 in
+    let y = bind_some (label_row place nodes.clock edge.part calls) (λ row. Some (after_row row)) x.0 x.1 in
+    let same : stepped (after_row y.0) ≡ new = ap stepped (same_Some (after_row y.0) x.0 y.2) ∙ same_Some (stepped x.0) new x.2 in
     record {
       wants = wants;
       are = changed_are place (leaves place edge.control) (leaves place control) trees;
@@ -350,8 +350,8 @@ core_row nodes n part call new (Some own) at is e =
       are = tt;
       row = made x.0 ∷ [];
       made = ap (λ (o : Option labels.Call). label_row (place_of nodes n) nodes.clock part (one_call o ++ [])) is
-          ∙ ap (λ (o : Option settling.Stepped). o >>? λ first. label_row (place_of nodes n) nodes.clock first.part [] >>? λ behind. Some
-          (made first ∷ behind)) x.1;
+          ∙ ap (λ (o : Option settling.Stepped). o >>? λ first. label_row (place_of nodes n) nodes.clock first.part [] >>? λ thereafter. Some
+          (made first ∷ thereafter)) x.1;
       node = CoreNode x.0.part;
       state = sym (ap (λ (s : Stepped Nodes). s.state) same);
       part = refl;
@@ -363,7 +363,7 @@ core_row nodes n part call new (Some own) at is e =
       over = λ u to. sym (ap (λ (s : Stepped Nodes). over_ldp u to s.puts) same) ∙ ap (over_ldp u to) (sym (append-nil puts));
     }
 
--- what the leaves of the node behind the call are, if it is an edge
+-- what the leaves of the node after the call are, if it is an edge
 abbrev pub TreesBehind : Nodes → NodeId → NodeState → steps.Call → Type 0
 TreesBehind nodes n (Edge edge) call = LeavesAreTrees (place_of nodes n) (control_step (place_of nodes n) nodes.clock edge.control call)
 TreesBehind nodes n (CoreNode part) call = Unit {0}
@@ -373,7 +373,7 @@ pub called_row : (nodes : Nodes) (n : NodeId) (old : NodeState) (call : steps.Ca
 called_row nodes n (Edge edge) call new at trees e = edge_row nodes n edge call new trees e
 called_row nodes n (CoreNode part) call new at trees e = core_row nodes n part call new (own_label_call call) at refl e
 
--- ---- the network behind a step of a node
+-- ---- the network after a step of a node
 
 transit_is : (here joined : Bool) (old over : List SessionMessage) (to : List LabelMessage) → (here ≡ true → joined ≡ true → labels_in over ≡ to)
     → (here ≡ false → labels_in over ≡ []) → labels_in (cond joined (old ++ over) old) ≡ cond (here && joined) (labels_in old ++ to) (labels_in old)
@@ -393,7 +393,7 @@ turned u n e = elim (cases_Bool (n.0 == u.0)) [
   | inl t ↦ (let x : (u.0 == n.0) ≡ true = node_itself u n (sym (node_equal n u t)) in absurd cc)
 ]
 
--- To each neighbour to which a session is joined the end is up behind the effect of the call itself.
+-- To each neighbour to which a session is joined the end is up after the effect of the call itself.
 abbrev pub UpWhereJoined : MessageNetwork Nodes → NodeId → LabelData → steps.Call → Type 0
 UpWhereJoined network n part call =
     (to : NodeId) → network.joined (direction kinds.Ldp n to) ≡ true
@@ -403,7 +403,7 @@ pub called_is : (network : MessageNetwork Nodes) (copies : Copies) (datagrams : 
     (c : CalledRow network.state n (network.state.node n) call new)
     → UpWhereJoined network n (part_of (network.state.node n)) call
     → label_network (with_messages network new) copies datagrams
-    ≡ behind (label_network network copies datagrams) n (sum (part_of (network.state.node n)) c.row)
+    ≡ thereafter (label_network network copies datagrams) n (sum (part_of (network.state.node n)) c.row)
 called_is network copies datagrams n call new c up =
     let nodes : Nodes = network.state in
     let old : LabelData = part_of (nodes.node n) in

@@ -67,10 +67,10 @@ module _ (P : ReportLine → Type 0) where
   both_then K (Done acts world) next s h = by (next world) (h world s.0)
     where
       by : (o : Outcome) → Comes K o × SaysAll P o
-          → Comes K (elim o [ Done behind new ↦ Done (acts ++ behind) new | Halted behind node ↦ Halted (acts ++ behind) node ])
-          × SaysAll P (elim o [ Done behind new ↦ Done (acts ++ behind) new | Halted behind node ↦ Halted (acts ++ behind) node ])
-      by (Done behind new) t = (t.0, each_append (λ (happened : Happened). AllByRecursion P happened.lines) acts behind s.1 t.1)
-      by (Halted behind node) t = (tt, each_append (λ (happened : Happened). AllByRecursion P happened.lines) acts behind s.1 t.1)
+          → Comes K (elim o [ Done thereafter new ↦ Done (acts ++ thereafter) new | Halted thereafter node ↦ Halted (acts ++ thereafter) node ])
+          × SaysAll P (elim o [ Done thereafter new ↦ Done (acts ++ thereafter) new | Halted thereafter node ↦ Halted (acts ++ thereafter) node ])
+      by (Done thereafter new) t = (t.0, each_append (λ (happened : Happened). AllByRecursion P happened.lines) acts thereafter s.1 t.1)
+      by (Halted thereafter node) t = (tt, each_append (λ (happened : Happened). AllByRecursion P happened.lines) acts thereafter s.1 t.1)
 
   both_one : (K : World → Type 0) (world : World) (one : Act) → Gives K (act world one) → Says P (act world one)
       → Comes K (one_act world one) × SaysAll P (one_act world one)

@@ -84,7 +84,7 @@ pub run_keeps_rule : (scenario : Scenario) (cores : Cores) (all : List Timed) (t
 run_keeps_rule scenario cores all trace new lines sound run =
     world_rule scenario new (runs_in_step enters scenario all sound (start scenario cores) 0 trace new (start_in_step scenario cores lines) run)
 
--- all that is kept, behind a run
+-- all that is kept, after a run
 pub run_in_step : (scenario : Scenario) (cores : Cores) (all : List Timed) (trace : List Traced) (new : World) → SoundScenario scenario
     → AllByRecursion (λ timed. IsSoundEvent scenario timed.event) all
     → Runs (start scenario cores) 0 all trace new → InStep scenario new

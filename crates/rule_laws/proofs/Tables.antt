@@ -36,7 +36,7 @@ use Rattle.network_defs.specs.LabelRule.{part_at}
 use Rattle.network_defs.specs.World.{World}
 use Rattle.rule_laws.specs.Edges.{as_message, edge_network}
 use Rattle.rule_laws.specs.Labels.{labels_in}
-use Rattle.rule_laws.specs.Tables.{RoutesInStep, is_that, branch_behind, is_mapped_to, is_withdraw, is_release, LabelsInStep}
+use Rattle.rule_laws.specs.Tables.{RoutesInStep, is_that, branch_after, is_mapped_to, is_withdraw, is_release, LabelsInStep}
 use Rattle.rule_laws.proofs.Acts.{InStep}
 use Rattle.rule_laws.proofs.Full.{plain_units, no_pdu}
 
@@ -129,26 +129,26 @@ module _ (fec : Fec) (label : ℕ) where
 
   -- messages of other labels do not matter
   filtered : (before : Bool) (ms : List LabelMessage)
-      → branch_behind fec label before ms ≡ branch_behind fec label before (filter (is_of_owner label) ms)
+      → branch_after fec label before ms ≡ branch_after fec label before (filter (is_of_owner label) ms)
   filtered before [] = refl
   filtered before (messages.Mapping own number ∷ more) = by (number == label) refl (λ b. filtered b more)
     where
       by : (t : Bool) → (number == label) ≡ t → ((b : Bool)
-          → branch_behind fec label b more ≡ branch_behind fec label b (filter (is_of_owner label) more))
-          → branch_behind fec label (cond (is_that fec label own number) true before) more
-          ≡ branch_behind fec label before (cond t (messages.Mapping own number ∷ filter (is_of_owner label) more)
+          → branch_after fec label b more ≡ branch_after fec label b (filter (is_of_owner label) more))
+          → branch_after fec label (cond (is_that fec label own number) true before) more
+          ≡ branch_after fec label before (cond t (messages.Mapping own number ∷ filter (is_of_owner label) more)
           (filter (is_of_owner label) more))
       by true e rest = rest (cond (is_that fec label own number) true before)
-      by false e rest = ap (λ (b : Bool). branch_behind fec label (cond b true before) more) (not_own own number e) ∙ rest before
+      by false e rest = ap (λ (b : Bool). branch_after fec label (cond b true before) more) (not_own own number e) ∙ rest before
   filtered before (messages.Withdraw own number ∷ more) = by (number == label) refl (λ b. filtered b more)
     where
       by : (t : Bool) → (number == label) ≡ t → ((b : Bool)
-          → branch_behind fec label b more ≡ branch_behind fec label b (filter (is_of_owner label) more))
-          → branch_behind fec label (cond (is_that fec label own number) false before) more
-          ≡ branch_behind fec label before (cond t (messages.Withdraw own number ∷ filter (is_of_owner label) more)
+          → branch_after fec label b more ≡ branch_after fec label b (filter (is_of_owner label) more))
+          → branch_after fec label (cond (is_that fec label own number) false before) more
+          ≡ branch_after fec label before (cond t (messages.Withdraw own number ∷ filter (is_of_owner label) more)
           (filter (is_of_owner label) more))
       by true e rest = rest (cond (is_that fec label own number) false before)
-      by false e rest = ap (λ (b : Bool). branch_behind fec label (cond b false before) more) (not_own own number e) ∙ rest before
+      by false e rest = ap (λ (b : Bool). branch_after fec label (cond b false before) more) (not_own own number e) ∙ rest before
   filtered before (messages.Release own number ∷ more) = filtered before more
   filtered before (messages.Ignored kind ∷ more) = filtered before more
 
@@ -201,21 +201,21 @@ module _ (fec : Fec) (label : ℕ) where
 
   -- what comes of the messages, by the phase
   phase_mapped : (kind : rules.Kind) (u : NodeId) (usage : Option LabelUse) (down up : List LabelMessage) (branches : Fec → Bool)
-      → PhaseIs kind u label usage down up branches → branch_behind fec label (branches fec) down ≡ is_mapped_to fec u usage
+      → PhaseIs kind u label usage down up branches → branch_after fec label (branches fec) down ≡ is_mapped_to fec u usage
   phase_mapped (rules.Mapping own) u usage down up branches p =
-      (λ i. branch_behind fec label (p.branch i fec) (p.put i)) ∙ ap (λ (b : Bool). cond b true false) (that_is own) ∙ chosen (same_fec own fec)
+      (λ i. branch_after fec label (p.branch i fec) (p.put i)) ∙ ap (λ (b : Bool). cond b true false) (that_is own) ∙ chosen (same_fec own fec)
       ∙ sym (ap (is_mapped_to fec u) p.used ∙ mapped_is own u)
   phase_mapped (rules.Stands own) u usage down up branches p =
-      (λ i. branch_behind fec label (p.branch i fec) (p.put i)) ∙ turned own ∙ sym (ap (is_mapped_to fec u) p.used ∙ mapped_is own u)
+      (λ i. branch_after fec label (p.branch i fec) (p.put i)) ∙ turned own ∙ sym (ap (is_mapped_to fec u) p.used ∙ mapped_is own u)
   phase_mapped (rules.MappingAndWithdraw own) u usage down up branches p =
-      (λ i. branch_behind fec label (p.branch i fec) (p.put i)) ∙ off_again (is_that fec label own label) (is_that fec label own label) refl
+      (λ i. branch_after fec label (p.branch i fec) (p.put i)) ∙ off_again (is_that fec label own label) (is_that fec label own label) refl
       ∙ sym (ap (is_mapped_to fec u) p.used)
   phase_mapped (rules.Withdraw own) u usage down up branches p =
-      (λ i. branch_behind fec label (p.branch i fec) (p.put i)) ∙ (λ i. cond (that_is own i) false (turned own i)) ∙ off (same_fec own fec)
+      (λ i. branch_after fec label (p.branch i fec) (p.put i)) ∙ (λ i. cond (that_is own i) false (turned own i)) ∙ off (same_fec own fec)
       ∙ sym (ap (is_mapped_to fec u) p.used)
   phase_mapped (rules.Release own) u usage down up branches p =
-      (λ i. branch_behind fec label (p.branch i fec) (p.put i)) ∙ sym (ap (is_mapped_to fec u) p.used)
-  phase_mapped rules.Idle u usage down up branches p = (λ i. branch_behind fec label (p.1.branch i fec) (p.1.put i)) ∙ sym (other_is u usage p.0)
+      (λ i. branch_after fec label (p.branch i fec) (p.put i)) ∙ sym (ap (is_mapped_to fec u) p.used)
+  phase_mapped rules.Idle u usage down up branches p = (λ i. branch_after fec label (p.1.branch i fec) (p.1.put i)) ∙ sym (other_is u usage p.0)
 
   -- ---- counts
 
@@ -299,7 +299,7 @@ labels_in_step scenario world s u n ne joined =
           };
       mapped = λ fec label.
           let phase = (rule.view u n label ne).phase joined in
-          ap (branch_behind fec label (sets.contains (part_at world u).branches (branch_to n fec label))) (sym down)
+          ap (branch_after fec label (sets.contains (part_at world u).branches (branch_to n fec label))) (sym down)
           ∙ filtered fec label (sets.contains (part_at world u).branches (branch_to n fec label)) (labels_in (s.0 (direction kinds.Ldp n u)))
           ∙ phase_mapped fec label phase.kind u (use_of (part_at world n) label)
           (filter (is_of_owner label) (labels_in (s.0 (direction kinds.Ldp n u))))

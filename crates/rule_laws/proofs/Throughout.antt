@@ -41,9 +41,9 @@ module _ (P : World → Type 0) where
   then_goes K L old (Done acts middle) next g h = by (next middle) (h middle g.0)
     where
       by : (o : Outcome) → Goes L middle o → Goes L old
-          (elim o [ Done behind new ↦ Done (acts ++ behind) new | Halted behind node ↦ Halted (acts ++ behind) node ])
-      by (Done behind new) q = (q.0, both_parts acts behind old middle new g.1 q.1)
-      by (Halted behind node) q = (q.0, q.1, both_parts acts behind old middle q.0 g.1 q.2, q.3)
+          (elim o [ Done thereafter new ↦ Done (acts ++ thereafter) new | Halted thereafter node ↦ Halted (acts ++ thereafter) node ])
+      by (Done thereafter new) q = (q.0, both_parts acts thereafter old middle new g.1 q.1)
+      by (Halted thereafter node) q = (q.0, q.1, both_parts acts thereafter old middle q.0 g.1 q.2, q.3)
 
   one_goes : (K : World → Type 0) → ((world : World) → K world → P world) → (old : World) (one : Act) → P old → Gives K (act old one)
       → Goes K old (one_act old one)

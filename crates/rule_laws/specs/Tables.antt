@@ -55,14 +55,14 @@ is_that fec label own number = same_fec own fec && (number == label)
 abbrev pub has_branch_to : World → NodeId → NodeId → Fec → ℕ → Bool
 has_branch_to world u n fec label = sets.contains (part_at world u).branches (branch_to n fec label)
 
--- whether there is a branch of the tree under the label behind these messages, by whether there was one before
-abbrev pub branch_behind : Fec → ℕ → Bool → List LabelMessage → Bool
-branch_behind fec label before [] = before
-branch_behind fec label before (messages.Mapping own number ∷ more) =
-    branch_behind fec label (if is_that fec label own number then true else before) more
-branch_behind fec label before (messages.Withdraw own number ∷ more) =
-    branch_behind fec label (if is_that fec label own number then false else before) more
-branch_behind fec label before (other ∷ more) = branch_behind fec label before more
+-- whether there is a branch of the tree under the label after these messages, by whether there was one before
+abbrev pub branch_after : Fec → ℕ → Bool → List LabelMessage → Bool
+branch_after fec label before [] = before
+branch_after fec label before (messages.Mapping own number ∷ more) =
+    branch_after fec label (if is_that fec label own number then true else before) more
+branch_after fec label before (messages.Withdraw own number ∷ more) =
+    branch_after fec label (if is_that fec label own number then false else before) more
+branch_after fec label before (other ∷ more) = branch_after fec label before more
 
 -- whether the label is mapped to the tree towards the neighbour
 abbrev pub is_mapped_to : Fec → NodeId → Option LabelUse → Bool
@@ -85,6 +85,6 @@ pub record LabelsInStep (world : World) (u n : NodeId) : Type 0 where
   pub octets : Splits SpellsPdu (on_way world kinds.Ldp n u) to []
   pub octets_back : Splits SpellsPdu (on_way world kinds.Ldp u n) back []
   pub mapped : (fec : Fec) (label : ℕ)
-      → branch_behind fec label (has_branch_to world u n fec label) to ≡ is_mapped_to fec u (use_of (part_at world n) label)
+      → branch_after fec label (has_branch_to world u n fec label) to ≡ is_mapped_to fec u (use_of (part_at world n) label)
   pub leaving : (fec : Fec) (label : ℕ) → use_of (part_at world n) label ≡ Some (uses.Leaving fec u)
       → count_by (is_withdraw fec label) to + count_by (is_release fec label) back ≡ 1

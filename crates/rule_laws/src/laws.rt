@@ -28,7 +28,7 @@ pub fn runs_keep_the_label_rule()
         ThroughoutEvents LabelRule new more }
 {}
 
-/// Behind such a run the octets in transit carry messages by which the label parts of the nodes, their LDP sessions and the copies on
+/// After such a run the octets in transit carry messages by which the label parts of the nodes, their LDP sessions and the copies on
 /// links are a network of label nodes that keeps its rule, and what edges keep of customers and of BGP is a network of edges that
 /// keeps its rule.
 pub fn runs_keep_two_networks()
@@ -36,7 +36,7 @@ pub fn runs_keep_two_networks()
         SoundRun cores script events trace new → AreNetworks new }
 {}
 
-/// Behind such a run the two ends of each joined session are in step: the routes that one of two edges took from the other are those
+/// After such a run the two ends of each joined session are in step: the routes that one of two edges took from the other are those
 /// that the other holds for it, once what is on its way is taken; and the branches of a node towards a neighbour are the labels that
 /// the neighbour has mapped.
 pub fn tables_are_in_step()

@@ -129,28 +129,28 @@ one_next : (o : Outcome) (acts others : List Happened) (next last : World) → o
 one_next o acts others next last e f = cc
 
 -- both stop at one event
-one_place : (before other : List Timed) (timed then_timed : Timed) (after behind : List Timed)
-    → before ++ timed ∷ after ≡ other ++ then_timed ∷ behind
+one_place : (before other : List Timed) (timed then_timed : Timed) (after thereafter : List Timed)
+    → before ++ timed ∷ after ≡ other ++ then_timed ∷ thereafter
     → (old : World) (number : ℕ) (trace again : List Traced) (world last : World) → Runs old number before trace world
     → Runs old number other again last
     → (acts others : List Happened) (node at : NodeId) → outcome world timed ≡ Halted acts node → outcome last then_timed ≡ Halted others at
     → SamePlace before other timed then_timed
-one_place [] [] timed then_timed after behind e old number trace again world last run run1 acts others node at lacks lacks1 =
-    record { first = refl; next = (same_heads timed then_timed after behind e).0 }
-one_place [] (one ∷ other) timed then_timed after behind e old number trace again world last run run1 acts others node at lacks lacks1 =
-    let here : timed ≡ one = (same_heads timed one after (other ++ then_timed ∷ behind) e).0 in
+one_place [] [] timed then_timed after thereafter e old number trace again world last run run1 acts others node at lacks lacks1 =
+    record { first = refl; next = (same_heads timed then_timed after thereafter e).0 }
+one_place [] (one ∷ other) timed then_timed after thereafter e old number trace again world last run run1 acts others node at lacks lacks1 =
+    let here : timed ≡ one = (same_heads timed one after (other ++ then_timed ∷ thereafter) e).0 in
     let stops : outcome old one ≡ Halted acts node = ap (outcome old) (sym here) ∙ ap (λ (w : World). outcome w timed) (sym run.1) ∙ lacks in
     absurd (done_or_halted (outcome old one) run1.0 acts run1.1 node run1.3 stops)
-one_place (one ∷ before) [] timed then_timed after behind e old number trace again world last run run1 acts others node at lacks lacks1 =
-    let here : one ≡ then_timed = (same_heads one then_timed (before ++ timed ∷ after) behind e).0 in
+one_place (one ∷ before) [] timed then_timed after thereafter e old number trace again world last run run1 acts others node at lacks lacks1 =
+    let here : one ≡ then_timed = (same_heads one then_timed (before ++ timed ∷ after) thereafter e).0 in
     let stops : outcome old one ≡ Halted others at = ap (outcome old) here ∙ ap (λ (w : World). outcome w then_timed) (sym run1.1) ∙ lacks1 in
     absurd (done_or_halted (outcome old one) run.0 others run.1 at run.3 stops)
-one_place (one ∷ before) (two ∷ other) timed then_timed after behind e old number trace again world last run run1 acts others node at lacks lacks1 =
-    let heads : (one ≡ two) × (before ++ timed ∷ after ≡ other ++ then_timed ∷ behind) =
-    same_heads one two (before ++ timed ∷ after) (other ++ then_timed ∷ behind) e in
+one_place (one ∷ before) (two ∷ other) timed then_timed after thereafter e old number trace again world last run run1 acts others node at lacks lacks1 =
+    let heads : (one ≡ two) × (before ++ timed ∷ after ≡ other ++ then_timed ∷ thereafter) =
+    same_heads one two (before ++ timed ∷ after) (other ++ then_timed ∷ thereafter) e in
     let next : run.1 ≡ run1.1 = one_next (outcome old one) run.0 run1.0 run.1 run1.1 run.3 (ap (outcome old) heads.0 ∙ run1.3) in
     let rest : SamePlace before other timed then_timed =
-    one_place before other timed then_timed after behind heads.1 run1.1 (number + 1) run.2 run1.2 world last
+    one_place before other timed then_timed after thereafter heads.1 run1.1 (number + 1) run.2 run1.2 world last
     (subst (λ (w : World). Runs w (number + 1) before run.2 world) next run.5) run1.5 acts others node at lacks lacks1 in
     record { first = (λ i. heads.0 i ∷ rest.first i); next = rest.next }
 

@@ -9,7 +9,7 @@ use Rattle.scenario_defs.specs.declared.report.ReportLine.TheVariants as lines
 use Rattle.mvpn_model.specs.Past.{is_accepted}
 use Rattle.mvpn_model.specs.Report.{refused_lines}
 use Rattle.mvpn_model.specs.Sessions.{sessions}
-use Rattle.mvpn_model.specs.Unready.{none_joined, behind, is_ready_in}
+use Rattle.mvpn_model.specs.Unready.{none_joined, thereafter, is_ready_in}
 use Rattle.network_defs.specs.Costs.{Cores}
 use Rattle.network_defs.specs.Counts as counts
 use Rattle.network_defs.specs.Counts.{state_line}
@@ -55,5 +55,5 @@ module _ (cores : Cores) (script : Script) (events : List Timed) (trace : List T
       cut.begins) in
       sym number ∙ told
       ∙ ap (λ (accepted : List Timed). count_by (λ session. not
-      (is_ready_in (fold (behind script.scenario) none_joined (map (λ (timed : Timed). timed.event) accepted)) session))
+      (is_ready_in (fold (thereafter script.scenario) none_joined (map (λ (timed : Timed). timed.event) accepted)) session))
       (sessions script.scenario)) alike

@@ -35,7 +35,7 @@ abbrev pub longer : Option Route → Route → Option Route
 longer None route = Some route
 longer (Some best) route = if nat_le route.prefix.bits best.prefix.bits then Some best else Some route
 
--- of the best so far and the routes behind it, the longest
+-- of the best so far and the routes after it, the longest
 abbrev pub longest_after : Option Route → List Route → Option Route
 longest_after best [] = best
 longest_after best (route ∷ more) = longest_after (longer best route) more

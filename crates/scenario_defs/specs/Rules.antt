@@ -130,7 +130,7 @@ pub record VrfRules (scenario : Scenario) : Type 0 where
   pub each : All (IsVrf scenario) scenario.vrfs
   pub apart : AllPairs AreApart scenario.vrfs
 
--- a prefix of either family without a bit behind its length
+-- a prefix of either family without a bit after its length
 pub record IsSitePrefix (prefix : Prefix) : Type 0 where
   pub addr : IsAddr prefix.addr
   pub bits : IsPrefixOf prefix.addr prefix.bits

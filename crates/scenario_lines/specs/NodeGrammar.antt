@@ -18,7 +18,7 @@ node_words draft row edge id a b =
     new_name draft row a >>= λ name. node_addr_at draft row b >>= λ addr.
     Ok (says.Node id (record { name = name; addr = addr; edge = edge }))
 
--- the words behind `edge` or `core`
+-- the words after `edge` or `core`
 unfoldable pub node_counted : Drafted → Row → Bool → NodeId → List Placed → Result Line TextFault
 node_counted draft row edge id [] = fault row.number row.after reasons.Count
 node_counted draft row edge id (a ∷ []) = fault row.number row.after reasons.Count
@@ -47,7 +47,7 @@ link_words draft row a b c =
     node_at draft row a >>= λ from. other_end_at draft row from b >>= λ to.
     or_fault (number_to 65535 c.text) row c reasons.Number >>= λ cost. link_between row b from to cost
 
--- the words behind `link`
+-- the words after `link`
 unfoldable pub link_counted : Drafted → Row → List Placed → Result Line TextFault
 link_counted draft row [] = fault row.number row.after reasons.Count
 link_counted draft row (a ∷ []) = fault row.number row.after reasons.Count

@@ -22,7 +22,7 @@ unfoldable pub site_words : Drafted → Row → SiteId → Placed → Placed →
 site_words draft row id a b =
     new_name draft row a >>= λ name. prefixes_at row b >>= λ prefixes. Ok (says.Site id (record { name = name; prefixes = prefixes }))
 
--- the words behind `site`
+-- the words after `site`
 unfoldable pub site_counted : Drafted → Row → SiteId → List Placed → Result Line TextFault
 site_counted draft row id [] = fault row.number row.after reasons.Count
 site_counted draft row id (a ∷ []) = fault row.number row.after reasons.Count
@@ -62,7 +62,7 @@ iface_parts draft row a b c d =
 unfoldable pub iface_words : Drafted → Row → IfaceId → Placed → Placed → Placed → Placed → Result Line TextFault
 iface_words draft row id a b c d = iface_parts draft row a b c d >>= λ iface. iface_rules draft row id c iface
 
--- the words behind `iface`
+-- the words after `iface`
 unfoldable pub iface_counted : Drafted → Row → IfaceId → List Placed → Result Line TextFault
 iface_counted draft row id [] = fault row.number row.after reasons.Count
 iface_counted draft row id (a ∷ []) = fault row.number row.after reasons.Count

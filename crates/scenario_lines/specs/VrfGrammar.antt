@@ -57,7 +57,7 @@ unfoldable pub vrf_words : Drafted → Row → VrfId → Placed → Placed → P
 vrf_words draft row id a b c d e f =
     vrf_head draft row a b c >>= λ head. vrf_tail draft row head.edge d e f >>= λ tail. vrf_rules draft row id e head tail
 
--- the words behind `vrf`
+-- the words after `vrf`
 unfoldable pub vrf_counted : Drafted → Row → VrfId → List Placed → Result Line TextFault
 vrf_counted draft row id [] = fault row.number row.after reasons.Count
 vrf_counted draft row id (a ∷ []) = fault row.number row.after reasons.Count

@@ -58,7 +58,7 @@ empty_holds =
           omega arith;
     }
 
--- A line of the scenario, behind which no event stands yet.
+-- A line of the scenario, after which no event stands yet.
 quiet_holds : (draft new : Drafted) (number : ℕ) → Holds draft number → draft.begun ≡ false → new.begun ≡ false → new.events ≡ draft.events → Kept new
     → Holds new (number + 1)
 quiet_holds draft new number h b same events kept =

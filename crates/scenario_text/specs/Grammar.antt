@@ -15,7 +15,7 @@ use Rattle.scenario_lines.specs.scenario_draft.Adding.{added, empty_draft}
 use Rattle.scenario_lines.specs.ScenarioGrammar.{scenario_line}
 use Rattle.scenario_text.specs.event_lines.EventGrammar.{event_line}
 
--- a line by its words, in the scenario and behind it
+-- a line by its words, in the scenario and after it
 unfoldable pub words_line : Drafted → Row → List Placed → Result Line TextFault
 words_line draft row [] = Ok says.Blank
 words_line draft row (first ∷ rest) = if draft.begun then event_line draft row first rest else scenario_line draft row first rest
@@ -24,11 +24,11 @@ words_line draft row (first ∷ rest) = if draft.begun then event_line draft row
 unfoldable pub line_of : Drafted → ℕ → List ℕ → Result Line TextFault
 line_of draft number octets = words_in number octets >>= λ words. words_line draft (row_of number octets) words
 
--- the script, where the line of that number is the one behind the last
+-- the script, where the line of that number is the one after the last
 abbrev pub script_at : Drafted → ℕ → Script
 script_at draft number = record { scenario = draft.scenario; events = draft.events; end = number }
 
--- what the lines from that number on say, behind what is declared
+-- what the lines from that number on say, after what is declared
 abbrev pub script_from : Drafted → ℕ → List (List ℕ) → Result Script TextFault
 script_from draft number [] = if draft.begun then Ok (script_at draft number) else fault number 1 reasons.Events
 script_from draft number (octets ∷ more) = line_of draft number octets >>= λ said. script_from (added draft number said) (number + 1) more

@@ -54,11 +54,11 @@ pub fn read(alloc: Global, text: &[u8]) -> Result<Script, ReadFault>
     let mut number = 1;
     let mut rest = text;
     'lines: while !rest.is_empty() {
-        let (line, behind) = split_line(rest);
+        let (line, thereafter) = split_line(rest);
         let said = line_of(alloc, &draft, number, line)?;
         draft.add(number, said)?;
         number += 1;
-        rest = behind;
+        rest = thereafter;
     }
     if !draft.begun() {
         return Err(ReadFault::Text(fault_at(number, 1, Reason::Events)));

@@ -169,7 +169,7 @@ map_map p (x ∷ xs) = ap (λ (l : List Fec). x.1.fec ∷ l) (map_map p xs)
 
 -- ---- the order along the list
 
--- No entry of the first kind stands behind one of the second.
+-- No entry of the first kind stands after one of the second.
 abbrev NoneBehind : (Entry → Bool) → (Entry → Bool) → Type 0
 NoneBehind t u = (e f : Entry) → u e ≡ true → t f ≡ true → route_cmp e.0 f.0 ≡ Less → ⊥
 

@@ -17,7 +17,7 @@ use Rattle.mv_base.specs.declared.ids.NodeId.{NodeId}
 use Rattle.mv_base.specs.declared.pattern.Pattern.{Pattern}
 use Rattle.mv_base.proofs.SortedMaps.{level, same_bool, then_equal, through, tied_numbers}
 use Rattle.selective_defs.specs.Parts.{word_part}
-use Rattle.selective_defs.proofs.PartLemmas.{first, behind, one_word}
+use Rattle.selective_defs.proofs.PartLemmas.{first, thereafter, one_word}
 use Rattle.selective_defs.proofs.PatternLemmas.{both_true}
 use Rattle.selective.specs.declared.route_key.Learned.{Learned}
 use Rattle.selective.specs.declared.route_key.Place.{Place}
@@ -31,7 +31,7 @@ use Rattle.selective.proofs.RootLemmas.{one_pattern, pattern_itself}
 -- ---- what ties is equal
 
 abbrev place_back : List ℕ → Place
-place_back part = cond (first part == 0) First (cond (first part == 1) (Of (record { 0 = behind part })) Last)
+place_back part = cond (first part == 0) First (cond (first part == 1) (Of (record { 0 = thereafter part })) Last)
 
 place_again : (place : Place) → place_back (place_part place) ≡ place
 place_again First = refl

@@ -80,7 +80,7 @@ pub record IsBefore (one other : RouteKey × Learned) : Type 0 where
   pub rank : rank other.0.pattern ≤ rank one.0.pattern
   pub rd : one.0.pattern ≡ other.0.pattern → slice_cmp nat_cmp (place_part one.0.place) (place_part other.0.place) ≡ Less
 
--- each route stands before those behind it
+-- each route stands before those after it
 abbrev pub InOrder : List (RouteKey × Learned) → Type 0
 InOrder [] = Unit {0}
 InOrder (entry ∷ more) = ((other : RouteKey × Learned) → Among other more → IsBefore entry other) × InOrder more

@@ -13,7 +13,7 @@ pub fn tests_are()
     ensures same { (one other : Pattern) → IsTrue (same_pattern one other) ↔ (one ≡ other) }
 {}
 
-/// Of the routes of a peer, each is at least as specific as those behind it, and has a lower route distinguisher than those
+/// Of the routes of a peer, each is at least as specific as those after it, and has a lower route distinguisher than those
 /// of its pattern.
 pub fn routes_in_order()
     ensures { (peer : NodeId) (routes : Routes) → InOrder (peer_entries peer routes) }

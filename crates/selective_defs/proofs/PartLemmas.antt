@@ -8,12 +8,12 @@ abbrev pub first : List ℕ → ℕ
 first [] = 0
 first (number ∷ rest) = number
 
-abbrev pub behind : List ℕ → List ℕ
-behind [] = []
-behind (number ∷ rest) = rest
+abbrev pub thereafter : List ℕ → List ℕ
+thereafter [] = []
+thereafter (number ∷ rest) = rest
 
 abbrev pub addr_back : List ℕ → Addr
-addr_back part = cond (first part == 4) (V4 (behind part)) (V6 (behind part))
+addr_back part = cond (first part == 4) (V4 (thereafter part)) (V6 (thereafter part))
 
 pub addr_again : (addr : Addr) → addr_back (addr_key addr) ≡ addr
 addr_again (V4 octets) = refl

@@ -21,7 +21,7 @@ const TOLD: [u8; 84] = [
 ];
 
 /// What E2 sends E1 after the join.
-fn told_behind(second: &mut EdgeInCore) -> Option<Bytes> {
+fn told_after(second: &mut EdgeInCore) -> Option<Bytes> {
     if second.take_pim(JOIN.as_slice()) {
         Some(second.take_out())
     } else {
@@ -36,7 +36,7 @@ fn a_join_is_told(rt: HostRuntime) -> Result<(), Fail> {
     let mut second = second_edge(&rt, alloc);
     let met = meet(&mut first, &mut second);
     let quiet = first.take_out().is_empty() && second.take_out().is_empty();
-    let told = told_behind(&mut second);
+    let told = told_after(&mut second);
     first.close();
     second.close();
     assert!(rt; met);

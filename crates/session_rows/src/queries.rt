@@ -46,13 +46,13 @@ fn a_flow_is_selected(rt: HostRuntime) -> Result<(), Fail> {
     let mut first = first_edge(&rt, rt.alloc());
     let before = first.selected(OF_FLOW);
     let selects = first.select(OF_FLOW);
-    let behind = (first.selected(OF_FLOW), first.due(10), first.due(11));
+    let thereafter = (first.selected(OF_FLOW), first.due(10), first.due(11));
     let unselects = first.unselect(OF_FLOW);
     let after = (first.selected(OF_FLOW), first.due(11));
     first.close();
     assert_eq!(rt; before, (false, 0));
     assert!(rt; selects);
-    assert_eq!(rt; behind, ((true, 1), 0, 1));
+    assert_eq!(rt; thereafter, ((true, 1), 0, 1));
     assert!(rt; unselects);
     assert_eq!(rt; after, ((false, 0), 0));
     Ok(())

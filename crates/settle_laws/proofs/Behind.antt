@@ -41,9 +41,9 @@ pub record Through (old : World) (number : ℕ) (before : List Timed) (timed : T
   pub parts : trace ≡ first ++ rest
   pub run : Runs old number (before ++ timed ∷ []) first next
 
-pub through : (before : List Timed) (timed : Timed) (behind : List Timed) (old : World) (number : ℕ) (trace : List Traced) (new : World)
-    → Runs old number (before ++ timed ∷ behind) trace new → Through old number before timed trace
-through [] timed behind old number trace new (acts, next, rest, done, parts, more) = record {
+pub through : (before : List Timed) (timed : Timed) (thereafter : List Timed) (old : World) (number : ℕ) (trace : List Traced) (new : World)
+    → Runs old number (before ++ timed ∷ thereafter) trace new → Through old number before timed trace
+through [] timed thereafter old number trace new (acts, next, rest, done, parts, more) = record {
   middle = old;
   before_trace = [];
   before_run = (refl, refl);
@@ -55,8 +55,8 @@ through [] timed behind old number trace new (acts, next, rest, done, parts, mor
   parts = parts;
   run = (acts, next, [], done, sym (append-nil (traced number acts)), (refl, refl));
 }
-through (one ∷ before) timed behind old number trace new (acts, next, rest, done, parts, more) =
-    let x = through before timed behind next (number + 1) rest new more in
+through (one ∷ before) timed thereafter old number trace new (acts, next, rest, done, parts, more) =
+    let x = through before timed thereafter next (number + 1) rest new more in
     record {
       middle = x.middle;
       before_trace = traced number acts ++ x.before_trace;
@@ -70,7 +70,7 @@ through (one ∷ before) timed behind old number trace new (acts, next, rest, do
       run = (acts, next, x.first, done, refl, x.run);
     }
 
--- ---- behind a run
+-- ---- after a run
 
 pub run_settles : (cores : Cores) (script : Script) (all : List Timed) (trace : List Traced) (old new : World) (line : ℕ) (acts : List Happened)
     → SoundRun cores script all trace old

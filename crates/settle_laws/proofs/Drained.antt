@@ -1,4 +1,4 @@
--- Behind `drain` no copy is on a link: each round lowers the TTL of each.
+-- After `drain` no copy is on a link: each round lowers the TTL of each.
 use Rattle.std.proofs.Common.{◌≡◌, ◌≤◌, ℕ, zero, suc, ◌-◌, ◌==◌, ◌&&◌, Bool, true, false, cond, List, [], ◌∷◌, ◌++◌, map, flat_map, replicate, length, slice_get, Option, Some, None, inl, inr, refl, sym, ap, subst, ◌∙◌, le_trans, arith}
 use Rattle.std.specs.List.{AllByRecursion, list_any, remove}
 use Rattle.std.proofs.lemmas.Bool.{and_parts, and_from, or_cases}
@@ -21,7 +21,7 @@ use Rattle.settle_laws.proofs.Ttl.{IsAlive, AreAlive, on_branches}
 
 -- ---- the copies of one way
 
--- the first so many copies go at most one hop further than a number says, and those behind them at most so far
+-- the first so many copies go at most one hop further than a number says, and those after them at most so far
 abbrev Fronted : ℕ → ℕ → List LinkCopy → Type 0
 Fronted most zero copies = AllByRecursion (IsAlive most) copies
 Fronted most (suc count) [] = Unit {0}
@@ -77,7 +77,7 @@ fewer_le : (t : Bool) (k : ℕ) → cond t (k - 1) k ≤ k
 fewer_le true k = omega arith
 fewer_le false k = omega arith
 
--- the counts behind landings on these ways
+-- the counts after landings on these ways
 abbrev after : List (NodeId × NodeId) → Counts → Counts
 after [] counts = counts
 after (way ∷ others) counts = after others (fewer counts way.0 way.1)
@@ -121,7 +121,7 @@ module _ (lengths : Counts) where
 
 -- ---- worlds
 
--- on these ways the first copies go one hop further than those behind them
+-- on these ways the first copies go one hop further than those after them
 abbrev Staged : List (NodeId × NodeId) → ℕ → Counts → World → Type 0
 Staged ways most counts world = (u n : NodeId) → is_way ways u n ≡ true → Fronted most (counts u n) (world.copies u n)
 

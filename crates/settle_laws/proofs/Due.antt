@@ -1,4 +1,4 @@
--- Behind its timers no timer of an edge is due, and while the clock stands still none becomes due.
+-- After its timers no timer of an edge is due, and while the clock stands still none becomes due.
 use Rattle.std.proofs.Common.{◌≡◌, ◌≤◌, ℕ, ◌+◌, ◌&&◌, ◌||◌, not, nat_le, Bool, true, false, cond, inl, inr, List, [], ◌∷◌, map, fold, Option, Some, None, is_some, refl, sym, ap, subst, ◌∙◌, arith}
 use Rattle.std.specs.List.{list_any, sum_by, count_by}
 use Rattle.std.specs.FinMap as maps

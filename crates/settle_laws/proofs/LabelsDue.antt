@@ -1,4 +1,4 @@
--- Behind its timers no timer of a label part is due, and while the clock stands still none becomes due.
+-- After its timers no timer of a label part is due, and while the clock stands still none becomes due.
 use Rattle.std.proofs.Common.{◌≡◌, ℕ, ◌+◌, ◌-◌, ◌==◌, ◌&&◌, ◌||◌, not, nat_le, nat_lt, Bool, true, false, cond, inl, inr, List, [], ◌∷◌, map, fold, Option, Some, None, option_map, slice_get, refl, sym, ap, subst, ◌∙◌, arith}
 use Rattle.std.specs.List.{AllByRecursion, sum_by, count_by}
 use Rattle.std.specs.FinMap as maps

@@ -37,7 +37,7 @@ use Rattle.rule_laws.proofs.Calls.{left}
 use Rattle.rule_laws.proofs.Octets.{units_carried}
 use Rattle.settle_laws.proofs.Turns.{Going, Low, lower, turn_on}
 
--- the network behind acts has the property, if there is one
+-- the network after acts has the property, if there is one
 abbrev pub OnNet : (OctetNetwork Nodes → Type 0) → Option (Behind (OctetNetwork Nodes)) → Type 0
 OnNet P None = ⊤
 OnNet P (Some new) = P new.network
@@ -138,9 +138,9 @@ module _ (scenario : Scenario) (copies : Copies) (datagrams : List Datagram) (de
       (subst (OnNet (Round (cut bounds over r))) (moved_alike scenario old over count)
       (from_seen (cut bounds over r) (moved (sound_system scenario) old over count)
       (message_run (sound_system scenario) (seen old pending) (deliveries over m.first)) m.outcome
-      (λ behind is. turn_on depth most scenario copies datagrams over.kind over.from over.to most_is node (cut bounds over r) r
+      (λ thereafter is. turn_on depth most scenario copies datagrams over.kind over.from over.to most_is node (cut bounds over r) r
       (λ d. least_cut (same_direction d over) r (bounds d) (least d))
-      m.first (each_front (IsCarried over.kind) m.first m.rest all) first_low (seen old pending) m.rest round.going joined m.parts rest_low behind
+      m.first (each_front (IsCarried over.kind) m.first m.rest all) first_low (seen old pending) m.rest round.going joined m.parts rest_low thereafter
       is)))
 
 -- ---- a move in octets
@@ -155,7 +155,7 @@ both_puts : (j : Bool) (old first then_puts : List ℕ)
 both_puts true old first then_puts = append_assoc old first then_puts
 both_puts false old first then_puts = refl
 
--- what is in transit behind messages that are taken: what was there, and what was put
+-- what is in transit after messages that are taken: what was there, and what was put
 taken_transit : (over : Direction) (messages : List SessionMessage) (old : OctetNetwork Nodes) (new : Behind (OctetNetwork Nodes))
     → all_taken system old over messages ≡ Some new
     → (d : Direction) → new.network.transit d ≡ cond (old.joined d) (old.transit d ++ octets_over d new.puts) (old.transit d)

@@ -1,4 +1,4 @@
--- Behind `heal`, `settle`, a tick of more than the life of a copy and `settle` each session stands ready.
+-- After `heal`, `settle`, a tick of more than the life of a copy and `settle` each session stands ready.
 use Rattle.std.specs.Prelude.{if◌then◌else◌}
 use Rattle.std.proofs.Common.{◌≡◌, ◌<◌, ℕ, ◌+◌, ◌||◌, nat_le, Bool, true, false, cond, List, [], ◌∷◌, Option, Some, None, inl, inr, refl, sym, subst, ◌∙◌, arith}
 use Rattle.std.specs.List.{fold}
@@ -11,7 +11,7 @@ use Rattle.scenario_defs.specs.declared.scenario.Scenario.{Scenario}
 use Rattle.mvpn_model.specs.Sessions.{sessions}
 use Rattle.mvpn_model.specs.declared.readiness.UpEnd.{UpEnd}
 use Rattle.mvpn_model.specs.declared.session.Session.{Session}
-use Rattle.mvpn_model.specs.Unready.{SessionsStand, hold_run, is_that, raised, healed, behind, is_held}
+use Rattle.mvpn_model.specs.Unready.{SessionsStand, hold_run, is_that, raised, healed, thereafter, is_held}
 use Rattle.mvpn_model.proofs.SessionLemmas.{IsIn, other_way, own_session}
 use Rattle.settle_laws.proofs.Raised.{IsUpBy, BothUp}
 
@@ -78,7 +78,7 @@ all_join (own ∷ others) old session (inr is) = all_join others (healed old own
 
 -- ---- timers and time
 
--- an end is up, and came up at that clock or before, behind the timers
+-- an end is up, and came up at that clock or before, after the timers
 run_up : (life clock now : ℕ) (o : Option UpEnd) → IsUpBy now o → IsUpBy now (elim o [ None ↦ None | Some end ↦ Some (hold_run life clock end) ])
 run_up life clock now None up = absurd up
 run_up life clock now (Some end) up = up
@@ -90,10 +90,10 @@ run_held life before count None lt up = absurd up
 run_held life before count (Some end) lt up =
     or_right end.held (nat_le (end.raised + life + 1) (before + count)) (le-leb (end.raised + life + 1) (before + count) (omega (arith, lt, up)))
 
--- Where the sessions stand behind these events.
+-- Where the sessions stand after these events.
 abbrev pub calmed : Scenario → ℕ → SessionsStand → SessionsStand
 calmed scenario count old =
-    behind scenario (behind scenario (behind scenario (behind scenario old events.Heal) events.Settle) (events.Tick count)) events.Settle
+    thereafter scenario (thereafter scenario (thereafter scenario (thereafter scenario old events.Heal) events.Settle) (events.Tick count)) events.Settle
 
 -- A session is joined, and the holds of both ends over LDP were run.
 pub record StandsReady (standing : SessionsStand) (session : Session) : Type 0 where
@@ -104,7 +104,7 @@ pub record StandsReady (standing : SessionsStand) (session : Session) : Type 0 w
 pub calmed_ready : (scenario : Scenario) (count : ℕ) (old : SessionsStand) → scenario.life < count → ((a b : NodeId) → BothUp old a b)
     → (session : Session) → IsIn session (sessions scenario) → StandsReady (calmed scenario count old) session
 calmed_ready scenario count old lt up session is =
-    let all = behind scenario old events.Heal in
+    let all = thereafter scenario old events.Heal in
     let joined = all_join (sessions scenario) old session is in
     let both : session.kind ≡ kinds.Ldp → IsUpBy all.clock (all.end kinds.Ldp session.a session.b)
     × IsUpBy all.clock (all.end kinds.Ldp session.b session.a) = λ k.

@@ -1,4 +1,4 @@
--- Behind `heal`, `settle`, a tick of more than the life of a copy and `settle` the network is at rest.
+-- After `heal`, `settle`, a tick of more than the life of a copy and `settle` the network is at rest.
 use Rattle.std.proofs.Common.{◌≡◌, ◌<◌, ℕ, ◌+◌, ◌&&◌, not, true, false, List, [], ◌∷◌, ◌++◌, Option, Some, None, option_map, inl, inr, refl, sym, ap, subst, ◌∙◌, append_assoc}
 use Rattle.std.specs.FinMap as maps
 use Rattle.std.specs.List.{AllByRecursion}
@@ -13,7 +13,7 @@ use Rattle.scenario_defs.specs.declared.event.Timed.{Timed}
 use Rattle.scenario_defs.specs.declared.report.ReportLine.TheVariants as lines
 use Rattle.scenario_defs.specs.declared.scenario.Scenario.{Scenario}
 use Rattle.mvpn_model.specs.Sessions.{sessions}
-use Rattle.mvpn_model.specs.Unready.{SessionsStand, behind, is_held}
+use Rattle.mvpn_model.specs.Unready.{SessionsStand, thereafter, is_held}
 use Rattle.mvpn_model.specs.declared.session.Session.{Session}
 use Rattle.mvpn_model.proofs.SessionLemmas.{IsIn}
 use Rattle.selective_defs.specs.Selective.{Among}
@@ -70,12 +70,12 @@ tells_itself scenario world same = record {
   alike = record { clock = refl; each = λ session is. record { joined = refl; near = λ k. refl; far = λ k. refl } };
 }
 
--- behind an event that is not refused
+-- after an event that is not refused
 done_tells : (scenario : Scenario) → HasNodes scenario → (told : SessionsStand) (world : World) → Tells scenario told world
-    → (event : Event) (acts : List Happened) (next : World) → done world event ≡ Done acts next → Tells scenario (behind scenario told event) next
+    → (event : Event) (acts : List Happened) (next : World) → done world event ≡ Done acts next → Tells scenario (thereafter scenario told event) next
 done_tells scenario has told world t event acts next e =
-    (subst (Comes (Tells scenario (behind scenario told event))) e
-    (subst (λ (own : Scenario). HasNodes own → Tells own told world → Comes (Tells own (behind own told event)) (done world event))
+    (subst (Comes (Tells scenario (thereafter scenario told event))) e
+    (subst (λ (own : Scenario). HasNodes own → Tells own told world → Comes (Tells own (thereafter own told event)) (done world event))
     t.stands.nodes.place (λ own tells. event_tells told world own tells event) has t)).1
 
 held_by : (o : Option End) → is_held (option_map up_end o) ≡ true → elim o [ None ↦ false | Some end ↦ end.held ] ≡ true
@@ -126,7 +126,7 @@ one_more (first ∷ others) timed old number trace middle acts next (own, world,
     let x = one_more others timed world (number + 1) rest middle acts next more e in
     (traced number own ++ x.0, (own, world, x.0, is, refl, x.1))
 
--- The network is behind a run of a sound scenario by sound events.
+-- The network is after a run of a sound scenario by sound events.
 record Reached (cores : Cores) (script : Script) (world : World) : Type 0 where
   all : List Timed
   trace : List Traced
@@ -211,22 +211,22 @@ run_rests cores script all trace after old new number first second third fourth 
 
 -- ---- within a run
 
--- a run of some events and others behind them, in its two parts
-record Parted (old : World) (number : ℕ) (before behind : List Timed) (trace : List Traced) (new : World) : Type 0 where
+-- a run of some events and others after them, in its two parts
+record Parted (old : World) (number : ℕ) (before thereafter : List Timed) (trace : List Traced) (new : World) : Type 0 where
   middle : World
   place : ℕ
   early : List Traced
   late : List Traced
   parts : trace ≡ early ++ late
   first : Runs old number before early middle
-  rest : Runs middle place behind late new
+  rest : Runs middle place thereafter late new
 
-parted : (before behind : List Timed) (old : World) (number : ℕ) (trace : List Traced) (new : World) → Runs old number (before ++ behind) trace new
-    → Parted old number before behind trace new
-parted [] behind old number trace new run =
+parted : (before thereafter : List Timed) (old : World) (number : ℕ) (trace : List Traced) (new : World) → Runs old number (before ++ thereafter) trace new
+    → Parted old number before thereafter trace new
+parted [] thereafter old number trace new run =
     record { middle = old; place = number; early = []; late = trace; parts = refl; first = (refl, refl); rest = run }
-parted (one ∷ before) behind old number trace new (acts, next, others, is, parts, more) =
-    let x = parted before behind next (number + 1) others new more in
+parted (one ∷ before) thereafter old number trace new (acts, next, others, is, parts, more) =
+    let x = parted before thereafter next (number + 1) others new more in
     record {
       middle = x.middle;
       place = x.place;

@@ -204,9 +204,9 @@ module _ (scenario : Scenario) (costs : Costs) (depth : NodeId → Fec → ℕ) 
     low_top true r high e = omega arith
     low_top false r high e = absurd cc
 
-    behind_round : (t : Bool) (x r b high : ℕ) → (t ≡ true → x ≤ r) → x ≤ b → (t ≡ false → b ≡ high) → x ≤ cond t r high
-    behind_round true x r b high h k e = h refl
-    behind_round false x r b high h k e = let same = e refl in omega (arith, k, same)
+    after_round : (t : Bool) (x r b high : ℕ) → (t ≡ true → x ≤ r) → x ≤ b → (t ≡ false → b ≡ high) → x ≤ cond t r high
+    after_round true x r b high h k e = h refl
+    after_round false x r b high h k e = let same = e refl in omega (arith, k, same)
 
     round_lowers : (r : ℕ) → suc r ≤ most + 2 → (world : World) → Below (suc r) world → Comes (Below r) (each turn order world)
     round_lowers r le world round =
@@ -214,7 +214,7 @@ module _ (scenario : Scenario) (costs : Costs) (depth : NodeId → Fec → ℕ) 
         let least : (d : Direction) → r ≤ bounds d = λ d. high_least (is_in order d) r le in
         comes_as (WorldRound (all_lowered order bounds r)) (Below r) (each turn order world)
         (weaker (all_lowered order bounds r) (bound_of order r (most + 2)) (λ d.
-        behind_round (is_in order d) (all_lowered order bounds r d) r (bounds d) (most + 2) (listed_low order bounds r least d)
+        after_round (is_in order d) (all_lowered order bounds r d) r (bounds d) (most + 2) (listed_low order bounds r least d)
         (all_lowered_le order bounds r least d) (λ f. ap (λ (b : Bool). cond b (suc r) (most + 2)) f)))
         (each_round r order nodes bounds least (all_of_among (λ d. bounds d ≤ suc r) order
         (λ d a. low_top (is_in order d) r (most + 2) (any_from (same_direction d) d order a (own_direction d)))) world round)
@@ -309,7 +309,7 @@ module _ (scenario : Scenario) (costs : Costs) (depth : NodeId → Fec → ℕ) 
         turned true false c e = refl
         turned false b c e = e
 
-    -- behind all rounds: the messages, and the octets
+    -- after all rounds: the messages, and the octets
     abbrev pub Ended : World → Type 0
     Ended world = Below 0 world × Emptied (is_in order) world
 

@@ -120,9 +120,9 @@ timers_row_rests place now more are part row e =
 
 -- ---- a step of an edge, taken apart
 
--- an edge behind a row of label steps, with all that it puts
-abbrev pub edge_behind : Nodes → NodeId → EdgeData → steps.Call → List LabelStep → Stepped Nodes
-edge_behind nodes n edge call row =
+-- an edge after a row of label steps, with all that it puts
+abbrev pub edge_thereafter : Nodes → NodeId → EdgeData → steps.Call → List LabelStep → Stepped Nodes
+edge_thereafter nodes n edge call row =
     let control = control_step (place_of nodes n) nodes.clock edge.control call in
     record {
       state = with_node nodes n (Edge (record {
@@ -140,7 +140,7 @@ pub record EdgeRow (nodes : Nodes) (n : NodeId) (edge : EdgeData) (call : steps.
   pub made : label_row (place_of nodes n) nodes.clock edge.part
       (one_call (own_label_call call) ++ changed_leaves (leaves (place_of nodes n) edge.control)
       (leaves (place_of nodes n) (control_step (place_of nodes n) nodes.clock edge.control call))) ≡ Some row
-  pub same : edge_behind nodes n edge call row ≡ new
+  pub same : edge_thereafter nodes n edge call row ≡ new
 
 pub edge_row : (nodes : Nodes) (n : NodeId) (edge : EdgeData) (call : steps.Call) (new : Stepped Nodes) → edge_stepped nodes n edge call ≡ Some new
     → EdgeRow nodes n edge call new
@@ -152,7 +152,7 @@ edge_row nodes n edge call new e =
       puts = bgp_puts place edge.control made.edge.control
           ++ flat_map (puts_of n (addr_of nodes.scenario n) (label_place_of nodes n) nodes.clock) made.row;
     } in
-    let behind_row : List LabelStep → EdgeStepped =
+    let after_row : List LabelStep → EdgeStepped =
     λ row. record {
       edge =
           record { control = control; part = part_after edge.part row; raised = raised_after nodes.clock edge.raised call };
@@ -160,8 +160,8 @@ edge_row nodes n edge call new e =
     } in
     let calls : List labels.Call = one_call (own_label_call call) ++ changed_leaves (leaves place edge.control) (leaves place control) in
     let x = bind_some (edge_step place nodes.clock edge call) (λ made. Some (stepped made)) new e in
-    let y = bind_some (label_row place nodes.clock edge.part calls) (λ row. Some (behind_row row)) x.0 x.1 in
-    record { row = y.0; made = y.1; same = ap stepped (same_Some (behind_row y.0) x.0 y.2) ∙ same_Some (stepped x.0) new x.2 }
+    let y = bind_some (label_row place nodes.clock edge.part calls) (λ row. Some (after_row row)) x.0 x.1 in
+    record { row = y.0; made = y.1; same = ap stepped (same_Some (after_row y.0) x.0 y.2) ∙ same_Some (stepped x.0) new x.2 }
 
 core_made : (nodes : Nodes) (n : NodeId) (part : LabelData) (call : labels.Call) (new : Stepped Nodes)
     → core_called nodes n part (Some call) ≡ Some new
@@ -243,7 +243,7 @@ module _ (depth : NodeId → Fec → ℕ) (most : ℕ) where
 
   -- ---- a message that is taken
 
-  -- the node behind a step, still, and what it puts, below a bound
+  -- the node after a step, still, and what it puts, below a bound
   pub record Answered (nodes : Nodes) (b : NodeId) (bound : ℕ) (new : Stepped Nodes) : Type 0 where
     pub node : NodeState
     pub state : new.state ≡ with_node nodes b node
@@ -396,7 +396,7 @@ module _ (depth : NodeId → Fec → ℕ) (most : ℕ) where
 
 -- ---- timers
 
--- the node behind its timers is still
+-- the node after its timers is still
 pub record TimersRun (nodes : Nodes) (n : NodeId) (new : Stepped Nodes) : Type 0 where
   pub node : NodeState
   pub state : new.state ≡ with_node nodes n node

@@ -202,14 +202,14 @@ abbrev pub SteadyBehind : Costs → Option (Behind (OctetNetwork Nodes)) → Typ
 SteadyBehind costs None = ⊤
 SteadyBehind costs (Some new) = Steady costs new.network
 
-both_behind : (costs : Costs) (o : Option (Behind (OctetNetwork Nodes))) → StreamsBehind o → NetHas costs o → SteadyBehind costs o
-both_behind costs None s h = tt
-both_behind costs (Some new) s h = record { streams = s; costs_are = h }
+both_after : (costs : Costs) (o : Option (Behind (OctetNetwork Nodes))) → StreamsBehind o → NetHas costs o → SteadyBehind costs o
+both_after costs None s h = tt
+both_after costs (Some new) s h = record { streams = s; costs_are = h }
 
 pub run_steady : (costs : Costs) (acts : List (OctetAct NodeCall)) → AllByRecursion IsSteadyOctetAct acts → (old : OctetNetwork Nodes)
     → Steady costs old → SteadyBehind costs (octet_run system old acts)
 run_steady costs acts are old s =
-    both_behind costs (octet_run system old acts) (run_streams acts old s.streams) (run_net costs acts are old s.costs_are)
+    both_after costs (octet_run system old acts) (run_streams acts old s.streams) (run_net costs acts are old s.costs_are)
 
 abbrev pub WorldSteady : Costs → World → Type 0
 WorldSteady costs world = Steady costs world.network

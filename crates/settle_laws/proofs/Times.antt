@@ -1,4 +1,4 @@
--- Copies do not outlive their life: behind a tick of more than it no copy is on a link, and `settle` puts none there.
+-- Copies do not outlive their life: after a tick of more than it no copy is on a link, and `settle` puts none there.
 use Rattle.std.specs.Prelude.{Result, Ok, Err}
 use Rattle.std.proofs.Common.{◌≡◌, ◌≤◌, ◌<◌, ℕ, ◌+◌, ◌-◌, ◌==◌, ◌&&◌, nat_le, zero, suc, take, Bool, true, false, cond, List, [], ◌∷◌, ◌++◌, map, flat_map, filter, length, slice_get, Option, Some, None, refl, sym, ap, subst, ◌∙◌, arith}
 use Rattle.std.specs.List.{AllByRecursion, remove}
@@ -47,7 +47,7 @@ stands_at world =
           λ kind n peer. end_of world.network.state n peer;
     }
 
--- the world behind an act has the scenario, and its clock is not before
+-- the world after an act has the scenario, and its clock is not before
 abbrev GoesOn : World → World → Type 0
 GoesOn world new = (scenario_of new ≡ scenario_of world) × (clock_of world ≤ clock_of new)
 

@@ -1,4 +1,4 @@
--- The network behind an event of a run.
+-- The network after an event of a run.
 use Rattle.std.specs.Prelude.{◌≡◌, ℕ, List, [], ◌∷◌, ◌++◌}
 use Rattle.scenario_defs.specs.declared.event.Event.TheVariants as events
 use Rattle.scenario_defs.specs.declared.event.Script.{Script}
@@ -23,7 +23,7 @@ tick_at line count = record { line = line; event = events.Tick count }
 abbrev pub state_at : ℕ → Timed
 state_at line = record { line = line; event = events.State }
 
--- A run of these events is the beginning of what happened, and the network behind it has a property.
+-- A run of these events is the beginning of what happened, and the network after it has a property.
 pub record IsBehind (cores : Cores) (script : Script) (events : List Timed) (trace : List Traced) (P : World → Type 0) : Type 0 where
   pub world : World
   pub first : List Traced

@@ -1,4 +1,4 @@
-//! What `settle` and `drain` leave behind.
+//! What `settle` and `drain` leave after.
 ghost use Rattle.std.specs.Prelude.{◌≡◌, ◌<◌, true, ◌++◌, ℕ, List, [], ◌∷◌, Some, length};
 ghost use Rattle.std.specs.List.{AllByRecursion};
 ghost use Rattle.mv_base.specs.declared.ids.NodeId.{NodeId};
@@ -23,8 +23,8 @@ ghost use Rattle.settle_laws.specs.Behind.{IsBehind, settle_at, drain_at, tick_a
 ghost use Rattle.settle_laws.specs.Ranks.{IsFresh, IsQuietAt, joins_only, IsJoin};
 ghost use Rattle.settle_laws.specs.Rest.{calming, IsAtRest};
 
-/// Behind a `settle` that comes next after a run of a sound scenario, by its cores and by sound events, no octet is in transit and no
-/// timer is due, unless a node lacks a label on the way. So it is behind each `settle` within such a run.
+/// After a `settle` that comes next after a run of a sound scenario, by its cores and by sound events, no octet is in transit and no
+/// timer is due, unless a node lacks a label on the way. So it is after each `settle` within such a run.
 pub fn settle_settles()
     ensures next { (cores : Cores) (script : Script) (events : List Timed) (trace : List Traced) (old new : World) (line : ℕ) →
         (acts : List Happened) → SoundRun cores script events trace old → outcome old (settle_at line) ≡ Done acts new → IsSettled new }
@@ -33,7 +33,7 @@ pub fn settle_settles()
         IsBehind cores script (before ++ settle_at line ∷ []) trace IsSettled }
 {}
 
-/// Behind a `drain` that comes next after any run, and behind each one within a run, no copy is on a link. What was settled stays so.
+/// After a `drain` that comes next after any run, and after each one within a run, no copy is on a link. What was settled stays so.
 pub fn drain_drains()
     ensures next { (cores : Cores) (script : Script) (events : List Timed) (trace : List Traced) (old new : World) (line : ℕ) →
         (acts : List Happened) → Run cores script events trace old → outcome old (drain_at line) ≡ Done acts new → IsDrained new }
@@ -44,7 +44,7 @@ pub fn drain_drains()
         IsSettled old → outcome old (drain_at line) ≡ Done acts new → IsSettled new }
 {}
 
-/// Copies do not outlive their life. Behind a `tick` of more than it that comes next after any run, no copy is on a link, and `settle`
+/// Copies do not outlive their life. After a `tick` of more than it that comes next after any run, no copy is on a link, and `settle`
 /// puts none there.
 pub fn time_drains()
     ensures next { (cores : Cores) (script : Script) (events : List Timed) (trace : List Traced) (old new : World) (line count : ℕ) →
@@ -63,7 +63,7 @@ pub fn zeros_are_told()
 {}
 
 /// Whatever happened before: where `heal`, `settle`, a `tick` of more than the life of a copy and `settle` come next, and no node lacks a
-/// label, no octet is in transit behind them, no copy is on a link, no timer is due and each session is ready. So it is wherever they
+/// label, no octet is in transit after them, no copy is on a link, no timer is due and each session is ready. So it is wherever they
 /// stand in a run, and `state` tells of zeros alone there.
 pub fn calm_is_reached()
     ensures next { (cores : Cores) (script : Script) (events : List Timed) (trace after : List Traced) (old new : World) →
@@ -78,7 +78,7 @@ pub fn calm_is_reached()
         outcome world (state_at line) ≡ Done (record { act = Some Tell; lines = State 0 0 0 0 0 ∷ [] } ∷ []) world }
 {}
 
-/// What an edge puts over BGP in answer to a route is Source Tree Joins alone. Behind its timers its flows are those asked for at the
+/// What an edge puts over BGP in answer to a route is Source Tree Joins alone. After its timers its flows are those asked for at the
 /// clock, and while they are, it puts nothing in answer to joins or to a label message, and its leaves stay.
 pub fn answers_over_bgp()
     ensures routes { (place : EdgePlace) (now : ℕ) (old : Control) (peer to : NodeId) (message : Message) →

@@ -41,33 +41,33 @@ parts same None (Some next) = refl
 parts same (Some value) (Some next) = told (same value next) next
 
 module _ {K V : Type 0} (cmp : K → K → Ordering) where
-  pub values_at-append : (key : K) (front behind : List (Change K V))
-      → values_at cmp key (front ++ behind) ≡ values_at cmp key front ++ values_at cmp key behind
-  values_at-append key [] behind = refl
-  values_at-append key (change ∷ front) behind =
-      ap (λ values. cond (eq_by_cmp cmp key (key_of change)) (value_of change ∷ values) values) (values_at-append key front behind)
-      ∙ joined (eq_by_cmp cmp key (key_of change)) (value_of change) (values_at cmp key front) (values_at cmp key behind)
+  pub values_at-append : (key : K) (front thereafter : List (Change K V))
+      → values_at cmp key (front ++ thereafter) ≡ values_at cmp key front ++ values_at cmp key thereafter
+  values_at-append key [] thereafter = refl
+  values_at-append key (change ∷ front) thereafter =
+      ap (λ values. cond (eq_by_cmp cmp key (key_of change)) (value_of change ∷ values) values) (values_at-append key front thereafter)
+      ∙ joined (eq_by_cmp cmp key (key_of change)) (value_of change) (values_at cmp key front) (values_at cmp key thereafter)
 
   none_below : (key : K) (es : List (K × V)) → T (below_all cmp key es) → find cmp key es ≡ None
   none_below key [] h = refl
   none_below key (e ∷ es) h = ap (λ b. cond b (Some e.1) (find cmp key es)) (apart (cmp key e.0) (first _ _ h)) ∙ none_below key es (second _ _ h)
 
 module _ {K V : Type 0} {cmp : K → K → Ordering} (total : IsTotalOrder cmp) where
-  none_behind : (key : K) (e : K × V) (es : List (K × V)) → T (is_sorted cmp (e ∷ es)) → eq_by_cmp cmp key e.0 ≡ true → find cmp key es ≡ None
-  none_behind key e es h tied = sym (find_tied cmp total key e.0 (equal (cmp key e.0) tied) es) ∙ none_below cmp e.0 es (first _ _ h)
+  none_after : (key : K) (e : K × V) (es : List (K × V)) → T (is_sorted cmp (e ∷ es)) → eq_by_cmp cmp key e.0 ≡ true → find cmp key es ≡ None
+  none_after key e es h tied = sym (find_tied cmp total key e.0 (equal (cmp key e.0) tied) es) ∙ none_below cmp e.0 es (first _ _ h)
 
   withdrawals_at : (key : K) (es : List (K × V)) → T (is_sorted cmp es) → values_at cmp key (map (λ e. Unreach e.0) es) ≡ withdrawn (find cmp key es)
   withdrawals_at key [] h = refl
   withdrawals_at key (e ∷ es) h =
       ap (λ values. cond (eq_by_cmp cmp key e.0) (None ∷ values) values) (withdrawals_at key es (second _ _ h))
-      ∙ one_at_most (λ _. None) (eq_by_cmp cmp key e.0) e.1 (find cmp key es) (none_behind key e es h)
+      ∙ one_at_most (λ _. None) (eq_by_cmp cmp key e.0) e.1 (find cmp key es) (none_after key e es h)
 
   advertisements_at : (key : K) (es : List (K × V)) → T (is_sorted cmp es)
       → values_at cmp key (map (λ e. Reach e.0 e.1) es) ≡ advertised (find cmp key es)
   advertisements_at key [] h = refl
   advertisements_at key (e ∷ es) h =
       ap (λ values. cond (eq_by_cmp cmp key e.0) (Some e.1 ∷ values) values) (advertisements_at key es (second _ _ h))
-      ∙ one_at_most (λ value. Some value) (eq_by_cmp cmp key e.0) e.1 (find cmp key es) (none_behind key e es h)
+      ∙ one_at_most (λ value. Some value) (eq_by_cmp cmp key e.0) e.1 (find cmp key es) (none_after key e es h)
 
   get-lost : (old new : FinMap cmp V) (key : K) → get (lost old new) key ≡ cond (is_none (get new key)) (get old key) None
   get-lost old new key = get-retain_keys old (λ own. is_none (get new own)) key (λ own tied. ap is_none (get_tied total new key own tied))

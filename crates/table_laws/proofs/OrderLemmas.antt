@@ -92,9 +92,9 @@ module _ {K V : Type 0} {cmp : K → K → Ordering} (total : IsTotalOrder cmp) 
   own_values change rest =
       ap (λ b. cond b (value_of change ∷ values_at cmp (key_of change) rest) (values_at cmp (key_of change) rest)) (own_key total (key_of change))
 
-  is_head_or_behind : (own other : Change K V) (owns others : List (Change K V)) → AllByRecursion (Precedes cmp other) others
+  is_head_or_after : (own other : Change K V) (owns others : List (Change K V)) → AllByRecursion (Precedes cmp other) others
       → values_at cmp (key_of own) (other ∷ others) ≡ values_at cmp (key_of own) (own ∷ owns) → (own ≡ other) ⊎ Precedes cmp other own
-  is_head_or_behind own other owns others h e =
+  is_head_or_after own other owns others h e =
       subst (λ change. (change ≡ other) ⊎ Precedes cmp other change) (is_change_to own)
       (holds_of_first (λ change. (change ≡ other) ⊎ Precedes cmp other change) (other ∷ others) (inl refl, all_imply _ _ (λ change p. inr p) others h)
       (key_of own) (value_of own) (values_at cmp (key_of own) owns) (e ∙ own_values own owns))
@@ -111,8 +111,8 @@ module _ {K V : Type 0} {cmp : K → K → Ordering} (total : IsTotalOrder cmp) 
   one_ordered (own ∷ owns) [] h i same = (let e = sym (same (key_of own)) ∙ own_values own owns in absurd cc)
   one_ordered (own ∷ owns) (other ∷ others) h i same =
       let e : own ≡ other =
-      neither own other (is_head_or_behind own other owns others i.0 (sym (same (key_of own))))
-      (is_head_or_behind other own others owns h.0 (same (key_of other))) in
+      neither own other (is_head_or_after own other owns others i.0 (sym (same (key_of own))))
+      (is_head_or_after other own others owns h.0 (same (key_of other))) in
       let rests : owns ≡ others = one_ordered owns others h.1 i.1 (λ key.
       same_rests (eq_by_cmp cmp key (key_of own)) (value_of own) (values_at cmp key owns) (values_at cmp key others)
       (same key ∙ ap (λ change. cond (eq_by_cmp cmp key (key_of change)) (value_of change ∷ values_at cmp key others) (values_at cmp key others))

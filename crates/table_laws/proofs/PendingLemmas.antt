@@ -12,19 +12,19 @@ use Rattle.table_laws.proofs.TableLemmas.{get-applied, get-applied_all}
 use Rattle.table_laws.proofs.KeyLemmas.{values_at-append, values_at-changes}
 
 module _ {V : Type 0} where
-  pub leads_on : (from middle to : Option V) (front behind : List (Option V)) → Leads from front middle → Leads middle behind to
-      → Leads from (front ++ behind) to
-  leads_on from middle to [] behind h i = subst (λ value. Leads value behind to) (sym h) i
-  leads_on from middle to (value ∷ front) behind h i = (h.0, leads_on value middle to front behind h.1 i)
+  pub leads_on : (from middle to : Option V) (front thereafter : List (Option V)) → Leads from front middle → Leads middle thereafter to
+      → Leads from (front ++ thereafter) to
+  leads_on from middle to [] thereafter h i = subst (λ value. Leads value thereafter to) (sym h) i
+  leads_on from middle to (value ∷ front) thereafter h i = (h.0, leads_on value middle to front thereafter h.1 i)
 
   leads_last : (from to : Option V) (values : List (Option V)) → Leads from values to → last_value from values ≡ to
   leads_last from to [] h = h
   leads_last from to (value ∷ values) h = leads_last value to values h.1
 
-  leads_changing : (from to value : Option V) (front behind : List (Option V)) → Leads from (front ++ value ∷ behind) to
+  leads_changing : (from to value : Option V) (front thereafter : List (Option V)) → Leads from (front ++ value ∷ thereafter) to
       → last_value from front ≢ value
-  leads_changing from to value [] behind h = h.0
-  leads_changing from to value (next ∷ front) behind h = leads_changing next to value front behind h.1
+  leads_changing from to value [] thereafter h = h.0
+  leads_changing from to value (next ∷ front) thereafter h = leads_changing next to value front thereafter h.1
 
   leads_taken : (b : Bool) (from to value : Option V) (rest : List (Option V)) → Leads from (cond b (value ∷ rest) rest) to
       → Leads (cond b value from) rest to
@@ -64,26 +64,26 @@ module _ {K V : Type 0} {cmp : K → K → Ordering} (total : IsTotalOrder cmp) 
       subst (λ value. Leads value (values_at cmp key pending) (get out key)) (sym (get-applied total taken change key))
       (leads_taken (eq_by_cmp cmp key (key_of change)) (get taken key) (get out key) (value_of change) (values_at cmp key pending) (h key))
 
-  own_behind : (change : Change K V) (front behind : List (Change K V))
-      → values_at cmp (key_of change) (front ++ change ∷ behind) ≡ values_at cmp (key_of change) front ++ value_of change
-      ∷ values_at cmp (key_of change) behind
-  own_behind change front behind =
-      values_at-append cmp (key_of change) front (change ∷ behind)
+  own_after : (change : Change K V) (front thereafter : List (Change K V))
+      → values_at cmp (key_of change) (front ++ change ∷ thereafter) ≡ values_at cmp (key_of change) front ++ value_of change
+      ∷ values_at cmp (key_of change) thereafter
+  own_after change front thereafter =
+      values_at-append cmp (key_of change) front (change ∷ thereafter)
       ∙ ap (λ b. values_at cmp (key_of change) front
-      ++ cond b (value_of change ∷ values_at cmp (key_of change) behind) (values_at cmp (key_of change) behind)) (own_key total (key_of change))
+      ++ cond b (value_of change ∷ values_at cmp (key_of change) thereafter) (values_at cmp (key_of change) thereafter)) (own_key total (key_of change))
 
-  pub each_changing : (taken out : FinMap cmp V) (before behind : List (Change K V)) (change : Change K V)
-      → LeadsTo taken (before ++ change ∷ behind) out → get (applied_all taken before) (key_of change) ≢ value_of change
-  each_changing taken out before behind change h e =
+  pub each_changing : (taken out : FinMap cmp V) (before thereafter : List (Change K V)) (change : Change K V)
+      → LeadsTo taken (before ++ change ∷ thereafter) out → get (applied_all taken before) (key_of change) ≢ value_of change
+  each_changing taken out before thereafter change h e =
       leads_changing (get taken (key_of change)) (get out (key_of change)) (value_of change) (values_at cmp (key_of change) before)
-      (values_at cmp (key_of change) behind)
-      (subst (λ values. Leads (get taken (key_of change)) values (get out (key_of change))) (own_behind change before behind) (h (key_of change)))
+      (values_at cmp (key_of change) thereafter)
+      (subst (λ values. Leads (get taken (key_of change)) values (get out (key_of change))) (own_after change before thereafter) (h (key_of change)))
       (sym (get-applied_all total taken before (key_of change)) ∙ e)
 
-  pub changes_changing : (same : V → V → Bool) → IsExact same → (old new : FinMap cmp V) (before behind : List (Change K V)) (change : Change K V)
-      → changes same old new ≡ before ++ change ∷ behind → get (applied_all old before) (key_of change) ≢ value_of change
-  changes_changing same is old new before behind change e =
-      each_changing old new before behind change (subst (λ list. LeadsTo old list new) e (changes_lead same is old new))
+  pub changes_changing : (same : V → V → Bool) → IsExact same → (old new : FinMap cmp V) (before thereafter : List (Change K V)) (change : Change K V)
+      → changes same old new ≡ before ++ change ∷ thereafter → get (applied_all old before) (key_of change) ≢ value_of change
+  changes_changing same is old new before thereafter change e =
+      each_changing old new before thereafter change (subst (λ list. LeadsTo old list new) e (changes_lead same is old new))
 
   module _ (exact : IsAntisymmetric cmp) where
     pub none_pending : (taken out : FinMap cmp V) → LeadsTo taken [] out → taken ≡ out

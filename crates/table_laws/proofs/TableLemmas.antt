@@ -1,4 +1,4 @@
--- What a table has at a key behind changes.
+-- What a table has at a key after changes.
 use Rattle.std.proofs.Common.{◌≡◌, ◌↔◌, Bool, true, false, cond, List, [], ◌∷◌, Option, refl, sym, ap, subst, ◌∙◌}
 use Rattle.std.specs.declared.cmp.Ordering.{Ordering}
 use Rattle.std.specs.Ordering.{eq_by_cmp}
@@ -30,21 +30,21 @@ module _ {K V : Type 0} {cmp : K → K → Ordering} (total : IsTotalOrder cmp) 
       ∙ taken_off (eq_by_cmp cmp key (key_of change)) (value_of change) (get old key) (values_at cmp key rest)
 
   module _ (exact : IsAntisymmetric cmp) where
-    behind : (old : FinMap cmp V) (change : Change K V) → IsBehind old change (applied old change)
-    behind old change = record {
+    thereafter : (old : FinMap cmp V) (change : Change K V) → IsBehind old change (applied old change)
+    thereafter old change = record {
       own = get-applied old change (key_of change) ∙ ap (λ b. cond b (value_of change) (get old (key_of change))) (own_key total (key_of change));
       others = λ key apart. get-applied old change key ∙ ap (λ b. cond b (value_of change) (get old key)) (other_key exact key (key_of change) apart);
     }
 
-    behind_at : (old new : FinMap cmp V) (change : Change K V) → IsBehind old change new → (key : K) (b : Bool)
+    after_at : (old new : FinMap cmp V) (change : Change K V) → IsBehind old change new → (key : K) (b : Bool)
         → eq_by_cmp cmp key (key_of change) ≡ b → get new key ≡ cond b (value_of change) (get old key)
-    behind_at old new change h key true e = ap (get new) (one_key exact key (key_of change) e) ∙ h.own
-    behind_at old new change h key false e =
+    after_at old new change h key true e = ap (get new) (one_key exact key (key_of change) e) ∙ h.own
+    after_at old new change h key false e =
         h.others key (λ same. (let tied = ap (λ own. eq_by_cmp cmp own (key_of change)) same ∙ own_key total (key_of change) in absurd cc))
 
-    pub behind_is : (old new : FinMap cmp V) (change : Change K V) → IsBehind old change new ↔ (new ≡ applied old change)
-    behind_is old new change = (
+    pub after_is : (old new : FinMap cmp V) (change : Change K V) → IsBehind old change new ↔ (new ≡ applied old change)
+    after_is old new change = (
       λ h. same_map total exact new (applied old change)
-          (λ key. behind_at old new change h key (eq_by_cmp cmp key (key_of change)) refl ∙ sym (get-applied old change key)),
-      λ e. subst (IsBehind old change) (sym e) (behind old change),
+          (λ key. after_at old new change h key (eq_by_cmp cmp key (key_of change)) refl ∙ sym (get-applied old change key)),
+      λ e. subst (IsBehind old change) (sym e) (thereafter old change),
     )

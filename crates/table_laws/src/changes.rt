@@ -6,7 +6,7 @@ ghost use Rattle.mv_base.specs.table_defs.Changes.{advertisements, applied, appl
 ghost use Rattle.mv_base.specs.table_defs.Changes.{difference, key_of, last_value, value_of, values_at};
 ghost use Rattle.table_laws.specs.Words.{AreChanges, IsBehind, IsExact};
 
-/// Behind a change its key has its value, and each other key what it had. No other table is so.
+/// After a change its key has its value, and each other key what it had. No other table is so.
 pub fn one_change<K: Ord, V>()
     requires { IsAntisymmetric K.cmp }
     ensures { (old new : FinMap K.cmp V) (change : Change K V) → IsBehind old change new ↔ (new ≡ applied old change) }
@@ -27,8 +27,8 @@ pub fn new_table<K: Ord, V: PartialEq>()
     requires values { IsExact V.eq }
     ensures reached { (old new : FinMap K.cmp V) → applied_all old (changes V.eq old new) ≡ new }
     // Each one changes the table to which it is applied.
-    ensures changing { (old new : FinMap K.cmp V) (before behind : List (Change K V)) (change : Change K V) →
-        changes V.eq old new ≡ before ++ change ∷ behind → get (applied_all old before) (key_of change) ≢ value_of change }
+    ensures changing { (old new : FinMap K.cmp V) (before thereafter : List (Change K V)) (change : Change K V) →
+        changes V.eq old new ≡ before ++ change ∷ thereafter → get (applied_all old before) (key_of change) ≢ value_of change }
     ensures none { (table : FinMap K.cmp V) → changes V.eq table table ≡ [] }
 {}
 

@@ -20,6 +20,6 @@ pub fn pending_changes<K: Ord, V: PartialEq>()
     ensures reached { (taken out : FinMap K.cmp V) (pending : List (Change K V)) →
         LeadsTo taken pending out → applied_all taken pending ≡ out }
     // Each pending change changes the table to which it is applied.
-    ensures changing { (taken out : FinMap K.cmp V) (before behind : List (Change K V)) (change : Change K V) →
-        LeadsTo taken (before ++ change ∷ behind) out → get (applied_all taken before) (key_of change) ≢ value_of change }
+    ensures changing { (taken out : FinMap K.cmp V) (before thereafter : List (Change K V)) (change : Change K V) →
+        LeadsTo taken (before ++ change ∷ thereafter) out → get (applied_all taken before) (key_of change) ≢ value_of change }
 {}

@@ -67,9 +67,9 @@ pub owned_still : (space : Space) (label other : ℕ) (old new : LabelState) →
 owned_still space label other old new h at apart = set-others space other label old new at apart ∙ h
 
 -- a label that is owned stays so where another one is taken and given back
-pub owned_behind : (space : Space) (label taken : ℕ) → IsOwned space label → IsLeastFree space taken
+pub owned_after : (space : Space) (label taken : ℕ) → IsOwned space label → IsLeastFree space taken
     → IsOwned (set_label (set_label space taken Owned) taken Free) label
-owned_behind space label taken h least =
+owned_after space label taken h least =
     let apart = owned_apart space label taken h least in
     owned_still (set_label space taken Owned) label taken Owned Free (owned_still space label taken Free Owned h least.free apart)
     (owned_taken space taken least) apart

@@ -168,11 +168,11 @@ one_kept before name b none q label h =
     ]
 
 -- a binding that is kept where another one was kept and taken
-pub one_behind : (none first after second : Named) (name again : BindingName) (w b : AnyBinding) → none ≡ record { kept = maps.empty; given = [] }
+pub one_after : (none first after second : Named) (name again : BindingName) (w b : AnyBinding) → none ≡ record { kept = maps.empty; given = [] }
     → first.kept ≡ maps.insert none.kept name w
     → after ≡ record first { kept = maps.remove first.kept name } → second.kept ≡ maps.insert after.kept again b
     → (q : BindingName) (label : ℕ) → label_in (maps.get second.kept q) ≡ Some label → (q ≡ again) × (label_of b ≡ Some label)
-one_behind none first after second name again w b nothing kept taken_so more q label h =
+one_after none first after second name again w b nothing kept taken_so more q label h =
     let left : after.kept ≡ maps.remove (maps.insert maps.empty name w) name =
     ap (λ (n : Named). n.kept) taken_so ∙ ap (λ (m : FinMap name_cmp AnyBinding). maps.remove m name)
     (kept ∙ ap (λ (n : Named). maps.insert n.kept name w) nothing) in

@@ -109,7 +109,7 @@ due-tally now n (s ∷ ss) =
     one Owned = refl
     one (Resting until) = refl
 
--- ---- the numbers behind a wake
+-- ---- the numbers after a wake
 
 tally-woken : (p : Rest → Bool) (now n : ℕ) (states : List LabelState)
     → tally p n (map (woken now) states) ≡ tally (λ r. not (is_past now r) && p r) n states

@@ -30,7 +30,7 @@ pub record IsSpace (life : ℕ) (states : List LabelState) (rests : List Rest) (
   pub room : length states ≤ capacity
   pub listed : AreResting states rests
 
--- the numbers behind a pass over the list
+-- the numbers after a pass over the list
 abbrev pub freed : ℕ → List Rest → List LabelState → List LabelState
 freed now [] states = states
 freed now (rest ∷ rests) states = freed now rests (if is_past now rest then slice_set states rest.number Free else states)

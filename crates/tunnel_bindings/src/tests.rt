@@ -50,7 +50,7 @@ fn takes_the_least(rt: HostRuntime) -> Result<(), Fail> {
     Ok(())
 }
 
-/// A label that is released rests until the moment behind its life, and then is taken again.
+/// A label that is released rests until the moment after its life, and then is taken again.
 #[test]
 fn rests(rt: HostRuntime) -> Result<(), Fail> {
     let mut space = LabelSpace::of(rt.alloc(), 1, 5).ok().ok_or("memory")?;

@@ -31,14 +31,14 @@ abbrev first : List ℕ → ℕ
 first [] = 0
 first (number ∷ rest) = number
 
-abbrev behind : List ℕ → List ℕ
-behind [] = []
-behind (number ∷ rest) = rest
+abbrev thereafter : List ℕ → List ℕ
+thereafter [] = []
+thereafter (number ∷ rest) = rest
 
 abbrev place_back : List ℕ → Place
 place_back part =
     cond (first part == 0) First (cond (first part == 1) Here
-    (cond (first part == 2) (From (record { 0 = first (behind part) }) (record { 0 = behind (behind part) })) Last))
+    (cond (first part == 2) (From (record { 0 = first (thereafter part) }) (record { 0 = thereafter (thereafter part) })) Last))
 
 place_again : (place : Place) → place_back (place_part place) ≡ place
 place_again First = refl

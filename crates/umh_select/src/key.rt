@@ -101,7 +101,7 @@ fn compare_ends(one: &RouteKey, other: &RouteKey) -> Ordering
 }
 
 /// The order of keys of one length and family, whose first bits compare so: by the rest only where these tie.
-fn compare_behind(fronts: Ordering, one: &RouteKey, other: &RouteKey) -> Ordering
+fn compare_after(fronts: Ordering, one: &RouteKey, other: &RouteKey) -> Ordering
     ensures { result ≡ ordering_then fronts (end_cmp one.now other.now) }
 {
     match fronts {
@@ -119,12 +119,12 @@ fn compare_families(one: &RouteKey, other: &RouteKey) -> Ordering
         (Addr::V4(own), Addr::V4(others)) => {
             let own = front_v4(*own, one.prefix.bits);
             let others = front_v4(*others, other.prefix.bits);
-            compare_behind(own.cmp(&others), one, other)
+            compare_after(own.cmp(&others), one, other)
         }
         (Addr::V6(own), Addr::V6(others)) => {
             let own = front_v6(*own, one.prefix.bits);
             let others = front_v6(*others, other.prefix.bits);
-            compare_behind(own.cmp(&others), one, other)
+            compare_after(own.cmp(&others), one, other)
         }
         (Addr::V4(_), Addr::V6(_)) => Ordering::Less,
         (Addr::V6(_), Addr::V4(_)) => Ordering::Greater,

@@ -17,7 +17,7 @@ source_kind_text Sg = codes "sg"
 source_kind_text Star = codes "star"
 source_kind_text Rpt = codes "rpt"
 
--- the line of a source, behind the word `join` or `prune`
+-- the line of a source, after the word `join` or `prune`
 abbrev pub source_line : List ℕ → JpSource → List ℕ
 source_line word source = word ++ source_kind_text source.kind ++ codes " " ++ addr_text source.addr ++ codes "\n"
 

@@ -26,7 +26,7 @@ use Rattle.value_text.specs.ValueText.{addr_text, fec_text, fec_word, pmsi_word,
 
 -- ---- BGP
 
--- an address, and a number of bits behind `/`
+-- an address, and a number of bits after `/`
 abbrev pub prefix_text : Prefix → List ℕ
 prefix_text prefix = addr_text prefix.addr ++ codes "/" ++ decimal prefix.bits
 
@@ -44,7 +44,7 @@ abbrev pub nlri_text : Key → List ℕ
 nlri_text (keys.Mcast afi route) = family_text afi ++ route_text route
 nlri_text (keys.Unicast rd prefix) = unicast_text rd prefix
 
--- communities behind the first one
+-- communities after the first one
 abbrev pub more_text : List ExtComm → List ℕ
 more_text comms = flat_map (λ c. codes "," ++ encode_lower c.0) comms
 
@@ -104,7 +104,7 @@ bgp_word bgp_reasons.Prefix = codes "prefix"
 
 -- ---- LDP
 
--- a label and a FEC element behind the word of the message
+-- a label and a FEC element after the word of the message
 abbrev pub label_line : List ℕ → ℕ → Fec → List ℕ
 label_line word label fec = word ++ decimal label ++ codes " " ++ fec_text fec ++ codes "\n"
 

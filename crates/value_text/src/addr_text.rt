@@ -34,7 +34,7 @@ fn put_groups(out: &mut Bytes, octets: &[u8], place: usize) -> Result<(), NoMemo
 const DOTTED: usize = 15;
 
 /// Writes an octet in decimal so that it ends at the place, and a dot before it. Answers where the dot stands.
-fn write_behind_dot(text: &mut [u8; DOTTED], end: usize, octet: u8) -> usize
+fn write_after_dot(text: &mut [u8; DOTTED], end: usize, octet: u8) -> usize
     requires { (4 ≤ end) × (end ≤ DOTTED) }
     ensures start { end ≤ result + 4 }
     ensures fits { result ≤ end }
@@ -51,9 +51,9 @@ fn put_dotted(out: &mut Bytes, octets: &[u8; 4]) -> Result<(), NoMemory>
     ensures { OnOk result (out.new ≡ out.old ++ addr_text (V4 octets.now)) }
 {
     let mut text = [0; DOTTED];
-    let last = write_behind_dot(&mut text, DOTTED, octets[3]);
-    let third = write_behind_dot(&mut text, last, octets[2]);
-    let second = write_behind_dot(&mut text, third, octets[1]);
+    let last = write_after_dot(&mut text, DOTTED, octets[3]);
+    let third = write_after_dot(&mut text, last, octets[2]);
+    let second = write_after_dot(&mut text, third, octets[1]);
     let first = write_digits(u64::from(octets[0]), &mut text, second);
     out.extend(&text[first..])
 }

@@ -51,10 +51,14 @@ pub fn put_fec_line(out: &mut Bytes, fec: &Fec) -> Result<(), NoMemory>
     out.extend(b"\n")
 }
 
-/// Appends the line of a fault of a FEC element that was met behind so many octets.
-pub fn put_fec_fault(out: &mut Bytes, behind: usize, fault: &FecFault) -> Result<(), NoMemory>
-    requires { behind < 2 ^ 63 }
-    ensures { OnOk result (out.new ≡ out.old ++ refused_line (behind + fault.now.place) (fec_word fault.now.reason)) }
+/// Appends the line of a fault of a FEC element that was met after so many octets.
+pub fn put_fec_fault(out: &mut Bytes, thereafter: usize, fault: &FecFault) -> Result<(), NoMemory>
+    requires { thereafter < 2 ^ 63 }
+    ensures { OnOk result (out.new ≡ out.old ++ refused_line (thereafter + fault.now.place) (fec_word fault.now.reason)) }
 {
-    put_refused(out, behind + fault.place as usize, fec_word(fault.reason))
+    put_refused(
+        out,
+        thereafter + fault.place as usize,
+        fec_word(fault.reason),
+    )
 }

@@ -182,10 +182,18 @@ pub fn route_word(reason: RouteReason) -> &'static [u8]
     }
 }
 
-/// Appends the line of a fault of a route that was met behind so many octets.
-pub fn put_route_fault(out: &mut Bytes, behind: usize, fault: &RouteFault) -> Result<(), NoMemory>
-    requires { behind < 2 ^ 63 }
-    ensures { OnOk result (out.new ≡ out.old ++ refused_line (behind + fault.now.place) (route_word fault.now.reason)) }
+/// Appends the line of a fault of a route that was met after so many octets.
+pub fn put_route_fault(
+    out: &mut Bytes,
+    thereafter: usize,
+    fault: &RouteFault,
+) -> Result<(), NoMemory>
+    requires { thereafter < 2 ^ 63 }
+    ensures { OnOk result (out.new ≡ out.old ++ refused_line (thereafter + fault.now.place) (route_word fault.now.reason)) }
 {
-    put_refused(out, behind + fault.place as usize, route_word(fault.reason))
+    put_refused(
+        out,
+        thereafter + fault.place as usize,
+        route_word(fault.reason),
+    )
 }

@@ -287,7 +287,7 @@ remaining-there : (now : ℕ) (o : Option Expiry) → is_some (remaining now o) 
 remaining-there now None h = h
 remaining-there now (Some x) h = refl
 
--- What is needed behind timers was needed.
+-- What is needed after timers was needed.
 pub timers-needed : (ifaces : List SiteIface) (entries : Entries) (sent : List Flow) (now : ℕ) (q : Flow)
     → is_needed ifaces (kept_at entries now) sent q ≡ true → is_needed ifaces entries sent q ≡ true
 timers-needed ifaces entries sent now q h = by (is_joined ifaces (kept_at entries now) q) refl h
@@ -365,7 +365,7 @@ not-joined source group mention clock holdtime j = rw j (nothing mention.pruned)
     nothing true = refl
     nothing false = refl
 
--- A flow that is needed behind a message was held, or is held for the message.
+-- A flow that is needed after a message was held, or is held for the message.
 pub take-needed : (held next : Flow → Option Held) (ifaces : List SiteIface) (entries : Entries) (sent : List Flow) (iface : IfaceId)
     (message : JoinPrune) (now : ℕ) → ((q : Flow) → is_needed ifaces entries sent q ≡ true → is_some (held q) ≡ true) →
     ((q : Flow) → next q ≡ held_too (list_any (joins_in q) message.groups) (held q)) → (q : Flow)

@@ -56,7 +56,7 @@ impl VrfFlows {
         }
     }
 
-    /// One more interface, of that site, behind those that are there.
+    /// One more interface, of that site, after those that are there.
     pub fn add_iface(&mut self, iface: IfaceId, site: SiteId) -> Result<(), NoMemory>
         ensures added { OnOk result (self.new
             ≡ record self.old { ifaces = self.old.ifaces ++ record { iface = iface; site = site } ∷ [] }) }
@@ -67,7 +67,7 @@ impl VrfFlows {
 
     // ---- joined state (RFC 7761 section 4.1)
 
-    /// What stands behind a message that the interface takes at the clock. Where that would be more entries than an edge
+    /// What stands after a message that the interface takes at the clock. Where that would be more entries than an edge
     /// holds, or there is no memory, nothing changes.
     pub fn pim_take(
         &mut self,
@@ -94,7 +94,7 @@ impl VrfFlows {
         self.state.pim_timers(now);
     }
 
-    /// How many entries would stand behind the message.
+    /// How many entries would stand after the message.
     pub fn pim_entries_after(
         &self,
         alloc: Global,
@@ -295,7 +295,7 @@ impl VrfFlows {
         self.state.accepts(Flow { source, group }, from, me, core)
     }
 
-    /// The interfaces at which a datagram leaves that comes from there at the clock, in order. Behind a refresh at that clock
+    /// The interfaces at which a datagram leaves that comes from there at the clock, in order. After a refresh at that clock
     /// they are kept, and only copied.
     pub fn outgoing(
         &self,

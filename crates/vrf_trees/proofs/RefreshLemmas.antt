@@ -48,7 +48,7 @@ steady leaf q (Some up) (Some own) e f = by own.stale refl
     by true s = ap (λ (n : NodeId). Some (wants_of leaf n q)) edge
     by false s = f s
 
--- What a flow wants behind a refresh is what it wants by its upstream then.
+-- What a flow wants after a refresh is what it wants by its upstream then.
 pub renewed : (leaf : Leaf) (q : Flow) (before after : Option Upstream) (held : Option Wants) → edge_in held ≡ edge_to before
     → (is_stale held ≡ false → held ≡ wants_by leaf q before) →
     carried (with_joins leaf q (gained before after) (with_leaves (lost before after) (planned leaf q held))) held ≡ wants_by leaf q after

@@ -146,7 +146,7 @@ distinct-left {X} same test (x ∷ xs) h = by (test x) (distinct-left same test 
     by true rest = (all-left _ test xs h.0, rest)
     by false rest = rest
 
--- What is left of distinct tunnels is new, where it is what is there behind and not before.
+-- What is left of distinct tunnels is new, where it is what is there after and not before.
 left-new : (keys fecs before after : List Fec)
     → ((fec : Fec) → (is_in fec keys && not (is_in fec before)) ≡ (is_in fec after && not (is_in fec before))) → IsDistinct is_fec keys →
     fecs ≡ filter (λ fec. not (is_in fec before)) keys → AreNew fecs (sets.from_list before) (sets.from_list after)

@@ -43,7 +43,7 @@ pub record AreJoins (joins : List TreeJoin) (given : Flow → Option Upstream) :
 
 -- ---- tunnels
 
--- The tunnels are those that are wanted behind a change and were not before it, each once.
+-- The tunnels are those that are wanted after a change and were not before it, each once.
 pub record AreNew (fecs : List Fec) (before after : FinSet fec_cmp) : Type 0 where
   pub each : (fec : Fec) → is_in fec fecs ≡ (sets.contains after fec && not (sets.contains before fec))
   pub once : IsDistinct is_fec fecs

@@ -127,7 +127,7 @@ fn carry(wants: &mut WantTable, plan: Plan) -> Result<(), NoMemory>
     Ok(())
 }
 
-/// Carries the plan out, behind which no flow is stale.
+/// Carries the plan out, after which no flow is stale.
 fn carry_out(wants: &mut WantTable, plan: Plan) -> Result<(), NoMemory>
     requires unique { IsUnique same_flow plan }
     requires held { IsUnique same_flow wants.old }

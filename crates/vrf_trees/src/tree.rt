@@ -99,7 +99,7 @@ impl VrfTree {
         }
     }
 
-    /// One more interface, of that site, behind those that are there.
+    /// One more interface, of that site, after those that are there.
     pub fn add_iface(&mut self, iface: IfaceId, site: SiteId) -> Result<(), NoMemory>
         ensures added { OnOk result (self.new
             ≡ record self.old {
@@ -121,7 +121,7 @@ impl VrfTree {
         self.flows.pim_timers(now);
     }
 
-    /// How many entries would stand behind the message.
+    /// How many entries would stand after the message.
     pub fn pim_entries_after(
         &self,
         alloc: Global,
@@ -492,7 +492,7 @@ impl VrfTree {
         self.flows.accepts(source, group, from, me, core)
     }
 
-    /// The interfaces at which a datagram leaves that comes from there at the clock, in order. Behind a refresh at that clock
+    /// The interfaces at which a datagram leaves that comes from there at the clock, in order. After a refresh at that clock
     /// they are kept, and only copied.
     pub fn outgoing(
         &self,

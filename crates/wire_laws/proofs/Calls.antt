@@ -235,18 +235,18 @@ module _ (n from : NodeId) (kind : Kind) where
       let first = with_some network (system.taken over message network.state) next.0 next.1 in
       let st = message_made network puts message edge is first.0 first.1 in
       let rest = earlier_some next.0.puts (octets.all_taken system next.0.network over more) new next.2 in
-      let edge_behind = called (place_of network.state n) network.state.clock edge (call_of from message) in
-      let again = messages_made more next.0.network (puts ++ next.0.puts) edge_behind rest.0
-      (subst (λ (b : Behind (OctetNetwork Nodes)). IsEdgeAt n b.network (puts ++ b.puts) edge_behind) first.2 st.edge_is) rest.1 in
+      let edge_thereafter = called (place_of network.state n) network.state.clock edge (call_of from message) in
+      let again = messages_made more next.0.network (puts ++ next.0.puts) edge_thereafter rest.0
+      (subst (λ (b : Behind (OctetNetwork Nodes)). IsEdgeAt n b.network (puts ++ b.puts) edge_thereafter) first.2 st.edge_is) rest.1 in
       subst (λ (b : Behind (OctetNetwork Nodes)). IsEdgeAt n b.network (puts ++ b.puts)
       (all_taken (place_of network.state n) network.state.clock from (message ∷ more) edge)) rest.2
       (subst (λ (x : EdgeState). IsEdgeAt n rest.0.network (puts ++ (next.0.puts ++ rest.0.puts)) x)
       ((λ i. all_taken ((ap (λ (b : Behind (OctetNetwork Nodes)). place_of b.network.state n) (sym first.2) ∙ st.same_place) i)
-      ((ap (λ (b : Behind (OctetNetwork Nodes)). b.network.state.clock) (sym first.2) ∙ st.same_clock) i) from more edge_behind)
+      ((ap (λ (b : Behind (OctetNetwork Nodes)). b.network.state.clock) (sym first.2) ∙ st.same_clock) i) from more edge_thereafter)
       ∙ ap (λ (x : EdgeState). all_taken (place_of network.state n) network.state.clock from more x)
       (sym (message_called (place_of network.state n) network.state.clock from message edge)))
       (subst (λ (p : List Put). IsEdgeAt n rest.0.network p
-      (all_taken (place_of next.0.network.state n) next.0.network.state.clock from more edge_behind)) (append_assoc puts next.0.puts rest.0.puts)
+      (all_taken (place_of next.0.network.state n) next.0.network.state.clock from more edge_thereafter)) (append_assoc puts next.0.puts rest.0.puts)
       again))
 
   pub messages_lack : (messages : List SessionMessage) (network : OctetNetwork Nodes) (puts : List Put) (edge : EdgeState)
@@ -262,8 +262,8 @@ module _ (n from : NodeId) (kind : Kind) where
       now : ℕ
       now = network.state.clock
 
-      edge_behind : EdgeState
-      edge_behind = called place now edge (call_of from message)
+      edge_thereafter : EdgeState
+      edge_thereafter = called place now edge (call_of from message)
 
       so : (x : EdgeState) → x.spent ≡ Some LacksLabel → (all_taken place now from more x).spent ≡ Some LacksLabel
       so x h = ap (λ (s : EdgeState). s.spent) (spent_takes place now from more x LacksLabel h) ∙ h
@@ -274,7 +274,7 @@ module _ (n from : NodeId) (kind : Kind) where
           → (all_taken place now from (message ∷ more) edge).spent ≡ Some LacksLabel
       by None h rest =
           ap (λ (x : EdgeState). (all_taken place now from more x).spent) (message_called place now from message edge)
-          ∙ so edge_behind (step_lacks n network puts (call_of from message) edge is.node is.unspent
+          ∙ so edge_thereafter (step_lacks n network puts (call_of from message) edge is.node is.unspent
           (ap (λ (state : NodeState). node_called network.state n state (call_of from message)) (sym is.node) ∙ h))
       by (Some st) h rest =
           let made = message_made network puts message edge is st h in
@@ -283,8 +283,8 @@ module _ (n from : NodeId) (kind : Kind) where
           (sym (ap (λ (o : Option (Stepped Nodes)). octets.with_step network o >>? λ x. with_earlier x.puts
           (octets.all_taken system x.network over more)) h) ∙ e) in
           ap (λ (x : EdgeState). (all_taken place now from more x).spent) (message_called place now from message edge)
-          ∙ ((λ i. (all_taken (sym made.same_place i) (sym made.same_clock i) from more edge_behind).spent)
-          ∙ rest (octets.with_octets network st) (puts ++ st.puts) edge_behind made.edge_is lacking)
+          ∙ ((λ i. (all_taken (sym made.same_place i) (sym made.same_clock i) from more edge_thereafter).spent)
+          ∙ rest (octets.with_octets network st) (puts ++ st.puts) edge_thereafter made.edge_is lacking)
 
 -- ---- octets
 

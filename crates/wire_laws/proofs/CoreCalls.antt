@@ -37,7 +37,7 @@ use Rattle.network_defs.specs.Counts.{direction}
 use Rattle.network_defs.specs.Nodes.{Nodes, CoreNode, core_at, label_place_of, with_node}
 use Rattle.network_defs.specs.System as world_steps
 use Rattle.network_defs.specs.System.{node_called, system, unchanged}
-use Rattle.wire_laws.specs.CoreNodes.{CoreState, IsCoreAt, IsCoreBefore, core_all_taken, core_called, core_called_unless, core_took, core_took_unless, ldp_with, streams_behind}
+use Rattle.wire_laws.specs.CoreNodes.{CoreState, IsCoreAt, IsCoreBefore, core_all_taken, core_called, core_called_unless, core_took, core_took_unless, ldp_with, streams_after}
 use Rattle.wire_laws.specs.Edges.{IsWay}
 use Rattle.wire_laws.proofs.Calls.{earlier_none, earlier_some, one_way, over_both, some_either, stream_or, with_none, with_some}
 use Rattle.wire_laws.proofs.Puts.{append_assoc, one_node, tie}
@@ -152,16 +152,16 @@ module _ (n : NodeId) (network : OctetNetwork Nodes) (puts : List Put) (own : Ca
 
   called_is : core_called place known now core own
       ≡ record {
-        node = nodes.behind addr own_place now (prepared own core.node) own (label_step own_place now core.node.part own);
+        node = nodes.thereafter addr own_place now (prepared own core.node) own (label_step own_place now core.node.part own);
         streams =
-            streams_behind own core.streams;
+            streams_after own core.streams;
       }
   called_is =
       (λ i. core_called_unless (unspent i) place known now core own)
       ∙ (λ i. record {
         node = called_unless (unspent i) (sym (one_addr network.state.scenario n) i) (sym (one_place network.state.scenario known n) i) now core.node
             own;
-        streams = streams_behind own core.streams;
+        streams = streams_after own core.streams;
       })
 
   pub record IsStepped (new : Stepped Nodes) : Type 0 where
@@ -172,14 +172,14 @@ module _ (n : NodeId) (network : OctetNetwork Nodes) (puts : List Put) (own : Ca
 
   module _ (waits : (peer : NodeId) → IsWay network.state.scenario (direction kinds.Ldp n peer)
       → waiting_for (prepared own core.node).waiting peer ≡ octets_over (direction kinds.Ldp n peer) puts)
-      (streams : (peer : NodeId) → stream_at (streams_behind own core.streams) (ldp_with peer) ≡ network.stream (direction kinds.Ldp peer n)) where
+      (streams : (peer : NodeId) → stream_at (streams_after own core.streams) (ldp_with peer) ≡ network.stream (direction kinds.Ldp peer n)) where
     stepped_by : (new : settling.Stepped) → label_step own_place now core.node.part own ≡ Some new → IsStepped (made_by new)
     stepped_by new e = record {
       core_is = subst (λ (x : CoreState). IsCoreAt n (octets.with_octets network (made_by new)) (puts ++ (made_by new).puts) x)
           (sym (called_is ∙ (λ i. record {
-            node = nodes.behind addr own_place now (prepared own core.node) own (e i);
+            node = nodes.thereafter addr own_place now (prepared own core.node) own (e i);
             streams =
-                streams_behind own core.streams;
+                streams_after own core.streams;
           }))) (record {
             node = λ i. cond (eq-eqb n.0 n.0 refl i) (CoreNode new.part) (network.state.node n);
             unspent = prepared_spent own core.node ∙ unspent;
@@ -208,7 +208,7 @@ module _ (n : NodeId) (network : OctetNetwork Nodes) (puts : List Put) (own : Ca
     where
       by : (o : Option settling.Stepped) → label_step own_place now core.node.part own ≡ o
           → (core_called place known now core own).node.spent ≡ Some LacksLabel
-      by None h = ap (λ (x : CoreState). x.node.spent) called_is ∙ (λ i. (nodes.behind addr own_place now (prepared own core.node) own (h i)).spent)
+      by None h = ap (λ (x : CoreState). x.node.spent) called_is ∙ (λ i. (nodes.thereafter addr own_place now (prepared own core.node) own (h i)).spent)
       by (Some made) h = absurd (none-some (made_by made) (sym e ∙ ap (λ (o : Option settling.Stepped). o >>? λ made. Some (made_by made)) h))
 
 -- ---- acts
@@ -235,7 +235,7 @@ module _ (n : NodeId) (network : OctetNetwork Nodes) (core : CoreState) where
       by false e = same e
 
   abbrev Prepared : Call → Type 0
-  Prepared own = (peer : NodeId) → stream_at (streams_behind own core.streams) (ldp_with peer) ≡ network.stream (direction kinds.Ldp peer n)
+  Prepared own = (peer : NodeId) → stream_at (streams_after own core.streams) (ldp_with peer) ≡ network.stream (direction kinds.Ldp peer n)
 
   streams_prepared : (call : steps.Call) (own : Call) → own_label_call call ≡ Some own → IsCoreBefore n network call core → Prepared own
   streams_prepared (steps.Label from message) own e is = subst Prepared (same_Some (Taken from message) own e) (λ peer. is.streams peer refl)
@@ -294,19 +294,19 @@ module _ (n from : NodeId) where
   over = direction kinds.Ldp from n
 
   -- what is known after the first message
-  record IsFirst (network : OctetNetwork Nodes) (puts : List Put) (core behind : CoreState) (new : Stepped Nodes) : Type 0 where
-    core_is : IsCoreAt n (octets.with_octets network new) (puts ++ new.puts) behind
+  record IsFirst (network : OctetNetwork Nodes) (puts : List Put) (core thereafter : CoreState) (new : Stepped Nodes) : Type 0 where
+    core_is : IsCoreAt n (octets.with_octets network new) (puts ++ new.puts) thereafter
     same_place : node_place new.state.scenario n ≡ node_place network.state.scenario n
     same_core : core_at new.state n ≡ core_at network.state n
     same_clock : new.state.clock ≡ network.state.clock
 
-  abbrev behind_first : OctetNetwork Nodes → SessionMessage → CoreState → CoreState
-  behind_first network message core =
+  abbrev after_first : OctetNetwork Nodes → SessionMessage → CoreState → CoreState
+  after_first network message core =
       core_all_taken (node_place network.state.scenario n) (core_at network.state n) network.state.clock from (message ∷ []) core
 
   message_made : (network : OctetNetwork Nodes) (puts : List Put) (message : SessionMessage) (core : CoreState) → IsCoreAt n network puts core
       → (new : Stepped Nodes)
-      → system.taken over message network.state ≡ Some new → IsFirst network puts core (behind_first network message core) new
+      → system.taken over message network.state ≡ Some new → IsFirst network puts core (after_first network message core) new
   message_made network puts (LabelMessage message) core is new e =
       let st = step_made n network puts (Taken from message) core is.node is.unspent is.silent is.waiting is.streams new
       (sym (core_step n network puts core is.node is.unspent is.silent (steps.Label from message) (Taken from message) refl)
@@ -336,7 +336,7 @@ module _ (n from : NodeId) where
 
   message_lacks : (network : OctetNetwork Nodes) (puts : List Put) (message : SessionMessage) (core : CoreState) → IsCoreAt n network puts core
       → system.taken over message network.state ≡ None
-      → (behind_first network message core).node.spent ≡ Some LacksLabel
+      → (after_first network message core).node.spent ≡ Some LacksLabel
   message_lacks network puts (LabelMessage message) core is e =
       step_lacks n network puts (Taken from message) core is.node is.unspent is.silent
       (sym (core_step n network puts core is.node is.unspent is.silent (steps.Label from message) (Taken from message) refl)
@@ -362,16 +362,16 @@ module _ (n from : NodeId) where
       let first = with_some network (system.taken over message network.state) next.0 next.1 in
       let st = message_made network puts message core is first.0 first.1 in
       let rest = earlier_some next.0.puts (octets.all_taken system next.0.network over more) new next.2 in
-      let behind = behind_first network message core in
-      let again = messages_made more next.0.network (puts ++ next.0.puts) behind rest.0
-      (subst (λ (b : Behind (OctetNetwork Nodes)). IsCoreAt n b.network (puts ++ b.puts) behind) first.2 st.core_is) rest.1 in
+      let thereafter = after_first network message core in
+      let again = messages_made more next.0.network (puts ++ next.0.puts) thereafter rest.0
+      (subst (λ (b : Behind (OctetNetwork Nodes)). IsCoreAt n b.network (puts ++ b.puts) thereafter) first.2 st.core_is) rest.1 in
       subst (λ (b : Behind (OctetNetwork Nodes)). IsCoreAt n b.network (puts ++ b.puts) (taken_in network (message ∷ more) core)) rest.2
       (subst (λ (x : CoreState). IsCoreAt n rest.0.network (puts ++ (next.0.puts ++ rest.0.puts)) x)
       ((λ i. core_all_taken ((ap (λ (b : Behind (OctetNetwork Nodes)). node_place b.network.state.scenario n) (sym first.2) ∙ st.same_place) i)
       ((ap (λ (b : Behind (OctetNetwork Nodes)). core_at b.network.state n) (sym first.2) ∙ st.same_core) i)
-      ((ap (λ (b : Behind (OctetNetwork Nodes)). b.network.state.clock) (sym first.2) ∙ st.same_clock) i) from more behind)
+      ((ap (λ (b : Behind (OctetNetwork Nodes)). b.network.state.clock) (sym first.2) ∙ st.same_clock) i) from more thereafter)
       ∙ first_then (node_place network.state.scenario n) (core_at network.state n) network.state.clock message more core)
-      (subst (λ (p : List Put). IsCoreAt n rest.0.network p (taken_in next.0.network more behind)) (append_assoc puts next.0.puts rest.0.puts) again))
+      (subst (λ (p : List Put). IsCoreAt n rest.0.network p (taken_in next.0.network more thereafter)) (append_assoc puts next.0.puts rest.0.puts) again))
 
   pub messages_lack : (messages : List SessionMessage) (network : OctetNetwork Nodes) (puts : List Put) (core : CoreState)
       → IsCoreAt n network puts core
@@ -379,14 +379,14 @@ module _ (n from : NodeId) where
   messages_lack [] network puts core is e = absurd (none-some (record { network = network; puts = [] }) (sym e))
   messages_lack (message ∷ more) network puts core is e = by (system.taken over message network.state) refl (messages_lack more)
     where
-      behind : CoreState
-      behind = behind_first network message core
+      thereafter : CoreState
+      thereafter = after_first network message core
 
       so : (x : CoreState) → x.node.spent ≡ Some LacksLabel → (taken_in network more x).node.spent ≡ Some LacksLabel
       so x h = ap (λ (c : CoreState). c.node.spent)
           (spent_takes (node_place network.state.scenario n) (core_at network.state n) network.state.clock from more x LacksLabel h) ∙ h
 
-      joined : (taken_in network (message ∷ more) core).node.spent ≡ (taken_in network more behind).node.spent
+      joined : (taken_in network (message ∷ more) core).node.spent ≡ (taken_in network more thereafter).node.spent
       joined = ap (λ (c : CoreState). c.node.spent)
           (sym (first_then (node_place network.state.scenario n) (core_at network.state n) network.state.clock message more core))
 
@@ -394,7 +394,7 @@ module _ (n from : NodeId) where
           → ((later : OctetNetwork Nodes) (p : List Put) (x : CoreState) → IsCoreAt n later p x → octets.all_taken system later over more ≡ None
           → (taken_in later more x).node.spent ≡ Some LacksLabel)
           → (taken_in network (message ∷ more) core).node.spent ≡ Some LacksLabel
-      by None h rest = joined ∙ so behind (message_lacks network puts message core is h)
+      by None h rest = joined ∙ so thereafter (message_lacks network puts message core is h)
       by (Some st) h rest =
           let made = message_made network puts message core is st h in
           let lacking : octets.all_taken system (octets.with_octets network st) over more ≡ None =
@@ -402,8 +402,8 @@ module _ (n from : NodeId) where
           (sym (ap (λ (o : Option (Stepped Nodes)). octets.with_step network o >>? λ x. with_earlier x.puts
           (octets.all_taken system x.network over more)) h) ∙ e) in
           joined
-          ∙ ((λ i. (core_all_taken (sym made.same_place i) (sym made.same_core i) (sym made.same_clock i) from more behind).node.spent)
-          ∙ rest (octets.with_octets network st) (puts ++ st.puts) behind made.core_is lacking)
+          ∙ ((λ i. (core_all_taken (sym made.same_place i) (sym made.same_core i) (sym made.same_clock i) from more thereafter).node.spent)
+          ∙ rest (octets.with_octets network st) (puts ++ st.puts) thereafter made.core_is lacking)
 
 -- ---- octets
 

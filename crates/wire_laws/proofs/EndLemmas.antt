@@ -37,7 +37,7 @@ use Rattle.network_laws.proofs.ready_laws.Ends.{Holds, end_run, end_with, holds_
 use Rattle.network_laws.proofs.ready_laws.Nodes.{call_stand, end_of, holds_as}
 use Rattle.network_laws.proofs.ready_laws.Octets.{Leads, Stands, call_stands, follow_stands, leads_then, move_stands}
 use Rattle.wire_laws.specs.Edges.{begins}
-use Rattle.wire_laws.specs.Ends.{HasCall, end_behind, hold_behind, hold_timed, is_hold_run, is_raise}
+use Rattle.wire_laws.specs.Ends.{HasCall, end_after, hold_after, hold_timed, is_hold_run, is_raise}
 
 -- ---- one peer
 
@@ -126,7 +126,7 @@ peers_up place now control Rerouted peer = refl
 
 -- the ends over BGP after a call of the node
 abbrev BgpBehind : NodeId → Call → Nodes → Nodes → Type 0
-BgpBehind n call old new = (m peer : NodeId) → is_bgp_up (new.node m) peer ≡ end_behind n call kinds.Bgp m peer (is_bgp_up (old.node m) peer)
+BgpBehind n call old new = (m peer : NodeId) → is_bgp_up (new.node m) peer ≡ end_after n call kinds.Bgp m peer (is_bgp_up (old.node m) peer)
 
 -- the ends over BGP are the same
 abbrev BgpSame : Nodes → Nodes → Type 0
@@ -361,10 +361,10 @@ holds_run life now Timers peer old other = absurd (other refl)
 holds_run life now Rerouted peer old other = refl
 
 -- a test of the node's end by one of what is there
-at_one : (test : Option UpEnd → Bool) (here begun : Bool) (end : Option UpEnd) (behind : Bool) (old : Option UpEnd)
-    → test end ≡ cond begun behind (test old) → test (cond here end old) ≡ cond (here && begun) behind (test old)
-at_one test true begun end behind old h = h
-at_one test false begun end behind old h = refl
+at_one : (test : Option UpEnd → Bool) (here begun : Bool) (end : Option UpEnd) (thereafter : Bool) (old : Option UpEnd)
+    → test end ≡ cond begun thereafter (test old) → test (cond here end old) ≡ cond (here && begun) thereafter (test old)
+at_one test true begun end thereafter old h = h
+at_one test false begun end thereafter old h = refl
 
 -- ---- the laws
 
@@ -374,9 +374,9 @@ module _ (network : OctetNetwork Nodes) (new : Behind (OctetNetwork Nodes)) wher
 
   pub calls_ends : (n : NodeId) (call : Call) → octet_act system network (octets.Call (Own n call)) ≡ Some new → HasCall n network call
       → (kind : Kind) (m peer : NodeId)
-      → is_end_up kind (new.network.state.node m) peer ≡ end_behind n call kind m peer (is_end_up kind (network.state.node m) peer)
+      → is_end_up kind (new.network.state.node m) peer ≡ end_after n call kind m peer (is_end_up kind (network.state.node m) peer)
   calls_ends n call e has kinds.Bgp m peer =
-      leads_to (λ behind. BgpBehind n call network.state behind.state) (octet_act system network (octets.Call (Own n call))) new e
+      leads_to (λ thereafter. BgpBehind n call network.state thereafter.state) (octet_act system network (octets.Call (Own n call))) new e
       (step_leads (BgpBehind n call network.state) network (node_called network.state n (network.state.node n) call)
       (bgp_ends n call network.state (network.state.node n) refl has)) m peer
   calls_ends n call e has kinds.Ldp m peer =
@@ -386,7 +386,7 @@ module _ (network : OctetNetwork Nodes) (new : Behind (OctetNetwork Nodes)) wher
       ∙ (at_one (λ (o : Option UpEnd). is_some o) (m.0 == n.0) (begins call kinds.Ldp peer)
       (end_with network.state.scenario.life network.state.clock (own_label_call call) peer old) (is_raise call) old
       (ends_up network.state.scenario.life network.state.clock call peer old)
-      ∙ ap (λ (b : Bool). end_behind n call kinds.Ldp m peer b) (sym (up_is (maps.get (part_of (network.state.node m)).ends peer)))))
+      ∙ ap (λ (b : Bool). end_after n call kinds.Ldp m peer b) (sym (up_is (maps.get (part_of (network.state.node m)).ends peer)))))
 
   -- ends over LDP that are the same are up alike
   same_ends : ((m peer : NodeId) → end_of new.network.state m peer ≡ end_of network.state m peer) → (m peer : NodeId)
@@ -404,7 +404,7 @@ module _ (network : OctetNetwork Nodes) (new : Behind (OctetNetwork Nodes)) wher
   pub follows_ends : (n : NodeId) → octet_act system network (octets.Call (Follow n)) ≡ Some new → (kind : Kind) (m peer : NodeId)
       → is_end_up kind (new.network.state.node m) peer ≡ is_end_up kind (network.state.node m) peer
   follows_ends n e kinds.Bgp m peer =
-      leads_to (λ behind. BgpSame network.state behind.state) (octet_act system network (octets.Call (Follow n))) new e
+      leads_to (λ thereafter. BgpSame network.state thereafter.state) (octet_act system network (octets.Call (Follow n))) new e
       (step_leads (BgpSame network.state) network (node_called (following network.state n) n (network.state.node n) Rerouted)
       (call_same n Rerouted (following network.state n) (network.state.node n) refl (λ p. refl) (λ p c. absurd cc))) m peer
   follows_ends n e kinds.Ldp m peer = same_ends (followed network new n e) m peer
@@ -412,13 +412,13 @@ module _ (network : OctetNetwork Nodes) (new : Behind (OctetNetwork Nodes)) wher
   pub moves_ends : (over : Direction) (count : ℕ) → octet_act system network (octets.Move over count) ≡ Some new → (kind : Kind) (m peer : NodeId)
       → is_end_up kind (new.network.state.node m) peer ≡ is_end_up kind (network.state.node m) peer
   moves_ends over count e kinds.Bgp m peer =
-      leads_to (λ behind. BgpSame network.state behind.state) (octet_act system network (octets.Move over count)) new e
+      leads_to (λ thereafter. BgpSame network.state thereafter.state) (octet_act system network (octets.Move over count)) new e
       (moves_same over count network) m peer
   moves_ends over count e kinds.Ldp m peer = same_ends (moved network new over count e) m peer
 
   pub calls_holds : (n : NodeId) (call : Call) → octet_act system network (octets.Call (Own n call)) ≡ Some new → (call ≡ Timers → ⊥)
       → (m peer : NodeId)
-      → is_hold_run (new.network.state.node m) peer ≡ hold_behind n call m peer (is_hold_run (network.state.node m) peer)
+      → is_hold_run (new.network.state.node m) peer ≡ hold_after n call m peer (is_hold_run (network.state.node m) peer)
   calls_holds n call e other m peer =
       let old : Option UpEnd = end_of network.state m peer in
       held_is (maps.get (part_of (new.network.state.node m)).ends peer)
@@ -426,7 +426,7 @@ module _ (network : OctetNetwork Nodes) (new : Behind (OctetNetwork Nodes)) wher
       ∙ (at_one is_held (m.0 == n.0) (begins call kinds.Ldp peer)
       (end_with network.state.scenario.life network.state.clock (own_label_call call) peer old) false old
       (holds_run network.state.scenario.life network.state.clock call peer old other)
-      ∙ ap (λ (b : Bool). hold_behind n call m peer b) (sym (held_is (maps.get (part_of (network.state.node m)).ends peer)))))
+      ∙ ap (λ (b : Bool). hold_after n call m peer b) (sym (held_is (maps.get (part_of (network.state.node m)).ends peer)))))
 
   pub timers_hold : (n : NodeId) → octet_act system network (octets.Call (Own n Timers)) ≡ Some new → (peer : NodeId)
       → is_hold_run (new.network.state.node n) peer ≡ hold_timed network.state.scenario.life network.state.clock (network.state.node n) peer

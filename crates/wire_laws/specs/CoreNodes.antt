@@ -33,14 +33,14 @@ abbrev pub fresh_core : ℕ → CoreState
 fresh_core count = record { node = fresh_node count; streams = maps.empty }
 
 -- an end that comes up has a fresh stream, and one that notices a loss has none
-abbrev pub streams_behind : Call → FinMap peer_cmp Stream → FinMap peer_cmp Stream
-streams_behind (Raised peer) streams = maps.insert streams (ldp_with peer) unfed
-streams_behind (Noticed peer) streams = maps.remove streams (ldp_with peer)
-streams_behind other streams = streams
+abbrev pub streams_after : Call → FinMap peer_cmp Stream → FinMap peer_cmp Stream
+streams_after (Raised peer) streams = maps.insert streams (ldp_with peer) unfed
+streams_after (Noticed peer) streams = maps.remove streams (ldp_with peer)
+streams_after other streams = streams
 
 -- the node after a call, unless it is spent
 abbrev pub core_called_unless : Option Spent → NodePlace → Core → ℕ → CoreState → Call → CoreState
-core_called_unless None place core now old call = record { node = called place core now old.node call; streams = streams_behind call old.streams }
+core_called_unless None place core now old call = record { node = called place core now old.node call; streams = streams_after call old.streams }
 core_called_unless (Some spent) place core now old call = old
 
 abbrev pub core_called : NodePlace → Core → ℕ → CoreState → Call → CoreState

@@ -21,16 +21,16 @@ abbrev pub HasCall : NodeId → OctetNetwork Nodes → Call → Type 0
 HasCall n network call = (peer : NodeId) → call ≡ Raised kinds.Bgp peer → (edge : EdgeData) × (network.state.node n ≡ Edge edge)
 
 -- whether the end of node m with the peer is up after a call of node n, by whether it was so before
-abbrev pub end_behind : NodeId → Call → Kind → NodeId → NodeId → Bool → Bool
-end_behind n call kind m peer old = if (m.0 == n.0) && begins call kind peer then is_raise call else old
+abbrev pub end_after : NodeId → Call → Kind → NodeId → NodeId → Bool → Bool
+end_after n call kind m peer old = if (m.0 == n.0) && begins call kind peer then is_raise call else old
 
 -- whether the hold of the node's end over LDP with the peer was run
 abbrev pub is_hold_run : NodeState → NodeId → Bool
 is_hold_run node peer = labels.is_ready (part_of node) peer
 
 -- the same after a call of node n that is none of its timers: an end that comes up has a hold to run, and one that is down has none
-abbrev pub hold_behind : NodeId → Call → NodeId → NodeId → Bool → Bool
-hold_behind n call m peer old = if (m.0 == n.0) && begins call kinds.Ldp peer then false else old
+abbrev pub hold_after : NodeId → Call → NodeId → NodeId → Bool → Bool
+hold_after n call m peer old = if (m.0 == n.0) && begins call kinds.Ldp peer then false else old
 
 -- the same after the timers of the node: a hold that is due is run
 abbrev pub hold_timed : ℕ → ℕ → NodeState → NodeId → Bool

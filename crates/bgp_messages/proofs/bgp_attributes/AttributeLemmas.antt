@@ -5,8 +5,8 @@ use Rattle.std.proofs.lemmas.Bool.{ltb-false, le-ltb, cond-true, cond-false}
 use Rattle.std.proofs.lemmas.List.{length-append, length-take-le, take_at, take-append-drop}
 use Rattle.mv_base.specs.Octets.{IsOctets}
 use Rattle.mv_base.specs.Cursor.{◌>>=◌}
-use Rattle.mv_base.proofs.Fields.{octets_before, octets_behind, wide16, bind_ok, bind_err, ok_is, err_is, chosen}
-use Rattle.mv_base.proofs.framing.Cuts.{IsOctets-before, IsOctets-behind}
+use Rattle.mv_base.proofs.Fields.{octets_before, octets_after, wide16, bind_ok, bind_err, ok_is, err_is, chosen}
+use Rattle.mv_base.proofs.framing.Cuts.{IsOctets-before, IsOctets-after}
 use Rattle.mv_base.proofs.framing.PartsLemmas.{IsPartReader, OnParts, tail_of, on_parts_start, on_parts_more, on_parts_fault, on_parts_end}
 use Rattle.bgp_messages.specs.declared.bgp_attributes.fault.StreamFault.{StreamFault}
 use Rattle.bgp_messages.specs.declared.bgp_attributes.fault.StreamFault.TheVariants as faults
@@ -18,13 +18,13 @@ use Rattle.bgp_messages.specs.declared.bgp_attributes.found.Found.{Found}
 use Rattle.bgp_messages.specs.bgp_attributes.Spelling.{type_of, is_extended, len_field, FitsLen, SpellsValue, SpellsAttribute, IsNewType, IsNew}
 use Rattle.bgp_messages.specs.bgp_attributes.FirstFault.{ValueFault, IsCut, AttributeFault}
 use Rattle.bgp_messages.specs.bgp_attributes.FirstFault as wrong
-use Rattle.bgp_messages.specs.bgp_attributes.Answers.{Fails, IsNear, IsPart, behind}
+use Rattle.bgp_messages.specs.bgp_attributes.Answers.{Fails, IsNear, IsPart, thereafter}
 use Rattle.bgp_messages.specs.bgp_attributes.Reading.{misfit, front_of, wide_value, narrow_value, value_of, value_place, value_at, valued, new_at, attribute_unless, has, has_type, with_attribute, nothing, found_of, attribute_at, found_at}
 use Rattle.bgp_messages.proofs.bgp_attributes.ReachLemmas.{Means}
 use Rattle.bgp_messages.proofs.bgp_attributes.ValueLemmas.{value_taken, value_again, value_fails, fails_value}
 use Rattle.bgp_messages.proofs.bgp_attributes.FoundLemmas.{found_more, new_is, is_new, again_is, is_again, IsProper, AreTested, tested_none, tested_more}
 
--- ---- a value behind its length
+-- ---- a value after its length
 
 -- a length and a value of that length stand first
 pub record Stands (flags : ℕ) (rest value : List ℕ) : Type 0 where
@@ -77,7 +77,7 @@ narrow_taken flags (len ∷ octets) value fits narrow e =
       parts = rw narrow (ap (λ (xs : List ℕ). len ∷ xs) parts ∙ ap (λ (n : ℕ). n ∷ (value ++ drop len octets)) (sym size));
     }
 
--- What is read behind a length stands there.
+-- What is read after a length stands there.
 value_stands : (flags : ℕ) (rest value : List ℕ) → IsOctets rest → value_of flags rest ≡ Some value → Stands flags rest value
 unfolding value_of
 value_stands flags rest value fits e =
@@ -144,7 +144,7 @@ count flags kind value = omega (arith, place_is flags (length value), length-app
 -- the value is of octets
 value_octets : (flags : ℕ) (rest value : List ℕ) → IsOctets rest → Stands flags rest value → IsOctets value
 value_octets flags rest value fits s =
-    IsOctets-before value s.after (IsOctets-behind (len_field flags (length value)) (value ++ s.after) (subst IsOctets s.parts fits))
+    IsOctets-before value s.after (IsOctets-after (len_field flags (length value)) (value ++ s.after) (subst IsOctets s.parts fits))
 
 -- an attribute of a type that may stand was read
 record IsOne (flags kind : ℕ) (rest : List ℕ) (x : Attribute × ℕ) : Type 0 where
@@ -203,7 +203,7 @@ taken before (flags ∷ kind ∷ rest) m n fits pos e =
     elim (chosen (has_type before kind) _ (new_at flags kind rest) _ e) [
       | inl again ↦ absurd cc
       | inr new ↦
-          let one = new_taken flags kind rest (m, n) (octets_behind 2 (flags ∷ kind ∷ rest) fits) new.1 in
+          let one = new_taken flags kind rest (m, n) (octets_after 2 (flags ∷ kind ∷ rest) fits) new.1 in
           let (some, le, spells) = spelled_by flags kind rest (m, n) one in
           (some, le, spells, subst (IsNewType before) (sym one.means.0) (new_is before kind new.0))
     ]
@@ -284,7 +284,7 @@ fails before (flags ∷ kind ∷ rest) offset e fits pos h =
     elim (chosen (has_type before kind) _ (new_at flags kind rest) _ h) [
       | inl second ↦ let (p, q) = list_is offset e (err_is second_one (offset, e) second.1) in
           wrong.again flags kind rest refl (again_is before kind second.0) p q
-      | inr new ↦ new_fails_at before flags kind rest offset e (octets_behind 2 (flags ∷ kind ∷ rest) fits) (new_is before kind new.0) new.1
+      | inr new ↦ new_fails_at before flags kind rest offset e (octets_after 2 (flags ∷ kind ∷ rest) fits) (new_is before kind new.0) new.1
     ]
 
 none_by : (flags : ℕ) (rest : List ℕ) (o : Option (List ℕ)) → IsOctets rest → IsCut flags rest → value_of flags rest ≡ o → value_of flags rest ≡ None
@@ -315,12 +315,12 @@ faulty before xs offset e fits pos (wrong.again flags kind rest parts old p q) =
     ap (attribute_at before) parts ∙ second_type before flags kind rest old ∙ fault_is 0 offset faults.AttributeList e p q
 faulty before xs offset e fits pos (wrong.cut flags kind rest parts new none p q) =
     ap (attribute_at before) parts ∙ unless_new before flags kind rest new
-    ∙ new_cut flags kind rest (octets_behind 2 (flags ∷ kind ∷ rest) (subst IsOctets parts fits)) none
+    ∙ new_cut flags kind rest (octets_after 2 (flags ∷ kind ∷ rest) (subst IsOctets parts fits)) none
     ∙ fault_is 0 offset faults.AttributeLength e p q
 faulty before xs offset e fits pos (wrong.in_value flags kind value after parts new fit h) =
     let rest : List ℕ = len_field flags (length value) ++ (value ++ after) in
     let octets : IsOctets value =
-    value_octets flags rest value (octets_behind 2 (flags ∷ kind ∷ rest) (subst IsOctets parts fits))
+    value_octets flags rest value (octets_after 2 (flags ∷ kind ∷ rest) (subst IsOctets parts fits))
     (record { after = after; fits = fit; parts = refl }) in
     let inside : ValueFault kind value (value_place flags) offset e =
     subst (λ (n : ℕ). ValueFault kind value n offset e) (sym (place_is flags (length value))) h in
@@ -365,7 +365,7 @@ read_more octets place n before found a fits r some le e =
     let tail : List ℕ = tail_of octets place in
     let read : attribute_at before tail ≡ Ok (a, n) = sym (same_test found before tail r.tested) ∙ e in
     let (pos, within, spells, new) =
-    taken before tail a n (octets_before (length octets - place) (drop place octets) (octets_behind place octets fits)) (omega arith) read in
+    taken before tail a n (octets_before (length octets - place) (drop place octets) (octets_after place octets fits)) (omega arith) read in
     record {
       on = on_parts_more attribute_at octets place n before a r.on some le read;
       same = ap (λ (f : Found). with_attribute f a) r.same ∙ sym (found_more before a);
@@ -390,6 +390,6 @@ read_all octets place before found r le =
 -- A fault of the part is one of the whole, further on.
 pub fails_further : (octets : List ℕ) (place : ℕ) (before : List Attribute) (found : Found) (fault : AttributesFault)
     → IsRead octets place before found → place < length octets → Fails fault (attribute_unless (has found) (tail_of octets place))
-    → Fails (behind place fault) (found_at octets)
+    → Fails (thereafter place fault) (found_at octets)
 fails_further octets place before found NoMemory r lt h = tt
 fails_further octets place before found (Bad offset e) r lt h = read_fault octets place offset before found e r lt h

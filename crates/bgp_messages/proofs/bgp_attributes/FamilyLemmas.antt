@@ -4,7 +4,7 @@ use Rattle.std.specs.Prelude.{◌&&◌}
 use Rattle.std.specs.Int.{w16, to_be_bytes, from_be_bytes}
 use Rattle.std.proofs.lemmas.Bool.{eqb-true, and_parts}
 use Rattle.mv_base.specs.Octets.{IsOctets}
-use Rattle.mv_base.proofs.Fields.{octets_before, octets_behind, wide16, chosen}
+use Rattle.mv_base.proofs.Fields.{octets_before, octets_after, wide16, chosen}
 use Rattle.bgp_values.specs.declared.mvpn_nlri.route.Afi.TheVariants.{Ipv4, Ipv6}
 use Rattle.bgp_messages.specs.declared.bgp_attributes.family.Family.{Family}
 use Rattle.bgp_messages.specs.declared.bgp_attributes.family.Family.TheVariants.{Mcast, Vpn}
@@ -65,7 +65,7 @@ afi_fits (Vpn Ipv6) = omega arith
 
 -- ---- the octets of AFI and SAFI
 
--- AFI and SAFI at the front, and what stands behind them
+-- AFI and SAFI at the front, and what stands after them
 pub record Led (value : List ℕ) : Type 0 where
   pub afi : ℕ
   pub safi : ℕ
@@ -86,11 +86,11 @@ led (high ∷ low ∷ safi ∷ rest) fits =
       safi = safi;
       rest = rest;
       fits = wide16.below (high ∷ low ∷ []) two;
-      octets = octets_behind 3 (high ∷ low ∷ safi ∷ rest) fits;
+      octets = octets_after 3 (high ∷ low ∷ safi ∷ rest) fits;
       parts = ap (λ (xs : List ℕ). xs ++ (safi ∷ rest)) (sym (wide16.back (high ∷ low ∷ []) refl two));
     })
 
--- A pair of a family, with what stands behind it.
+-- A pair of a family, with what stands after it.
 pub pair_led : (f : Family) (rest : List ℕ) → pair f ++ rest ≡ to_be_bytes w16 (afi_of f) ++ (safi_of f ∷ rest)
 pair_led f rest = refl
 

@@ -10,7 +10,7 @@ use Rattle.mv_base.specs.Address.{addr_octets, IsAddr}
 use Rattle.mv_base.specs.Cursor.{◌>>=◌}
 use Rattle.mv_base.specs.declared.addr.Addr.{Addr}
 use Rattle.mv_base.specs.declared.addr.Addr.TheVariants.{V4, V6}
-use Rattle.mv_base.proofs.Fields.{octets_behind, bind_ok, bind_err, ok_is, err_is}
+use Rattle.mv_base.proofs.Fields.{octets_after, bind_ok, bind_err, ok_is, err_is}
 use Rattle.bgp_values.specs.declared.mvpn_nlri.route.Afi.{Afi}
 use Rattle.bgp_values.specs.declared.mvpn_nlri.route.Afi.TheVariants.{Ipv4, Ipv6}
 use Rattle.bgp_messages.specs.declared.bgp_attributes.fault.StreamFault.{StreamFault}
@@ -158,14 +158,14 @@ hop_again (Mcast afi) addr hop after (is, same) =
       subst (λ (xs : List ℕ). (length xs ≡ 4) ⊎ (length xs ≡ 16)) (sym same) (addr_len addr is),
       ap (λ (n : ℕ). addr_of (take n (hop ++ after))) all ∙ ap addr_of (take_at hop after (length hop) refl ∙ same) ∙ addr_again addr is,
     )
-hop_again (Vpn afi) addr hop after (front, behind, eight, spells, same) =
-    let (sizes, read) = vpn_hop_read afi addr behind spells in
-    let size : length hop ≡ 8 + length behind = omega (arith, eight, ap (λ (xs : List ℕ). length xs) same, length-append front behind) in
-    let there : drop 8 (hop ++ after) ≡ behind ++ after =
-    ap (λ (xs : List ℕ). drop 8 (xs ++ after)) same ∙ ap (λ (xs : List ℕ). drop 8 xs) (append_assoc front behind after)
-    ∙ drop_at front (behind ++ after) 8 eight in
-    let text : take (length hop - 8) (drop 8 (hop ++ after)) ≡ behind =
-    ap (λ (xs : List ℕ). take (length hop - 8) xs) there ∙ take_at behind after (length hop - 8) (omega (arith, size)) in
+hop_again (Vpn afi) addr hop after (front, thereafter, eight, spells, same) =
+    let (sizes, read) = vpn_hop_read afi addr thereafter spells in
+    let size : length hop ≡ 8 + length thereafter = omega (arith, eight, ap (λ (xs : List ℕ). length xs) same, length-append front thereafter) in
+    let there : drop 8 (hop ++ after) ≡ thereafter ++ after =
+    ap (λ (xs : List ℕ). drop 8 (xs ++ after)) same ∙ ap (λ (xs : List ℕ). drop 8 xs) (append_assoc front thereafter after)
+    ∙ drop_at front (thereafter ++ after) 8 eight in
+    let text : take (length hop - 8) (drop 8 (hop ++ after)) ≡ thereafter =
+    ap (λ (xs : List ℕ). take (length hop - 8) xs) there ∙ take_at thereafter after (length hop - 8) (omega (arith, size)) in
     let len : IsHopLen (Vpn afi) (length hop) = elim sizes [ inl e ↦ inl (omega (arith, size, e)) | inr e ↦ inr (omega (arith, size, e)) ] in
     (len, ap (hop_addr (Vpn afi)) text ∙ read)
 
@@ -174,13 +174,13 @@ hop_again (Vpn afi) addr hop after (front, behind, eight, spells, same) =
 abbrev reachable : Addr → List Key → Reachable
 reachable next_hop ks = record { next_hop = next_hop; keys = ks }
 
--- what is read behind a next hop of a length that may be, where there are octets enough
+-- what is read after a next hop of a length that may be, where there are octets enough
 hop_by : (f : Family) (place len : ℕ) (rest : List ℕ) → IsHopLen f len → len + 1 ≤ length rest
     → hop_at f place len rest ≡ (keys_at f (place + len + 2) (drop (len + 1) rest) >>= λ ks. Ok (reachable (hop_in f len rest) ks))
 unfolding hop_at
 hop_by f place len rest h le = rw (is_hop f len h, le-ltb (length rest) (len + 1) le) refl
 
--- what stands behind the length of a next hop
+-- what stands after the length of a next hop
 pub record SpellsHop (f : Family) (r : Reachable) (len : ℕ) (rest : List ℕ) : Type 0 where
   pub hop : List ℕ
   pub reserved : ℕ
@@ -191,8 +191,8 @@ pub record SpellsHop (f : Family) (r : Reachable) (len : ℕ) (rest : List ℕ) 
   pub parts : rest ≡ hop ++ (reserved ∷ nlri)
 
 -- Octets enough are a next hop, a reserved octet and NLRI.
-cut_behind : (len : ℕ) (rest : List ℕ) → len + 1 ≤ length rest → rest ≡ take len rest ++ (get_or rest len 0 ∷ drop (len + 1) rest)
-cut_behind len rest le = sym (take-append-drop len rest) ∙ ap (λ (xs : List ℕ). take len rest ++ xs) (drop_more rest len 0 (omega arith))
+cut_after : (len : ℕ) (rest : List ℕ) → len + 1 ≤ length rest → rest ≡ take len rest ++ (get_or rest len 0 ∷ drop (len + 1) rest)
+cut_after len rest le = sym (take-append-drop len rest) ∙ ap (λ (xs : List ℕ). take len rest ++ xs) (drop_more rest len 0 (omega arith))
 
 -- the three ways that reading goes
 pub data HopIs (f : Family) (place len : ℕ) (rest : List ℕ) : Type 0 where
@@ -234,31 +234,31 @@ taken_by f place len rest r fits e (stands h le is) =
       nlri = nlri;
       size = length-take-le len rest (omega arith);
       next_hop = hop_spelled f len rest h (omega arith);
-      routes = keys_taken f (place + len + 2) nlri ks (octets_behind (len + 1) rest fits) read;
-      parts = cut_behind len rest le;
+      routes = keys_taken f (place + len + 2) nlri ks (octets_after (len + 1) rest fits) read;
+      parts = cut_after len rest le;
     } in
     subst (λ (s : Reachable). SpellsHop f s len rest) (ok_is (reachable (hop_in f len rest) ks) r made) all
 
 pub hop_taken : (f : Family) (place len : ℕ) (rest : List ℕ) (r : Reachable) → IsOctets rest → hop_at f place len rest ≡ Ok r → SpellsHop f r len rest
 hop_taken f place len rest r fits e = taken_by f place len rest r fits e (hop_is f place len rest)
 
--- What is read behind a next hop that is spelled.
-pub behind_hop : (f : Family) (place : ℕ) (addr : Addr) (hop : List ℕ) (reserved : ℕ) (nlri : List ℕ) → SpellsNextHop f addr hop
+-- What is read after a next hop that is spelled.
+pub after_hop : (f : Family) (place : ℕ) (addr : Addr) (hop : List ℕ) (reserved : ℕ) (nlri : List ℕ) → SpellsNextHop f addr hop
     → hop_at f place (length hop) (hop ++ (reserved ∷ nlri)) ≡ (keys_at f (place + length hop + 2) nlri >>= λ ks. Ok (reachable addr ks))
-behind_hop f place addr hop reserved nlri s =
+after_hop f place addr hop reserved nlri s =
     let len : ℕ = length hop in
     let rest : List ℕ = hop ++ (reserved ∷ nlri) in
     let (h, is) = hop_again f addr hop (reserved ∷ nlri) s in
-    let behind : drop (len + 1) rest ≡ nlri = sym (drop-drop 1 len rest) ∙ ap (λ (xs : List ℕ). drop 1 xs) (drop_at hop (reserved ∷ nlri) len refl) in
+    let thereafter : drop (len + 1) rest ≡ nlri = sym (drop-drop 1 len rest) ∙ ap (λ (xs : List ℕ). drop 1 xs) (drop_at hop (reserved ∷ nlri) len refl) in
     hop_by f place len rest h (omega (arith, length-append hop (reserved ∷ nlri)))
-    ∙ ap (λ (xs : List ℕ). keys_at f (place + len + 2) xs >>= λ ks. Ok (reachable (hop_in f len rest) ks)) behind
+    ∙ ap (λ (xs : List ℕ). keys_at f (place + len + 2) xs >>= λ ks. Ok (reachable (hop_in f len rest) ks)) thereafter
     ∙ ap (λ (a : Addr). keys_at f (place + len + 2) nlri >>= λ ks. Ok (reachable a ks)) is
 
 -- What is spelled is read.
 pub hop_read : (f : Family) (place : ℕ) (r : Reachable) (hop : List ℕ) (reserved : ℕ) (nlri : List ℕ) → SpellsNextHop f r.next_hop hop
     → AreKeys f r.keys nlri [] → hop_at f place (length hop) (hop ++ (reserved ∷ nlri)) ≡ Ok r
 hop_read f place r hop reserved nlri s are =
-    behind_hop f place r.next_hop hop reserved nlri s
+    after_hop f place r.next_hop hop reserved nlri s
     ∙ ap (λ (x : Result (List Key) (ℕ × StreamFault)). x >>= λ ks. Ok (reachable r.next_hop ks))
     (keys_again f (place + length hop + 2) nlri r.keys are)
 
@@ -282,10 +282,10 @@ fails_by f place len value rest at e fits parts h (stands is_len le is) =
     let hop : List ℕ = take len rest in
     let size : length hop ≡ len = length-take-le len rest (omega arith) in
     let whole_value : value ≡ pair f ++ (length hop ∷ (hop ++ (get_or rest len 0 ∷ nlri))) =
-    parts ∙ ap (λ (n : ℕ). pair f ++ (n ∷ rest)) (sym size) ∙ ap (λ (xs : List ℕ). pair f ++ (length hop ∷ xs)) (cut_behind len rest le) in
+    parts ∙ ap (λ (n : ℕ). pair f ++ (n ∷ rest)) (sym size) ∙ ap (λ (xs : List ℕ). pair f ++ (length hop ∷ xs)) (cut_after len rest le) in
     elim (bind_err (keys_at f (place + 3 + len + 2) nlri) _ (at, e) (sym is ∙ h)) [
       | inl fault ↦
-          let (inner, there, in_keys) = keys_fail f (place + 3 + len + 2) nlri at e (octets_behind (len + 1) rest fits) fault in
+          let (inner, there, in_keys) = keys_fail f (place + 3 + len + 2) nlri at e (octets_after (len + 1) rest fits) fault in
           value_faults.in_reach f (hop_in f len rest) hop (get_or rest len 0) nlri inner refl (hop_spelled f len rest is_len (omega arith))
           whole_value in_keys (omega (arith, there, size))
       | inr x ↦ absurd cc
@@ -301,5 +301,5 @@ pub fails_hop : (f : Family) (place : ℕ) (addr : Addr) (hop : List ℕ) (reser
     → SpellsNextHop f addr hop → KeysFault f nlri inner e
     → hop_at f place (length hop) (hop ++ (reserved ∷ nlri)) ≡ Err (place + length hop + 2 + inner, e)
 fails_hop f place addr hop reserved nlri inner e s h =
-    behind_hop f place addr hop reserved nlri s ∙ ap (λ (x : Result (List Key) (ℕ × StreamFault)). x >>= λ ks. Ok (reachable addr ks))
+    after_hop f place addr hop reserved nlri s ∙ ap (λ (x : Result (List Key) (ℕ × StreamFault)). x >>= λ ks. Ok (reachable addr ks))
     (fail_keys f (place + length hop + 2) nlri inner e h)

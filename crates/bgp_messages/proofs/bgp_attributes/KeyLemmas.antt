@@ -85,7 +85,7 @@ key_filled (Vpn afi) (keys.Unicast rd prefix) text s = omega (arith, ap (λ (xs 
 key_filled (Mcast afi) (keys.Unicast rd prefix) text s = absurd s
 key_filled (Vpn afi) (keys.Mcast a route) text s = absurd s
 
--- A fault that is answered is there, within the octets or right behind them.
+-- A fault that is answered is there, within the octets or right after them.
 pub key_fails : (f : Family) (xs : List ℕ) (b : BadKey) → IsOctets xs → 0 < length xs → key_at f xs ≡ Err b
     → KeyFault f xs b.offset b.fault × (b.offset ≤ length xs)
 key_fails (Mcast afi) xs b fits more e = mcast_fails afi xs b (route_at afi xs) fits refl e

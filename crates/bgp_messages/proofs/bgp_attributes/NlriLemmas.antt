@@ -6,7 +6,7 @@ use Rattle.mv_base.proofs.Fields.{ok_is, err_is}
 use Rattle.mv_base.specs.framing.Units.{octets_of}
 use Rattle.mv_base.specs.framing.Cut.{Cut, with_front, cut_at, cut}
 use Rattle.mv_base.specs.framing.Cut.Front.{more, whole, bad}
-use Rattle.mv_base.proofs.framing.Cuts.{IsFraming, Ends, found, begun, waits, stops, IsOctets-behind}
+use Rattle.mv_base.proofs.framing.Cuts.{IsFraming, Ends, found, begun, waits, stops, IsOctets-after}
 use Rattle.mv_base.proofs.framing.Fronts.{bad_is, whole_is}
 use Rattle.mv_base.proofs.framing.Loops.{OnWay, tail_of, on_way_more, on_way_fault, on_way_end}
 use Rattle.bgp_messages.specs.declared.bgp_attributes.fault.StreamFault.{StreamFault}
@@ -110,7 +110,7 @@ keys_again f place xs ks h =
     ap (λ (c : Cut Key StreamFault). all_keys place c.messages c.fault) is ∙ ap (λ (ms : List Key). Ok ms) (append-nil ks)
 
 rest_octets : (f : Family) (xs : List ℕ) (ks : List Key) (rest : List ℕ) → AreKeys f ks xs rest → IsOctets xs → IsOctets rest
-rest_octets f xs ks rest b fits = IsOctets-behind (octets_of b.units) rest (subst IsOctets b.parts fits)
+rest_octets f xs ks rest b fits = IsOctets-after (octets_of b.units) rest (subst IsOctets b.parts fits)
 
 -- A fault that is answered is the first.
 pub keys_fail : (f : Family) (place : ℕ) (xs : List ℕ) (at : ℕ) (e : StreamFault) → IsOctets xs → keys_at f place xs ≡ Err (at, e)

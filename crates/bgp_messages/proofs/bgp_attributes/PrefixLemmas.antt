@@ -1,4 +1,4 @@
--- Prefixes without bits behind their length: the octets that spell them.
+-- Prefixes without bits after their length: the octets that spell them.
 use Rattle.std.proofs.Common.{◌≡◌, ℕ, zero, suc, ◌+◌, ◌-◌, ◌*◌, ◌/◌, ◌%◌, ◌^◌, ◌<◌, ◌≤◌, List, [], ◌∷◌, ◌++◌, length, take, replicate, refl, sym, ap, ◌∙◌, arith}
 use Rattle.std.specs.Int.{w32, w128, to_be_bytes, from_be_bytes, byte_at, bytes_high_first}
 use Rattle.std.proofs.Math.Nat.{mul_assoc, mul_comm, mul-le-mul_right, mul-mod_right, mul-add-mod_self_right, mul-add-div_right, div-one, mod-eq_of_lt}
@@ -27,15 +27,15 @@ power_pos : (k : ℕ) → 0 < 256 ^ k
 power_pos zero = omega arith
 power_pos (suc k) = omega (arith, power k, power_pos k)
 
-behind_octets : (o : ℕ) (os : List ℕ) → IsOctets (o ∷ os) → IsOctets os
-behind_octets o os fits i = fits (suc i)
+after_octets : (o : ℕ) (os : List ℕ) → IsOctets (o ∷ os) → IsOctets os
+after_octets o os fits i = fits (suc i)
 
 below : (os : List ℕ) → IsOctets os → value os < 256 ^ length os
 below [] fits = omega arith
 below (o ∷ os) fits =
     let unit : ℕ = 256 ^ length os in
     let most : o * unit ≤ 255 * unit = mul-le-mul_right unit (let lt : o < 256 = fits 0 in omega (arith, lt)) in
-    omega (arith, power (length os), most, below os (behind_octets o os fits))
+    omega (arith, power (length os), most, below os (after_octets o os fits))
 
 -- ---- the octets of a number
 
@@ -62,12 +62,12 @@ octets_of : (os : List ℕ) → IsOctets os → bytes_high_first (length os) (va
 octets_of [] fits = refl
 octets_of (o ∷ os) fits =
     let k : ℕ = length os in
-    let quotient : value (o ∷ os) / 256 ^ k ≡ o = div-mul-add o (256 ^ k) (value os) (below os (behind_octets o os fits)) in
+    let quotient : value (o ∷ os) / 256 ^ k ≡ o = div-mul-add o (256 ^ k) (value os) (below os (after_octets o os fits)) in
     let first : byte_at k (value (o ∷ os)) ≡ o = octet_at k (value (o ∷ os)) ∙ ap (λ (q : ℕ). q % 256) quotient ∙ mod-eq_of_lt (fits 0) in
-    let others : bytes_high_first k (value (o ∷ os)) ≡ os = same_low k o (value os) ∙ octets_of os (behind_octets o os fits) in
+    let others : bytes_high_first k (value (o ∷ os)) ≡ os = same_low k o (value os) ∙ octets_of os (after_octets o os fits) in
     λ i. first i ∷ others i
 
--- ---- zeros behind the first octets
+-- ---- zeros after the first octets
 
 pos_of : (o u v : ℕ) → 0 < u → o * u + v ≡ 0 → (o ≡ 0) × (v ≡ 0)
 pos_of zero u v pos e = (refl, omega (arith, e))
@@ -96,7 +96,7 @@ last_zeros (suc n) (o ∷ os) fits le e =
     let rest : value os % 256 ^ k ≡ 0 =
     sym (mul-add-mod_self_right (o * 256 ^ n) (256 ^ k) (value os)) ∙ ap (λ (u : ℕ). (u + value os) % 256 ^ k) (sym front)
     ∙ ap (λ (j : ℕ). value (o ∷ os) % 256 ^ j) (sym same) ∙ e in
-    ap (λ (j : ℕ). o ∷ (take n os ++ replicate j 0)) same ∙ ap (λ (xs : List ℕ). o ∷ xs) (last_zeros n os (behind_octets o os fits) fewer rest)
+    ap (λ (j : ℕ). o ∷ (take n os ++ replicate j 0)) same ∙ ap (λ (xs : List ℕ). o ∷ xs) (last_zeros n os (after_octets o os fits) fewer rest)
 
 -- ---- addresses
 
@@ -145,7 +145,7 @@ powers (suc k) =
     let more : 8 * suc k ≡ 8 + 8 * k = omega arith in
     power k ∙ ap (λ (u : ℕ). 256 * u) (powers k) ∙ sym (ap (λ (n : ℕ). 2 ^ n) more ∙ pow-add 2 8 (8 * k))
 
--- Nothing stands behind the bits of the prefix.
+-- Nothing stands after the bits of the prefix.
 same_octets : (n bits : ℕ) (os : List ℕ) → length os ≡ n → IsOctets os → bits ≤ 8 * n → value os % 2 ^ (8 * n - bits) ≡ 0
     → padded n (take (octets_for bits) os) ≡ os
 same_octets n bits os len fits most none =
@@ -156,7 +156,7 @@ same_octets n bits os len fits most none =
     let count : n - length (take m os) ≡ length os - m = omega (arith, len, length-take-le m os fewer) in
     ap (λ (k : ℕ). take m os ++ replicate k 0) count ∙ last_zeros m os fits fewer tail
 
--- Clearing the bits behind the prefix changes nothing.
+-- Clearing the bits after the prefix changes nothing.
 same_number : (all bits number : ℕ) → number % 2 ^ (all - bits) ≡ 0 → cleared all bits number ≡ number
 same_number all bits number e = omega (arith, div-add-mod' number (2 ^ (all - bits)), e)
 
@@ -183,7 +183,7 @@ abbrev pub own_afi : Addr → Afi
 own_afi (V4 octets) = Ipv4
 own_afi (V6 octets) = Ipv6
 
--- The octets that hold the bits of an address without bits behind them are read as that address.
+-- The octets that hold the bits of an address without bits after them are read as that address.
 pub address_again : (addr : Addr) (bits : ℕ) → IsAddr addr → IsOctets (addr_octets addr) → IsPrefixOf addr bits
     → address (own_afi addr) bits (take (octets_for bits) (addr_octets addr)) ≡ addr
 unfolding address
@@ -195,7 +195,7 @@ prefix_len : (addr : Addr) (bits : ℕ) → IsAddr addr → IsPrefixOf addr bits
 prefix_len (V4 octets) bits len is = (is.0, omega (arith, is.0, len))
 prefix_len (V6 octets) bits len is = (is.0, omega (arith, is.0, len))
 
--- A prefix without bits behind it is spelled by the octets that hold its bits.
+-- A prefix without bits after it is spelled by the octets that hold its bits.
 pub prefix_spelled : (rd : Rd) (addr : Addr) (bits : ℕ) (label : List ℕ) → length rd.0 ≡ 8 → length label ≡ 3 → IsAddr addr
     → IsOctets (addr_octets addr) → IsPrefixOf addr bits
     → SpellsVpn (own_afi addr) rd (record { addr = addr; bits = bits }) ((88 + bits) ∷ (label ++ (rd.0 ++ take (octets_for bits) (addr_octets addr))))

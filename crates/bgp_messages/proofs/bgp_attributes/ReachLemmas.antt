@@ -4,7 +4,7 @@ use Rattle.std.specs.Int.{w16, to_be_bytes}
 use Rattle.std.proofs.lemmas.List.{append-nil}
 use Rattle.mv_base.specs.Octets.{IsOctets}
 use Rattle.mv_base.specs.Cursor.{◌>>=◌}
-use Rattle.mv_base.proofs.Fields.{octets_behind, wide16, bind_ok, bind_err, ok_is, err_is}
+use Rattle.mv_base.proofs.Fields.{octets_after, wide16, bind_ok, bind_err, ok_is, err_is}
 use Rattle.bgp_messages.specs.declared.bgp_attributes.fault.StreamFault.{StreamFault}
 use Rattle.bgp_messages.specs.declared.bgp_attributes.fault.StreamFault.TheVariants as faults
 use Rattle.bgp_messages.specs.declared.bgp_attributes.family.Family.{Family}
@@ -24,7 +24,7 @@ use Rattle.bgp_messages.proofs.bgp_attributes.HopLemmas.{hop_taken, hop_read, ho
 abbrev pub Means : ℕ → List ℕ → Attribute → Type 0
 Means kind value a = (type_of a ≡ kind) × SpellsValue a value
 
--- ---- behind AFI and SAFI
+-- ---- after AFI and SAFI
 
 reach_led : (place afi safi : ℕ) (rest : List ℕ) → afi < 2 ^ 16
     → reach_at place (to_be_bytes w16 afi ++ (safi ∷ rest)) ≡ reach_of (family_of afi safi) (place + 3) rest
@@ -36,7 +36,7 @@ unreach_led : (place afi safi : ℕ) (rest : List ℕ) → afi < 2 ^ 16
 unfolding unreach_at
 unreach_led place afi safi rest lt = ap (λ (n : ℕ). unreach_of (family_of n safi) (place + 3) rest) (wide16.again afi lt)
 
--- Behind the pair of a family.
+-- After the pair of a family.
 reach_pair : (place : ℕ) (f : Family) (rest : List ℕ) → reach_at place (pair f ++ rest) ≡ reach_of (Some f) (place + 3) rest
 reach_pair place f rest =
     reach_led place (afi_of f) (safi_of f) rest (afi_fits f) ∙ ap (λ (o : Option Family). reach_of o (place + 3) rest) (family_again f)
@@ -79,13 +79,13 @@ unreach_is place value l o e =
 
 -- ---- what is read of a family
 
--- what stands behind AFI and SAFI
+-- what stands after AFI and SAFI
 reachable_taken : (f : Family) (place : ℕ) (value rest : List ℕ) (r : Reachable) → IsOctets rest → value ≡ pair f ++ rest
     → reachable_at f place rest ≡ Ok r → SpellsReachable r value
 unfolding reachable_at
 reachable_taken f place value [] r fits parts e = absurd cc
 reachable_taken f place value (len ∷ more) r fits parts e =
-    let h = hop_taken f place len more r (octets_behind 1 (len ∷ more) fits) e in
+    let h = hop_taken f place len more r (octets_after 1 (len ∷ more) fits) e in
     record {
       family = f;
       hop = h.hop;
@@ -144,7 +144,7 @@ reachable_fails f place value [] at e fits parts h =
     let given : ℕ × StreamFault = (at, e) in
     let same : misfit ≡ given = err_is misfit given h in
     wrong.no_hop_len f refl parts (sym (ap (λ (x : ℕ × StreamFault). x.0) same)) (sym (ap (λ (x : ℕ × StreamFault). x.1) same))
-reachable_fails f place value (len ∷ more) at e fits parts h = hop_fails f place len value more at e (octets_behind 1 (len ∷ more) fits) parts h
+reachable_fails f place value (len ∷ more) at e fits parts h = hop_fails f place len value more at e (octets_after 1 (len ∷ more) fits) parts h
 
 reach_fails_by : (place : ℕ) (value : List ℕ) (at : ℕ) (e : StreamFault) (l : Led value) (o : Option Family) → family_of l.afi l.safi ≡ o
     → reach_of o (place + 3) l.rest ≡ Err (at, e) → ValueFault 14 value place at e
@@ -224,7 +224,7 @@ unreach_fails place value at e fits h =
 pub fails_no_family : (place : ℕ) (value : List ℕ) → length value < 3 → (reach_at place value ≡ Err misfit) × (unreach_at place value ≡ Err misfit)
 fails_no_family place value short = (reach_short place value short, unreach_short place value short)
 
--- what is answered behind the pair of a family
+-- what is answered after the pair of a family
 reach_err : (place : ℕ) (f : Family) (value rest : List ℕ) (x : ℕ × StreamFault) → value ≡ pair f ++ rest → reachable_at f (place + 3) rest ≡ Err x
     → reach_at place value ≡ Err x
 reach_err place f value rest x parts e =
@@ -233,9 +233,9 @@ reach_err place f value rest x parts e =
 pub fails_no_hop_len : (place : ℕ) (f : Family) (value : List ℕ) → value ≡ pair f → reach_at place value ≡ Err misfit
 fails_no_hop_len place f value parts = reach_err place f value [] misfit (parts ∙ sym (append-nil (pair f))) (reachable_none f (place + 3))
 
-pub fails_behind : (place : ℕ) (f : Family) (value : List ℕ) (len : ℕ) (rest : List ℕ) (x : ℕ × StreamFault) → value ≡ pair f ++ (len ∷ rest)
+pub fails_after : (place : ℕ) (f : Family) (value : List ℕ) (len : ℕ) (rest : List ℕ) (x : ℕ × StreamFault) → value ≡ pair f ++ (len ∷ rest)
     → hop_at f (place + 3) len rest ≡ Err x → reach_at place value ≡ Err x
-fails_behind place f value len rest x parts e = reach_err place f value (len ∷ rest) x parts (reachable_read f (place + 3) len rest ∙ e)
+fails_after place f value len rest x parts e = reach_err place f value (len ∷ rest) x parts (reachable_read f (place + 3) len rest ∙ e)
 
 pub fails_unreach : (place : ℕ) (f : Family) (value nlri : List ℕ) (inner : ℕ) (e : StreamFault) → value ≡ pair f ++ nlri → KeysFault f nlri inner e
     → unreach_at place value ≡ Err (place + 3 + inner, e)

@@ -25,7 +25,7 @@ use Rattle.bgp_messages.specs.bgp_attributes.FirstFault.{ValueFault}
 use Rattle.bgp_messages.specs.bgp_attributes.FirstFault as wrong
 use Rattle.bgp_messages.specs.bgp_attributes.Reading.{misfit, comm, comms_in, comms_at, tunnel_of, tunnel_at, reach_at, unreach_at, value_at}
 use Rattle.bgp_messages.proofs.bgp_attributes.HopLemmas.{hop_short, hop_wrong, fails_hop}
-use Rattle.bgp_messages.proofs.bgp_attributes.ReachLemmas.{Means, reach_taken, reach_again, unread_reach, reach_fails, unreach_taken, unreach_again, unread_unreach, unreach_fails, fails_no_family, fails_no_hop_len, fails_behind, fails_unreach}
+use Rattle.bgp_messages.proofs.bgp_attributes.ReachLemmas.{Means, reach_taken, reach_again, unread_reach, reach_fails, unreach_taken, unreach_again, unread_unreach, unreach_fails, fails_no_family, fails_no_hop_len, fails_after, fails_unreach}
 
 -- ---- communities
 
@@ -252,14 +252,14 @@ fails_value kind place value at e fits (wrong.no_hop_len f is parts p q) =
     answered kind 14 place value _ at e is (at_reach place value) (fails_no_hop_len place f value parts ∙ fault_is 0 at faults.AttributeLength e p q)
 fails_value kind place value at e fits (wrong.hop_len f len rest is parts none p q) =
     answered kind 14 place value _ at e is (at_reach place value)
-    (fails_behind place f value len rest _ parts (hop_wrong f (place + 3) len rest none) ∙ fault_is (place + 3) at faults.NextHop e p q)
+    (fails_after place f value len rest _ parts (hop_wrong f (place + 3) len rest none) ∙ fault_is (place + 3) at faults.NextHop e p q)
 fails_value kind place value at e fits (wrong.hop_cut f len rest is parts is_len short p q) =
     answered kind 14 place value _ at e is (at_reach place value)
-    (fails_behind place f value len rest _ parts (hop_short f (place + 3) len rest is_len short) ∙ fault_is 0 at faults.AttributeLength e p q)
+    (fails_after place f value len rest _ parts (hop_short f (place + 3) len rest is_len short) ∙ fault_is 0 at faults.AttributeLength e p q)
 fails_value kind place value at e fits (wrong.in_reach f addr hop reserved nlri inner is s parts in_keys p) =
     let there : at ≡ place + 3 + length hop + 2 + inner = omega (arith, p) in
     answered kind 14 place value _ at e is (at_reach place value)
-    (fails_behind place f value (length hop) (hop ++ (reserved ∷ nlri)) _ parts (fails_hop f (place + 3) addr hop reserved nlri inner e s in_keys)
+    (fails_after place f value (length hop) (hop ++ (reserved ∷ nlri)) _ parts (fails_hop f (place + 3) addr hop reserved nlri inner e s in_keys)
     ∙ fault_is (place + 3 + length hop + 2 + inner) at e e there refl)
 fails_value kind place value at e fits (wrong.in_unreach f nlri inner is parts in_keys p) =
     answered kind 15 place value _ at e is (at_unreach place value)

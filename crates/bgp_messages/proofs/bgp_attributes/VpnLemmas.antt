@@ -102,11 +102,11 @@ vpn_again afi rd prefix text after s =
     ap (λ (xs : List ℕ). drop 3 xs) (append_assoc s.label (rd.0 ++ s.octets) after) ∙ drop_at s.label ((rd.0 ++ s.octets) ++ after) 3 s.label_len in
     let there : drop 3 rest ≡ rd.0 ++ (s.octets ++ after) = three ∙ append_assoc rd.0 s.octets after in
     let distinguisher : take 8 (drop 3 rest) ≡ rd.0 = ap (λ (xs : List ℕ). take 8 xs) there ∙ take_at rd.0 (s.octets ++ after) 8 s.rd_len in
-    let behind : drop 11 rest ≡ s.octets ++ after =
+    let thereafter : drop 11 rest ≡ s.octets ++ after =
     sym (drop-drop 8 3 rest) ∙ ap (λ (xs : List ℕ). drop 8 xs) there ∙ drop_at rd.0 (s.octets ++ after) 8 s.rd_len in
     let count : length s.octets ≡ octets_for len - 11 = omega (arith, s.octets_len) in
     let octets : take (octets_for len - 11) (drop 11 rest) ≡ s.octets =
-    ap (λ (xs : List ℕ). take (octets_for len - 11) xs) behind ∙ take_at s.octets after (octets_for len - 11) count in
+    ap (λ (xs : List ℕ). take (octets_for len - 11) xs) thereafter ∙ take_at s.octets after (octets_for len - 11) count in
     let all : 1 + octets_for len ≡ length text = omega (arith, size, ap (λ (xs : List ℕ). length xs) s.parts) in
     let made : record { addr = address afi prefix.bits s.octets; bits = prefix.bits } ≡ prefix =
     λ i. record { addr = sym s.addr i; bits = prefix.bits } in

@@ -1,11 +1,11 @@
--- What is read behind the header of an UPDATE is what is spelled, and the first fault.
+-- What is read after the header of an UPDATE is what is spelled, and the first fault.
 use Rattle.std.proofs.Common.{◌≡◌, ℕ, ◌+◌, ◌^◌, ◌<◌, ◌≤◌, false, cond, ltb, inl, inr, List, [], ◌∷◌, ◌++◌, length, take, drop, Result, Ok, Err, refl, sym, ap, subst, ◌∙◌, arith}
 use Rattle.std.specs.Int.{w16, to_be_bytes, from_be_bytes}
 use Rattle.std.proofs.lemmas.Bool.{ltb-false, ltb-true, le-ltb, lt-ltb}
 use Rattle.std.proofs.lemmas.List.{length-append, length-take-le, take-append-drop, take_at, drop_at}
 use Rattle.mv_base.specs.Octets.{IsOctets}
-use Rattle.mv_base.proofs.Fields.{wide16, octets_before, octets_behind, chosen, err_is}
-use Rattle.mv_base.proofs.framing.Cuts.{IsOctets-before, IsOctets-behind}
+use Rattle.mv_base.proofs.Fields.{wide16, octets_before, octets_after, chosen, err_is}
+use Rattle.mv_base.proofs.framing.Cuts.{IsOctets-before, IsOctets-after}
 use Rattle.mv_base.proofs.framing.Fronts.{skip, take_branch}
 use Rattle.bgp_messages.specs.declared.bgp_attributes.update.Update.{Update}
 use Rattle.bgp_messages.specs.declared.bgp_attributes.fault.StreamFault.{StreamFault}
@@ -16,7 +16,7 @@ use Rattle.bgp_messages.specs.bgp_attributes.Reading.{update_at}
 use Rattle.bgp_messages.specs.bgp_update.Spelling.{SpellsBody}
 use Rattle.bgp_messages.specs.bgp_update.FirstFault.{BodyFault}
 use Rattle.bgp_messages.specs.bgp_update.FirstFault.BodyFault.{withdrawn_long, length_cut, attributes_long, in_attributes}
-use Rattle.bgp_messages.specs.bgp_update.Reading.{behind, list_at, body_at}
+use Rattle.bgp_messages.specs.bgp_update.Reading.{thereafter, list_at, body_at}
 use Rattle.bgp_messages.proofs.bgp_attributes.UpdateLemmas.{update_taken, update_again, update_fails, fails_update}
 
 -- ---- a number of two octets at the front
@@ -31,22 +31,22 @@ two_is high low rest fits =
     (wide16.below (high ∷ low ∷ []) f, ap (λ (xs : List ℕ). xs ++ rest) (sym (wide16.back (high ∷ low ∷ []) refl f)))
 
 rest_fits : (high low : ℕ) (rest : List ℕ) → IsOctets (high ∷ low ∷ rest) → IsOctets rest
-rest_fits high low rest fits = octets_behind 2 (high ∷ low ∷ rest) fits
+rest_fits high low rest fits = octets_after 2 (high ∷ low ∷ rest) fits
 
 -- ---- a fault further on
 
-behind_ok : {A : Type 0} (n : ℕ) (r : Result A (ℕ × StreamFault)) (x : A) → behind n r ≡ Ok x → r ≡ Ok x
-behind_ok n (Ok y) x e = e
-behind_ok n (Err f) x e = absurd cc
+after_ok : {A : Type 0} (n : ℕ) (r : Result A (ℕ × StreamFault)) (x : A) → thereafter n r ≡ Ok x → r ≡ Ok x
+after_ok n (Ok y) x e = e
+after_ok n (Err f) x e = absurd cc
 
-behind_err : {A : Type 0} (n : ℕ) (r : Result A (ℕ × StreamFault)) (offset : ℕ) (e : StreamFault) → behind n r ≡ Err (offset, e)
+after_err : {A : Type 0} (n : ℕ) (r : Result A (ℕ × StreamFault)) (offset : ℕ) (e : StreamFault) → thereafter n r ≡ Err (offset, e)
     → (place : ℕ) × (r ≡ Err (place, e)) × (offset ≡ n + place)
-behind_err n (Ok y) offset e h = absurd cc
-behind_err {A} n (Err f) offset e h =
+after_err n (Ok y) offset e h = absurd cc
+after_err {A} n (Err f) offset e h =
     let p : (n + f.0, f.1) ≡ (offset, e) = err_is {A = A} (n + f.0, f.1) (offset, e) h in
     (f.0, ap (λ (x : StreamFault). Err (f.0, x)) (ap (λ (q : ℕ × StreamFault). q.1) p), sym (ap (λ (q : ℕ × StreamFault). q.0) p))
 
--- ---- the attributes behind their length
+-- ---- the attributes after their length
 
 record SpellsList (u : Update) (xs : List ℕ) : Type 0 where
   list : List ℕ
@@ -63,21 +63,21 @@ data ListFault (xs : List ℕ) (offset : ℕ) (e : StreamFault) : Type 0 where
       → AttributesFault list place e → offset ≡ 2 + place → ListFault xs offset e
 
 list_at_two : (len : ℕ) (rest : List ℕ) → len < 2 ^ 16
-    → list_at (to_be_bytes w16 len ++ rest) ≡ cond (ltb (length rest) len) (Err (0, AttributeList)) (behind 2 (update_at (take len rest)))
+    → list_at (to_be_bytes w16 len ++ rest) ≡ cond (ltb (length rest) len) (Err (0, AttributeList)) (thereafter 2 (update_at (take len rest)))
 unfolding list_at
 list_at_two len rest lt =
-    ap (λ (n : ℕ). cond (ltb (length rest) n) (Err (0, AttributeList)) (behind 2 (update_at (take n rest)))) (wide16.again len lt)
+    ap (λ (n : ℕ). cond (ltb (length rest) n) (Err (0, AttributeList)) (thereafter 2 (update_at (take n rest)))) (wide16.again len lt)
 
-list_at_text : (list rest : List ℕ) → length list < 2 ^ 16 → list_at (to_be_bytes w16 (length list) ++ (list ++ rest)) ≡ behind 2 (update_at list)
+list_at_text : (list rest : List ℕ) → length list < 2 ^ 16 → list_at (to_be_bytes w16 (length list) ++ (list ++ rest)) ≡ thereafter 2 (update_at list)
 list_at_text list rest fits =
     let room : ltb (length (list ++ rest)) (length list) ≡ false = le-ltb _ _ (omega (arith, length-append list rest)) in
     list_at_two (length list) (list ++ rest) fits ∙ skip (ltb (length (list ++ rest)) (length list)) _ _ room
-    ∙ ap (λ (xs : List ℕ). behind 2 (update_at xs)) (take_at list rest (length list) refl)
+    ∙ ap (λ (xs : List ℕ). thereafter 2 (update_at xs)) (take_at list rest (length list) refl)
 
 list_again : (u : Update) (xs : List ℕ) → SpellsList u xs → list_at xs ≡ Ok u
-list_again u xs s = ap list_at s.parts ∙ list_at_text s.list s.rest s.fits ∙ ap (behind 2) (update_again u s.list s.spelled)
+list_again u xs s = ap list_at s.parts ∙ list_at_text s.list s.rest s.fits ∙ ap (thereafter 2) (update_again u s.list s.spelled)
 
--- octets behind such a number are those and the others
+-- octets after such a number are those and the others
 cut_at_len : (n : ℕ) (xs rest : List ℕ) → xs ≡ to_be_bytes w16 n ++ rest → n ≤ length rest
     → (length (take n rest) ≡ n) × (xs ≡ to_be_bytes w16 (length (take n rest)) ++ (take n rest ++ drop n rest))
 cut_at_len n xs rest parts le =
@@ -94,7 +94,7 @@ list_taken (high ∷ []) u fits e = absurd cc
 list_taken (high ∷ low ∷ rest) u fits e =
     let n : ℕ = two high low in
     let t = two_is high low rest fits in
-    elim (chosen (ltb (length rest) n) (Err (0, AttributeList)) (behind 2 (update_at (take n rest))) (Ok u) e) [
+    elim (chosen (ltb (length rest) n) (Err (0, AttributeList)) (thereafter 2 (update_at (take n rest))) (Ok u) e) [
       | inl a ↦ absurd (let clash : Err (0, AttributeList) ≡ Ok u = a.1 in cc)
       | inr b ↦
           let le : n ≤ length rest = ltb-false _ _ b.0 in
@@ -105,7 +105,7 @@ list_taken (high ∷ low ∷ rest) u fits e =
             fits = omega (arith, c.0, t.0);
             parts = c.1;
             spelled =
-                update_taken (take n rest) u (octets_before n rest (rest_fits high low rest fits)) (behind_ok 2 (update_at (take n rest)) u b.1);
+                update_taken (take n rest) u (octets_before n rest (rest_fits high low rest fits)) (after_ok 2 (update_at (take n rest)) u b.1);
           }
     ]
 
@@ -120,14 +120,14 @@ list_fails (high ∷ []) offset e fits h = cut_first (high ∷ []) offset e (ome
 list_fails (high ∷ low ∷ rest) offset e fits h =
     let n : ℕ = two high low in
     let t = two_is high low rest fits in
-    elim (chosen (ltb (length rest) n) (Err (0, AttributeList)) (behind 2 (update_at (take n rest))) (Err (offset, e)) h) [
+    elim (chosen (ltb (length rest) n) (Err (0, AttributeList)) (thereafter 2 (update_at (take n rest))) (Err (offset, e)) h) [
       | inl a ↦
           let p : (0, AttributeList) ≡ (offset, e) = err_is {A = Update} (0, AttributeList) (offset, e) a.1 in
           long n rest t.0 t.1 (ltb-true _ _ a.0) (sym (ap (λ (q : ℕ × StreamFault). q.0) p)) (sym (ap (λ (q : ℕ × StreamFault). q.1) p))
       | inr b ↦
           let le : n ≤ length rest = ltb-false _ _ b.0 in
           let c = cut_at_len n (high ∷ low ∷ rest) rest t.1 le in
-          let f = behind_err 2 (update_at (take n rest)) offset e b.1 in
+          let f = after_err 2 (update_at (take n rest)) offset e b.1 in
           inside (take n rest) (drop n rest) f.0 (omega (arith, c.0, t.0)) c.1
           (update_fails (take n rest) f.0 e (octets_before n rest (rest_fits high low rest fits)) f.1) f.2
     ]
@@ -147,24 +147,24 @@ fails_list xs offset e fits (long len rest small parts lt at fault) =
     ap list_at parts ∙ list_at_two len rest small ∙ take_branch (ltb (length rest) len) _ _ (lt-ltb _ _ lt)
     ∙ err_same 0 offset AttributeList e (sym at) (sym fault)
 fails_list xs offset e fits (inside list rest place small parts faulty at) =
-    let f : IsOctets list = IsOctets-before list rest (IsOctets-behind (to_be_bytes w16 (length list)) (list ++ rest) (subst IsOctets parts fits)) in
-    ap list_at parts ∙ list_at_text list rest small ∙ ap (behind 2) (fails_update list place e f faulty)
+    let f : IsOctets list = IsOctets-before list rest (IsOctets-after (to_be_bytes w16 (length list)) (list ++ rest) (subst IsOctets parts fits)) in
+    ap list_at parts ∙ list_at_text list rest small ∙ ap (thereafter 2) (fails_update list place e f faulty)
     ∙ err_same (2 + place) offset e e (sym at) refl
 
--- ---- the body: behind the withdrawn routes
+-- ---- the body: after the withdrawn routes
 
 body_at_two : (len : ℕ) (rest : List ℕ) → len < 2 ^ 16
-    → body_at (to_be_bytes w16 len ++ rest) ≡ cond (ltb (length rest) len) (Err (0, AttributeList)) (behind (2 + len) (list_at (drop len rest)))
+    → body_at (to_be_bytes w16 len ++ rest) ≡ cond (ltb (length rest) len) (Err (0, AttributeList)) (thereafter (2 + len) (list_at (drop len rest)))
 unfolding body_at
 body_at_two len rest lt =
-    ap (λ (n : ℕ). cond (ltb (length rest) n) (Err (0, AttributeList)) (behind (2 + n) (list_at (drop n rest)))) (wide16.again len lt)
+    ap (λ (n : ℕ). cond (ltb (length rest) n) (Err (0, AttributeList)) (thereafter (2 + n) (list_at (drop n rest)))) (wide16.again len lt)
 
 body_at_text : (withdrawn rest : List ℕ) → length withdrawn < 2 ^ 16
-    → body_at (to_be_bytes w16 (length withdrawn) ++ (withdrawn ++ rest)) ≡ behind (2 + length withdrawn) (list_at rest)
+    → body_at (to_be_bytes w16 (length withdrawn) ++ (withdrawn ++ rest)) ≡ thereafter (2 + length withdrawn) (list_at rest)
 body_at_text withdrawn rest fits =
     let room : ltb (length (withdrawn ++ rest)) (length withdrawn) ≡ false = le-ltb _ _ (omega (arith, length-append withdrawn rest)) in
     body_at_two (length withdrawn) (withdrawn ++ rest) fits ∙ skip (ltb (length (withdrawn ++ rest)) (length withdrawn)) _ _ room
-    ∙ ap (λ (xs : List ℕ). behind (2 + length withdrawn) (list_at xs)) (drop_at withdrawn rest (length withdrawn) refl)
+    ∙ ap (λ (xs : List ℕ). thereafter (2 + length withdrawn) (list_at xs)) (drop_at withdrawn rest (length withdrawn) refl)
 
 pub body_again : (u : Update) (body : List ℕ) → length body < 2 ^ 16 → SpellsBody u body → body_at body ≡ Ok u
 body_again u body small s =
@@ -173,7 +173,7 @@ body_again u body small s =
     ap (λ (xs : List ℕ). length xs) s.parts ∙ omega (arith, length-append s.withdrawn list_text, length-append s.list s.rest) in
     ap body_at s.parts
     ∙ body_at_text s.withdrawn list_text (omega arith)
-    ∙ ap (behind (2 + length s.withdrawn)) (list_again u list_text
+    ∙ ap (thereafter (2 + length s.withdrawn)) (list_again u list_text
     (record { list = s.list; rest = s.rest; fits = omega arith; parts = refl; spelled = s.spelled }))
 
 pub body_taken : (body : List ℕ) (u : Update) → IsOctets body → body_at body ≡ Ok u → SpellsBody u body
@@ -183,12 +183,12 @@ body_taken (high ∷ []) u fits e = absurd cc
 body_taken (high ∷ low ∷ rest) u fits e =
     let n : ℕ = two high low in
     let t = two_is high low rest fits in
-    elim (chosen (ltb (length rest) n) (Err (0, AttributeList)) (behind (2 + n) (list_at (drop n rest))) (Ok u) e) [
+    elim (chosen (ltb (length rest) n) (Err (0, AttributeList)) (thereafter (2 + n) (list_at (drop n rest))) (Ok u) e) [
       | inl a ↦ absurd (let clash : Err (0, AttributeList) ≡ Ok u = a.1 in cc)
       | inr b ↦
           let le : n ≤ length rest = ltb-false _ _ b.0 in
           let c = cut_at_len n (high ∷ low ∷ rest) rest t.1 le in
-          let s = list_taken (drop n rest) u (octets_behind n rest (rest_fits high low rest fits)) (behind_ok (2 + n) (list_at (drop n rest)) u b.1)
+          let s = list_taken (drop n rest) u (octets_after n rest (rest_fits high low rest fits)) (after_ok (2 + n) (list_at (drop n rest)) u b.1)
           in
           record {
             withdrawn = take n rest;
@@ -199,7 +199,7 @@ body_taken (high ∷ low ∷ rest) u fits e =
           }
     ]
 
--- a fault behind the withdrawn routes
+-- a fault after the withdrawn routes
 list_faulty : (withdrawn xs body : List ℕ) (offset place : ℕ) (e : StreamFault) → length withdrawn < 2 ^ 16
     → body ≡ to_be_bytes w16 (length withdrawn) ++ (withdrawn ++ xs) → ListFault xs place e → offset ≡ 2 + length withdrawn + place
     → BodyFault body offset e
@@ -220,22 +220,22 @@ body_fails (high ∷ []) offset e fits le h = absurd (omega arith)
 body_fails (high ∷ low ∷ rest) offset e fits le h =
     let n : ℕ = two high low in
     let t = two_is high low rest fits in
-    elim (chosen (ltb (length rest) n) (Err (0, AttributeList)) (behind (2 + n) (list_at (drop n rest))) (Err (offset, e)) h) [
+    elim (chosen (ltb (length rest) n) (Err (0, AttributeList)) (thereafter (2 + n) (list_at (drop n rest))) (Err (offset, e)) h) [
       | inl a ↦
           let p : (0, AttributeList) ≡ (offset, e) = err_is {A = Update} (0, AttributeList) (offset, e) a.1 in
           withdrawn_long n rest t.0 t.1 (ltb-true _ _ a.0) (sym (ap (λ (q : ℕ × StreamFault). q.0) p)) (sym (ap (λ (q : ℕ × StreamFault). q.1) p))
       | inr b ↦
           let le : n ≤ length rest = ltb-false _ _ b.0 in
           let c = cut_at_len n (high ∷ low ∷ rest) rest t.1 le in
-          let f = behind_err (2 + n) (list_at (drop n rest)) offset e b.1 in
+          let f = after_err (2 + n) (list_at (drop n rest)) offset e b.1 in
           list_faulty (take n rest) (drop n rest) (high ∷ low ∷ rest) offset f.0 e (omega (arith, c.0, t.0)) c.1
-          (list_fails (drop n rest) f.0 e (octets_behind n rest (rest_fits high low rest fits)) f.1) (omega (arith, f.2, c.0))
+          (list_fails (drop n rest) f.0 e (octets_after n rest (rest_fits high low rest fits)) f.1) (omega (arith, f.2, c.0))
     ]
 
--- the octets behind the withdrawn routes
-behind_withdrawn : (withdrawn xs body : List ℕ) → IsOctets body → body ≡ to_be_bytes w16 (length withdrawn) ++ (withdrawn ++ xs) → IsOctets xs
-behind_withdrawn withdrawn xs body fits parts =
-    IsOctets-behind withdrawn xs (IsOctets-behind (to_be_bytes w16 (length withdrawn)) (withdrawn ++ xs) (subst IsOctets parts fits))
+-- the octets after the withdrawn routes
+after_withdrawn : (withdrawn xs body : List ℕ) → IsOctets body → body ≡ to_be_bytes w16 (length withdrawn) ++ (withdrawn ++ xs) → IsOctets xs
+after_withdrawn withdrawn xs body fits parts =
+    IsOctets-after withdrawn xs (IsOctets-after (to_be_bytes w16 (length withdrawn)) (withdrawn ++ xs) (subst IsOctets parts fits))
 
 faulty_list : (withdrawn xs body : List ℕ) (offset place : ℕ) (e : StreamFault) → IsOctets body → length withdrawn < 2 ^ 16
     → body ≡ to_be_bytes w16 (length withdrawn) ++ (withdrawn ++ xs) → ListFault xs place e → offset ≡ 2 + length withdrawn + place
@@ -243,7 +243,7 @@ faulty_list : (withdrawn xs body : List ℕ) (offset place : ℕ) (e : StreamFau
 faulty_list withdrawn xs body offset place e fits small parts faulty there =
     ap body_at parts
     ∙ body_at_text withdrawn xs small
-    ∙ ap (behind (2 + length withdrawn)) (fails_list xs place e (behind_withdrawn withdrawn xs body fits parts) faulty)
+    ∙ ap (thereafter (2 + length withdrawn)) (fails_list xs place e (after_withdrawn withdrawn xs body fits parts) faulty)
     ∙ err_same (2 + length withdrawn + place) offset e e (sym there) refl
 
 pub fails_body : (body : List ℕ) (offset : ℕ) (e : StreamFault) → IsOctets body → BodyFault body offset e → body_at body ≡ Err (offset, e)

@@ -4,7 +4,7 @@ use Rattle.std.specs.Int.{w16, to_be_bytes, from_be_bytes}
 use Rattle.std.proofs.lemmas.Bool.{le-ltb, lt-ltb, cases_lt}
 use Rattle.std.proofs.lemmas.List.{length-append, length-drop, length-take-le, take-append-drop, drop-drop}
 use Rattle.mv_base.specs.Octets.{IsOctets}
-use Rattle.mv_base.proofs.Fields.{wide16, octets_before, octets_behind}
+use Rattle.mv_base.proofs.Fields.{wide16, octets_before, octets_after}
 use Rattle.mv_base.specs.framing.Cut.{Front}
 use Rattle.mv_base.specs.framing.Cut.Front.{more, bad}
 use Rattle.mv_base.proofs.framing.Fronts.{skip, take_branch}
@@ -22,7 +22,7 @@ len_in xs = from_be_bytes w16 (take 2 (drop 16 xs))
 abbrev pub kind_in : List ℕ → ℕ
 kind_in xs = slice_index xs 18
 
--- what stands at the front, by the header and what stands behind it
+-- what stands at the front, by the header and what stands after it
 abbrev pub by_rest : ℕ → ℕ → List ℕ → Front Message StreamFault
 by_rest len kind rest =
     cond (not (is_length len)) (bad [] 16 MessageLength)
@@ -70,7 +70,7 @@ pub is_headed : (xs : List ℕ) → IsOctets xs → 19 ≤ length xs → take 16
 is_headed xs fits le front =
     let two : length (take 2 (drop 16 xs)) ≡ 2 = length-take-le 2 (drop 16 xs) (omega (arith, length-drop 16 xs, le)) in
     let len : to_be_bytes w16 (len_in xs) ≡ take 2 (drop 16 xs) =
-    wide16.back (take 2 (drop 16 xs)) two (octets_before 2 (drop 16 xs) (octets_behind 16 xs fits)) in
+    wide16.back (take 2 (drop 16 xs)) two (octets_before 2 (drop 16 xs) (octets_after 16 xs fits)) in
     let kind : drop 18 xs ≡ kind_in xs ∷ drop 19 xs = drop-cons xs 18 0 (omega (arith, le)) in
     sym (take-append-drop 16 xs)
     ∙ ap (λ (ys : List ℕ). ys ++ drop 16 xs) front
@@ -86,7 +86,7 @@ pub data Stands (xs : List ℕ) : Type 0 where
 stands_by : (xs : List ℕ) → IsOctets xs → 19 ≤ length xs → (b : Bool) → is_marker (take 16 xs) ≡ b → Stands xs
 stands_by xs fits le true e =
     let len : length (take 16 xs) ≡ 16 = length-take-le 16 xs (omega (arith, le)) in
-    let below : len_in xs < 2 ^ 16 = wide16.below (take 2 (drop 16 xs)) (octets_before 2 (drop 16 xs) (octets_behind 16 xs fits)) in
+    let below : len_in xs < 2 ^ 16 = wide16.below (take 2 (drop 16 xs)) (octets_before 2 (drop 16 xs) (octets_after 16 xs fits)) in
     Stands.headed (len_in xs) (kind_in xs) (drop 19 xs) below (is_headed xs fits le (marker_told (take 16 xs) len e))
 stands_by xs fits le false e = Stands.other_marker le (λ same. let clash : true ≡ false = sym (marker_tells (take 16 xs) same) ∙ e in absurd cc)
 

@@ -7,7 +7,7 @@ use Rattle.mv_base.specs.Octets.{IsOctets}
 use Rattle.mv_base.proofs.Fields.{octets_before, chosen, ok_is, err_is}
 use Rattle.mv_base.specs.framing.Cut.{Front}
 use Rattle.mv_base.specs.framing.Cut.Front.{more, whole, bad}
-use Rattle.mv_base.proofs.framing.Cuts.{IsFraming, IsOctets-before, IsOctets-behind}
+use Rattle.mv_base.proofs.framing.Cuts.{IsFraming, IsOctets-before, IsOctets-after}
 use Rattle.mv_base.proofs.framing.Fronts.{not_bad, not_more, not_waiting, not_bad_yet, bad_is, whole_is, skip, take_branch, same_tests}
 use Rattle.mv_base.proofs.framing.Feedings.{IsFormat}
 use Rattle.bgp_messages.specs.declared.bgp_attributes.update.Update.{Update}
@@ -103,7 +103,7 @@ fit_of_message (messages.Other k) kind body (is, other, empty) =
     ]))
     (λ keepalive. omega (arith, ap (λ (xs : List ℕ). length xs) (empty keepalive)))
 
--- ---- what stands behind a header
+-- ---- what stands after a header
 
 -- where a whole message stands, all tests were passed
 record Passed (len kind : ℕ) (rest : List ℕ) : Type 0 where
@@ -179,7 +179,7 @@ whole_taken len kind rest xs n ms fits parts e =
     ∙ sym (append_assoc (header len kind) body (drop (len - 19) rest)) in
     let front : take n xs ≡ header len kind ++ body =
     ap (take n) split ∙ take_at (header len kind ++ body) (drop (len - 19) rest) n (omega (arith, length_headed len kind body, up, t.1.2)) in
-    let rest_fits : IsOctets rest = IsOctets-behind (header len kind) rest (subst IsOctets parts fits) in (
+    let rest_fits : IsOctets rest = IsOctets-after (header len kind) rest (subst IsOctets parts fits) in (
       omega (arith, all, p.room, t.1.2),
       record {
         message = t.1.0;
@@ -336,7 +336,7 @@ message_fails xs ms offset e fits h =
           let b = bad_is [] ms 0 offset Marker e (sym (at_other_marker xs le other) ∙ h) in
           (sym b.2, wrong_marker le other (sym b.0) (sym b.1))
       | Stands.headed len kind rest lt parts ↦ by_fails len kind rest xs ms offset e lt
-          (IsOctets-behind (header len kind) rest (subst IsOctets parts fits)) parts
+          (IsOctets-after (header len kind) rest (subst IsOctets parts fits)) parts
           (sym (at_header len kind rest lt) ∙ sym (ap message_front parts) ∙ h)
     ]
 
@@ -370,7 +370,7 @@ fails_message xs offset e fits (in_body body rest place low high parts faulty at
     let len : ℕ = 19 + length body in
     let down : len - 19 ≡ length body = omega arith in
     let part : take (len - 19) (body ++ rest) ≡ body = take_at body rest (len - 19) (sym down) in
-    let body_fits : IsOctets body = IsOctets-before body rest (IsOctets-behind (header len 2) (body ++ rest) (subst IsOctets parts fits)) in
+    let body_fits : IsOctets body = IsOctets-before body rest (IsOctets-after (header len 2) (body ++ rest) (subst IsOctets parts fits)) in
     let p : Passed len 2 (body ++ rest) =
     record {
       low = omega arith;

@@ -32,9 +32,9 @@ IsPart (Ok x) len = (0 < x.1) × (x.1 ≤ len)
 IsPart (Err e) len = IsNear e len
 
 -- so many octets further on
-abbrev pub behind : ℕ → AttributesFault → AttributesFault
-behind place NoMemory = NoMemory
-behind place (Bad at fault) = Bad (place + at) fault
+abbrev pub thereafter : ℕ → AttributesFault → AttributesFault
+thereafter place NoMemory = NoMemory
+thereafter place (Bad at fault) = Bad (place + at) fault
 
 -- ---- the clauses of reading an update
 

@@ -62,11 +62,11 @@ pub data ValueFault (kind : ℕ) (value : List ℕ) (place : ℕ) (offset : ℕ)
   in_tunnel : (g : PmsiFault) → kind ≡ 22 → tunnel_faults.FirstFault value g → offset ≡ place + g.place → e ≡ Pmsi g.reason →
       ValueFault kind value place offset e
 
--- the octets behind the type are no length with a value of that length behind it
+-- the octets after the type are no length with a value of that length after it
 abbrev pub IsCut : ℕ → List ℕ → Type 0
 IsCut flags rest = (value after : List ℕ) → FitsLen flags (length value) → rest ≢ len_field flags (length value) ++ (value ++ after)
 
--- Behind those attributes the next one fails.
+-- After those attributes the next one fails.
 pub data AttributeFault (before : List Attribute) (octets : List ℕ) (offset : ℕ) (e : StreamFault) : Type 0 where
   type_cut : (flags : ℕ) → octets ≡ flags ∷ [] → offset ≡ 0 → e ≡ AttributeLength → AttributeFault before octets offset e
   -- a type that is read stands a second time

@@ -131,7 +131,7 @@ hop_addr (Mcast afi) octets = addr_of octets
 hop_addr (Vpn Ipv4) octets = addr_of octets
 hop_addr (Vpn Ipv6) octets = unmapped (addr_of octets)
 
--- next hop, reserved octet and NLRI, behind the length of the next hop
+-- next hop, reserved octet and NLRI, after the length of the next hop
 unfoldable pub hop_at : Family → ℕ → ℕ → List ℕ → Read Reachable
 hop_at f place len rest =
     if not (is_hop_len f len) then Err (place, faults.NextHop) else
@@ -139,7 +139,7 @@ hop_at f place len rest =
     (keys_at f (place + len + 2) (drop (len + 1) rest) >>= λ ks.
     Ok (record { next_hop = hop_addr f (take (len - before_addr f) (drop (before_addr f) rest)); keys = ks }))
 
--- what stands behind AFI and SAFI in MP_REACH_NLRI
+-- what stands after AFI and SAFI in MP_REACH_NLRI
 unfoldable pub reachable_at : Family → ℕ → List ℕ → Read Reachable
 reachable_at f place [] = Err misfit
 reachable_at f place (len ∷ rest) = hop_at f place len rest
@@ -235,22 +235,22 @@ update_in found = record { reach = adverts_of (unwrap_or found.communities []) f
 abbrev pub front_of : ℕ → List ℕ → Option (List ℕ)
 front_of len octets = if nat_lt (length octets) len then None else Some (take len octets)
 
--- the value behind a length of two octets
+-- the value after a length of two octets
 unfoldable pub wide_value : List ℕ → Option (List ℕ)
 wide_value [] = None
 wide_value (high ∷ []) = None
 wide_value (high ∷ low ∷ rest) = front_of (from_be_bytes w16 (high ∷ low ∷ [])) rest
 
--- the value behind a length of one octet
+-- the value after a length of one octet
 unfoldable pub narrow_value : List ℕ → Option (List ℕ)
 narrow_value [] = None
 narrow_value (len ∷ rest) = front_of len rest
 
--- the value behind its length
+-- the value after its length
 unfoldable pub value_of : ℕ → List ℕ → Option (List ℕ)
 value_of flags rest = if is_extended flags then wide_value rest else narrow_value rest
 
--- where the value stands, behind flags, type and length
+-- where the value stands, after flags, type and length
 abbrev pub value_place : ℕ → ℕ
 value_place flags = if is_extended flags then 4 else 3
 
@@ -276,7 +276,7 @@ is_read_type kind = (kind == 14) || (kind == 15) || (kind == 16) || (kind == 22)
 abbrev pub has_type : List Attribute → ℕ → Bool
 has_type before kind = is_read_type kind && list_any (λ b. type_of b == kind) before
 
--- the attribute at the front, behind these
+-- the attribute at the front, after these
 abbrev pub attribute_at : List Attribute → List ℕ → Read (Attribute × ℕ)
 attribute_at before octets = attribute_unless (has_type before) octets
 

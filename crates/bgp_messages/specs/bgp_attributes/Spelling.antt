@@ -68,7 +68,7 @@ SpellsHopAddr Ipv6 addr text = SpellsMapped addr text
 -- 4364 section 4.3.2; RFC 4659 section 3.2.1).
 abbrev pub SpellsNextHop : Family → Addr → List ℕ → Type 0
 SpellsNextHop (Mcast afi) addr text = IsAddr addr × (text ≡ addr_octets addr)
-SpellsNextHop (Vpn afi) addr text = (front behind : List ℕ) × (length front ≡ 8) × SpellsHopAddr afi addr behind × (text ≡ front ++ behind)
+SpellsNextHop (Vpn afi) addr text = (front thereafter : List ℕ) × (length front ≡ 8) × SpellsHopAddr afi addr thereafter × (text ≡ front ++ thereafter)
 
 -- ---- keys
 
@@ -81,7 +81,7 @@ abbrev pub addr_bits : Afi → ℕ
 addr_bits Ipv4 = 32
 addr_bits Ipv6 = 128
 
--- the number of so many bits with zeros behind the first ones
+-- the number of so many bits with zeros after the first ones
 abbrev pub cleared : ℕ → ℕ → ℕ → ℕ
 cleared all bits number = (number / 2 ^ (all - bits)) * 2 ^ (all - bits)
 
@@ -89,13 +89,13 @@ cleared all bits number = (number / 2 ^ (all - bits)) * 2 ^ (all - bits)
 abbrev pub padded : ℕ → List ℕ → List ℕ
 padded n octets = octets ++ replicate (n - length octets) 0
 
--- the address that begins with those bits of the octets, and zeros behind them
+-- the address that begins with those bits of the octets, and zeros after them
 unfoldable pub address : Afi → ℕ → List ℕ → Addr
 address Ipv4 bits octets = V4 (to_be_bytes w32 (cleared 32 bits (from_be_bytes w32 (padded 4 octets))))
 address Ipv6 bits octets = V6 (to_be_bytes w128 (cleared 128 bits (from_be_bytes w128 (padded 16 octets))))
 
 -- A length in bits, a label field of 3 octets, a Route Distinguisher and the prefix, all of which the length counts (RFC
--- 8277 section 2; RFC 4364 section 4.3.4; RFC 4659 section 2). The label field may be anything, and so may the bits behind the prefix.
+-- 8277 section 2; RFC 4364 section 4.3.4; RFC 4659 section 2). The label field may be anything, and so may the bits after the prefix.
 pub record SpellsVpn (afi : Afi) (rd : Rd) (prefix : Prefix) (text : List ℕ) : Type 0 where
   pub label : List ℕ
   pub octets : List ℕ
@@ -116,7 +116,7 @@ SpellsKey (Vpn afi) (keys.Mcast a route) text = ⊥
 abbrev pub SpellsUnit : Family → List Key → List ℕ → Type 0
 SpellsUnit f ks text = (key : Key) × (ks ≡ key ∷ []) × SpellsKey f key text
 
--- NLRI: keys end to end, and the rest behind them (RFC 4760 section 5)
+-- NLRI: keys end to end, and the rest after them (RFC 4760 section 5)
 abbrev pub AreKeys : Family → List Key → List ℕ → List ℕ → Type 0
 AreKeys f ks octets rest = Begins (SpellsUnit f) octets ks rest
 
@@ -133,7 +133,7 @@ type_of (Passed kind) = kind
 abbrev pub IsReadType : ℕ → Type 0
 IsReadType kind = (kind ≡ 14) ⊎ (kind ≡ 15) ⊎ (kind ≡ 16) ⊎ (kind ≡ 22)
 
--- AFI and SAFI of a family that is not read, whatever stands behind them
+-- AFI and SAFI of a family that is not read, whatever stands after them
 pub record SpellsUnread (value : List ℕ) : Type 0 where
   pub afi : ℕ
   pub safi : ℕ
@@ -142,7 +142,7 @@ pub record SpellsUnread (value : List ℕ) : Type 0 where
   pub unread : IsUnread afi safi
   pub parts : value ≡ to_be_bytes w16 afi ++ (safi ∷ rest)
 
--- AFI and SAFI, the next hop behind its length, a reserved octet, and the NLRI (RFC 4760 section 3)
+-- AFI and SAFI, the next hop after its length, a reserved octet, and the NLRI (RFC 4760 section 3)
 pub record SpellsReachable (r : Reachable) (value : List ℕ) : Type 0 where
   pub family : Family
   pub hop : List ℕ

@@ -7,7 +7,7 @@ use Rattle.bgp_messages.specs.declared.bgp_attributes.update.Message.{Message}
 use Rattle.bgp_messages.specs.bgp_attributes.FirstFault.{AttributesFault}
 use Rattle.bgp_messages.specs.bgp_update.Spelling.{marker, header}
 
--- behind the header of an UPDATE, which has at least 4 octets there; the offset counts from the first of these
+-- after the header of an UPDATE, which has at least 4 octets there; the offset counts from the first of these
 pub data BodyFault (body : List ℕ) (offset : ℕ) (e : StreamFault) : Type 0 where
   -- the withdrawn routes pass the message
   withdrawn_long : (len : ℕ) (rest : List ℕ) → len < 2 ^ 16 → body ≡ to_be_bytes w16 len ++ rest → length rest < len

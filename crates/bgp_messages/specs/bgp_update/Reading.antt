@@ -25,26 +25,26 @@ is_type kind = nat_le 1 kind && nat_le kind 5
 abbrev pub fits_type : ℕ → ℕ → Bool
 fits_type kind len = if kind == 2 then nat_le 23 len else if kind == 4 then len == 19 else true
 
--- a fault of octets behind so many
-abbrev pub behind : {A : Type 0} → ℕ → Result A (ℕ × StreamFault) → Result A (ℕ × StreamFault)
-behind before (Ok x) = Ok x
-behind before (Err f) = Err (before + f.0, f.1)
+-- a fault of octets after so many
+abbrev pub thereafter : {A : Type 0} → ℕ → Result A (ℕ × StreamFault) → Result A (ℕ × StreamFault)
+thereafter before (Ok x) = Ok x
+thereafter before (Err f) = Err (before + f.0, f.1)
 
--- the attributes, behind their length
+-- the attributes, after their length
 unfoldable pub list_at : List ℕ → Result Update (ℕ × StreamFault)
 list_at [] = Err (0, faults.AttributeList)
 list_at (high ∷ []) = Err (0, faults.AttributeList)
 list_at (high ∷ low ∷ rest) =
     let len = from_be_bytes w16 (high ∷ low ∷ []) in
-    if nat_lt (length rest) len then Err (0, faults.AttributeList) else behind 2 (update_at (take len rest))
+    if nat_lt (length rest) len then Err (0, faults.AttributeList) else thereafter 2 (update_at (take len rest))
 
--- the attributes, behind the withdrawn routes and the length of these
+-- the attributes, after the withdrawn routes and the length of these
 unfoldable pub body_at : List ℕ → Result Update (ℕ × StreamFault)
 body_at [] = Err (0, faults.AttributeList)
 body_at (high ∷ []) = Err (0, faults.AttributeList)
 body_at (high ∷ low ∷ rest) =
     let len = from_be_bytes w16 (high ∷ low ∷ []) in
-    if nat_lt (length rest) len then Err (0, faults.AttributeList) else behind (2 + len) (list_at (drop len rest))
+    if nat_lt (length rest) len then Err (0, faults.AttributeList) else thereafter (2 + len) (list_at (drop len rest))
 
 abbrev pub updated : Result Update (ℕ × StreamFault) → Result Message (ℕ × StreamFault)
 updated (Ok update) = Ok (messages.Update update)
@@ -54,7 +54,7 @@ updated (Err f) = Err f
 abbrev pub contents : ℕ → List ℕ → Result Message (ℕ × StreamFault)
 contents kind body = if not (kind == 2) then Ok (messages.Other kind) else updated (body_at body)
 
--- a whole message of so many octets, or a fault behind its header
+-- a whole message of so many octets, or a fault after its header
 abbrev pub message_of : ℕ → Result Message (ℕ × StreamFault) → Front Message StreamFault
 message_of len (Ok message) = whole len (message ∷ [])
 message_of len (Err f) = bad [] (19 + f.0) f.1

@@ -13,7 +13,7 @@ marker = replicate 16 255
 abbrev pub header : ℕ → ℕ → List ℕ
 header len kind = marker ++ (to_be_bytes w16 len ++ (kind ∷ []))
 
--- what stands behind the header of an UPDATE: withdrawn routes, attributes and routes, of which only attributes are read
+-- what stands after the header of an UPDATE: withdrawn routes, attributes and routes, of which only attributes are read
 pub record SpellsBody (update : Update) (body : List ℕ) : Type 0 where
   pub withdrawn : List ℕ
   pub list : List ℕ

@@ -106,7 +106,7 @@ abbrev pub attributes_of : Change → List ℕ
 attributes_of (Reach advert) = advert_text advert
 attributes_of (Unreach key) = attribute 0x80 15 (unreach_value key)
 
--- no withdrawn routes of the message's own, and nothing behind the attributes
+-- no withdrawn routes of the message's own, and nothing after the attributes
 abbrev pub message_text : List ℕ → List ℕ
 message_text attributes = header (23 + length attributes) 2 ++ ((0 ∷ 0 ∷ []) ++ (to_be_bytes w16 (length attributes) ++ attributes))
 
@@ -125,7 +125,7 @@ has_many (Unreach key) = false
 
 -- ---- what can be written
 
--- a prefix with no bit set behind it
+-- a prefix with no bit set after it
 abbrev pub IsVpnPrefix : Addr → ℕ → Type 0
 IsVpnPrefix addr bits = IsAddr addr × IsPrefixOf addr bits
 

@@ -1,6 +1,6 @@
 //! What is wrong with a stream of BGP messages.
 ghost use Rattle.std.specs.Prelude.{◌≡◌, ◌+◌, ◌-◌, ◌^◌};
-ghost use Rattle.bgp_messages.specs.bgp_attributes.Answers.{IsNear, behind};
+ghost use Rattle.bgp_messages.specs.bgp_attributes.Answers.{IsNear, thereafter};
 
 use bgp_values::mvpn_nlri::RouteReason;
 use bgp_values::pmsi_attr::PmsiReason;
@@ -53,9 +53,9 @@ impl From<NoMemory> for AttributesFault {
 
 impl AttributesFault {
     /// The same, so many octets further on.
-    pub fn behind(self, octets: usize) -> AttributesFault
+    pub fn thereafter(self, octets: usize) -> AttributesFault
         requires { IsNear self (2 ^ 64 - 1 - octets) }
-        ensures { result ≡ behind octets self }
+        ensures { result ≡ thereafter octets self }
     {
         match self {
             AttributesFault::Bad { place, fault } => AttributesFault::Bad {

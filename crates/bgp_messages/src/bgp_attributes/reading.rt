@@ -32,7 +32,7 @@ fn front_of(len: usize, octets: &[u8]) -> Option<&[u8]>
     }
 }
 
-/// The value behind a length of two octets.
+/// The value after a length of two octets.
 #[tactic(auto, unfolding(crate::specs::bgp_attributes::Reading::wide_value))]
 fn wide_value(octets: &[u8]) -> Option<&[u8]>
     ensures { option_map (λ value. value.now) result ≡ wide_value octets.now }
@@ -43,7 +43,7 @@ fn wide_value(octets: &[u8]) -> Option<&[u8]>
     }
 }
 
-/// The value behind a length of one octet.
+/// The value after a length of one octet.
 #[tactic(auto, unfolding(crate::specs::bgp_attributes::Reading::narrow_value))]
 fn narrow_value(octets: &[u8]) -> Option<&[u8]>
     ensures { option_map (λ value. value.now) result ≡ narrow_value octets.now }
@@ -54,7 +54,7 @@ fn narrow_value(octets: &[u8]) -> Option<&[u8]>
     }
 }
 
-/// The value behind its length.
+/// The value after its length.
 #[tactic(auto, unfolding(crate::specs::bgp_attributes::Reading::value_of))]
 fn value_of(flags: u8, octets: &[u8]) -> Option<&[u8]>
     ensures { option_map (λ value. value.now) result ≡ value_of flags octets.now }
@@ -66,14 +66,14 @@ fn value_of(flags: u8, octets: &[u8]) -> Option<&[u8]>
     }
 }
 
-/// Where the value stands, behind flags, type and length.
+/// Where the value stands, after flags, type and length.
 fn value_place(flags: u8) -> usize
     ensures { result ≡ value_place flags }
 {
     if is_extended(flags) { 4 } else { 3 }
 }
 
-/// The attribute of a type that may stand here, behind flags and type, and how many octets it has.
+/// The attribute of a type that may stand here, after flags and type, and how many octets it has.
 #[tactic(auto, unfolding(crate::specs::bgp_attributes::Reading::new_at))]
 fn read_new(
     alloc: Global,
@@ -92,7 +92,7 @@ fn read_new(
     Ok((attribute, place + value.len()))
 }
 
-/// The attribute at the front of the octets, behind those that were found, and how many octets it has.
+/// The attribute at the front of the octets, after those that were found, and how many octets it has.
 #[tactic(auto, unfolding(crate::specs::bgp_attributes::Reading::attribute_unless))]
 fn read_attribute(
     alloc: Global,
@@ -126,7 +126,7 @@ fn read_attributes(alloc: Global, octets: &[u8]) -> Result<Found, AttributesFaul
                 found.add(attribute);
                 passed += len;
             }
-            Err(fault) => return Err(fault.behind(passed)),
+            Err(fault) => return Err(fault.thereafter(passed)),
         }
     }
     Ok(found)
@@ -154,7 +154,7 @@ pub fn read_update(alloc: Global, octets: &[u8]) -> Result<Update, AttributesFau
     ensures first { IsFirst result octets.now }
     // The first fault is answered.
     ensures only_first { IsOnlyFirst result octets.now }
-    // A fault stands within the octets or right behind them.
+    // A fault stands within the octets or right after them.
     ensures within { IsWithin result (length octets.now) }
 {
     read_whole(alloc, octets)

@@ -47,17 +47,17 @@ const MAPPED_FRONT: [u8; 12] = [0, 0, 0, 0, 0, 0, 0, 0, 0, 0, 0xff, 0xff];
 fn is_mapped(octets: &[u8; 16]) -> bool
     ensures { result ≡ is_mapped octets.now }
 {
-    let (front, _behind) = octets.split_at(12);
+    let (front, _after) = octets.split_at(12);
     front == MAPPED_FRONT.as_slice()
 }
 
-/// The octets behind the front of an IPv4-mapped address.
+/// The octets after the front of an IPv4-mapped address.
 fn last_four(octets: &[u8; 16]) -> [u8; 4]
     ensures { result ≡ drop 12 octets.now }
 {
-    let (_front, behind) = octets.split_at(12);
+    let (_front, thereafter) = octets.split_at(12);
     let mut array = [0; 4];
-    array.copy_from_slice(behind);
+    array.copy_from_slice(thereafter);
     array
 }
 
@@ -89,7 +89,7 @@ fn hop_addr(family: Family, octets: &[u8]) -> Addr
     }
 }
 
-/// Next hop, reserved octet and NLRI, behind the length of the next hop, which stands at the place.
+/// Next hop, reserved octet and NLRI, after the length of the next hop, which stands at the place.
 #[tactic(auto, unfolding(crate::specs::bgp_attributes::Reading::hop_at))]
 fn read_hop(
     alloc: Global,
@@ -117,7 +117,7 @@ fn read_hop(
     Ok(Reachable { next_hop, keys })
 }
 
-/// What stands behind AFI and SAFI in an MP_REACH_NLRI attribute, at the place.
+/// What stands after AFI and SAFI in an MP_REACH_NLRI attribute, at the place.
 #[tactic(auto, unfolding(crate::specs::bgp_attributes::Reading::reachable_at))]
 fn read_reachable(
     alloc: Global,

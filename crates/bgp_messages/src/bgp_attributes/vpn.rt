@@ -26,7 +26,7 @@ fn octets_for(bits: u8) -> usize
     (usize::from(bits) + 7) / 8
 }
 
-/// The number with zeros behind its first bits.
+/// The number with zeros after its first bits.
 fn cleared_v4(bits: u8, number: u32) -> u32
     requires { bits ≤ 32 }
     ensures { result ≡ cleared 32 bits number }
@@ -35,7 +35,7 @@ fn cleared_v4(bits: u8, number: u32) -> u32
     (u64::from(number) / unit * unit) as u32
 }
 
-/// The number with zeros behind its first bits.
+/// The number with zeros after its first bits.
 fn cleared_v6(bits: u8, number: u128) -> u128
     requires { bits ≤ 128 }
     ensures { result ≡ cleared 128 bits number }
@@ -47,7 +47,7 @@ fn cleared_v6(bits: u8, number: u128) -> u128
     number / unit * unit
 }
 
-/// The octets, and zeros behind them.
+/// The octets, and zeros after them.
 fn padded<const N: usize>(octets: &[u8]) -> [u8; N]
     requires { length octets.now ≤ N }
     ensures { result ≡ padded N octets.now }
@@ -58,7 +58,7 @@ fn padded<const N: usize>(octets: &[u8]) -> [u8; N]
     array
 }
 
-/// The address that begins with those bits of the octets, and zeros behind them.
+/// The address that begins with those bits of the octets, and zeros after them.
 #[tactic(auto, unfolding(crate::specs::bgp_attributes::Spelling::address))]
 fn address(afi: Afi, bits: u8, octets: &[u8]) -> Addr
     requires bits { bits ≤ addr_bits afi }

@@ -70,7 +70,7 @@ fn list_fault() -> AttributesFault
     }
 }
 
-/// The attributes behind their length.
+/// The attributes after their length.
 #[tactic(auto, unfolding(crate::specs::bgp_update::Reading::list_at))]
 fn read_list(alloc: Global, octets: &[u8]) -> Result<Update, AttributesFault>
     ensures value { Gives result (list_at octets.now) }
@@ -85,11 +85,11 @@ fn read_list(alloc: Global, octets: &[u8]) -> Result<Update, AttributesFault>
     }
     match read_update(alloc, &rest[..len]) {
         Ok(update) => Ok(update),
-        Err(fault) => Err(fault.behind(2)),
+        Err(fault) => Err(fault.thereafter(2)),
     }
 }
 
-/// What stands behind the header of an UPDATE (RFC 4271 section 4.3): the attributes, behind the withdrawn routes and
+/// What stands after the header of an UPDATE (RFC 4271 section 4.3): the attributes, after the withdrawn routes and
 /// the length of these.
 #[tactic(auto, unfolding(crate::specs::bgp_update::Reading::body_at))]
 fn read_body(alloc: Global, body: &[u8]) -> Result<Update, AttributesFault>
@@ -105,7 +105,7 @@ fn read_body(alloc: Global, body: &[u8]) -> Result<Update, AttributesFault>
     }
     match read_list(alloc, &rest[withdrawn..]) {
         Ok(update) => Ok(update),
-        Err(fault) => Err(fault.behind(2 + withdrawn)),
+        Err(fault) => Err(fault.thereafter(2 + withdrawn)),
     }
 }
 

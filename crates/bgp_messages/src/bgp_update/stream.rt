@@ -42,7 +42,7 @@ impl Stream {
         }
     }
 
-    /// Takes the next octets of the stream: whole messages wait then, and the octets behind them are held back. The
+    /// Takes the next octets of the stream: whole messages wait then, and the octets after them are held back. The
     /// first fault is answered by the call that brings the octets which show it, with its place counted from the
     /// stream's first octet, and each later call answers `Failed`. Where there is no memory, nothing was taken.
     pub fn feed(&mut self, bytes: &[u8]) -> Result<(), FeedFault>

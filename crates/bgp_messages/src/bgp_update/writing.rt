@@ -119,7 +119,7 @@ fn put_family(out: &mut Bytes, key: &Key) -> Result<(), NoMemory>
     }
 }
 
-/// The next hop of an MCAST-VPN route behind its length.
+/// The next hop of an MCAST-VPN route after its length.
 fn put_hop(out: &mut Bytes, addr: &Addr) -> Result<(), NoMemory>
     requires { IsAddr addr.now }
     ensures { OnOk result (out.new ≡ out.old ++ (length (addr_octets addr.now) ∷ addr_octets addr.now)) }
@@ -152,7 +152,7 @@ fn put_mapped(out: &mut Bytes, addr: &Addr) -> Result<(), NoMemory>
     }
 }
 
-/// The next hop of a VPN-IPv6 route behind its length (RFC 4659 section 3.2.1).
+/// The next hop of a VPN-IPv6 route after its length (RFC 4659 section 3.2.1).
 fn put_vpn6_hop(out: &mut Bytes, addr: &Addr) -> Result<(), NoMemory>
     ensures { OnOk result (out.new ≡ out.old ++ hop_of (families.Vpn Ipv6) addr.now) }
 {
@@ -171,7 +171,7 @@ fn put_vpn_hop(out: &mut Bytes, prefix: &Prefix, addr: &Addr) -> Result<(), NoMe
     }
 }
 
-/// The next hop behind its length.
+/// The next hop after its length.
 fn put_next_hop(out: &mut Bytes, key: &Key, addr: &Addr) -> Result<(), NoMemory>
     requires { IsAddr addr.now }
     ensures { OnOk result (out.new ≡ out.old ++ hop_of (family_of key.now) addr.now) }
@@ -302,7 +302,7 @@ fn put_attributes(out: &mut Bytes, change: &Change) -> Result<(), NoMemory>
     }
 }
 
-/// An UPDATE without withdrawn routes of its own, with these attributes and nothing behind them.
+/// An UPDATE without withdrawn routes of its own, with these attributes and nothing after them.
 fn put_message(out: &mut Bytes, attributes: &[u8]) -> Result<(), NoMemory>
     requires { UPDATE_LEN + length attributes.now ≤ MESSAGE_LIMIT }
     ensures text { OnOk result (out.new ≡ out.old ++ message_text attributes.now) }

@@ -87,7 +87,7 @@ route_failing afi bytes f (faults.kind_short none is) = rw none (err_again (sym 
 route_failing afi bytes f (faults.len_short n one is) = rw one (err_again (sym is))
 route_failing afi bytes f (faults.in_fields n len rest parts h) = rw (parts, fields_failing afi n (given len rest) f h) refl
 
--- A fault stands within the octets or right behind them.
+-- A fault stands within the octets or right after them.
 fault_within : (afi : Afi) (bytes : List ℕ) (f : RouteFault) → FirstFault afi bytes f → f.place ≤ length bytes
 fault_within afi bytes f (faults.kind_short none is) = is_near f 0 _ (ap (λ (g : RouteFault). g.place) is) (omega arith)
 fault_within afi bytes f (faults.len_short n one is) =

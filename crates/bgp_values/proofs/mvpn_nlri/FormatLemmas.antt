@@ -3,7 +3,7 @@ use Rattle.std.proofs.Common.{◌≡◌, ◌≢◌, ℕ, ◌+◌, ◌-◌, ◌�
 use Rattle.std.proofs.lemmas.Bool.{ltb-false, ltb-true, le-ltb, lt-ltb, eqb-true, eq-eqb, ne_eqb, eqb-false}
 use Rattle.std.proofs.lemmas.List.{take_at, drop_at, take-append-drop, length-append, length-take-le}
 use Rattle.mv_base.specs.Octets.{IsOctets}
-use Rattle.mv_base.proofs.Fields.{octets_behind, octets_before, bind_ok, bind_err, ok_is, err_again, checked_ok, checked_err}
+use Rattle.mv_base.proofs.Fields.{octets_after, octets_before, bind_ok, bind_err, ok_is, err_again, checked_ok, checked_err}
 use Rattle.bgp_values.specs.declared.mvpn_nlri.fault.RouteFault.{RouteFault}
 use Rattle.bgp_values.specs.declared.mvpn_nlri.fault.RouteReason.TheVariants.{Short, LengthTooSmall}
 use Rattle.bgp_values.specs.mvpn_nlri.Bounds.{Bounded, Passes}
@@ -31,11 +31,11 @@ passes_split b x y d p = (
 pub passes_end : (b : Bounded) (text : List ℕ) (d : Bounded) → Passes b text d → d.place + length d.left ≡ b.place + length b.left
 passes_end b text d p = omega (arith, p.place, ap (λ (xs : List ℕ). length xs) p.parts, length-append text d.left)
 
--- Octets behind octets are octets.
+-- Octets after octets are octets.
 pub passes_octets : (b : Bounded) (text : List ℕ) (d : Bounded) → Passes b text d → IsOctets b.left → IsOctets d.left
 passes_octets b text d p fits =
     subst IsOctets (ap (λ (xs : List ℕ). drop (length text) xs) p.parts ∙ drop_at text d.left (length text) refl)
-    (octets_behind (length text) b.left fits)
+    (octets_after (length text) b.left fits)
 
 -- What is passed are octets.
 pub passes_text : (b : Bounded) (text : List ℕ) (d : Bounded) → Passes b text d → IsOctets b.left → IsOctets text
@@ -173,7 +173,7 @@ turned_format {read} {text} {Meets} {After} {Fails} f own Holds there back forma
   near = format.near;
 }
 
--- ---- one value, and another behind it
+-- ---- one value, and another after it
 
 pub both_format : {A B : Type 0} {first : Bounded → Read A} {second : Bounded → Read B} {text : A → List ℕ} {rest : B → List ℕ} {Meets : A → Type 0}
     {Holds : B → Type 0} {After : Bounded → Type 0} {Fails Next : Bounded → RouteFault → Type 0}
@@ -223,7 +223,7 @@ both_format {A} {B} {first} {second} {text} {rest} {Meets} {Holds} {After} {Fail
     near b f (faults.fails h) = one.near b f h
     near b f (faults.stands x d meets p h) = omega (arith, two.near d f h, passes_end b (text x) d p)
 
--- ---- a value behind which the length leaves nothing
+-- ---- a value after which the length leaves nothing
 
 pub closed_format : {A : Type 0} {read : Bounded → Read A} {text : A → List ℕ} {Meets : A → Type 0} {Fails : Bounded → RouteFault → Type 0}
     → Format read text Meets Open Fails → Format (closed read) text Meets Ends (Then text Meets Fails Remains)

@@ -196,10 +196,10 @@ key_taken afi b x fits e =
     let len = bind_ok (key_len_at kind.0.1) _ x kind.2 in
     let k = bind_ok (key_fields_at afi kind.0.0 (bounded len.0.0 len.0.1)) _ x len.2 in
     let p = kind_taken b kind.0 fits kind.1 in
-    let behind_kind = passes_octets b (kind.0.0 ∷ []) kind.0.1 p.0 fits in
-    let q = len_taken kind.0.1 len.0 behind_kind len.1 in
-    let behind_len = passes_octets kind.0.1 (len.0.0 ∷ []) len.0.1 q.0 behind_kind in
-    let r = fields_taken afi kind.0.0 (bounded len.0.0 len.0.1) k.0 behind_len p.1 k.1 in
+    let after_kind = passes_octets b (kind.0.0 ∷ []) kind.0.1 p.0 fits in
+    let q = len_taken kind.0.1 len.0 after_kind len.1 in
+    let after_len = passes_octets kind.0.1 (len.0.0 ∷ []) len.0.1 q.0 after_kind in
+    let r = fields_taken afi kind.0.0 (bounded len.0.0 len.0.1) k.0 after_len p.1 k.1 in
     let s = within_outer len.0.0 len.0.1 (key_fields k.0.0) k.0.1 r.0 q.1 r.1.1.1 in
     let end : Bounded = bounded (len.0.1.within - len.0.0) k.0.1 in
     let all =
@@ -236,18 +236,18 @@ key_fails afi b f fits e =
       | inl wrong ↦ kind_fails afi b f fits wrong
       | inr kind ↦
           let p = kind_taken b kind.0 fits kind.1 in
-          let behind_kind = passes_octets b (kind.0.0 ∷ []) kind.0.1 p.0 fits in
+          let after_kind = passes_octets b (kind.0.0 ∷ []) kind.0.1 p.0 fits in
           elim (bind_err (key_len_at kind.0.1) _ f kind.2) [
-            | inl wrong ↦ elim (len_fails kind.0.1 f behind_kind wrong) [
+            | inl wrong ↦ elim (len_fails kind.0.1 f after_kind wrong) [
               | inl lacks ↦ faults.len_lacks kind.0.0 kind.0.1 p.1 p.0 lacks
               | inr past ↦ faults.len_past kind.0.0 past.0 kind.0.1 past.1 p.1 p.0 past.2 past.3 past.4
             ]
             | inr len ↦
-                let q = len_taken kind.0.1 len.0 behind_kind len.1 in
-                let behind_len = passes_octets kind.0.1 (len.0.0 ∷ []) len.0.1 q.0 behind_kind in
+                let q = len_taken kind.0.1 len.0 after_kind len.1 in
+                let after_len = passes_octets kind.0.1 (len.0.0 ∷ []) len.0.1 q.0 after_kind in
                 elim (bind_err (key_fields_at afi kind.0.0 (bounded len.0.0 len.0.1)) _ f len.2) [
                   | inl inside ↦ faults.in_fields kind.0.0 len.0.0 kind.0.1 len.0.1 p.0 q.0 q.1
-                      (fields_fails afi kind.0.0 (bounded len.0.0 len.0.1) f behind_len p.1 inside)
+                      (fields_fails afi kind.0.0 (bounded len.0.0 len.0.1) f after_len p.1 inside)
                   | inr k ↦ absurd cc
                 ]
           ]

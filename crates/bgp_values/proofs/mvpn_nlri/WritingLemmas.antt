@@ -23,21 +23,21 @@ puts_two old a b p q room at = puts old a b p q (omega (arith, room, length-appe
 
 pub puts_three : (old a b c : List ℕ) (p q r : ℕ) → p + length (a ++ (b ++ c)) ≤ length old → q ≡ p + length a → r ≡ q + length b
     → put_at (put_at (put_at old p a) q b) r c ≡ put_at old p (a ++ (b ++ c))
-puts_three old a b c p q r room at behind =
+puts_three old a b c p q r room at thereafter =
     let sizes : length (a ++ (b ++ c)) ≡ length a + (length b + length c) = length-append a (b ++ c) ∙ ap (λ n. length a + n) (length-append b c) in
     let both : put_at (put_at old p a) q b ≡ put_at old p (a ++ b) = puts old a b p q (omega (arith, room, sizes)) at in
     ap (λ xs. put_at xs r c) both ∙ puts old (a ++ b) c p r (omega (arith, room, sizes, length-append a b))
-    (omega (arith, at, behind, length-append a b)) ∙ ap (λ xs. put_at old p xs) (append_assoc a b c)
+    (omega (arith, at, thereafter, length-append a b)) ∙ ap (λ xs. put_at old p xs) (append_assoc a b c)
 
 pub puts_four : (old a b c d : List ℕ) (p q r s : ℕ) → p + length (a ++ (b ++ (c ++ d))) ≤ length old → q ≡ p + length a → r ≡ q + length b
     → s ≡ r + length c → put_at (put_at (put_at (put_at old p a) q b) r c) s d ≡ put_at old p (a ++ (b ++ (c ++ d)))
-puts_four old a b c d p q r s room at behind last =
+puts_four old a b c d p q r s room at thereafter last =
     let sizes : length (a ++ (b ++ (c ++ d))) ≡ length a + (length b + (length c + length d)) =
     length-append a (b ++ (c ++ d)) ∙ ap (λ n. length a + n) (length-append b (c ++ d) ∙ ap (λ n. length b + n) (length-append c d)) in
     let two : put_at (put_at old p a) q b ≡ put_at old p (a ++ b) = puts old a b p q (omega (arith, room, sizes)) at in
     ap (λ xs. put_at (put_at xs r c) s d) two
     ∙ puts_three old (a ++ b) c d p r s (omega (arith, room, sizes, length-append (a ++ b) (c ++ d), length-append a b, length-append c d))
-    (omega (arith, at, behind, length-append a b)) last
+    (omega (arith, at, thereafter, length-append a b)) last
     ∙ ap (λ xs. put_at old p xs) (append_assoc a b (c ++ d))
 
 -- Two octets that are written before octets which stand already.

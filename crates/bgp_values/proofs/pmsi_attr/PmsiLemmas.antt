@@ -7,7 +7,7 @@ use Rattle.std.proofs.lemmas.Bool.Decides.{eqb_tells}
 use Rattle.std.proofs.lemmas.List.{length-append}
 use Rattle.mv_base.specs.Octets.{IsOctets}
 use Rattle.mv_base.specs.Cursor.{start, three}
-use Rattle.mv_base.proofs.Fields.{octets_behind, wide32, bind_ok, bind_err, ok_is, err_is, err_again, chosen}
+use Rattle.mv_base.proofs.Fields.{octets_after, wide32, bind_ok, bind_err, ok_is, err_is, err_again, chosen}
 use Rattle.mldp.proofs.mldp_fec.CallLemmas.{read_within}
 use Rattle.mldp.proofs.mldp_fec.FecLemmas.{fails_fec}
 use Rattle.bgp_values.specs.declared.pmsi_attr.fault.PmsiFault.{PmsiFault}
@@ -15,7 +15,7 @@ use Rattle.bgp_values.specs.declared.pmsi_attr.fault.PmsiReason.{PmsiReason}
 use Rattle.bgp_values.specs.declared.pmsi_attr.fault.PmsiReason.TheVariants as reasons
 use Rattle.bgp_values.specs.declared.pmsi_attr.pmsi.Tunnel.{Tunnel}
 use Rattle.bgp_values.specs.declared.pmsi_attr.pmsi.Pmsi.{Pmsi}
-use Rattle.bgp_values.specs.pmsi_attr.Reading.{fault, tunnel_of, label_of, label_behind, pmsi_of}
+use Rattle.bgp_values.specs.pmsi_attr.Reading.{fault, tunnel_of, label_of, label_after, pmsi_of}
 use Rattle.bgp_values.specs.pmsi_attr.Spelling.{IsLabel, label_bits, type_octet, identifier, leaf_bit, written, Spells}
 use Rattle.bgp_values.specs.pmsi_attr.FirstFault as faults
 use Rattle.bgp_values.specs.pmsi_attr.FirstFault.{Is, IdentifierFault, FirstFault}
@@ -62,11 +62,11 @@ label_room (Some label) low h lt = omega (arith, h.1)
 
 -- ---- label and tunnel
 
-behind_is : (flags kind a b c : ℕ) (octets : List ℕ) (t : Tunnel) (l : Option ℕ) (n : ℕ) → tunnel_of kind octets ≡ Ok t → number a b c ≡ n
+after_is : (flags kind a b c : ℕ) (octets : List ℕ) (t : Tunnel) (l : Option ℕ) (n : ℕ) → tunnel_of kind octets ≡ Ok t → number a b c ≡ n
     → label_of n ≡ l
-    → label_behind flags kind (a ∷ b ∷ c ∷ octets) ≡ Ok (record { leaf_info = eqb (bit_and flags 1) 1; tunnel = t; label = l })
-unfolding label_behind
-behind_is flags kind a b c octets t l n tunnel is label = rw (tunnel, is, label) refl
+    → label_after flags kind (a ∷ b ∷ c ∷ octets) ≡ Ok (record { leaf_info = eqb (bit_and flags 1) 1; tunnel = t; label = l })
+unfolding label_after
+after_is flags kind a b c octets t l n tunnel is label = rw (tunnel, is, label) refl
 
 made : (flags kind a b c : ℕ) (octets : List ℕ) (t : Tunnel) → IsOctets (flags ∷ kind ∷ a ∷ b ∷ c ∷ octets) → kind ≤ 7 → tunnel_of kind octets ≡ Ok t
     → Spells (record { leaf_info = eqb (bit_and flags 1) 1; tunnel = t; label = label_of (number a b c) }) (flags ∷ kind ∷ a ∷ b ∷ c ∷ octets)
@@ -74,7 +74,7 @@ made flags kind a b c octets t fits le read =
     let n = number a b c in
     let below : n < 2 ^ 24 = omega (arith, fits 2, fits 3, fits 4) in
     let l = label_is n below in
-    let q = tunnel_taken kind octets t (octets_behind 5 (flags ∷ kind ∷ a ∷ b ∷ c ∷ octets) fits) le read in
+    let q = tunnel_taken kind octets t (octets_after 5 (flags ∷ kind ∷ a ∷ b ∷ c ∷ octets) fits) le read in
     let whole : 16 * label_bits (label_of n) + n % 16 ≡ n = omega (arith, l.1) in
     let text : three (16 * label_bits (label_of n) + n % 16) ≡ a ∷ b ∷ c ∷ [] = ap three whole ∙ three_is a b c (fits 2) (fits 3) (fits 4) in
     record {
@@ -89,49 +89,49 @@ made flags kind a b c octets t fits le read =
           ∙ ap (λ (xs : List ℕ). flags ∷ type_octet t ∷ (xs ++ identifier t)) (sym text);
     }
 
-behind_taken : (flags kind : ℕ) (rest : List ℕ) (p : Pmsi) → IsOctets (flags ∷ kind ∷ rest) → kind ≤ 7 → label_behind flags kind rest ≡ Ok p
+after_taken : (flags kind : ℕ) (rest : List ℕ) (p : Pmsi) → IsOctets (flags ∷ kind ∷ rest) → kind ≤ 7 → label_after flags kind rest ≡ Ok p
     → Spells p (flags ∷ kind ∷ rest)
-unfolding label_behind
-behind_taken flags kind [] p fits le e = absurd cc
-behind_taken flags kind (a ∷ []) p fits le e = absurd cc
-behind_taken flags kind (a ∷ b ∷ []) p fits le e = absurd cc
-behind_taken flags kind (a ∷ b ∷ c ∷ octets) p fits le e =
+unfolding label_after
+after_taken flags kind [] p fits le e = absurd cc
+after_taken flags kind (a ∷ []) p fits le e = absurd cc
+after_taken flags kind (a ∷ b ∷ []) p fits le e = absurd cc
+after_taken flags kind (a ∷ b ∷ c ∷ octets) p fits le e =
     let t = bind_ok (tunnel_of kind octets) _ p e in
     subst (λ (q : Pmsi). Spells q (flags ∷ kind ∷ a ∷ b ∷ c ∷ octets)) (ok_is _ p t.2) (made flags kind a b c octets t.0 fits le t.1)
 
-behind_fails : (flags kind : ℕ) (rest : List ℕ) (f : PmsiFault) → IsOctets (flags ∷ kind ∷ rest) → kind ≤ 7 → label_behind flags kind rest ≡ Err f
+after_fails : (flags kind : ℕ) (rest : List ℕ) (f : PmsiFault) → IsOctets (flags ∷ kind ∷ rest) → kind ≤ 7 → label_after flags kind rest ≡ Err f
     → FirstFault (flags ∷ kind ∷ rest) f
-unfolding label_behind
-behind_fails flags kind [] f fits le e = faults.label_short flags kind [] refl le (omega arith) (sym (err_is (fault 2 reasons.Short) f e))
-behind_fails flags kind (a ∷ []) f fits le e = faults.label_short flags kind (a ∷ []) refl le (omega arith) (sym (err_is (fault 2 reasons.Short) f e))
-behind_fails flags kind (a ∷ b ∷ []) f fits le e =
+unfolding label_after
+after_fails flags kind [] f fits le e = faults.label_short flags kind [] refl le (omega arith) (sym (err_is (fault 2 reasons.Short) f e))
+after_fails flags kind (a ∷ []) f fits le e = faults.label_short flags kind (a ∷ []) refl le (omega arith) (sym (err_is (fault 2 reasons.Short) f e))
+after_fails flags kind (a ∷ b ∷ []) f fits le e =
     faults.label_short flags kind (a ∷ b ∷ []) refl le (omega arith) (sym (err_is (fault 2 reasons.Short) f e))
-behind_fails flags kind (a ∷ b ∷ c ∷ octets) f fits le e =
+after_fails flags kind (a ∷ b ∷ c ∷ octets) f fits le e =
     elim (bind_err (tunnel_of kind octets) _ f e) [
       | inl wrong ↦ faults.in_identifier flags kind (a ∷ b ∷ c ∷ []) octets refl refl
-          (tunnel_fails kind octets f (octets_behind 5 (flags ∷ kind ∷ a ∷ b ∷ c ∷ octets) fits) le wrong)
+          (tunnel_fails kind octets f (octets_after 5 (flags ∷ kind ∷ a ∷ b ∷ c ∷ octets) fits) le wrong)
       | inr t ↦ absurd cc
     ]
 
-fails_short : (flags kind : ℕ) (rest : List ℕ) (f : PmsiFault) → length rest < 3 → Is f 2 reasons.Short → label_behind flags kind rest ≡ Err f
-unfolding label_behind
+fails_short : (flags kind : ℕ) (rest : List ℕ) (f : PmsiFault) → length rest < 3 → Is f 2 reasons.Short → label_after flags kind rest ≡ Err f
+unfolding label_after
 fails_short flags kind [] f few is = err_again (sym is)
 fails_short flags kind (a ∷ []) f few is = err_again (sym is)
 fails_short flags kind (a ∷ b ∷ []) f few is = err_again (sym is)
 fails_short flags kind (a ∷ b ∷ c ∷ octets) f few is = absurd (omega (arith, few))
 
-fails_behind : (flags kind : ℕ) (label octets : List ℕ) (f : PmsiFault) → length label ≡ 3 → tunnel_of kind octets ≡ Err f
-    → label_behind flags kind (label ++ octets) ≡ Err f
-unfolding label_behind
-fails_behind flags kind [] octets f len e = absurd (omega (arith, len))
-fails_behind flags kind (a ∷ []) octets f len e = absurd (omega (arith, len))
-fails_behind flags kind (a ∷ b ∷ []) octets f len e = absurd (omega (arith, len))
-fails_behind flags kind (a ∷ b ∷ c ∷ []) octets f len e = rw e refl
-fails_behind flags kind (a ∷ b ∷ c ∷ d ∷ more) octets f len e = absurd (omega (arith, len))
+fails_after : (flags kind : ℕ) (label octets : List ℕ) (f : PmsiFault) → length label ≡ 3 → tunnel_of kind octets ≡ Err f
+    → label_after flags kind (label ++ octets) ≡ Err f
+unfolding label_after
+fails_after flags kind [] octets f len e = absurd (omega (arith, len))
+fails_after flags kind (a ∷ []) octets f len e = absurd (omega (arith, len))
+fails_after flags kind (a ∷ b ∷ []) octets f len e = absurd (omega (arith, len))
+fails_after flags kind (a ∷ b ∷ c ∷ []) octets f len e = rw e refl
+fails_after flags kind (a ∷ b ∷ c ∷ d ∷ more) octets f len e = absurd (omega (arith, len))
 
 -- ---- the whole value
 
-typed : (flags kind : ℕ) (rest : List ℕ) → kind ≤ 7 → pmsi_of (flags ∷ kind ∷ rest) ≡ label_behind flags kind rest
+typed : (flags kind : ℕ) (rest : List ℕ) → kind ≤ 7 → pmsi_of (flags ∷ kind ∷ rest) ≡ label_after flags kind rest
 unfolding pmsi_of
 typed flags kind rest le = rw (le-ltb 7 kind le) refl
 
@@ -143,7 +143,7 @@ pmsi_taken (flags ∷ []) p fits e = absurd cc
 pmsi_taken (flags ∷ kind ∷ rest) p fits e =
     elim (chosen (ltb 7 kind) _ _ _ e) [
       | inl a ↦ absurd cc
-      | inr b ↦ behind_taken flags kind rest p fits (ltb-false 7 kind b.0) b.1
+      | inr b ↦ after_taken flags kind rest p fits (ltb-false 7 kind b.0) b.1
     ]
 
 -- What is spelled is read.
@@ -152,11 +152,11 @@ pmsi_again p text s =
     let n = 16 * label_bits p.label + s.low in
     let kind = type_octet p.tunnel in
     let number_is = three_again n (label_room p.label s.low s.label s.four_bits) in
-    let behind =
-    behind_is s.flags kind _ _ _ (identifier p.tunnel) p.tunnel p.label n (tunnel_again p.tunnel s.tunnel) number_is
+    let thereafter =
+    after_is s.flags kind _ _ _ (identifier p.tunnel) p.tunnel p.label n (tunnel_again p.tunnel s.tunnel) number_is
     (label_again p.label s.low s.label s.four_bits) in
     let leaf : record { leaf_info = eqb (bit_and s.flags 1) 1; tunnel = p.tunnel; label = p.label } ≡ p = rw (← s.leaf) refl in
-    ap pmsi_of s.octets ∙ typed s.flags kind (three n ++ identifier p.tunnel) (type_below p.tunnel s.tunnel) ∙ behind ∙ ap (λ (q : Pmsi). Ok q) leaf
+    ap pmsi_of s.octets ∙ typed s.flags kind (three n ++ identifier p.tunnel) (type_below p.tunnel s.tunnel) ∙ thereafter ∙ ap (λ (q : Pmsi). Ok q) leaf
 
 -- A fault that is answered is the first one.
 pub pmsi_fails : (bytes : List ℕ) (f : PmsiFault) → IsOctets bytes → pmsi_of bytes ≡ Err f → FirstFault bytes f
@@ -166,16 +166,16 @@ pmsi_fails (flags ∷ []) f fits e = faults.type_short flags refl (sym (err_is (
 pmsi_fails (flags ∷ kind ∷ rest) f fits e =
     elim (chosen (ltb 7 kind) _ _ _ e) [
       | inl a ↦ faults.type_wrong flags kind rest refl (ltb-true 7 kind a.0) (sym (err_is (fault 1 reasons.TunnelType) f a.1))
-      | inr b ↦ behind_fails flags kind rest f fits (ltb-false 7 kind b.0) b.1
+      | inr b ↦ after_fails flags kind rest f fits (ltb-false 7 kind b.0) b.1
     ]
 
-behind_label : (bytes label octets : List ℕ) (flags kind : ℕ) → bytes ≡ flags ∷ kind ∷ (label ++ octets) → length label ≡ 3 → IsOctets bytes
+after_label : (bytes label octets : List ℕ) (flags kind : ℕ) → bytes ≡ flags ∷ kind ∷ (label ++ octets) → length label ≡ 3 → IsOctets bytes
     → IsOctets octets
-behind_label bytes [] octets flags kind parts len fits = absurd (omega (arith, len))
-behind_label bytes (a ∷ []) octets flags kind parts len fits = absurd (omega (arith, len))
-behind_label bytes (a ∷ b ∷ []) octets flags kind parts len fits = absurd (omega (arith, len))
-behind_label bytes (a ∷ b ∷ c ∷ []) octets flags kind parts len fits = octets_behind 5 (flags ∷ kind ∷ a ∷ b ∷ c ∷ octets) (subst IsOctets parts fits)
-behind_label bytes (a ∷ b ∷ c ∷ d ∷ more) octets flags kind parts len fits = absurd (omega (arith, len))
+after_label bytes [] octets flags kind parts len fits = absurd (omega (arith, len))
+after_label bytes (a ∷ []) octets flags kind parts len fits = absurd (omega (arith, len))
+after_label bytes (a ∷ b ∷ []) octets flags kind parts len fits = absurd (omega (arith, len))
+after_label bytes (a ∷ b ∷ c ∷ []) octets flags kind parts len fits = octets_after 5 (flags ∷ kind ∷ a ∷ b ∷ c ∷ octets) (subst IsOctets parts fits)
+after_label bytes (a ∷ b ∷ c ∷ d ∷ more) octets flags kind parts len fits = absurd (omega (arith, len))
 
 -- The first fault is answered.
 pub fails_pmsi : (bytes : List ℕ) (f : PmsiFault) → IsOctets bytes → FirstFault bytes f → pmsi_of bytes ≡ Err f
@@ -187,7 +187,7 @@ fails_pmsi bytes f fits (faults.label_short flags kind rest parts le few is) =
     ap pmsi_of parts ∙ typed flags kind rest le ∙ fails_short flags kind rest f few is
 fails_pmsi bytes f fits (faults.in_identifier flags kind label octets parts len wrong) =
     ap pmsi_of parts ∙ typed flags kind (label ++ octets) (fault_below kind octets f wrong)
-    ∙ fails_behind flags kind label octets f len (fails_tunnel kind octets f (behind_label bytes label octets flags kind parts len fits) wrong)
+    ∙ fails_after flags kind label octets f len (fails_tunnel kind octets f (after_label bytes label octets flags kind parts len fits) wrong)
 
 -- ---- where a fault stands
 
@@ -199,7 +199,7 @@ identifier_within kind octets f fits (faults.not_empty type more is) = is_at f 5
 identifier_within kind octets f fits (faults.in_element type g first is) =
     is_at f (5 + g.place) _ (reasons.Fec g.reason) is (omega (arith, read_within (Err g) octets fits (fails_fec (start octets) g fits first)))
 identifier_within kind octets f fits (faults.not_p2mp type x text rest spelled parts other is) = is_at f 5 _ reasons.Identifier is (omega arith)
-identifier_within kind octets f fits (faults.more_behind type x text rest spelled parts more is) = is_at f 5 _ reasons.Identifier is (omega arith)
+identifier_within kind octets f fits (faults.more_after type x text rest spelled parts more is) = is_at f 5 _ reasons.Identifier is (omega arith)
 identifier_within kind octets f fits (faults.no_address type four sixteen is) = is_at f 5 _ reasons.Identifier is (omega arith)
 identifier_within kind octets f fits (faults.too_long type long is) = is_at f 5 _ reasons.Identifier is (omega arith)
 
@@ -213,7 +213,7 @@ fault_within bytes f fits (faults.label_short flags kind rest parts le few is) =
 fault_within bytes f fits (faults.in_identifier flags kind label octets parts len wrong) =
     omega (
       arith,
-      identifier_within kind octets f (behind_label bytes label octets flags kind parts len fits) wrong,
+      identifier_within kind octets f (after_label bytes label octets flags kind parts len fits) wrong,
       ap (λ (xs : List ℕ). length xs) parts,
       len,
       length-append label octets,
@@ -242,7 +242,7 @@ written_spells p text s = record {
   octets = refl;
 }
 
--- What was answered is spelled, or is the first fault, within the octets or right behind them.
+-- What was answered is spelled, or is the first fault, within the octets or right after them.
 pub answer_is : (r : Result Pmsi PmsiFault) (bytes : List ℕ) → IsOctets bytes → r ≡ pmsi_of bytes
     → IfOk r (λ p. Spells p bytes) × IfErr r (λ f. FirstFault bytes f) × IfErr r (λ f. f.place ≤ length bytes)
 answer_is (Ok p) bytes fits e = (pmsi_taken bytes p fits (sym e), tt, tt)

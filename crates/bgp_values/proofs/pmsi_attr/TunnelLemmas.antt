@@ -64,9 +64,9 @@ moved_err (Err g) f e = (g, refl, cc)
 
 -- ---- type 2
 
--- where an element is read that does not end with the octets, others stand behind it
-behind : (octets text rest : List ℕ) (place : ℕ) → octets ≡ text ++ rest → place ≡ 0 + length text → place ≢ length octets → rest ≢ []
-behind octets text rest place parts at other none =
+-- where an element is read that does not end with the octets, others stand after it
+thereafter : (octets text rest : List ℕ) (place : ℕ) → octets ≡ text ++ rest → place ≡ 0 + length text → place ≢ length octets → rest ≢ []
+thereafter octets text rest place parts at other none =
     other (omega (arith, at, ap (λ (xs : List ℕ). length xs) parts, length-append text rest, ap (λ (xs : List ℕ). length xs) none))
 
 mldp_taken : (octets : List ℕ) (t : Tunnel) → IsOctets octets → mldp_of octets ≡ Ok t → Names 2 octets t
@@ -102,8 +102,8 @@ mldp_fails octets f fits e =
           let p = fec_taken (start octets) a.0 fits (moved_ok (fec_at (start octets)) a.0 a.1) in
           elim (one_false (is_p2mp x.kind) (eqb a.0.1.place (length octets)) k.0) [
             | inl other ↦ faults.not_p2mp refl x (fec.written x) a.0.1.left p.1 p.0.parts (no_kind x.kind other) k.1
-            | inr more ↦ faults.more_behind refl x (fec.written x) a.0.1.left p.1 p.0.parts
-                (behind octets (fec.written x) a.0.1.left a.0.1.place p.0.parts p.0.place (eqb-false _ _ more)) k.1
+            | inr more ↦ faults.more_after refl x (fec.written x) a.0.1.left p.1 p.0.parts
+                (thereafter octets (fec.written x) a.0.1.left a.0.1.place p.0.parts p.0.place (eqb-false _ _ more)) k.1
           ]
     ]
 
@@ -123,10 +123,10 @@ fails_kind : (octets : List ℕ) (f : PmsiFault) (x : Fec) (text rest : List ℕ
 unfolding mldp_of
 fails_kind octets f x text rest spelled parts other is = rw (front_again octets x text rest spelled parts, kind_not x.kind other) (err_again (sym is))
 
-fails_behind : (octets : List ℕ) (f : PmsiFault) (x : Fec) (text rest : List ℕ) → fec.Spells x text → octets ≡ text ++ rest → rest ≢ []
+fails_after : (octets : List ℕ) (f : PmsiFault) (x : Fec) (text rest : List ℕ) → fec.Spells x text → octets ≡ text ++ rest → rest ≢ []
     → Is f 5 reasons.Identifier → mldp_of octets ≡ Err f
 unfolding mldp_of
-fails_behind octets f x text rest spelled parts more is =
+fails_after octets f x text rest spelled parts more is =
     let other : 0 + length text ≢ length octets =
     λ same. more (nil_from_length rest (omega (arith, same, ap (λ (xs : List ℕ). length xs) parts, length-append text rest))) in
     rw (front_again octets x text rest spelled parts, second_false (is_p2mp x.kind) (eqb (0 + length text) (length octets)) (ne_eqb _ _ other))
@@ -216,8 +216,8 @@ fails_tunnel kind octets f fits (faults.not_empty type more is) =
 fails_tunnel kind octets f fits (faults.in_element type g first is) = rw type (fails_element octets f g (fails_fec (start octets) g fits first) is)
 fails_tunnel kind octets f fits (faults.not_p2mp type x text rest spelled parts other is) =
     rw type (fails_kind octets f x text rest spelled parts other is)
-fails_tunnel kind octets f fits (faults.more_behind type x text rest spelled parts more is) =
-    rw type (fails_behind octets f x text rest spelled parts more is)
+fails_tunnel kind octets f fits (faults.more_after type x text rest spelled parts more is) =
+    rw type (fails_after octets f x text rest spelled parts more is)
 fails_tunnel kind octets f fits (faults.no_address type four sixteen is) =
     rw (type, ne_eqb (length octets) 4 four, ne_eqb (length octets) 16 sixteen) (err_again (sym is))
 fails_tunnel kind octets f fits (faults.too_long type long is) =
@@ -234,6 +234,6 @@ pub fault_below : (kind : ℕ) (octets : List ℕ) (f : PmsiFault) → Identifie
 fault_below kind octets f (faults.not_empty type more is) = omega (arith, type)
 fault_below kind octets f (faults.in_element type g first is) = omega (arith, type)
 fault_below kind octets f (faults.not_p2mp type x text rest spelled parts other is) = omega (arith, type)
-fault_below kind octets f (faults.more_behind type x text rest spelled parts more is) = omega (arith, type)
+fault_below kind octets f (faults.more_after type x text rest spelled parts more is) = omega (arith, type)
 fault_below kind octets f (faults.no_address type four sixteen is) = omega (arith, type)
 fault_below kind octets f (faults.too_long type long is) = type.below

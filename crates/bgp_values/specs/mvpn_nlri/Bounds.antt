@@ -7,7 +7,7 @@ pub record Bounded : Type 0 where
   pub place : ℕ
   pub within : ℕ
 
--- the text stands at the first, within its length, and the second is right behind it
+-- the text stands at the first, within its length, and the second is right after it
 pub record Passes (b : Bounded) (text : List ℕ) (d : Bounded) : Type 0 where
   pub parts : b.left ≡ text ++ d.left
   pub place : d.place ≡ b.place + length text

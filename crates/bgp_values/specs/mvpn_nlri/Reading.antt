@@ -25,7 +25,7 @@ use Rattle.bgp_values.specs.mvpn_nlri.FirstFault.{bits, addr_len, wrong_len}
 abbrev pub Read : Type 0 → Type 0
 Read A = Result (A × Bounded) RouteFault
 
--- What a call answered, and the octets that it left behind a value, is what reading gives.
+-- What a call answered, and the octets that it left after a value, is what reading gives.
 abbrev pub Gives : {X Y : Type 0} → (X → Y) → Result X RouteFault → Bounded → Read Y → Type 0
 Gives view (Ok x) new read = read ≡ Ok (view x, new)
 Gives view (Err e) new read = read ≡ Err e
@@ -45,7 +45,7 @@ octets_within n b =
 abbrev pub turned : {A B : Type 0} → (A → B) → (Bounded → Read A) → Bounded → Read B
 turned f read b = read b >>= λ x. Ok (f x.0, x.1)
 
--- one value, and another behind it
+-- one value, and another after it
 abbrev pub both : {A B : Type 0} → (Bounded → Read A) → (Bounded → Read B) → Bounded → Read (A × B)
 both first second b = first b >>= λ x. second x.1 >>= λ y. Ok ((x.0, y.0), y.1)
 
@@ -53,7 +53,7 @@ both first second b = first b >>= λ x. second x.1 >>= λ y. Ok ((x.0, y.0), y.1
 abbrev pub end_at : Bounded → Result (Unit {0}) RouteFault
 end_at b = checked (b.within == 0) (fault b.place LengthTooLarge) tt
 
--- a value behind which the length leaves nothing
+-- a value after which the length leaves nothing
 abbrev pub closed : {A : Type 0} → (Bounded → Read A) → Bounded → Read A
 closed read b = read b >>= λ x. end_at x.1 >>= λ _. Ok x
 

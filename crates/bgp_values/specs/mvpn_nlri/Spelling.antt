@@ -45,7 +45,7 @@ IsAnyOr Is (Some addr) = Is addr
 
 -- ---- fields
 
--- an address behind its length in bits
+-- an address after its length in bits
 abbrev pub sized : Addr → List ℕ
 sized (V4 octets) = 32 ∷ octets
 sized (V6 octets) = 128 ∷ octets

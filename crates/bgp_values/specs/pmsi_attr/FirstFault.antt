@@ -15,16 +15,16 @@ use Rattle.bgp_values.specs.pmsi_attr.Spelling.{IsKept}
 abbrev pub Is : PmsiFault → ℕ → PmsiReason → Type 0
 Is f place reason = f ≡ record { place = place; reason = reason }
 
--- the tunnel identifier fails, all octets behind the label; it begins at place 5
+-- the tunnel identifier fails, all octets after the label; it begins at place 5
 pub data IdentifierFault (kind : ℕ) (octets : List ℕ) (f : PmsiFault) : Type 0 where
   -- type 0 has none
   not_empty : kind ≡ 0 → octets ≢ [] → Is f 5 reasons.Identifier → IdentifierFault kind octets f
-  -- type 2: the FEC element fails at its own place; or there is one, and it is not P2MP, or octets stand behind it
+  -- type 2: the FEC element fails at its own place; or there is one, and it is not P2MP, or octets stand after it
   in_element : kind ≡ 2 → (g : FecFault) → fec_faults.FirstFault (start octets) g → Is f (5 + g.place) (reasons.Fec g.reason) →
       IdentifierFault kind octets f
   not_p2mp : kind ≡ 2 → (element : Fec) (text rest : List ℕ) → fec.Spells element text → octets ≡ text ++ rest →
       element.kind ≢ P2mp → Is f 5 reasons.Identifier → IdentifierFault kind octets f
-  more_behind : kind ≡ 2 → (element : Fec) (text rest : List ℕ) → fec.Spells element text → octets ≡ text ++ rest → rest ≢ [] →
+  more_after : kind ≡ 2 → (element : Fec) (text rest : List ℕ) → fec.Spells element text → octets ≡ text ++ rest → rest ≢ [] →
       Is f 5 reasons.Identifier → IdentifierFault kind octets f
   -- type 6 has an address
   no_address : kind ≡ 6 → length octets ≢ 4 → length octets ≢ 16 → Is f 5 reasons.Identifier → IdentifierFault kind octets f

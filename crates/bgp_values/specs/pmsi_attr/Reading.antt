@@ -65,12 +65,12 @@ tunnel_of kind octets =
 abbrev pub label_of : ℕ → Option ℕ
 label_of number = if number / 16 == 0 then None else Some (number / 16)
 
--- label and identifier, behind flags and type
-unfoldable pub label_behind : ℕ → ℕ → List ℕ → Result Pmsi PmsiFault
-label_behind flags kind [] = Err (fault 2 reasons.Short)
-label_behind flags kind (a ∷ []) = Err (fault 2 reasons.Short)
-label_behind flags kind (a ∷ b ∷ []) = Err (fault 2 reasons.Short)
-label_behind flags kind (a ∷ b ∷ c ∷ octets) = do
+-- label and identifier, after flags and type
+unfoldable pub label_after : ℕ → ℕ → List ℕ → Result Pmsi PmsiFault
+label_after flags kind [] = Err (fault 2 reasons.Short)
+label_after flags kind (a ∷ []) = Err (fault 2 reasons.Short)
+label_after flags kind (a ∷ b ∷ []) = Err (fault 2 reasons.Short)
+label_after flags kind (a ∷ b ∷ c ∷ octets) = do
   tunnel ← tunnel_of kind octets
   Ok (record { leaf_info = bit_and flags 1 == 1; tunnel = tunnel; label = label_of (from_be_bytes w32 (0 ∷ a ∷ b ∷ c ∷ [])) })
 
@@ -78,4 +78,4 @@ label_behind flags kind (a ∷ b ∷ c ∷ octets) = do
 unfoldable pub pmsi_of : List ℕ → Result Pmsi PmsiFault
 pmsi_of [] = Err (fault 0 reasons.Short)
 pmsi_of (flags ∷ []) = Err (fault 1 reasons.Short)
-pmsi_of (flags ∷ kind ∷ rest) = if nat_lt 7 kind then Err (fault 1 reasons.TunnelType) else label_behind flags kind rest
+pmsi_of (flags ∷ kind ∷ rest) = if nat_lt 7 kind then Err (fault 1 reasons.TunnelType) else label_after flags kind rest

@@ -47,11 +47,11 @@ abbrev pub label_bits : Option ℕ → ℕ
 label_bits None = 0
 label_bits (Some label) = label
 
--- flags, tunnel type, and label with the four bits behind it
+-- flags, tunnel type, and label with the four bits after it
 abbrev pub header : ℕ → Pmsi → ℕ → List ℕ
 header flags p low = flags ∷ type_octet p.tunnel ∷ three (16 * label_bits p.label + low)
 
--- the text spells the value, whatever stands in the other seven flags and in the four bits behind the label
+-- the text spells the value, whatever stands in the other seven flags and in the four bits after the label
 pub record Spells (p : Pmsi) (text : List ℕ) : Type 0 where
   pub flags : ℕ
   pub low : ℕ

@@ -100,7 +100,7 @@ fn read_addr(fields: &mut Fields<'_>, afi: Afi, role: Role) -> Result<Addr, Rout
     }
 }
 
-/// Reads a source and a group, behind which nothing stands.
+/// Reads a source and a group, after which nothing stands.
 #[tactic(auto, unfolding(crate::specs::mvpn_nlri::Reading::flow_at))]
 pub(crate) fn read_flow(fields: &mut Fields<'_>, afi: Afi) -> Result<(Addr, Addr), RouteFault>
     ensures { Gives (λ flow. flow) result fields.new (flow_at afi fields.old) }

@@ -11,7 +11,7 @@ pub enum RouteReason {
     Short,
     /// A length leaves fewer octets than the field needs.
     LengthTooSmall,
-    /// A length leaves octets behind the last field.
+    /// A length leaves octets after the last field.
     LengthTooLarge,
     /// The source's length is not that of the family.
     SourceLength,

@@ -74,13 +74,13 @@ pub(crate) fn read_key(fields: &mut Fields<'_>, afi: Afi) -> Result<LeafKey, Rou
 {
     let kind = read_key_kind(fields)?;
     let len = read_key_len(fields)?;
-    let behind = fields.within() - len;
+    let thereafter = fields.within() - len;
     fields.bound(len);
     let key = if kind == 2 {
         read_inter(fields)?
     } else {
         read_selective(fields, afi)?
     };
-    fields.bound(behind);
+    fields.bound(thereafter);
     Ok(key)
 }

@@ -136,12 +136,12 @@ fn read_route(afi: Afi, bytes: &[u8]) -> Result<(Route, usize), RouteFault>
 
 /// The route at the front of the octets, and how many of them it has.
 ///
-/// The AFI tells the family of its source and group. Octets behind the route may be anything. Where no route stands
+/// The AFI tells the family of its source and group. Octets after the route may be anything. Where no route stands
 /// at the front, the answer is the first fault (RFC 6514 section 4).
 pub fn decode(afi: Afi, bytes: &[u8]) -> Result<(Route, usize), RouteFault>
     // It is what reading from left to right gives.
     ensures exact { result ≡ route_at afi bytes.now }
-    // A fault stands within the octets or right behind them.
+    // A fault stands within the octets or right after them.
     ensures within { IfErr result (λ fault. fault.place ≤ length bytes.now) }
     // What is read is spelled at the front.
     ensures spelled { IfOk result (λ x. Spells afi x.0 (take x.1 bytes.now) × (x.1 ≤ length bytes.now)) }

@@ -18,7 +18,7 @@ fn put_plain(out: &mut [u8], place: usize, addr: &Addr) -> usize
     put(out, place, addr.octets())
 }
 
-/// Writes a source or group behind its length in bits.
+/// Writes a source or group after its length in bits.
 #[tactic(auto, using(mv_base::proofs::Fields::puts))]
 fn put_sized(out: &mut [u8], place: usize, addr: &Addr) -> usize
     requires { place + length (sized addr.now) ≤ length out.old }
@@ -236,7 +236,7 @@ pub fn encode(route: &Route, out: &mut [u8]) -> usize
     end
 }
 
-/// What was written is read again, whatever octets stand behind it.
+/// What was written is read again, whatever octets stand after it.
 pub fn round_trip(afi: Afi, route: &Route, out: &mut [u8]) -> Result<(Route, usize), RouteFault>
     requires spelled { Spells afi route.now (written route.now) }
     requires room { 257 ≤ length out.old }

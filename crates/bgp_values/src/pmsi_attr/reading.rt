@@ -1,6 +1,6 @@
 //! Reading a PMSI Tunnel attribute.
 ghost use Rattle.std.specs.Prelude.{◌≡◌, ◌≤◌, List, ℕ, length, IfOk, IfErr};
-ghost use Rattle.bgp_values.specs.pmsi_attr.Reading.{misfit, none_of, mldp_of, ingress_of, other_of, tunnel_of, label_of, label_behind, pmsi_of};
+ghost use Rattle.bgp_values.specs.pmsi_attr.Reading.{misfit, none_of, mldp_of, ingress_of, other_of, tunnel_of, label_of, label_after, pmsi_of};
 ghost use Rattle.bgp_values.specs.pmsi_attr.Spelling.{Spells, written};
 ghost use Rattle.bgp_values.specs.pmsi_attr.FirstFault.{FirstFault};
 
@@ -101,9 +101,9 @@ fn label_of(number: u32) -> Option<u32>
     if label == 0 { None } else { Some(label) }
 }
 
-#[tactic(auto, unfolding(crate::specs::pmsi_attr::Reading::label_behind))]
+#[tactic(auto, unfolding(crate::specs::pmsi_attr::Reading::label_after))]
 fn read_label_and_tunnel(flags: u8, kind: u8, rest: &[u8]) -> Result<Pmsi, PmsiFault>
-    ensures { result ≡ label_behind flags kind rest.now }
+    ensures { result ≡ label_after flags kind rest.now }
 {
     let [high, middle, low, octets @ ..] = rest else {
         return Err(short(2));
@@ -139,7 +139,7 @@ fn read_pmsi(bytes: &[u8]) -> Result<Pmsi, PmsiFault>
 pub fn decode(bytes: &[u8]) -> Result<Pmsi, PmsiFault>
     // It is what reading from left to right gives.
     ensures exact { result ≡ pmsi_of bytes.now }
-    // A fault stands within the octets or right behind them.
+    // A fault stands within the octets or right after them.
     ensures within { IfErr result (λ fault. fault.place ≤ length bytes.now) }
     // What is read is spelled.
     ensures spelled { IfOk result (λ pmsi. Spells pmsi bytes.now) }

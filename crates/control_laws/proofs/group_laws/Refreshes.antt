@@ -85,9 +85,9 @@ pub step_groups : (place : EdgePlace) (now : ℕ) (control : Control) (call : Ca
     → IsAllowed call → HaveGroups (control_step place now control call)
 step_groups place now control call have writable allowed = by (is_vrf_step call)
   where
-    behind : HaveGroups (effect place now control call)
-    behind = effect_groups place now control call have allowed
+    thereafter : HaveGroups (effect place now control call)
+    thereafter = effect_groups place now control call have allowed
 
     by : (b : Bool) → HaveGroups (refreshed_if b place now (effect place now control call))
-    by true = refreshed_groups place now (effect place now control call) behind writable
-    by false = behind
+    by true = refreshed_groups place now (effect place now control call) thereafter writable
+    by false = thereafter

@@ -10,9 +10,9 @@ module _ {X : Type 0} where
   in_front (y ∷ more) ys zero x is = is
   in_front (y ∷ more) ys (suc i) x is = in_front more ys i x is
 
-  behind : (xs : List X) (x : X) → slice_get (xs ++ x ∷ []) (length xs) ≡ Some x
-  behind [] x = refl
-  behind (y ∷ ys) x = behind ys x
+  thereafter : (xs : List X) (x : X) → slice_get (xs ++ x ∷ []) (length xs) ≡ Some x
+  thereafter [] x = refl
+  thereafter (y ∷ ys) x = thereafter ys x
 
 pub numbered_still : (datagrams more : List Datagram) (number : ℕ) (datagram : Datagram) → numbered datagrams number ≡ Some datagram
     → numbered (datagrams ++ more) number ≡ Some datagram
@@ -22,7 +22,7 @@ numbered_still datagrams more (suc place) datagram is = in_front datagrams more 
 pub numbered_next : (datagrams : List Datagram) (datagram : Datagram) (count : ℕ) → count ≡ length datagrams
     → numbered (datagrams ++ datagram ∷ []) (count + 1) ≡ Some datagram
 numbered_next datagrams datagram count is =
-    ap (numbered (datagrams ++ datagram ∷ [])) (one_more count) ∙ ap (slice_get (datagrams ++ datagram ∷ [])) is ∙ behind datagrams datagram
+    ap (numbered (datagrams ++ datagram ∷ [])) (one_more count) ∙ ap (slice_get (datagrams ++ datagram ∷ [])) is ∙ thereafter datagrams datagram
 
 pub numbered_within : (datagrams : List Datagram) (number : ℕ) (datagram : Datagram) → numbered datagrams number ≡ Some datagram
     → (0 < number) × (number ≤ length datagrams)

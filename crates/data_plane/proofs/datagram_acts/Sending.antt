@@ -92,9 +92,9 @@ pub entered_sending : (world : World) (copies : CopiesData) (count number : ℕ)
     → new_hops ≡ hops ++ map (hop_at node) branches → IsSending world number datagram (seen copies count hops)
     → IsSending (with_branches node 255 number branches world) number datagram (seen copies count new_hops)
 entered_sending world copies count number hops new_hops datagram node branches are own =
-    let behind = with_branches node 255 number branches world in
-    let datagrams : behind.datagrams ≡ world.datagrams = branches_datagrams node 255 number branches world in
-    let clock : clock_of behind ≡ clock_of world = ap (λ (n : OctetNetwork Nodes). n.state.clock) (branches_keep node 255 number branches world) in
+    let thereafter = with_branches node 255 number branches world in
+    let datagrams : thereafter.datagrams ≡ world.datagrams = branches_datagrams node 255 number branches world in
+    let clock : clock_of thereafter ≡ clock_of world = ap (λ (n : OctetNetwork Nodes). n.state.clock) (branches_keep node 255 number branches world) in
     record {
       copies = λ u n.
           branches_put (record { number = number; buffer = 0 }) node 255 (clock_of world) branches world refl u n

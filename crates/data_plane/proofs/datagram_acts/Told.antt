@@ -15,12 +15,12 @@ pub same_number : (world : World) (number kept : ℕ) (datagram : Datagram) (vie
     → IsNumber kept view.copies.current → kept ≡ number
 same_number world number kept datagram view own is = sym (subst (IsNumber kept) own.is is) ∙ own.number_is
 
-pub told_lines : (before between behind : List ReportLine) (node : NodeId) (ttl number kept : ℕ) (octets stored : List ℕ) (outs : List IfaceId)
+pub told_lines : (before between thereafter : List ReportLine) (node : NodeId) (ttl number kept : ℕ) (octets stored : List ℕ) (outs : List IfaceId)
     (branches : List Branch)
     → kept ≡ number → stored ≡ octets → between ≡ before ++ map (λ iface. told.Out kept iface stored) outs
-    → behind ≡ between ++ map (hop_line node ttl kept) branches
-    → behind ≡ before ++ (map (λ iface. told.Out number iface octets) outs ++ map (hop_line node ttl number) branches)
-told_lines before between behind node ttl number kept octets stored outs branches same text first last =
+    → thereafter ≡ between ++ map (hop_line node ttl kept) branches
+    → thereafter ≡ before ++ (map (λ iface. told.Out number iface octets) outs ++ map (hop_line node ttl number) branches)
+told_lines before between thereafter node ttl number kept octets stored outs branches same text first last =
     last ∙ ap (λ (lines : List ReportLine). lines ++ map (hop_line node ttl kept) branches) first
     ∙ append_assoc before (map (λ iface. told.Out kept iface stored) outs) (map (hop_line node ttl kept) branches)
     ∙ (λ i. before ++ (map (λ iface. told.Out (same i) iface (text i)) outs ++ map (hop_line node ttl (same i)) branches))

@@ -1,4 +1,4 @@
--- The account of the buffers, behind each call.
+-- The account of the buffers, after each call.
 use Rattle.std.proofs.Common.{◌≡◌, ℕ, ◌+◌, ◌<◌, ◌==◌, Bool, true, false, cond, List, [], ◌∷◌, ◌++◌, length, slice_get, Option, None, Some, option_map, refl, sym, ap, subst, ◌∙◌, arith}
 use Rattle.std.specs.List.{count_by, remove}
 use Rattle.std.proofs.lemmas.Bool.{eq-eqb}
@@ -14,7 +14,7 @@ use Rattle.data_plane.proofs.link_copies.Sums.{copies_in, unchanged, total_chang
 use Rattle.data_plane.proofs.link_copies.Lists.{count-push, count-remove, length-removed, removed_in}
 use Rattle.std.proofs.lemmas.List.{length-append}
 use Rattle.data_plane.proofs.link_copies.Pools.{held_from, live_from, back_counted, back_fades, share_counted, share_held}
-use Rattle.data_plane.proofs.link_copies.Holdings.{passes, is_pair, length_total, held_total, are_held, shared_behind}
+use Rattle.data_plane.proofs.link_copies.Holdings.{passes, is_pair, length_total, held_total, are_held, shared_after}
 
 -- what is handled holds its buffer
 pub finish_live : (ways : WayMap) (current : Current) (before : Buffers) → IsShared (data_of ways (Some current) before)
@@ -62,21 +62,21 @@ module _ (old new : WayMap) (way : NodeId × NodeId) (place : ℕ) (k : KeptCopy
   )
 
   pub lands_shared : IsShared (data_of old None buffers) → IsShared (data_of new (Some (current_of k)) buffers)
-  lands_shared shared = shared_behind (data_of old None buffers) (data_of new (Some (current_of k)) buffers)
+  lands_shared shared = shared_after (data_of old None buffers) (data_of new (Some (current_of k)) buffers)
       (λ name. shared.counted name ∙ sym (lands_holding (λ number buffer. buffer == name)))
       (are_held (data_of old None buffers) shared)
       (λ number name h. subst (λ n. 0 < n) (lands_holding (is_pair number name)) h) shared
 
 -- ---- a copy is put
 
-module _ (old new : WayMap) (way : NodeId × NodeId) (k : KeptCopy) (current : Current) (before behind : Buffers)
+module _ (old new : WayMap) (way : NodeId × NodeId) (k : KeptCopy) (current : Current) (before thereafter : Buffers)
     (each : (q : NodeId × NodeId) → kept.get is_way new q ≡ cond (is_way way q) (Some (copies_on old way ++ k ∷ [])) (kept.get is_way old q))
-    (number : k.copy.number ≡ current.number) (buffer : k.buffer ≡ current.buffer) (is : behind ≡ shared before current.buffer 1) where
+    (number : k.copy.number ≡ current.number) (buffer : k.buffer ≡ current.buffer) (is : thereafter ≡ shared before current.buffer 1) where
   abbrev was : CopiesData
   was = data_of old (Some current) before
 
   abbrev now : CopiesData
-  now = data_of new (Some current) behind
+  now = data_of new (Some current) thereafter
 
   same_test : (test : ℕ → ℕ → Bool) → one_if (passes test k) ≡ one_if (test current.number current.buffer)
   same_test test i = one_if (test (number i) (buffer i))
@@ -103,7 +103,7 @@ module _ (old new : WayMap) (way : NodeId × NodeId) (k : KeptCopy) (current : C
   pub put_shared : IsShared was → IsShared now
   put_shared account =
       let live = held_from before current.buffer (live_from before current.buffer (finish_live old current before account)) in
-      shared_behind was now
+      shared_after was now
       (λ name. omega (
         arith,
         account.counted name,
@@ -121,15 +121,15 @@ module _ (old new : WayMap) (way : NodeId × NodeId) (k : KeptCopy) (current : C
 
 -- ---- the datagram is no longer handled
 
-module _ (ways : WayMap) (current : Current) (before behind : Buffers) (is : behind ≡ given_back before current.buffer) where
+module _ (ways : WayMap) (current : Current) (before thereafter : Buffers) (is : thereafter ≡ given_back before current.buffer) where
   abbrev handled : CopiesData
   handled = data_of ways (Some current) before
 
-  pub finish_fades : IsShared handled → Fades before behind
+  pub finish_fades : IsShared handled → Fades before thereafter
   finish_fades account = subst (Fades before) (sym is) (back_fades before current.buffer (finish_live ways current before account))
 
-  pub finish_shared : IsShared handled → IsShared (data_of ways None behind)
-  finish_shared account = shared_behind handled (data_of ways None behind)
+  pub finish_shared : IsShared handled → IsShared (data_of ways None thereafter)
+  finish_shared account = shared_after handled (data_of ways None thereafter)
       (λ name. omega (
         arith,
         account.counted name,

@@ -71,10 +71,10 @@ lives_from d counted all name live =
     let is = held_from d.buffers name live in
     omega (arith, counted name, ap count_in is.1, all name is.0 is.1)
 
--- where each number that has a buffer behind had it before
-pub shared_behind : (old new : CopiesData) → ((name : ℕ) → count_of new.buffers name ≡ holders new name) → AreHeld new.buffers
+-- where each number that has a buffer after had it before
+pub shared_after : (old new : CopiesData) → ((name : ℕ) → count_of new.buffers name ≡ holders new name) → AreHeld new.buffers
     → ((number name : ℕ) → 0 < holders_for new number name → 0 < holders_for old number name) → IsShared old → IsShared new
-shared_behind old new counted all fewer shared = record {
+shared_after old new counted all fewer shared = record {
   counted = counted;
   lives = lives_from new counted all;
   named = λ number name other another h g. shared.named number name other another (fewer number name h) (fewer other another g);

@@ -53,12 +53,12 @@ module _ (m : WayMap) (current : Option Current) (buffers : Buffers) (d : Copies
 
 -- ---- copies are put
 
--- one copy more is on its way, behind the others
+-- one copy more is on its way, after the others
 module _ (m new : WayMap) (from to : NodeId) (k : KeptCopy)
     (each : (q : NodeId × NodeId) → kept.get is_way new q
     ≡ cond (is_way (from, to) q) (Some (copies_on m (from, to) ++ k ∷ [])) (kept.get is_way m q)) where
-  pub one_behind : (u n : NodeId) → copies_on new (u, n) ≡ copies_on m (u, n) ++ cond (is_at from to u n) (k ∷ []) []
-  one_behind u n = ap copies_in (each (u, n)) ∙ by (is_at from to u n) refl (turned (from, to) (u, n))
+  pub one_after : (u n : NodeId) → copies_on new (u, n) ≡ copies_on m (u, n) ++ cond (is_at from to u n) (k ∷ []) []
+  one_after u n = ap copies_in (each (u, n)) ∙ by (is_at from to u n) refl (turned (from, to) (u, n))
     where
       by : (b : Bool) → is_at from to u n ≡ b → is_way (from, to) (u, n) ≡ is_at from to u n
           → copies_in (cond (is_way (from, to) (u, n)) (Some (copies_on m (from, to) ++ k ∷ [])) (kept.get is_way m (u, n)))
@@ -83,7 +83,7 @@ module _ (m new : WayMap) (current : Current) (buffers : Buffers) (d : CopiesDat
     ≡ cond (is_way (from, branch.node) q) (Some (copies_on m (from, branch.node) ++ k ∷ [])) (kept.get is_way m q)) where
   pub one_put : (u n : NodeId) → copies_in (maps.get (ways_of new) (u, n)) ≡ kept_at d u n ++ sent d.current from ttl now (branch ∷ []) u n
   one_put u n =
-      copies_seen new (u, n) ∙ one_behind m new from branch.node k each u n
+      copies_seen new (u, n) ∙ one_after m new from branch.node k each u n
       ∙ (λ j. sym (kept_seen m (Some current) buffers d is u n) j ++ there j)
     where
       there : cond (is_at from branch.node u n) (k ∷ []) [] ≡ sent d.current from ttl now (branch ∷ []) u n

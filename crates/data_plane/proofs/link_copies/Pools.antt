@@ -73,14 +73,14 @@ module _ (m : Buffers) (k : ℕ) (live : 0 < count_of m k) where
   back_fades =
       let is = held_from m k (live_from m k live) in
       record {
-        octets = λ name behind e. by is.0 is.1 name behind (get (given_back m k) name) refl e;
+        octets = λ name thereafter e. by is.0 is.1 name thereafter (get (given_back m k) name) refl e;
         held = λ all name g e. (fading is.0 is.1 name g e (name == k) refl).1 all;
       }
     where
-      by : (h : Held) → get m k ≡ Some h → (name : ℕ) (behind : List ℕ) (o : Option Held) → get (given_back m k) name ≡ o
-          → octets_in (given_back m k) name ≡ Some behind → octets_in m name ≡ Some behind
-      by h is name behind None e octets = absurd (not_some behind (sym (ap octets_of e) ∙ octets))
-      by h is name behind (Some g) e octets = (fading h is name g e (name == k) refl).0 ∙ sym (ap octets_of e) ∙ octets
+      by : (h : Held) → get m k ≡ Some h → (name : ℕ) (thereafter : List ℕ) (o : Option Held) → get (given_back m k) name ≡ o
+          → octets_in (given_back m k) name ≡ Some thereafter → octets_in m name ≡ Some thereafter
+      by h is name thereafter None e octets = absurd (not_some thereafter (sym (ap octets_of e) ∙ octets))
+      by h is name thereafter (Some g) e octets = (fading h is name g e (name == k) refl).0 ∙ sym (ap octets_of e) ∙ octets
 
 -- ---- a buffer is shared, or comes
 
@@ -127,16 +127,16 @@ module _ (m : Buffers) (k : ℕ) (octets : List ℕ) (count : ℕ) (none : get m
       (λ g e. omega (arith, some, ap (λ (x : Held). x.count) (some_equal _ g (sym (got_insert m k (held octets count)) ∙ e))))
       (λ name apart d g e. all name g (sym (others_insert m k (held octets count) name apart) ∙ e))
 
--- ---- the octets behind a call
+-- ---- the octets after a call
 
-pub kept_octets : (old new : Buffers) → KeepsBuffers old new → (name : ℕ) (before behind : List ℕ) → octets_in old name ≡ Some before
-    → octets_in new name ≡ Some behind → before ≡ behind
-kept_octets old new keeps name before behind e d = some_equal before behind (sym (keeps name before e) ∙ d)
+pub kept_octets : (old new : Buffers) → KeepsBuffers old new → (name : ℕ) (before thereafter : List ℕ) → octets_in old name ≡ Some before
+    → octets_in new name ≡ Some thereafter → before ≡ thereafter
+kept_octets old new keeps name before thereafter e d = some_equal before thereafter (sym (keeps name before e) ∙ d)
 
-pub faded_octets : (old new : Buffers) → Fades old new → (name : ℕ) (before behind : List ℕ) → octets_in old name ≡ Some before
-    → octets_in new name ≡ Some behind → before ≡ behind
-faded_octets old new fades name before behind e d = some_equal before behind (sym e ∙ fades.octets name behind d)
+pub faded_octets : (old new : Buffers) → Fades old new → (name : ℕ) (before thereafter : List ℕ) → octets_in old name ≡ Some before
+    → octets_in new name ≡ Some thereafter → before ≡ thereafter
+faded_octets old new fades name before thereafter e d = some_equal before thereafter (sym e ∙ fades.octets name thereafter d)
 
 pub fades_twice : (a b c : Buffers) → Fades a b → Fades b c → Fades a c
 fades_twice a b c first last =
-    record { octets = λ name behind e. first.octets name behind (last.octets name behind e); held = λ all. last.held (first.held all) }
+    record { octets = λ name thereafter e. first.octets name thereafter (last.octets name thereafter e); held = λ all. last.held (first.held all) }

@@ -13,7 +13,7 @@ use Rattle.data_plane.specs.link_copies.CopiesData.{Current, KeptCopy, Ways, cop
 use Rattle.data_plane.specs.link_copies.Fading.{Fades}
 use Rattle.data_plane.specs.link_copies.Kept.{ArePut, WayMap, copies_on, is_way, passing, total, ways_of}
 use Rattle.data_plane.proofs.link_copies.Holdings.{passes}
-use Rattle.data_plane.proofs.link_copies.Landing.{one_behind}
+use Rattle.data_plane.proofs.link_copies.Landing.{one_after}
 use Rattle.data_plane.proofs.link_copies.Lists.{count-push}
 use Rattle.data_plane.proofs.link_copies.Pools.{back_counted, back_fades, fades_twice}
 use Rattle.data_plane.proofs.link_copies.Sums.{copies_in, total_changes, unchanged}
@@ -62,7 +62,7 @@ module _ (ttl now : ℕ) (datagram : Current) where
         record {
           unique = unique;
           copies = λ u n.
-              one_behind mid new hop.from hop.branch.node k each u n
+              one_after mid new hop.from hop.branch.node k each u n
               ∙ (λ i. puts.copies u n i ++ cond (leads_over u n hop) (on i ∷ []) [])
               ∙ append_assoc (copies_on old (u, n)) (put_on ttl now datagram hops u n) (cond (leads_over u n hop) (copy_over hop ∷ []) [])
               ∙ ap (λ (more : List KeptCopy). copies_on old (u, n) ++ more) (sym (put_on_more hops hop u n));
@@ -121,7 +121,7 @@ counts_none false count = omega arith
 pub none_back : (m : Buffers) (buffer : ℕ) → OnRest m buffer 0 m
 none_back m buffer = record {
   counted = λ name. counts_none (buffer == name) (count_of m name);
-  fades = record { octets = λ name behind is. is; held = λ all. all };
+  fades = record { octets = λ name thereafter is. is; held = λ all. all };
 }
 
 module _ (old mid : Buffers) (buffer fewer : ℕ) (on : OnRest old buffer fewer mid) where

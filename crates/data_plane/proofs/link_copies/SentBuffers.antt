@@ -19,13 +19,13 @@ use Rattle.data_plane.proofs.link_copies.Holdings.{are_held, copies_of, held_tot
 
 -- ---- a new datagram goes out
 
-module _ (old new : WayMap) (number name more : ℕ) (before behind : Buffers)
+module _ (old new : WayMap) (number name more : ℕ) (before thereafter : Buffers)
     (grown : (test : ℕ → ℕ → Bool) → passing test new ≡ passing test old + cond (test number name) more 0) where
   abbrev was : CopiesData
   was = data_of old None before
 
   abbrev is_now : CopiesData
-  is_now = data_of new None behind
+  is_now = data_of new None thereafter
 
   grown_holding : (test : ℕ → ℕ → Bool) → holding test is_now ≡ holding test was + cond (test number name) more 0
   grown_holding test = omega (arith, held_total test is_now, held_total test was, grown test)
@@ -71,9 +71,9 @@ module _ (old new : WayMap) (number name more : ℕ) (before behind : Buffers)
     named n b m a h g false false e d = account.named n b m a (before_it n b e h) (before_it m a d g)
 
     -- where the new buffer counts the new copies, all buffers count theirs
-    pub sent_shared : ((q : ℕ) → count_of behind q ≡ count_of before q + cond (name == q) more 0) → AreHeld behind → IsShared is_now
+    pub sent_shared : ((q : ℕ) → count_of thereafter q ≡ count_of before q + cond (name == q) more 0) → AreHeld thereafter → IsShared is_now
     sent_shared counts all =
-        let counted : (q : ℕ) → count_of behind q ≡ holders is_now q =
+        let counted : (q : ℕ) → count_of thereafter q ≡ holders is_now q =
         λ q. omega (arith, counts q, account.counted q, grown_holding (λ n b. b == q)) in
         record {
           counted = counted;

@@ -165,10 +165,10 @@ pub record IsSent (number : ℕ) (octets : List ℕ) (ttl now : ℕ) (hops : Lis
 abbrev pub KeepsBuffers : Buffers → Buffers → Type 0
 KeepsBuffers old new = (name : ℕ) (octets : List ℕ) → octets_in old name ≡ Some octets → octets_in new name ≡ Some octets
 
--- each buffer that lives before and behind a call has the same octets
+-- each buffer that lives before and after a call has the same octets
 abbrev pub KeepsOctets : CopiesData → CopiesData → Type 0
-KeepsOctets old new = (name : ℕ) (before behind : List ℕ) → octets_in old.buffers name ≡ Some before → octets_in new.buffers name ≡ Some behind →
-    before ≡ behind
+KeepsOctets old new = (name : ℕ) (before thereafter : List ℕ) → octets_in old.buffers name ≡ Some before → octets_in new.buffers name ≡ Some thereafter →
+    before ≡ thereafter
 
 -- ---- the code, by which one is told from another
 

@@ -41,7 +41,7 @@ total f ways = sum_by (λ e. f e.1) (maps.entries ways)
 abbrev pub passing : (ℕ → ℕ → Bool) → WayMap → ℕ
 passing test ways = total (count_by (λ k. test k.copy.number k.buffer)) (ways_of ways)
 
--- A copy of the datagram was put on each of these hops, behind the others of its way.
+-- A copy of the datagram was put on each of these hops, after the others of its way.
 pub record ArePut (ttl now : ℕ) (datagram : Current) (hops : List Hop) (old new : WayMap) : Type 0 where
   pub unique : IsUnique is_way new
   pub copies : (u n : NodeId) → copies_on new (u, n) ≡ copies_on old (u, n) ++ put_on ttl now datagram hops u n

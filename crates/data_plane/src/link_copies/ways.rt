@@ -48,7 +48,7 @@ pub(crate) fn take_out(ways: &mut Ways, way: (NodeId, NodeId), place: usize)
     }
 }
 
-/// Puts a copy behind the others of the way.
+/// Puts a copy after the others of the way.
 pub(crate) fn put(
     ways: &mut Ways,
     alloc: Global,

@@ -16,10 +16,10 @@ own_are addr system me number [] = refl
 own_are addr system me number (vrf ∷ more) =
     let own : OwnVrf = record { id = record { 0 = number }; local = record { vrf = vrf; addr = addr; system = system } } in
     let rest : List OwnVrf = own_from addr system me (number + 1) more in
-    let behind : map as_own rest ≡ vrfs_from me (number + 1) more = own_are addr system me (number + 1) more in
+    let thereafter : map as_own rest ≡ vrfs_from me (number + 1) more = own_are addr system me (number + 1) more in
     elim (vrf.edge.0 == me.0)
     as (λ b. map as_own (cond b (own ∷ rest) rest) ≡ cond b (as_own own ∷ vrfs_from me (number + 1) more) (vrfs_from me (number + 1) more))
-    [ true ↦ ap (λ (o : List places.OwnVrf). as_own own ∷ o) behind | false ↦ behind ]
+    [ true ↦ ap (λ (o : List places.OwnVrf). as_own own ∷ o) thereafter | false ↦ thereafter ]
 
 pub own_say : (addr : List ℕ) (system : ℕ) (me : NodeId) (number : ℕ) (vrfs : List Vrf)
     → AllByRecursion (IsOf addr system) (own_from addr system me number vrfs)
@@ -27,10 +27,10 @@ own_say addr system me number [] = tt
 own_say addr system me number (vrf ∷ more) =
     let own : OwnVrf = record { id = record { 0 = number }; local = record { vrf = vrf; addr = addr; system = system } } in
     let rest : List OwnVrf = own_from addr system me (number + 1) more in
-    let behind : AllByRecursion (IsOf addr system) rest = own_say addr system me (number + 1) more in
+    let thereafter : AllByRecursion (IsOf addr system) rest = own_say addr system me (number + 1) more in
     elim (vrf.edge.0 == me.0) as (λ b. AllByRecursion (IsOf addr system) (cond b (own ∷ rest) rest)) [
-      | true ↦ (record { addr = refl; system = refl }, behind)
-      | false ↦ behind
+      | true ↦ (record { addr = refl; system = refl }, thereafter)
+      | false ↦ thereafter
     ]
 
 pub are_own : (scenario : Scenario) (me : NodeId) (addr : List ℕ) (own : List OwnVrf)

@@ -29,7 +29,7 @@ then_again Less b c = refl
 then_again Equal b c = refl
 then_again Greater b c = refl
 
--- what is told behind is no more than a tie where the front ties
+-- what is told after is no more than a tie where the front ties
 then_tied : (a b : Ordering) → (a ≡ Equal → b ≡ Equal) → a ≡ ordering_then a b
 then_tied Less b h = refl
 then_tied Equal b h = sym (h refl)
@@ -68,7 +68,7 @@ vpn_cmp rd other_rd prefix other h k =
     ∙ ap (ordering_then (nat_cmp prefix.bits other.bits)) (sym (append_cmp rd.0 other_rd.0 own others (h.rd_len ∙ sym k.rd_len)))
     ∙ ap (λ (o : Ordering). ordering_then o (slice_cmp nat_cmp (rd.0 ++ own) (other_rd.0 ++ others))) (plus_cmp 88 prefix.bits other.bits)
 
--- the parts behind the text of a unicast key: its Route Distinguisher and length tie where the text does
+-- the parts after the text of a unicast key: its Route Distinguisher and length tie where the text does
 parts_tied : (family bits rd rest addr : Ordering)
     → ordering_then (ordering_then family (ordering_then (ordering_then bits rd) rest)) addr
     ≡ ordering_then (ordering_then family Equal)

@@ -1,4 +1,4 @@
--- The values of routes as a table keeps them: communities in 10 places, with zeros behind them.
+-- The values of routes as a table keeps them: communities in 10 places, with zeros after them.
 use Rattle.std.specs.Prelude.{◌≡◌, ℕ, ◌-◌, ◌≤◌, List, ◌++◌, length, take, drop, replicate, Option}
 use Rattle.std.specs.Cmp.{IsEquivalence, eq_by_cmp_equiv, nat_cmp_total}
 use Rattle.std.proofs.Common.{arith, take-append-drop, length-take-le}
@@ -50,7 +50,7 @@ of_fields : (next_hop : Addr) (pmsi : Option Pmsi) (o p : List ExtComm) (m n : �
     let b : Inside = record { next_hop = next_hop; pmsi = pmsi; comms = p; count = n } in a ≡ b
 of_fields next_hop pmsi o p m n h k = cc
 
--- The communities and what stands behind them are the places.
+-- The communities and what stands after them are the places.
 pub kept-back : (held : Inside) → IsKept held → kept (value_of held) ≡ held
 kept-back held h =
     let e : length (take held.count held.comms) ≡ held.count = length-take-le held.count held.comms (omega (arith, h.within, h.places)) in

@@ -137,7 +137,7 @@ pub fn same_attribute(own: &Option<Pmsi>, other: &Option<Pmsi>) -> bool
     }
 }
 
-/// Communities in their places, with zeros behind them.
+/// Communities in their places, with zeros after them.
 fn in_places(comms: &[ExtComm]) -> [ExtComm; 10]
     requires { length comms.now ≤ 10 }
     ensures { result ≡ comms.now ++ replicate (10 - length comms.now) zeros }

@@ -39,15 +39,15 @@ use Rattle.edge_routing.proofs.edge_datagrams.KeptLemmas.{are_whole}
 -- ---- lists
 
 -- one more of a list
-one_behind : {X Y : Type 0} (f : X → List Y) (xs : List X) (n : ℕ) (x : X) → slice_get xs n ≡ Some x
+one_after : {X Y : Type 0} (f : X → List Y) (xs : List X) (n : ℕ) (x : X) → slice_get xs n ≡ Some x
     → flat_map f (take (suc n) xs) ≡ flat_map f (take n xs) ++ f x
-one_behind f [] n x e = absurd cc
-one_behind f (y ∷ ys) zero x e = (let same : y ≡ x = cc in append-nil (f y) ∙ ap f same)
-one_behind f (y ∷ ys) (suc n) x e = ap (λ zs. f y ++ zs) (one_behind f ys n x e) ∙ sym (append_assoc (f y) (flat_map f (take n ys)) (f x))
+one_after f [] n x e = absurd cc
+one_after f (y ∷ ys) zero x e = (let same : y ≡ x = cc in append-nil (f y) ∙ ap f same)
+one_after f (y ∷ ys) (suc n) x e = ap (λ zs. f y ++ zs) (one_after f ys n x e) ∙ sym (append_assoc (f y) (flat_map f (take n ys)) (f x))
 
 one_more : {X Y : Type 0} (f : X → List Y) (xs : List X) (n : ℕ) (x : X) → slice_get xs n ≡ Some x
     → flat_map f (take (n + 1) xs) ≡ flat_map f (take n xs) ++ f x
-one_more f xs n x e = ap (λ (m : ℕ). flat_map f (take m xs)) (add-one n) ∙ one_behind f xs n x e
+one_more f xs n x e = ap (λ (m : ℕ). flat_map f (take m xs)) (add-one n) ∙ one_after f xs n x e
 
 none_told : {X Y : Type 0} (f : X → List Y) (xs : List X) → ((x : X) → f x ≡ []) → flat_map f xs ≡ []
 none_told f [] h = refl

@@ -50,7 +50,7 @@ one_node : (own other : NodeId) → own.0 ≡ other.0 → own ≡ other
 one_node own other h = λ i. record { 0 = h i }
 
 both_alike : (change : Table → Table) (old new : Option PeerTable)
-    → Both {A = PeerTable} {B = PeerTable} (λ before behind. behind ≡ record before { set = change before.set }) old new
+    → Both {A = PeerTable} {B = PeerTable} (λ before thereafter. thereafter ≡ record before { set = change before.set }) old new
     → Both IsToldAlike old new
 both_alike change None None h = tt
 both_alike change None (Some new) h = h
@@ -65,7 +65,7 @@ both_same old new h = subst (λ (o : Option PeerTable). Both IsToldAlike old o) 
     by (Some own) = alike_itself own
 
 pub alike_at : (change : Table → Table) (peer : NodeId) (old new : Tables)
-    → AtPeer peer (λ before behind. behind ≡ record before { set = change before.set }) old new → EachPeer IsToldAlike old new
+    → AtPeer peer (λ before thereafter. thereafter ≡ record before { set = change before.set }) old new → EachPeer IsToldAlike old new
 alike_at change peer old new at other = elim (cases_Bool (other.0 == peer.0)) [
   | inl tied ↦
       subst (λ (n : NodeId). Both IsToldAlike (get old n) (get new n)) (sym (one_node other peer (eqb-true other.0 peer.0 tied)))
@@ -76,7 +76,7 @@ alike_at change peer old new at other = elim (cases_Bool (other.0 == peer.0)) [
 ]
 
 pub alike_either : {X E : Type 0} (result : Result X E) (change : Table → Table) (peer : NodeId) (old new : Tables)
-    → OnOk result (AtPeer peer (λ before behind. behind ≡ record before { set = change before.set }) old new) → OnErr result (new ≡ old)
+    → OnOk result (AtPeer peer (λ before thereafter. thereafter ≡ record before { set = change before.set }) old new) → OnErr result (new ≡ old)
     → EachPeer IsToldAlike old new
 alike_either (Ok x) change peer old new h k = alike_at change peer old new h
 alike_either (Err e) change peer old new h k = subst (λ (t : Tables). EachPeer IsToldAlike old t) (sym k) (all_alike old)
@@ -103,9 +103,9 @@ no_join = record { edge = record { 0 = 0 }; rd = record { 0 = [] }; import = (V4
 module _ (kept : Kept) where
   -- From the one tables to the others these joins are done, and the others are left.
   abbrev pub Done : List (NodeId × Key) → List (NodeId × Key) → Tables → Tables → Type 0
-  Done before behind old new =
+  Done before thereafter old new =
       (core : Core) → AreOfVrfs (place_of kept.home core) (control_of kept) → HaveIpv4Imports (control_of kept)
-      → HoldAllBut (place_of kept.home core) (control_of kept) before old → HoldAllBut (place_of kept.home core) (control_of kept) behind new
+      → HoldAllBut (place_of kept.home core) (control_of kept) before old → HoldAllBut (place_of kept.home core) (control_of kept) thereafter new
 
   -- one join is done, whatever others are left
   abbrev pub DoneOne : TreeJoin → Tables → Tables → Type 0

@@ -103,13 +103,13 @@ route_is control peer key = by (maps.get control.peers peer)
     by (Some taken) = refl
 
 module _ (now : ℕ) (peer : NodeId) (change : Change) where
-  abbrev behind : Control → Option Taken → Control
-  behind old o = record old {
+  abbrev thereafter : Control → Option Taken → Control
+  thereafter old o = record old {
     peers = elim o [ None ↦ old.peers | Some taken ↦ maps.insert old.peers peer (taken_change now taken change) ];
   }
 
   others : (old : Control) (o : Option Taken) → maps.get old.peers peer ≡ o → (q : NodeId) (k : Key) → (Here peer (key_of change) q k → ⊥)
-      → tables_of (behind old o) q k ≡ tables_of old q k
+      → tables_of (thereafter old o) q k ≡ tables_of old q k
   others old None e q k apart = refl
   others old (Some taken) e q k apart = (changed old peer taken e now change).rest q k apart
 
@@ -124,7 +124,7 @@ module _ (now : ℕ) (peer : NodeId) (change : Change) where
 
 -- after a withdrawal there is none
 withdrawn : (now : ℕ) (peer : NodeId) (key : Key) (old : Control) (o : Option Taken) → maps.get old.peers peer ≡ o
-    → tables_of (behind now peer (updates.Unreach key) old o) peer key ≡ None
+    → tables_of (thereafter now peer (updates.Unreach key) old o) peer key ≡ None
 withdrawn now peer key old None e = route_is old peer key ∙ ap (λ (o : Option Taken). o >>? λ (taken : Taken). maps.get taken key) e
 withdrawn now peer key old (Some taken) e = (changed old peer taken e now (updates.Unreach key)).is
 
@@ -136,7 +136,7 @@ withdrawn_route now peer key old =
 -- after an announcement at a key at which there was none, it is that of the value, where routes are taken from the peer
 announced : (home : Home) (now : ℕ) (peer : NodeId) (key : Key) (value : Value) (old : Control) (o : Option Taken) → maps.get old.peers peer ≡ o
     → route_at old.peers peer key ≡ None
-    → told_at home peer key (tables_of (behind now peer (reach key value) old o) peer key) ≡ told_from home o peer key value
+    → told_at home peer key (tables_of (thereafter now peer (reach key value) old o) peer key) ≡ told_from home o peer key value
 announced home now peer key value old None e fresh = ap (told_at home peer key) (route_is old peer key ∙ fresh)
 announced home now peer key value old (Some taken) e fresh =
     let none : maps.get taken key ≡ None = sym (ap (λ (o : Option Taken). o >>? λ (t : Taken). maps.get t key) e) ∙ fresh in

@@ -138,7 +138,7 @@ find_slot (slot ∷ slots) peer =
 pub at_of : (slots : List (ℕ × Rows)) (peer : NodeId) → get (tables_of slots) peer ≡ option_map taken_in (lookup (is_at (nat_cmp peer.0)) slots)
 at_of slots peer = get-from_entries node_total (map slot_of slots) peer ∙ find_slot slots peer
 
--- the slots behind a change of one
+-- the slots after a change of one
 abbrev pub Becomes : List (ℕ × Rows) → List (ℕ × Rows) → NodeId → Option Rows → Type 0
 Becomes old new peer rows = (q : ℕ) → lookup (is_at (nat_cmp q)) new ≡ cond (is_at (nat_cmp peer.0) q) rows (lookup (is_at (nat_cmp q)) old)
 
@@ -215,7 +215,7 @@ there_now : (tables : Tables) (peer : NodeId) (taken : Taken) → get (insert ta
 there_now tables peer taken =
     get-insert node_total tables peer taken peer ∙ ap (λ (b : Bool). cond b (Some taken) (get tables peer)) ((eq_by_cmp_equiv node_total).refl peer)
 
--- a change behind another one
+-- a change after another one
 changed_twice : (tables : Tables) (peer : NodeId) (first second : Taken → Taken) (o : Option Taken) → get tables peer ≡ o
     → changed_at peer second (changed_at peer first tables) ≡ changed_at peer (λ taken. second (first taken)) tables
 changed_twice tables peer first second None none =

@@ -21,7 +21,7 @@ use Rattle.edge_defs.specs.Edge.{Import}
 use Rattle.edge_defs.specs.Imported.{import_in, source_as_in, found_in, only_one, JoinBy, join_by}
 use Rattle.edge_defs.specs.Originated.{target_comms, import_comm, source_as_comm, own_import, unicast_value}
 use Rattle.edge_defs.specs.Place.{EdgePlace, OwnVrf, addr_of, own_addr, own_vrfs}
-use Rattle.edge_words.proofs.calm_laws.Lists.{passes, map_among, found_step, found_behind, among_either}
+use Rattle.edge_words.proofs.calm_laws.Lists.{passes, map_among, found_step, found_after, among_either}
 use Rattle.edge_words.proofs.calm_laws.Targets.{among_comms}
 use Rattle.edge_words.proofs.calm_laws.Vrfs.{own_edge, own_rules}
 
@@ -82,13 +82,13 @@ none_of f vrf each none comm a =
 imports_found : (vrf : Vrf) (import : Import) (number : ℕ) → All IsTarget vrf.targets → IsIpv4 import.addr → import.number < 2 ^ 16
     → found_in import_in (target_comms vrf ++ (import_comm import ∷ source_as_comm number ∷ [])) ≡ import ∷ []
 imports_found vrf import number each is less =
-    found_behind import_in (target_comms vrf) (import_comm import ∷ source_as_comm number ∷ []) (none_of import_in vrf each no_import)
+    found_after import_in (target_comms vrf) (import_comm import ∷ source_as_comm number ∷ []) (none_of import_in vrf each no_import)
     ∙ found_step import_in (import_comm import) (source_as_comm number ∷ []) (Some import) (import_back import.addr import.number is less)
 
 source_ass_found : (vrf : Vrf) (import : Import) (number : ℕ) → All IsTarget vrf.targets → number < 2 ^ 16
     → found_in source_as_in (target_comms vrf ++ (import_comm import ∷ source_as_comm number ∷ [])) ≡ number ∷ []
 source_ass_found vrf import number each less =
-    found_behind source_as_in (target_comms vrf) (import_comm import ∷ source_as_comm number ∷ []) (none_of source_as_in vrf each no_source_as)
+    found_after source_as_in (target_comms vrf) (import_comm import ∷ source_as_comm number ∷ []) (none_of source_as_in vrf each no_source_as)
     ∙ found_step source_as_in (source_as_comm number) [] (Some number) (source_as_back number less)
 
 -- ---- the address of an edge

@@ -26,7 +26,7 @@ use Rattle.edge_defs.proofs.KeyLemmas.{key_exact, flow_exact}
 use Rattle.edge_words.specs.edge_laws.Network.{EdgeNetwork, place_of}
 use Rattle.edge_words.specs.edge_laws.Rule.{Rule}
 use Rattle.edge_words.specs.calm_laws.Calm.{CalmSession, NoneDue, FlowsStand, AreOfOneVpn, CalmFlow}
-use Rattle.edge_words.proofs.calm_laws.Lists.{any_from, among_front, among_behind, among_map, among_flat_map, among_filter, filter_among, among_found}
+use Rattle.edge_words.proofs.calm_laws.Lists.{any_from, among_front, among_after, among_map, among_flat_map, among_filter, filter_among, among_found}
 use Rattle.edge_words.proofs.calm_laws.Maps.{get_entry}
 use Rattle.edge_words.proofs.calm_laws.Tables.{far_up, held_taken, among_peers}
 use Rattle.edge_words.proofs.calm_laws.Originated.{inclusive_value}
@@ -101,7 +101,7 @@ wants_selective network root egress root_vrf own flow rd import source_as select
     among_filter (λ (entry : VrfFlow × Option Upstream). entry.0.vrf.0 == own.id.0) (flow, up) (maps.entries control.flows)
     (eq-eqb flow.vrf.0 own.id.0 (ap (λ (v : VrfId). v.0) (sym id))) (get_entry flow_exact control.flows flow up h) in
     subst (λ (f : Fec). Among f (tunnels_of here control own)) fec
-    (among_behind route.fec (flat_map (inclusive_tunnels here own) (maps.entries control.peers))
+    (among_after route.fec (flat_map (inclusive_tunnels here own) (maps.entries control.peers))
     (flat_map (flow_tunnels here control own) (flows_of control own.id))
     (among_flat_map (flow_tunnels here control own) (flow, up) route.fec (flows_of control own.id) of_vrf
     (among_map (λ (r : LearnedRoute). r.fec) route (wanted learned flow.source flow.group) want.2)))

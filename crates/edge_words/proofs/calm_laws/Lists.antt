@@ -20,16 +20,16 @@ among_choice x [] a = absurd a
 among_choice x (y ∷ ys) (inl e) = inl e
 among_choice x (y ∷ ys) (inr a) = inr (among_choice x ys a)
 
--- ---- one behind another
+-- ---- one after another
 
 pub among_front : {X : Type 0} (x : X) (xs ys : List X) → Among x xs → Among x (xs ++ ys)
 among_front x [] ys a = absurd a
 among_front x (y ∷ xs) ys (inl e) = inl e
 among_front x (y ∷ xs) ys (inr a) = inr (among_front x xs ys a)
 
-pub among_behind : {X : Type 0} (x : X) (xs ys : List X) → Among x ys → Among x (xs ++ ys)
-among_behind x [] ys a = a
-among_behind x (y ∷ xs) ys a = inr (among_behind x xs ys a)
+pub among_after : {X : Type 0} (x : X) (xs ys : List X) → Among x ys → Among x (xs ++ ys)
+among_after x [] ys a = a
+among_after x (y ∷ xs) ys a = inr (among_after x xs ys a)
 
 pub among_either : {X : Type 0} (x : X) (xs ys : List X) → Among x (xs ++ ys) → Among x xs ⊎ Among x ys
 among_either x [] ys a = inr a
@@ -51,7 +51,7 @@ map_among f y (x ∷ xs) (inr a) = let b = map_among f y xs a in (b.0, inr b.1, 
 pub among_flat_map : {X Y : Type 0} (f : X → List Y) (x : X) (y : Y) (xs : List X) → Among x xs → Among y (f x) → Among y (flat_map f xs)
 among_flat_map f x y [] a b = absurd a
 among_flat_map f x y (z ∷ xs) (inl e) b = among_front y (f z) (flat_map f xs) (subst (λ w. Among y (f w)) e b)
-among_flat_map f x y (z ∷ xs) (inr a) b = among_behind y (f z) (flat_map f xs) (among_flat_map f x y xs a b)
+among_flat_map f x y (z ∷ xs) (inr a) b = among_after y (f z) (flat_map f xs) (among_flat_map f x y xs a b)
 
 pub flat_map_among : {X Y : Type 0} (f : X → List Y) (y : Y) (xs : List X) → Among y (flat_map f xs) → (x : X) × Among x xs × Among y (f x)
 flat_map_among f y [] a = absurd a
@@ -133,6 +133,6 @@ pub found_none : {A B : Type 0} (f : A → Option B) (xs : List A) → ((x : A) 
 found_none f [] none = refl
 found_none f (x ∷ xs) none = found_step f x xs None (none x (inl refl)) ∙ found_none f xs (λ y a. none y (inr a))
 
-pub found_behind : {A B : Type 0} (f : A → Option B) (xs ys : List A) → ((x : A) → Among x xs → f x ≡ None) → found_in f (xs ++ ys) ≡ found_in f ys
-found_behind f [] ys none = refl
-found_behind f (x ∷ xs) ys none = found_step f x (xs ++ ys) None (none x (inl refl)) ∙ found_behind f xs ys (λ y a. none y (inr a))
+pub found_after : {A B : Type 0} (f : A → Option B) (xs ys : List A) → ((x : A) → Among x xs → f x ≡ None) → found_in f (xs ++ ys) ≡ found_in f ys
+found_after f [] ys none = refl
+found_after f (x ∷ xs) ys none = found_step f x (xs ++ ys) None (none x (inl refl)) ∙ found_after f xs ys (λ y a. none y (inr a))

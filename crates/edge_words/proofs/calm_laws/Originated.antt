@@ -21,7 +21,7 @@ use Rattle.edge_defs.specs.Keys.{Value}
 use Rattle.edge_defs.specs.Originated.{afi_by, inclusive_key, selective_key, unicast_value, tunnel_value, unicast_routes, active_routes, selective_routes, originated}
 use Rattle.edge_defs.specs.Place.{EdgePlace, OwnVrf, own_addr, own_vrfs, tunnel_number}
 use Rattle.edge_defs.proofs.KeyLemmas.{pattern_exact}
-use Rattle.edge_words.proofs.calm_laws.Lists.{among_front, among_behind, among_map, among_filter, found_among}
+use Rattle.edge_words.proofs.calm_laws.Lists.{among_front, among_after, among_map, among_filter, found_among}
 use Rattle.edge_words.proofs.calm_laws.Maps.{get_entry}
 use Rattle.edge_words.proofs.calm_laws.Vrfs.{one_rd}
 use Rattle.edge_words.proofs.calm_laws.Entries.{Entry, kind_of, IsHeld, OfInclusive, OfUnicast, OfSelective, OfActive, OfJoin, is_held, some_held, own_held, is_unicast, IsSelectiveRoute, is_selective, active_kind, IsJoin, is_join, join_kind, unicast_kind, selective_kind}
@@ -156,7 +156,7 @@ join_held place control peer afi rd source_as source group value h =
 pub some_join : (place : EdgePlace) (control : Control) (peer : NodeId) (key : Key) (value : Value)
     → Among (key, value) (join_routes place control peer) → (held : Value) × (maps.get (held_for place control peer) key ≡ Some held)
 some_join place control peer key value a =
-    some_held place control peer key value (among_behind (key, value) (originated place control) (join_routes place control peer) a)
+    some_held place control peer key value (among_after (key, value) (originated place control) (join_routes place control peer) a)
 
 -- ---- what a VRF originates is held
 
@@ -195,7 +195,7 @@ selective_value place control peer own pattern selected rules a h =
       tunnel_value place own.vrf (tunnel_number own.vrf e.1.number),
     )) (record { vrf = own.id; pattern = pattern }, selected)
     (filter (λ (e : VrfPattern × Selected). e.0.vrf.0 == own.id.0) (maps.entries control.selections)) passing in
-    let c = among_behind (key, value) (unicast_routes place own) (selective_routes place control own ++ active_routes place control own)
+    let c = among_after (key, value) (unicast_routes place own) (selective_routes place control own ++ active_routes place control own)
     (among_front (key, value) (selective_routes place control own) (active_routes place control own) b) in
     let by = own_held place control peer own key value a (inr c) in
     let held =

@@ -14,13 +14,13 @@ use Rattle.edge_defs.specs.Held.{told}
 use Rattle.edge_defs.specs.Keys.{Value, key_cmp}
 use Rattle.edge_defs.specs.Steps as steps
 use Rattle.edge_defs.specs.Steps.{taken_change, refreshed, control_step}
-use Rattle.edge_words.specs.edge_laws.Network.{EdgeNetwork, place_of, behind}
+use Rattle.edge_words.specs.edge_laws.Network.{EdgeNetwork, place_of, thereafter}
 use Rattle.edge_words.specs.edge_laws.Acts.{is_up, message_of, left_in_transit, delivered}
 use Rattle.edge_words.specs.edge_laws.Rule.{ViewAt, Rule, selected_at}
 use Rattle.edge_words.proofs.edge_laws.Local.{along, taken_view}
 use Rattle.edge_words.proofs.edge_laws.Selections.{stays}
 use Rattle.edge_words.proofs.edge_laws.Taken.{change_taken, table_in, put_own, put_other, put_down}
-use Rattle.edge_words.proofs.edge_laws.Frames.{FarView, Follow, behind_views, behind_ends}
+use Rattle.edge_words.proofs.edge_laws.Frames.{FarView, Follow, after_views, after_ends}
 use Rattle.edge_words.proofs.edge_laws.Steps.{far_same}
 
 module _ (network : EdgeNetwork) (a b : NodeId) (change : Change Key Value) (rest : List (Change Key Value)) (taken : Taken) where
@@ -66,9 +66,9 @@ module _ (network : EdgeNetwork) (a b : NodeId) (change : Change Key Value) (res
       }
 
   taken_views : a ≢ b → maps.get (network.node b).peers a ≡ Some taken → (network.direction a b).transit ≡ change ∷ rest → Rule network
-      → (u v : NodeId) (key : Key) → u ≢ v → ViewAt (behind left b after) u v key
+      → (u v : NodeId) (key : Key) → u ≢ v → ViewAt (thereafter left b after) u v key
   taken_views ne is all rule =
-      behind_views left b after rule.scenario follows
+      after_views left b after rule.scenario follows
       (λ v key i. other_view b v key (and_left (b.0 == a.0) (v.0 == b.0) (node_apart b a (λ e. ne (sym e)))) (rule.view b v key i))
       (λ u key i. elim (node_cases u a) [
         | inl f ↦ subst (λ x. FarView left b after x key) (sym f) (far_here is all key (rule.view a b key ne))
@@ -91,13 +91,13 @@ module _ (network : EdgeNetwork) (a b : NodeId) (change : Change Key Value) (res
       ])) is
 
   pub taken_rule : a ≢ b → maps.get (network.node b).peers a ≡ Some taken → (network.direction a b).transit ≡ change ∷ rest → Rule network
-      → Rule (behind left b (control_step (place_of left b) left.clock (left.node b) (steps.Update a (message_of change))))
+      → Rule (thereafter left b (control_step (place_of left b) left.clock (left.node b) (steps.Update a (message_of change))))
   taken_rule ne is all rule =
-      subst (λ control. Rule (behind left b control)) (sym (step_is is))
+      subst (λ control. Rule (thereafter left b control)) (sym (step_is is))
       (record {
         view = taken_views ne is all rule;
         alike = rule.alike;
-        ends = behind_ends left b after follows rule.ends;
+        ends = after_ends left b after follows rule.ends;
         scenario =
             rule.scenario;
       })

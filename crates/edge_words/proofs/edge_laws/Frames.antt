@@ -15,7 +15,7 @@ use Rattle.edge_defs.specs.Held.{held_for, told, put_to}
 use Rattle.edge_defs.specs.Imported.{taken_from}
 use Rattle.edge_defs.specs.Keys.{Value, Table, key_cmp, same_value}
 use Rattle.edge_defs.proofs.KeyLemmas.{key_total}
-use Rattle.edge_words.specs.edge_laws.Network.{EdgeNetwork, place_of, at_node, behind}
+use Rattle.edge_words.specs.edge_laws.Network.{EdgeNetwork, place_of, at_node, thereafter}
 use Rattle.edge_words.specs.edge_laws.Acts.{is_up}
 use Rattle.edge_words.specs.edge_laws.Rule.{View, ViewAt, Rule, selected_at}
 use Rattle.edge_words.proofs.edge_laws.Local.{along, near_view}
@@ -148,12 +148,12 @@ near_put network n new rules follow b key ne view =
     (picks (place_of network n) (network.node n) new network.clock b rules follow.selections key) (told_down network n (network.node n) b key)
     (put_up network n new b key) (put_down network n new b key) (follow.ends b ne) view)
 
--- the views behind a step, from those of what the edge takes
-pub behind_views : (network : EdgeNetwork) (n : NodeId) (new : Control) → Rules network.scenario → Follow network n new
+-- the views after a step, from those of what the edge takes
+pub after_views : (network : EdgeNetwork) (n : NodeId) (new : Control) → Rules network.scenario → Follow network n new
     → ((b : NodeId) (key : Key) → n ≢ b → ViewAt network n b key) → ((a : NodeId) (key : Key) → a ≢ n → FarView network n new a key)
     → ((a b : NodeId) (key : Key) → a ≢ b → a ≢ n → b ≢ n → ViewAt network a b key)
-    → (a b : NodeId) (key : Key) → a ≢ b → ViewAt (behind network n new) a b key
-behind_views network n new rules follow near far other =
+    → (a b : NodeId) (key : Key) → a ≢ b → ViewAt (thereafter network n new) a b key
+after_views network n new rules follow near far other =
     node_views (put_in network n new) n new
     (λ b key ne. near_put network n new rules follow b key ne (near b key ne))
     (λ a key ne. along refl refl refl refl refl refl (put_there network n new a n key ne) (far a key ne))
@@ -174,10 +174,10 @@ views_of network rule = record { view = rule.view; alike = rule.alike; scenario 
 pub rule_from : (network : EdgeNetwork) → Views network → Ends network → Rule network
 rule_from network views ends = record { view = views.view; alike = views.alike; ends = ends; scenario = views.scenario }
 
-pub behind_kept : (network : EdgeNetwork) (n : NodeId) (new : Control) → Views network → Follow network n new
-    → ((a : NodeId) (key : Key) → a ≢ n → FarView network n new a key) → Views (behind network n new)
-behind_kept network n new views follow far = record {
-  view = behind_views network n new views.scenario follow (λ b key ne. views.view n b key ne) far (λ a b key ne e f. views.view a b key ne);
+pub after_kept : (network : EdgeNetwork) (n : NodeId) (new : Control) → Views network → Follow network n new
+    → ((a : NodeId) (key : Key) → a ≢ n → FarView network n new a key) → Views (thereafter network n new)
+after_kept network n new views follow far = record {
+  view = after_views network n new views.scenario follow (λ b key ne. views.view n b key ne) far (λ a b key ne e f. views.view a b key ne);
   alike = views.alike;
   scenario = views.scenario;
 }
@@ -187,8 +187,8 @@ pub still_up : (new old joined : Bool) → (new ≡ false → (old ≡ false) �
 still_up true old joined down up on = refl
 still_up false old joined down up on = elim (down refl) [ inl e ↦ absurd cc | inr e ↦ absurd cc ]
 
-pub behind_ends : (network : EdgeNetwork) (n : NodeId) (new : Control) → Follow network n new → Ends network → Ends (behind network n new)
-behind_ends network n new follow ends a b ne joined = elim (node_cases a n) [
+pub after_ends : (network : EdgeNetwork) (n : NodeId) (new : Control) → Follow network n new → Ends network → Ends (thereafter network n new)
+after_ends network n new follow ends a b ne joined = elim (node_cases a n) [
   | inl e ↦
       (let apart : n ≢ b = λ i. ne (e ∙ i) in
       let on : (network.direction n b).joined ≡ true = ap (λ x. (network.direction x b).joined) (sym e) ∙ joined in
@@ -198,7 +198,7 @@ behind_ends network n new follow ends a b ne joined = elim (node_cases a n) [
 ]
 
 -- a step of an edge of a network that meets the rule
-pub behind_rule : (network : EdgeNetwork) (n : NodeId) (new : Control) → Rule network → Follow network n new
-    → ((a : NodeId) (key : Key) → a ≢ n → FarView network n new a key) → Rule (behind network n new)
-behind_rule network n new rule follow far =
-    rule_from (behind network n new) (behind_kept network n new (views_of network rule) follow far) (behind_ends network n new follow rule.ends)
+pub after_rule : (network : EdgeNetwork) (n : NodeId) (new : Control) → Rule network → Follow network n new
+    → ((a : NodeId) (key : Key) → a ≢ n → FarView network n new a key) → Rule (thereafter network n new)
+after_rule network n new rule follow far =
+    rule_from (thereafter network n new) (after_kept network n new (views_of network rule) follow far) (after_ends network n new follow rule.ends)

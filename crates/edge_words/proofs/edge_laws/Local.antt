@@ -158,15 +158,15 @@ unreach_view clock delay true false out picked taken rest h = (let e = (h.blank 
 unreach_view clock delay false near out picked taken rest h = (let e = h.quiet refl in absurd cc)
 
 -- what a change that is taken leaves at its key
-abbrev pub taken_behind : ℕ → Option Value → Option TakenRoute → Option TakenRoute
-taken_behind clock None old = None
-taken_behind clock (Some value) old = Some (learned clock value old)
+abbrev pub taken_after : ℕ → Option Value → Option TakenRoute → Option TakenRoute
+taken_after clock None old = None
+taken_after clock (Some value) old = Some (learned clock value old)
 
 -- the first change in transit is taken, at its key and at any other
 pub taken_view : (clock delay : ℕ) (joined near here : Bool) (out : Option Value) (picked : Option Selected) (taken : Option TakenRoute)
     (value : Option Value) (rest : List (Option Value))
     → View clock delay joined near true out picked taken (cond here (value ∷ rest) rest)
-    → View clock delay joined near true out picked (cond here (taken_behind clock value taken) taken) rest
+    → View clock delay joined near true out picked (cond here (taken_after clock value taken) taken) rest
 taken_view clock delay joined near false out picked taken value rest h = h
 taken_view clock delay joined near true out picked taken None rest h = unreach_view clock delay joined near out picked taken rest h
 taken_view clock delay joined near true out picked taken (Some value) rest h = reach_view clock delay joined near out picked taken value rest h

@@ -7,7 +7,7 @@ use Rattle.edge_defs.specs.Edge.{pattern_cmp, Selected, Control}
 use Rattle.mv_base.specs.core_walks.Core.{Core}
 use Rattle.edge_defs.specs.Steps as steps
 use Rattle.edge_defs.specs.Steps.{CustomerCall}
-use Rattle.edge_words.specs.edge_laws.Network.{EdgeNetwork, behind}
+use Rattle.edge_words.specs.edge_laws.Network.{EdgeNetwork, thereafter}
 use Rattle.edge_words.specs.edge_laws.Acts.{with_core, Act, Deliver, Label, LabelRaise, LabelNotice, Customer, Lose, Notice, Raise, Restart, Tick, Timers, Reroute, act, run, is_up, selects_again}
 use Rattle.edge_words.specs.edge_laws.Rule.{Rule}
 use Rattle.edge_words.proofs.edge_laws.Selections.{stays}
@@ -17,7 +17,7 @@ use Rattle.edge_words.proofs.edge_laws.Sessions.{lose_rule, notice_rule, raise_r
 
 -- a step that leaves the selections and the tables that were taken
 plain_rule : (network : EdgeNetwork) (n : NodeId) (new : Control) → new.peers ≡ (network.node n).peers → new.selections ≡ (network.node n).selections
-    → Rule network → Rule (behind network n new)
+    → Rule network → Rule (thereafter network n new)
 plain_rule network n new peers selections rule =
     still_rule network n new peers (λ pattern selected e. stays network.clock (maps.get (network.node n).selections pattern) selected
     (ap (λ (all : FinMap pattern_cmp Selected). maps.get all pattern) (sym selections) ∙ e)) rule

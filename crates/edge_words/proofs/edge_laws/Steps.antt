@@ -17,13 +17,13 @@ use Rattle.edge_defs.specs.Imported.{taken_from}
 use Rattle.edge_defs.specs.Keys.{key_cmp}
 use Rattle.edge_defs.specs.Steps as steps
 use Rattle.edge_defs.specs.Steps.{control_step, is_imported}
-use Rattle.edge_words.specs.edge_laws.Network.{EdgeNetwork, place_of, at_node, behind}
+use Rattle.edge_words.specs.edge_laws.Network.{EdgeNetwork, place_of, at_node, thereafter}
 use Rattle.edge_words.specs.edge_laws.Acts.{is_up, stepped, called}
 use Rattle.edge_words.specs.edge_laws.Rule.{ViewAt, Rule, selected_at}
 use Rattle.edge_words.proofs.edge_laws.Local.{along, far_up, far_down, far_run}
 use Rattle.edge_words.proofs.edge_laws.Selections.{AllFollow, stays, selects, unselects, runs}
 use Rattle.edge_words.proofs.edge_laws.Taken.{get-peers_run, table_in, run_taken, run_up, put_own, put_other, put_down, taken_off, kept_other}
-use Rattle.edge_words.proofs.edge_laws.Frames.{FarView, Views, node_here, node_there, still_up, behind_kept, behind_rule}
+use Rattle.edge_words.proofs.edge_laws.Frames.{FarView, Views, node_here, node_there, still_up, after_kept, after_rule}
 
 -- ---- steps that take nothing
 
@@ -35,9 +35,9 @@ far_same network n new a key e view =
 
 -- where the peers stay
 pub still_rule : (network : EdgeNetwork) (n : NodeId) (new : Control) → new.peers ≡ (network.node n).peers
-    → AllFollow network.clock (network.node n).selections new.selections → Rule network → Rule (behind network n new)
+    → AllFollow network.clock (network.node n).selections new.selections → Rule network → Rule (thereafter network n new)
 still_rule network n new same follow rule =
-    behind_rule network n new rule
+    after_rule network n new rule
     (record { selections = follow; ends = λ b ne e. inl (ap (λ (peers : FinMap node_cmp Taken). is_some (maps.get peers b)) (sym same) ∙ e) })
     (λ a key ne. far_same network n new a key (ap (λ (peers : FinMap node_cmp Taken). maps.get peers a) same) (rule.view a n key ne))
 
@@ -65,7 +65,7 @@ timers_rule network n rule =
     let old = network.node n in
     let up : (peer : NodeId) → _ =
     λ peer. ap is_some (get-peers_run place clock old.peers peer) ∙ run_up place clock peer (maps.get old.peers peer) in
-    behind_rule network n (control_step place clock old steps.Timers) rule
+    after_rule network n (control_step place clock old steps.Timers) rule
     (record { selections = runs clock network.scenario.delay clock old.selections; ends = λ b ne e. inl (sym (up b) ∙ e) })
     (λ a key ne.
     along refl refl (up a) refl refl (ap (λ (taken : Option Taken). maps.get (table_in taken) key) (get-peers_run place clock old.peers a)
@@ -83,7 +83,7 @@ pub raised_kept : (network : EdgeNetwork) (n peer : NodeId) → is_up (network.n
 raised_kept network n peer off views =
     let old = network.node n in
     let new : Control = control_step (place_of network n) network.clock old (steps.Raised kinds.Bgp peer) in
-    behind_kept network n new views
+    after_kept network n new views
     (record {
       selections = λ pattern. stays network.clock (maps.get old.selections pattern);
       ends =
@@ -123,7 +123,7 @@ pub noticed_rule : (network : EdgeNetwork) (n peer : NodeId) → (network.direct
 noticed_rule network n peer off back rule =
     let old = network.node n in
     let new : Control = control_step (place_of network n) network.clock old (steps.Noticed kinds.Bgp peer) in
-    behind_rule network n new rule
+    after_rule network n new rule
     (record {
       selections = λ pattern. stays network.clock (maps.get old.selections pattern);
       ends = λ b ne e. elim (node_cases b peer) [

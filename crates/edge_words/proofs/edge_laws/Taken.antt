@@ -19,7 +19,7 @@ use Rattle.edge_defs.specs.Place.{EdgePlace}
 use Rattle.edge_defs.specs.Steps.{learned, taken_change, is_imported, route_run, taken_run, peers_run}
 use Rattle.edge_defs.proofs.KeyLemmas.{key_total, key_exact}
 use Rattle.edge_words.specs.edge_laws.Acts.{message_of}
-use Rattle.edge_words.proofs.edge_laws.Local.{taken_behind, run_by}
+use Rattle.edge_words.proofs.edge_laws.Local.{taken_after, run_by}
 
 -- ---- a change is taken
 
@@ -32,7 +32,7 @@ at_own clock value taken own key false e = refl
 
 pub change_taken : (clock : ℕ) (taken : Taken) (change : Change Key Value) (key : Key)
     → maps.get (fold (taken_change clock) taken (changes_of (message_of change))) key
-    ≡ cond (eq_by_cmp key_cmp key (key_of change)) (taken_behind clock (value_of change) (maps.get taken key)) (maps.get taken key)
+    ≡ cond (eq_by_cmp key_cmp key (key_of change)) (taken_after clock (value_of change) (maps.get taken key)) (maps.get taken key)
 change_taken clock taken (Reach own value) key =
     get-insert key_total taken own (learned clock value (maps.get taken own)) key ∙ at_own clock value taken own key (eq_by_cmp key_cmp key own) refl
 change_taken clock taken (Unreach own) key = get-remove key_total taken own key

@@ -1,4 +1,4 @@
--- What an edge holds towards a peer behind a note, a selection, and the end of one.
+-- What an edge holds towards a peer after a note, a selection, and the end of one.
 use Rattle.std.proofs.Common.{◌≡◌, ◌≢◌, ◌&&◌, Bool, true, false, not, cond, inl, inr, Some, None, refl, sym, ap, subst, ◌∙◌, arith}
 use Rattle.std.specs.Ordering.{eq_by_cmp}
 use Rattle.std.specs.FinMap as maps

@@ -20,7 +20,7 @@ use Rattle.edge_words.proofs.calm_laws.Entries.{Entry, kind_of}
 use Rattle.edge_words.specs.held_laws.Held.{IsOriginated, Inclusive, Originates}
 use Rattle.edge_words.proofs.held_laws.Originated.{unicast_from, selective_from, active_from, is_no_join, held_is, is_what_is_held}
 
--- ---- joins stand behind all else
+-- ---- joins stand after all else
 
 in_routes : (place : EdgePlace) (control : Control) (own : OwnVrf) (entry : Entry) → Among entry (routes_of place control own)
     → IsOriginated place control own entry.0 entry.1
@@ -34,18 +34,18 @@ in_routes place control own entry (inr b) =
       ]
     ]
 
-find_behind : (key : Key) (xs ys : List Entry) → ((entry : Entry) → Among entry xs → key ≢ entry.0)
+find_after : (key : Key) (xs ys : List Entry) → ((entry : Entry) → Among entry xs → key ≢ entry.0)
     → find key_cmp key (xs ++ ys) ≡ find key_cmp key ys
-find_behind key [] ys none = refl
-find_behind key (x ∷ xs) ys none =
+find_after key [] ys none = refl
+find_after key (x ∷ xs) ys none =
     ap (λ (b : Bool). cond b (Some x.1) (find key_cmp key (xs ++ ys))) (other_key key_exact key x.0 (none x (inl refl)))
-    ∙ find_behind key xs ys (λ entry a. none entry (inr a))
+    ∙ find_after key xs ys (λ entry a. none entry (inr a))
 
 pub held_join : (place : EdgePlace) (control : Control) (peer : NodeId) (key : Key) → (kind_of key == 7) ≡ true
     → maps.get (held_for place control peer) key ≡ find key_cmp key (join_routes place control peer)
 held_join place control peer key is =
     maps.get-from_entries key_total (originated place control ++ join_routes place control peer) key
-    ∙ find_behind key (originated place control) (join_routes place control peer) (λ entry a same.
+    ∙ find_after key (originated place control) (join_routes place control peer) (λ entry a same.
     let by = flat_map_among (routes_of place control) entry (own_vrfs place) a in
     let not = is_no_join place control by.0 entry.0 entry.1 (in_routes place control by.0 entry by.2) in
     let bad : true ≡ false = sym is ∙ ap (λ (k : Key). kind_of k == 7) same ∙ not in cc)

@@ -18,7 +18,7 @@ use Rattle.edge_defs.specs.Originated.{selective_key, active_key, plain_value, u
 use Rattle.edge_defs.specs.Place.{EdgePlace, OwnVrf, tunnel_number}
 use Rattle.edge_defs.proofs.KeyLemmas.{note_total, note_exact, pattern_exact}
 use Rattle.label_defs.specs.Members.{in_order}
-use Rattle.edge_words.proofs.calm_laws.Lists.{among_front, among_behind, among_map, map_among, among_filter, filter_among}
+use Rattle.edge_words.proofs.calm_laws.Lists.{among_front, among_after, among_map, map_among, among_filter, filter_among}
 use Rattle.edge_words.proofs.calm_laws.Maps.{get_entry}
 use Rattle.edge_words.proofs.calm_laws.Vrfs.{one_rd}
 use Rattle.edge_words.proofs.calm_laws.Entries.{Entry, kind_of, OfInclusive, OfUnicast, OfSelective, OfActive, OfJoin, IsHeld, is_held, own_held, is_selective, join_kind}
@@ -79,7 +79,7 @@ among_routes place control own key value (Selective pattern selected at k v) =
       tunnel_value place own.vrf (tunnel_number own.vrf e.1.number),
     ))
     (record { vrf = own.id; pattern = pattern }, selected) _ passing in
-    inr (among_behind (key, value) (unicast_routes place own) (selective_routes place control own ++ active_routes place control own)
+    inr (among_after (key, value) (unicast_routes place own) (selective_routes place control own ++ active_routes place control own)
     (among_front (key, value) (selective_routes place control own) (active_routes place control own)
     (subst (λ (e : Entry). Among e (selective_routes place control own)) (λ i. (sym k i, sym v i)) made)))
 among_routes place control own key value (Active iface source group of noted k v) =
@@ -88,8 +88,8 @@ among_routes place control own key value (Active iface source group of noted k v
     let passing = among_filter test note (in_order control.notes) of (listed note_total note_exact control.notes note noted) in
     let made =
     among_map (λ (n : Note). (active_key own.vrf n.source n.group, plain_value place own.vrf)) note (notes_of place control own.id) passing in
-    inr (among_behind (key, value) (unicast_routes place own) (selective_routes place control own ++ active_routes place control own)
-    (among_behind (key, value) (selective_routes place control own) (active_routes place control own)
+    inr (among_after (key, value) (unicast_routes place own) (selective_routes place control own ++ active_routes place control own)
+    (among_after (key, value) (selective_routes place control own) (active_routes place control own)
     (subst (λ (e : Entry). Among e (active_routes place control own)) (λ i. (sym k i, sym v i)) made)))
 
 -- ---- one route of a key is originated

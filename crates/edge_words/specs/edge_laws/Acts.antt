@@ -16,7 +16,7 @@ use Rattle.edge_defs.specs.Messages.{as_update}
 use Rattle.mv_base.specs.core_walks.Core.{Core}
 use Rattle.edge_defs.specs.Steps as steps
 use Rattle.edge_defs.specs.Steps.{CustomerCall, control_step}
-use Rattle.edge_words.specs.edge_laws.Network.{EdgeNetwork, place_of, core_at, at_node, behind}
+use Rattle.edge_words.specs.edge_laws.Network.{EdgeNetwork, place_of, core_at, at_node, thereafter}
 
 -- ---- steps
 
@@ -26,7 +26,7 @@ is_up control peer = is_some (maps.get control.peers peer)
 
 -- a step of one edge
 abbrev pub stepped : EdgeNetwork → NodeId → steps.Call → EdgeNetwork
-stepped network n call = behind network n (control_step (place_of network n) network.clock (network.node n) call)
+stepped network n call = thereafter network n (control_step (place_of network n) network.clock (network.node n) call)
 
 -- the change, as the message that makes it
 abbrev pub message_of : Change Key Value → Message
@@ -112,7 +112,7 @@ pub data Act : Type 0 where
   Timers : (node : NodeId) → Act
   Reroute : (node : NodeId) → (core : Core) → Act
 
--- the network behind an act
+-- the network after an act
 abbrev pub act : EdgeNetwork → Act → EdgeNetwork
 act network (Deliver a b) = delivered network a b (a.0 == b.0) (is_up (network.node b) a) (network.direction a b).transit
 act network (Label n neighbour message) = stepped network n (steps.Label neighbour message)
@@ -128,7 +128,7 @@ act network (Tick ticks) = record network { clock = network.clock + ticks }
 act network (Timers n) = stepped network n steps.Timers
 act network (Reroute n core) = stepped (with_core n core network) n steps.Rerouted
 
--- the network behind a row of acts
+-- the network after a row of acts
 abbrev pub run : EdgeNetwork → List Act → EdgeNetwork
 run network [] = network
 run network (first ∷ more) = run (act network first) more

@@ -38,8 +38,8 @@ at_node at new node n = if n.0 == at.0 then new else node n
 
 -- The network once an edge has stepped: to each peer it puts what changes in the table that it told that peer. It is lost where the
 -- session is not joined.
-abbrev pub behind : EdgeNetwork → NodeId → Control → EdgeNetwork
-behind network n new =
+abbrev pub thereafter : EdgeNetwork → NodeId → Control → EdgeNetwork
+thereafter network n new =
     record network {
       node = at_node n new network.node;
       direction = λ from to. record (network.direction from to) {

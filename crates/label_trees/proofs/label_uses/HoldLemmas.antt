@@ -1,4 +1,4 @@
--- What is kept of held labels, behind a label that comes to be held, one that is held no longer, and a session.
+-- What is kept of held labels, after a label that comes to be held, one that is held no longer, and a session.
 use Rattle.std.proofs.Common.{inl, inr, ◌⊎◌, ◌≡◌, ℕ, Bool, true, false, cond, Option, Some, None, is_some, refl, sym, ap, ◌∙◌}
 use Rattle.std.proofs.lemmas.Bool.{cases_eq}
 use Rattle.std.proofs.lemmas.Option.{same_Some}

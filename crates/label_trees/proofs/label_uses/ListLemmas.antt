@@ -36,8 +36,8 @@ uses_set n (suc k) (x ∷ ss) f g s h =
     let head : use_by x (g n) ≡ use_by x (f n) = ap (use_by x) (h n (λ e. omega (arith, e))) in
     let next : suc n + k ≡ n + suc k = omega arith in
     let rest = uses_set (suc n) k ss f g s (λ l ne. h l (λ e. ne (e ∙ sym next))) in
-    let behind = rest ∙ ap (λ (m : ℕ). slice_set (uses_from (suc n) f ss) k (use_by s (g m))) next in
-    λ i. head i ∷ behind i
+    let thereafter = rest ∙ ap (λ (m : ℕ). slice_set (uses_from (suc n) f ss) k (use_by s (g m))) next in
+    λ i. head i ∷ thereafter i
 
 uses_get : (n k : ℕ) (ss : List LabelState) (f : ℕ → Option Held)
     → slice_get (uses_from n f ss) k ≡ option_map (λ s. use_by s (f (n + k))) (slice_get ss k)

@@ -119,18 +119,18 @@ toward_listed peer (e ∷ es) label own at to =
         → (t : Bool) → nat_eq label e.0 ≡ t → cond (nat_eq label e.0) (Some e.1) (lookup (nat_eq label) es) ≡ Some own → (u : Bool)
         → is_node e.1.upstream peer ≡ u
         → list_any (λ l. nat_eq l label) (cond (is_node e.1.upstream peer) (e.0 ∷ labels_toward peer es) (labels_toward peer es)) ≡ true
-    by behind true t at true u =
+    by thereafter true t at true u =
         ap (λ (b : Bool). list_any (λ l. nat_eq l label) (cond b (e.0 ∷ labels_toward peer es) (labels_toward peer es))) u
         ∙ ap (λ (b : Bool). b || list_any (λ l. nat_eq l label) (labels_toward peer es)) (same_number t)
-    by behind true t at false u =
+    by thereafter true t at false u =
         let is : Some e.1 ≡ Some own = sym (ap (λ (b : Bool). cond b (Some e.1) (lookup (nat_eq label) es)) t) ∙ at in
         let same = same_Some e.1 own is in
         absurd (let no : false ≡ true = sym u ∙ (ap (λ (x : Held). is_node x.upstream peer) same ∙ to) in cc)
-    by behind false t at true u = ap (λ (b : Bool). list_any (λ l. nat_eq l label) (cond b (e.0 ∷ labels_toward peer es) (labels_toward peer es))) u
-        ∙ (ap (λ (b : Bool). nat_eq e.0 label || b) (behind (sym (ap (λ (b : Bool). cond b (Some e.1) (lookup (nat_eq label) es)) t) ∙ at))
+    by thereafter false t at true u = ap (λ (b : Bool). list_any (λ l. nat_eq l label) (cond b (e.0 ∷ labels_toward peer es) (labels_toward peer es))) u
+        ∙ (ap (λ (b : Bool). nat_eq e.0 label || b) (thereafter (sym (ap (λ (b : Bool). cond b (Some e.1) (lookup (nat_eq label) es)) t) ∙ at))
         ∙ or_true (nat_eq e.0 label))
-    by behind false t at false u = ap (λ (b : Bool). list_any (λ l. nat_eq l label) (cond b (e.0 ∷ labels_toward peer es) (labels_toward peer es))) u
-        ∙ behind (sym (ap (λ (b : Bool). cond b (Some e.1) (lookup (nat_eq label) es)) t) ∙ at)
+    by thereafter false t at false u = ap (λ (b : Bool). list_any (λ l. nat_eq l label) (cond b (e.0 ∷ labels_toward peer es) (labels_toward peer es))) u
+        ∙ thereafter (sym (ap (λ (b : Bool). cond b (Some e.1) (lookup (nat_eq label) es)) t) ∙ at)
 
 module _ (space : Space) (h : HeldMap) (k : BindingName → Option AnyBinding) (s : NodeId → Option Incarnation) (g : Fec → Option ℕ)
     (w : Fec → Option Waiting) (holds : HoldsOwned (state_of space) (get nat_eq h) k s g w) (peer : NodeId) where
@@ -168,7 +168,7 @@ module _ (space : Space) (h : HeldMap) (k : BindingName → Option AnyBinding) (
       by p false e =
           ap (λ (b : Bool). cond b (option_map (freed peer) (slice_get labels p)) (slice_get labels p)) e ∙ stays p (get nat_eq h (16 + p)) refl e
 
--- no use is towards the neighbour behind the loss
+-- no use is towards the neighbour after the loss
 pub freed_away : (peer : NodeId) (u : LabelUse) (own : Held) → freed peer u ≡ use_held own → is_node own.upstream peer ≡ true → ⊥
 freed_away peer u own e to =
     let gone : use_held own ≡ uses.Free = sym e ∙ (sym (freed_twice peer u) ∙ (ap (freed peer) e ∙ freed_own peer own true to)) in
@@ -184,7 +184,7 @@ use_in-map f labels label = elim (cases_lt label 16) [
   | inr ge ↦ use_high (map f labels) label ge ∙ (slice_get-map f labels (label - 16) ∙ sym (ap (option_map f) (use_high labels label ge)))
 ]
 
--- no label is held towards the neighbour behind the loss
+-- no label is held towards the neighbour after the loss
 pub none_toward : (space : Space) (h : HeldMap) (k : BindingName → Option AnyBinding) (s : NodeId → Option Incarnation) (g : Fec → Option ℕ)
     (w : Fec → Option Waiting) → HoldsOwned (state_of space) (get nat_eq h) k s g w
     → (peer : NodeId) (old : List LabelUse) → uses_from 16 (get nat_eq h) space.states ≡ map (freed peer) old → (label : ℕ) (own : Held)

@@ -50,13 +50,13 @@ binding_of label own session =
     bindings.Leaving (record { fec = own.fec; upstream = own.upstream; state = record { label = label; session = session } })
     else bindings.Mapped (record { fec = own.fec; upstream = own.upstream; state = record { label = label; session = session } })
 
--- the binding behind its withdraw
+-- the binding after its withdraw
 abbrev pub left : AnyBinding → AnyBinding
 left (bindings.Mapped b) =
     bindings.Leaving (record { fec = b.fec; upstream = b.upstream; state = record { label = b.state.label; session = b.state.session } })
 left other = other
 
--- the label numbers behind a release of what carries the label
+-- the label numbers after a release of what carries the label
 abbrev pub rested : Space → ℕ → AnyBinding → Space
 rested space now (bindings.Leaving binding) = set_label space binding.state.label (states.Resting (now + space.life + 1))
 rested space now other = with_free space (label_of other)

@@ -71,7 +71,7 @@ abbrev pub with_mapped : Uses → Option ℕ → Fec → NodeId → Uses
 with_mapped old label fec upstream =
     record old { labels = with_mapping old.labels label fec upstream; waiting = maps.remove old.waiting fec }
 
--- the labels behind a release by the neighbour of the label for the tree
+-- the labels after a release by the neighbour of the label for the tree
 abbrev pub with_released : List LabelUse → NodeId → Fec → ℕ → ℕ → List LabelUse
 with_released labels from fec label until = elim (use_in labels label) [
   | None ↦ labels
@@ -82,7 +82,7 @@ with_released labels from fec label until = elim (use_in labels label) [
 abbrev pub is_toward : NodeId → Option LabelUse → Bool
 is_toward peer usage = elim (upstream_of usage) [ None ↦ false | Some upstream ↦ upstream.0 == peer.0 ]
 
--- the labels and sessions behind the loss of the session with the neighbour
+-- the labels and sessions after the loss of the session with the neighbour
 abbrev pub without : NodeId → Uses → Uses
 without peer old = record old { labels = map (freed peer) old.labels; sessions = maps.remove old.sessions peer }
 

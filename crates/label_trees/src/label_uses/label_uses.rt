@@ -58,7 +58,7 @@ impl Model for LabelUses {
         (get is_fec u.waiting) };
 }
 
-/// The binding behind its withdraw.
+/// The binding after its withdraw.
 fn left(binding: AnyBinding) -> AnyBinding
     ensures { result ≡ left binding }
 {

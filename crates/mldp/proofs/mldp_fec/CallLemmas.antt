@@ -22,9 +22,9 @@ use Rattle.mldp.specs.mldp_fec.FirstFault as faults
 use Rattle.mldp.specs.mldp_fec.FirstFault.{Is, Lacks, KindFault, RootFault, OpaqueFault, FirstFault}
 use Rattle.mldp.proofs.mldp_fec.FecLemmas.{fec_taken, fec_again, fec_fails, fails_fec}
 
--- ---- octets behind the first 86 change nothing
+-- ---- octets after the first 86 change nothing
 
--- more octets behind those that are left
+-- more octets after those that are left
 abbrev longer : Cursor → List ℕ → Cursor
 longer c more = record { left = c.left ++ more; place = c.place }
 
@@ -135,7 +135,7 @@ opaque_within c f (faults.misshapen value d e offset p le q m is) =
       length-append (flat_map tlv m.elements) m.rest,
     ))
 
--- A fault stands within the octets or right behind them.
+-- A fault stands within the octets or right after them.
 fault_within : (c : Cursor) (f : FecFault) → FirstFault c f → f.place ≤ c.place + length c.left
 fault_within c f (faults.in_kind (faults.short h)) = is_at f c.place _ reasons.Short h.1 (omega arith)
 fault_within c f (faults.in_kind (faults.wrong octet d p other is)) = is_at f c.place _ reasons.Kind is (omega arith)
@@ -191,7 +191,7 @@ one v w a b x y p q same =
     let value : v ≡ w = ap (λ (z : Fec × Cursor). z.0) both in
     (value, p.octets ∙ ap written value ∙ sym q.octets)
 
--- A fault that was answered stands within the octets or right behind them.
+-- A fault that was answered stands within the octets or right after them.
 pub read_within : (r : Result (Fec × ℕ) FecFault) (bytes : List ℕ) → IsOctets bytes → IsRead r (fec_at (start bytes))
     → IfErr r (λ f. f.place ≤ length bytes)
 read_within (Ok x) bytes fits h = tt

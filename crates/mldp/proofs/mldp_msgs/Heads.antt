@@ -1,13 +1,13 @@
--- What begins with two numbers of two octets, of which the second counts the octets behind them.
+-- What begins with two numbers of two octets, of which the second counts the octets after them.
 use Rattle.std.proofs.Common.{◌≡◌, ℕ, ◌+◌, ◌-◌, ◌^◌, ◌<◌, ◌≤◌, List, ◌++◌, length, take, drop, refl, sym, ap, subst, ◌∙◌, append_assoc, arith}
 use Rattle.std.specs.Int.{w16, to_be_bytes}
 use Rattle.std.proofs.lemmas.List.{length-append, length-drop, length-take-le, take-append-drop, take_at, drop_at, drop-drop}
 use Rattle.mv_base.specs.Octets.{IsOctets}
-use Rattle.mv_base.proofs.Fields.{wide16, octets_before, octets_behind}
+use Rattle.mv_base.proofs.Fields.{wide16, octets_before, octets_after}
 use Rattle.mv_base.proofs.framing.Headers.{headed, length_headed, drop_headed, is_headed}
 use Rattle.mldp.specs.mldp_msgs.Reading.{first, second}
 
--- the octets that the second number counts, and those behind them
+-- the octets that the second number counts, and those after them
 abbrev pub value_in : List ℕ → List ℕ
 value_in xs = take (second xs) (drop 4 xs)
 
@@ -18,7 +18,7 @@ pub first_below : (xs : List ℕ) → IsOctets xs → first xs < 2 ^ 16
 first_below xs fits = wide16.below (take 2 xs) (octets_before 2 xs fits)
 
 pub second_below : (xs : List ℕ) → IsOctets xs → second xs < 2 ^ 16
-second_below xs fits = wide16.below (take 2 (drop 2 xs)) (octets_before 2 (drop 2 xs) (octets_behind 2 xs fits))
+second_below xs fits = wide16.below (take 2 (drop 2 xs)) (octets_before 2 (drop 2 xs) (octets_after 2 xs fits))
 
 -- The first number stands at the front.
 pub first_stands : (xs : List ℕ) → IsOctets xs → 2 ≤ length xs → xs ≡ to_be_bytes w16 (first xs) ++ drop 2 xs
@@ -26,12 +26,12 @@ first_stands xs fits le =
     let back : to_be_bytes w16 (first xs) ≡ take 2 xs = wide16.back (take 2 xs) (length-take-le 2 xs le) (octets_before 2 xs fits) in
     sym (take-append-drop 2 xs) ∙ ap (λ (ys : List ℕ). ys ++ drop 2 xs) (sym back)
 
--- Behind it stands the second.
+-- After it stands the second.
 pub second_stands : (xs : List ℕ) → IsOctets xs → 4 ≤ length xs → drop 2 xs ≡ to_be_bytes w16 (second xs) ++ drop 4 xs
 second_stands xs fits le =
     let len : length (take 2 (drop 2 xs)) ≡ 2 = length-take-le 2 (drop 2 xs) (omega (arith, length-drop 2 xs, le)) in
     let back : to_be_bytes w16 (second xs) ≡ take 2 (drop 2 xs) =
-    wide16.back (take 2 (drop 2 xs)) len (octets_before 2 (drop 2 xs) (octets_behind 2 xs fits)) in
+    wide16.back (take 2 (drop 2 xs)) len (octets_before 2 (drop 2 xs) (octets_after 2 xs fits)) in
     sym (take-append-drop 2 (drop 2 xs)) ∙ ap (λ (ys : List ℕ). take 2 (drop 2 xs) ++ ys) (drop-drop 2 2 xs)
     ∙ ap (λ (ys : List ℕ). ys ++ drop 4 xs) (sym back)
 
@@ -59,7 +59,7 @@ whole_is xs fits room =
 pub inner_octets : (front value after xs : List ℕ) → IsOctets xs → xs ≡ front ++ (value ++ after) → IsOctets value
 inner_octets front value after xs fits parts =
     let all : drop (length front) xs ≡ value ++ after = ap (drop (length front)) parts ∙ drop_at front (value ++ after) (length front) refl in
-    let whole : IsOctets (value ++ after) = subst IsOctets all (octets_behind (length front) xs fits) in
+    let whole : IsOctets (value ++ after) = subst IsOctets all (octets_after (length front) xs fits) in
     subst IsOctets (take_at value after (length value) refl) (octets_before (length value) (value ++ after) whole)
 
 -- ---- n octets that are not read, and then a body
@@ -70,21 +70,21 @@ lead_in n xs = take n (drop 4 xs)
 abbrev pub body_in : ℕ → List ℕ → List ℕ
 body_in n xs = take (second xs - n) (drop (4 + n) xs)
 
-abbrev pub behind_body : ℕ → List ℕ → List ℕ
-behind_body n xs = drop (second xs - n) (drop (4 + n) xs)
+abbrev pub after_body : ℕ → List ℕ → List ℕ
+after_body n xs = drop (second xs - n) (drop (4 + n) xs)
 
 -- The second number counts both.
 pub record Led (n : ℕ) (xs : List ℕ) : Type 0 where
   pub lead_len : length (lead_in n xs) ≡ n
   pub counted : n + length (body_in n xs) ≡ second xs
-  pub parts : xs ≡ headed (first xs) (n + length (body_in n xs)) (lead_in n xs ++ (body_in n xs ++ behind_body n xs))
+  pub parts : xs ≡ headed (first xs) (n + length (body_in n xs)) (lead_in n xs ++ (body_in n xs ++ after_body n xs))
   pub front : take (4 + second xs) xs ≡ headed (first xs) (n + length (body_in n xs)) (lead_in n xs ++ body_in n xs)
 
 pub led_is : (n : ℕ) (xs : List ℕ) → IsOctets xs → n ≤ second xs → 4 + second xs ≤ length xs → Led n xs
 led_is n xs fits low room =
     let lead : List ℕ = lead_in n xs in
     let body : List ℕ = body_in n xs in
-    let after : List ℕ = behind_body n xs in
+    let after : List ℕ = after_body n xs in
     let lead_len : length lead ≡ n = length-take-le n (drop 4 xs) (omega (arith, length-drop 4 xs, room, low)) in
     let body_len : length body ≡ second xs - n =
     length-take-le (second xs - n) (drop (4 + n) xs) (omega (arith, length-drop (4 + n) xs, room, low)) in
@@ -107,9 +107,9 @@ pub body_of_led : (n a : ℕ) (lead body after : List ℕ) → length lead ≡ n
     → take (n + length body - n) (drop (4 + n) (headed a (n + length body) (lead ++ (body ++ after)))) ≡ body
 body_of_led n a lead body after lead_len =
     let count : n + length body - n ≡ length body = omega arith in
-    let behind : drop (4 + n) (headed a (n + length body) (lead ++ (body ++ after))) ≡ body ++ after =
+    let thereafter : drop (4 + n) (headed a (n + length body) (lead ++ (body ++ after))) ≡ body ++ after =
     drop_headed n a (n + length body) (lead ++ (body ++ after)) ∙ drop_at lead (body ++ after) n lead_len in
-    ap (take (n + length body - n)) behind ∙ take_at body after (n + length body - n) (sym count)
+    ap (take (n + length body - n)) thereafter ∙ take_at body after (n + length body - n) (sym count)
 
 -- How many octets they are.
 pub length_led : (n a : ℕ) (lead body after : List ℕ) → length lead ≡ n

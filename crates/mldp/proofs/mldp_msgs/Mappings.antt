@@ -1,4 +1,4 @@
--- Whether a label is mapped behind one more message.
+-- Whether a label is mapped after one more message.
 use Rattle.std.proofs.Common.{◌≡◌, ◌≢◌, ℕ, ◌⊎◌, inl, inr, ◌↔◌, Bool, IsTrue, List, [], ◌∷◌, ◌++◌, length, refl, sym, ap, subst, ◌∙◌, append_assoc, arith}
 use Rattle.std.specs.List.{Contains}
 use Rattle.std.proofs.lemmas.List.{length-append}
@@ -8,7 +8,7 @@ use Rattle.mldp.specs.declared.mldp_msgs.message.LabelMessage.{LabelMessage}
 use Rattle.mldp.specs.declared.mldp_msgs.message.LabelMessage.TheVariants as messages
 use Rattle.mldp.specs.mldp_msgs.Labels.{IsMapped, MappedBy}
 
--- Of a list with one more element, this one is the last of a part, or is behind it.
+-- Of a list with one more element, this one is the last of a part, or is after it.
 last_or : {A : Type 0} (xs : List A) (x : A) (ys : List A) (y : A) (zs : List A) → xs ++ x ∷ [] ≡ ys ++ y ∷ zs
     → (x ≡ y) ⊎ ((ws : List A) × (zs ≡ ws ++ x ∷ []) × (xs ≡ ys ++ y ∷ ws))
 last_or [] x [] y zs e = inl cc
@@ -19,7 +19,7 @@ last_or (u ∷ us) x (v ∷ vs) y zs e =
     let tail : us ++ x ∷ [] ≡ vs ++ y ∷ zs = cc in
     elim (last_or us x vs y zs tail) [
       | inl same ↦ inl same
-      | inr behind ↦ inr (behind.0, behind.1, ap (λ (l : List _). u ∷ l) behind.2 ∙ ap (λ w. w ∷ (vs ++ y ∷ behind.0)) head)
+      | inr thereafter ↦ inr (thereafter.0, thereafter.1, ap (λ (l : List _). u ∷ l) thereafter.2 ∙ ap (λ w. w ∷ (vs ++ y ∷ thereafter.0)) head)
     ]
 
 -- None is mapped by no message.
@@ -32,12 +32,12 @@ was : (ms : List LabelMessage) (m : LabelMessage) (f : Fec) (l : ℕ) → IsMapp
 was ms m f l h =
     elim (last_or ms m h.before (messages.Mapping f l) h.after h.parts) [
       | inl same ↦ inl same
-      | inr behind ↦ inr (record {
+      | inr thereafter ↦ inr (record {
         before = h.before;
-        after = behind.0;
-        parts = behind.2;
-        kept = λ has. h.kept (subst (λ (ns : List LabelMessage). Contains ns (messages.Withdraw f l)) (sym behind.1)
-            (Contains-append_left behind.0 (m ∷ []) (messages.Withdraw f l) has));
+        after = thereafter.0;
+        parts = thereafter.2;
+        kept = λ has. h.kept (subst (λ (ns : List LabelMessage). Contains ns (messages.Withdraw f l)) (sym thereafter.1)
+            (Contains-append_left thereafter.0 (m ∷ []) (messages.Withdraw f l) has));
       })
     ]
 
@@ -46,13 +46,13 @@ not_withdrawn : (ms : List LabelMessage) (m : LabelMessage) (f : Fec) (l : ℕ) 
 not_withdrawn ms m f l h is =
     elim (last_or ms m h.before (messages.Mapping f l) h.after h.parts) [
       | inl same ↦ let clash : messages.Withdraw f l ≡ messages.Mapping f l = sym is ∙ same in absurd cc
-      | inr behind ↦
-          let has : Contains (behind.0 ++ m ∷ []) m = Contains-push behind.0 m in
-          let there : Contains h.after m = subst (λ (ns : List LabelMessage). Contains ns m) (sym behind.1) has in
+      | inr thereafter ↦
+          let has : Contains (thereafter.0 ++ m ∷ []) m = Contains-push thereafter.0 m in
+          let there : Contains h.after m = subst (λ (ns : List LabelMessage). Contains ns m) (sym thereafter.1) has in
           h.kept (subst (Contains h.after) is there)
     ]
 
--- What was mapped stays so behind each message but its withdrawal.
+-- What was mapped stays so after each message but its withdrawal.
 stays : (ms : List LabelMessage) (m : LabelMessage) (f : Fec) (l : ℕ) → IsMapped ms f l → m ≢ messages.Withdraw f l → IsMapped (ms ++ m ∷ []) f l
 stays ms m f l h other = record {
   before = h.before;
@@ -102,7 +102,7 @@ by_other ms m f l before after no_mapping no_withdraw same h = (
   λ is. subst IsTrue (sym same) (elim (was ms m f l is) [ inl e ↦ absurd (no_mapping e) | inr before_it ↦ h.1 before_it ]),
 )
 
--- It is mapped behind one more message where the message says so.
+-- It is mapped after one more message where the message says so.
 pub mapped_more : (ms : List LabelMessage) (m : LabelMessage) (f : Fec) (l : ℕ) (before after : Bool) → MappedBy m f l before after
     → (IsTrue before ↔ IsMapped ms f l) → IsTrue after ↔ IsMapped (ms ++ m ∷ []) f l
 mapped_more ms (messages.Mapping g k) f l before after step h = by_mapping ms g f k l before after step h

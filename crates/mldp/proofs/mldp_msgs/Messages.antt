@@ -3,7 +3,7 @@ use Rattle.std.proofs.Common.{◌≡◌, ℕ, ◌+◌, ◌-◌, ◌^◌, ◌<◌
 use Rattle.std.proofs.lemmas.Bool.{ltb-false, ltb-true, le-ltb, lt-ltb}
 use Rattle.std.proofs.lemmas.List.{length-append, length-drop}
 use Rattle.mv_base.specs.Octets.{IsOctets}
-use Rattle.mv_base.proofs.Fields.{octets_before, octets_behind}
+use Rattle.mv_base.proofs.Fields.{octets_before, octets_after}
 use Rattle.mv_base.specs.framing.Cut.{Front}
 use Rattle.mv_base.specs.framing.Cut.Front.{more, whole, bad}
 use Rattle.mv_base.proofs.framing.Cuts.{IsFraming}
@@ -17,7 +17,7 @@ use Rattle.mldp.specs.mldp_msgs.FirstFault as faulty
 use Rattle.mldp.specs.mldp_msgs.FirstFault.{LabelStands, MessageFault}
 use Rattle.mldp.specs.mldp_msgs.Reading.{first, second, sized, body_of, message_by, message_at, seen, message_front}
 use Rattle.mldp.proofs.mldp_msgs.Fronts.{fault_is, meets, front_seen}
-use Rattle.mldp.proofs.mldp_msgs.Heads.{first_below, second_below, inner_octets, lead_in, body_in, behind_body, Led, led_is, body_of_led, length_led}
+use Rattle.mldp.proofs.mldp_msgs.Heads.{first_below, second_below, inner_octets, lead_in, body_in, after_body, Led, led_is, body_of_led, length_led}
 use Rattle.mldp.proofs.mldp_msgs.Bodies.{BodyFault, BodyMeans, body_is, body_again, fails_body}
 
 -- what the answer says of the octets
@@ -33,7 +33,7 @@ by_fault xs offset e fits s (is, why) =
     let label : LabelStands xs (body_in 4 xs) = record {
       kind = first xs;
       id = lead_in 4 xs;
-      after = behind_body 4 xs;
+      after = after_body 4 xs;
       is_label = is;
       id_len = s.lead_len;
       fits = omega (arith, s.counted, second_below xs fits);
@@ -77,7 +77,7 @@ message_is xs fits pos =
     meets P (ltb (length xs) (4 + second xs)) _ _ z e1
     (λ t. let lt : length xs < 4 + second xs = ltb-true _ _ t in wrong four (inr (omega (arith, length-drop 4 xs, lt, four)))) (λ f2 e2.
     let room : 4 + second xs ≤ length xs = ltb-false _ _ f2 in
-    let body_fits : IsOctets (body_in 4 xs) = octets_before (second xs - 4) (drop 8 xs) (octets_behind 8 xs fits) in
+    let body_fits : IsOctets (body_in 4 xs) = octets_before (second xs - 4) (drop 8 xs) (octets_after 8 xs fits) in
     subst P e2 (by_body xs fits room (led_is 4 xs fits low room) (body_of (first xs) (body_in 4 xs)) (body_is (first xs) (body_in 4 xs) body_fits)))))
 
 -- ---- what is spelled is read

@@ -4,11 +4,11 @@ use Rattle.std.specs.Prelude.{⊤}
 use Rattle.std.proofs.lemmas.Bool.{ltb-false, ltb-true, le-ltb, lt-ltb, eqb-true, eqb-false, ne_eqb, cases_lt}
 use Rattle.std.proofs.lemmas.List.{length-append, length-drop, append-nil, take-append-le, drop-append-le}
 use Rattle.mv_base.specs.Octets.{IsOctets}
-use Rattle.mv_base.proofs.Fields.{octets_before, octets_behind}
+use Rattle.mv_base.proofs.Fields.{octets_before, octets_after}
 use Rattle.mv_base.specs.framing.Units.{Begins, octets_of}
 use Rattle.mv_base.specs.framing.Cut.{Front, Cut, cut, with_front}
 use Rattle.mv_base.specs.framing.Cut.Front.{more, whole, bad}
-use Rattle.mv_base.proofs.framing.Cuts.{Found, found, Ends, begun, waits, stops, IsOctets-behind}
+use Rattle.mv_base.proofs.framing.Cuts.{Found, found, Ends, begun, waits, stops, IsOctets-after}
 use Rattle.mv_base.proofs.framing.Feedings.{IsFormat}
 use Rattle.mv_base.proofs.framing.Fronts.{not_waiting, skip, take_branch, same_tests}
 use Rattle.mv_base.proofs.framing.Headers.{headed, first_headed, second_headed, length_headed, is_headed, first_more, second_more}
@@ -20,7 +20,7 @@ use Rattle.mldp.specs.mldp_msgs.FirstFault as faulty
 use Rattle.mldp.specs.mldp_msgs.FirstFault.{MessageFault, PduFault}
 use Rattle.mldp.specs.mldp_msgs.Reading.{first, second, message_front, pdu_of, pdu_cut, pdu_by, pdu_front}
 use Rattle.mldp.proofs.mldp_msgs.Fronts.{fault_is, meets, no_pdu, not_true, not_false}
-use Rattle.mldp.proofs.mldp_msgs.Heads.{first_below, second_below, inner_octets, lead_in, body_in, behind_body, Led, led_is, body_of_led, length_led}
+use Rattle.mldp.proofs.mldp_msgs.Heads.{first_below, second_below, inner_octets, lead_in, body_in, after_body, Led, led_is, body_of_led, length_led}
 use Rattle.mldp.proofs.mldp_msgs.Messages.{FrontMeans, front_is, fails_front, messages_framed}
 
 -- ---- the messages of a body
@@ -69,7 +69,7 @@ body_is : (body : List ℕ) → IsOctets body → BodyMeans body (cut message_fr
 body_is body fits =
     let c : Cut LabelMessage LdpFault = cut message_front body in
     let f : Found message_front SpellsMessage 0 body c = found message_front SpellsMessage messages_framed 0 body fits in
-    body_ends body c.rest f.first c.messages c.fault (IsOctets-behind (octets_of f.begins.units) c.rest (subst IsOctets f.begins.parts fits)) f.begins
+    body_ends body c.rest f.first c.messages c.fault (IsOctets-after (octets_of f.begins.units) c.rest (subst IsOctets f.begins.parts fits)) f.begins
     f.ends
 
 -- a body whose message fails
@@ -80,7 +80,7 @@ body_fails body ms left offset e fits b h =
     let within : length left ≤ length body = omega (arith, ap (λ (xs : List ℕ). length xs) b.parts, length-append (octets_of b.units) left) in
     let there : ℕ = length body - length left in
     let at : there + length left ≡ 0 + length body = omega (arith, within) in
-    let left_fits : IsOctets left = IsOctets-behind (octets_of b.units) left (subst IsOctets b.parts fits) in
+    let left_fits : IsOctets left = IsOctets-after (octets_of b.units) left (subst IsOctets b.parts fits) in
     begun message_front SpellsMessage messages_framed 0 there body ms left b at
     ∙ ap (with_front ms) (stops message_front there offset e [] left messages_framed.empty (fails_front left offset e left_fits h))
     ∙ ap (λ (ns : List LabelMessage). record { messages = ns; rest = left; fault = Some (there + offset, e) }) (append-nil ms)
@@ -107,8 +107,8 @@ by_body xs one high room s ms None h = (
   },
 )
 by_body xs one high room s ms (Some f) (left, offset, begins, pos, fault, at) =
-    let parts = s.parts ∙ ap (λ (n : ℕ). headed n (6 + length (body_in 6 xs)) (lead_in 6 xs ++ (body_in 6 xs ++ behind_body 6 xs))) one in
-    faulty.in_message (lead_in 6 xs) (body_in 6 xs) (behind_body 6 xs) s.lead_len (omega (arith, s.counted, high)) parts left offset begins pos fault
+    let parts = s.parts ∙ ap (λ (n : ℕ). headed n (6 + length (body_in 6 xs)) (lead_in 6 xs ++ (body_in 6 xs ++ after_body 6 xs))) one in
+    faulty.in_message (lead_in 6 xs) (body_in 6 xs) (after_body 6 xs) s.lead_len (omega (arith, s.counted, high)) parts left offset begins pos fault
     (omega (arith, at))
 
 pdu_is : (xs : List ℕ) → IsOctets xs → PduMeans xs (pdu_front xs)
@@ -130,7 +130,7 @@ pdu_is xs fits =
     let high : second xs ≤ 4096 = ltb-false _ _ f3 in
     meets P (ltb (length xs) (4 + second xs)) _ _ z e3 (λ t. tt) (λ f4 e4.
     let room : 4 + second xs ≤ length xs = ltb-false _ _ f4 in
-    let body_fits : IsOctets (body_in 6 xs) = octets_before (second xs - 6) (drop 10 xs) (octets_behind 10 xs fits) in
+    let body_fits : IsOctets (body_in 6 xs) = octets_before (second xs - 6) (drop 10 xs) (octets_after 10 xs fits) in
     let c : Cut LabelMessage LdpFault = cut message_front (body_in 6 xs) in
     subst P e4 (by_body xs one high room (led_is 6 xs fits low room) c.messages c.fault (body_is (body_in 6 xs) body_fits)))))))
 

@@ -4,7 +4,7 @@ use Rattle.std.specs.Int.{w16, to_be_bytes}
 use Rattle.std.proofs.lemmas.Bool.{ltb-false, ltb-true, le-ltb, lt-ltb}
 use Rattle.std.proofs.lemmas.List.{length-append, length-drop, take_at}
 use Rattle.mv_base.specs.Octets.{IsOctets}
-use Rattle.mv_base.proofs.Fields.{wide16, octets_before, octets_behind}
+use Rattle.mv_base.proofs.Fields.{wide16, octets_before, octets_after}
 use Rattle.mv_base.proofs.framing.Fronts.{skip, take_branch}
 use Rattle.mv_base.proofs.framing.Headers.{headed, second_headed}
 use Rattle.mv_base.proofs.framing.PartsLemmas.{IsPartReader}
@@ -32,7 +32,7 @@ abbrev pub TlvStops : List Tlv → List ℕ → ℕ → Stop → Type 0
 TlvStops before octets offset stops.Unlike = (offset ≡ 0) × NoneTells fec_of before × UnlikeStands octets
 TlvStops before octets offset (stops.Fault e) = TlvFault before octets offset e
 
--- what the answer says of the octets, behind those TLVs
+-- what the answer says of the octets, after those TLVs
 abbrev TlvMeans : List Tlv → List ℕ → Result (Tlv × ℕ) (ℕ × Stop) → Type 0
 TlvMeans before octets (Ok x) = (0 < x.1) × (x.1 ≤ length octets) × SpellsTlv x.0 (take x.1 octets) × IsNew before x.0
 TlvMeans before octets (Err f) = TlvStops before octets f.0 f.1
@@ -123,7 +123,7 @@ by_kind before xs fits two (Some k) is =
     cut (inr (second xs, drop 4 xs, second_below xs fits, second_stands xs fits four, omega (arith, length-drop 4 xs, lt, four))))
     (λ f1 e1.
     let room : 4 + second xs ≤ length xs = ltb-false _ _ f1 in
-    let value_fits : IsOctets (value_in xs) = octets_before (second xs) (drop 4 xs) (octets_behind 4 xs fits) in
+    let value_fits : IsOctets (value_in xs) = octets_before (second xs) (drop 4 xs) (octets_after 4 xs fits) in
     subst P e1 (by_value before xs fits room (value_of (found_of before) k (value_in xs))
     (value_is before (bits_in (first xs)) (kind_in (first xs)) k (value_in xs) is value_fits))))
 

@@ -100,7 +100,7 @@ abbrev pub StopMeans : List Tlv → ℕ → List ℕ → ℕ → Stop → Type 0
 StopMeans before kind value offset stops.Unlike = (kind ≡ 0x0100) × NoneTells fec_of before × (offset ≡ 0) × IsUnlikeValue value
 StopMeans before kind value offset (stops.Fault e) = ValueFault before kind value offset e
 
--- what the answer says of the value, behind those TLVs
+-- what the answer says of the value, after those TLVs
 abbrev pub ValueMeans : List Tlv → ℕ → ℕ → List ℕ → Result Tlv (ℕ × Stop) → Type 0
 ValueMeans before bits kind value (Ok t) = Says bits kind value t × IsNew before t
 ValueMeans before bits kind value (Err f) = StopMeans before kind value f.0 f.1
@@ -161,17 +161,17 @@ element_is before bits kind value is new fits like = by_read (fec_at (start valu
         let all : value ≡ fec.written x.0 = p.0.parts ∙ ap (λ (xs : List ℕ). fec.written x.0 ++ xs) nothing ∙ append-nil (fec.written x.0) in
         record { root = p.1.root; fits = p.1.fits; shape = p.1.shape; octets = all }
 
-    behind : (x : Fec × Cursor) → fec_at (start value) ≡ Ok x → x.1.place ≢ length value → ValueFault before kind value 0 faults.TlvLength
-    behind x e at =
+    thereafter : (x : Fec × Cursor) → fec_at (start value) ≡ Ok x → x.1.place ≢ length value → ValueFault before kind value 0 faults.TlvLength
+    thereafter x e at =
         let p = fec_taken (start value) x fits e in
         let more : 0 < length x.1.left = omega (arith, at, passes_end (start value) (fec.written x.0) x.1 p.0) in
-        first.behind_fec is new x.0 (fec.written x.0) x.1.left p.1 p.0.parts more refl refl
+        first.after_fec is new x.0 (fec.written x.0) x.1.left p.1 p.0.parts more refl refl
 
     by_read : (r : Result (Fec × Cursor) FecFault) → fec_at (start value) ≡ r → ValueMeans before bits kind value (element_by (length value) r)
     by_read (Err f) e = first.in_fec is new like f (fec_fails (start value) f fits e) refl refl
     by_read (Ok x) e =
         meets (ValueMeans before bits kind value) (not (eqb x.1.place (length value))) _ _ (element_by (length value) (Ok x)) refl
-        (λ t. behind x e (eqb-false _ _ (not_true (eqb x.1.place (length value)) t)))
+        (λ t. thereafter x e (eqb-false _ _ (not_true (eqb x.1.place (length value)) t)))
         (λ f g. subst (ValueMeans before bits kind value) g ((is, whole x e (eqb-true _ _ (not_false (eqb x.1.place (length value)) f))), new))
 
 fec_is : (before : List Tlv) (bits kind : ℕ) (value : List ℕ) → kind ≡ 0x0100 → IsOctets value
@@ -291,10 +291,10 @@ element_fails : (value : List ℕ) (f : FecFault) → IsOctets value → fec_fau
 unfolding element_of
 element_fails value f fits h = ap (element_by (length value)) (fails_fec (start value) f fits h)
 
-element_behind : (value : List ℕ) (f : Fec) (text more : List ℕ) → fec.Spells f text → value ≡ text ++ more → 0 < length more
+element_after : (value : List ℕ) (f : Fec) (text more : List ℕ) → fec.Spells f text → value ≡ text ++ more → 0 < length more
     → element_of value ≡ answer 0 faults.TlvLength
 unfolding element_of
-element_behind value f text more s parts pos =
+element_after value f text more s parts pos =
     let d : Cursor = record { left = more; place = 0 + length text } in
     let read : fec_at (start value) ≡ Ok (f, d) = fec_again (start value) f text d s (record { parts = parts; place = refl }) in
     let other : eqb (0 + length text) (length value) ≡ false =
@@ -331,11 +331,11 @@ value_fails before bits kind value offset e fits (first.in_fec is new like f h a
   as_fec before value ∙ as_element before value new like ∙ element_fails value f fits h
       ∙ fault_is answer offset (4 + f.place) e (faults.Fec f.reason) at same,
 )
-value_fails before bits kind value offset e fits (first.behind_fec is new f text more s parts pos at same) = (
+value_fails before bits kind value offset e fits (first.after_fec is new f text more s parts pos at same) = (
   kinds.Fec,
   is,
   as_fec before value ∙ as_element before value new (spelled_like f text more value s parts)
-      ∙ element_behind value f text more s parts pos ∙ fault_is answer offset 0 e faults.TlvLength at same,
+      ∙ element_after value f text more s parts pos ∙ fault_is answer offset 0 e faults.TlvLength at same,
 )
 value_fails before bits kind value offset e fits (first.label_length is new len at same) =
     (kinds.Label, is, as_label before value ∙ label_long before value new len ∙ fault_is answer offset 0 e faults.TlvLength at same)

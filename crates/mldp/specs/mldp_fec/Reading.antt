@@ -63,7 +63,7 @@ abbrev pub shaped : {A : Type 0} → ℕ → Option ℕ → A → Result A FecFa
 shaped place None x = Ok x
 shaped place (Some offset) x = Err (fault (place + offset) OpaqueShape)
 
--- the opaque value, behind its length
+-- the opaque value, after its length
 unfoldable pub opaque_at : Cursor → Result (List ℕ × Cursor) FecFault
 opaque_at c = do
   len ← part (number_at w16 c)

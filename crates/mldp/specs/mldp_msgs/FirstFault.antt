@@ -30,20 +30,20 @@ IsCut after = (length after < 2)
 abbrev pub IsAgain : List Tlv → ℕ → Type 0
 IsAgain before kind = ((kind ≡ 0x0100) × (¬ NoneTells fec_of before)) ⊎ ((kind ≡ 0x0200) × (¬ NoneTells label_of before))
 
--- The value of the first FEC or label TLV fails, behind those before. The TLV's first octet stands at 0, the value's at 4.
+-- The value of the first FEC or label TLV fails, after those before. The TLV's first octet stands at 0, the value's at 4.
 pub data ValueFault (before : List Tlv) (kind : ℕ) (value : List ℕ) (offset : ℕ) (e : LdpFault) : Type 0 where
   again : IsAgain before kind → offset ≡ 0 → e ≡ faults.TlvLength → ValueFault before kind value offset e
   -- the element fails at its own place; none has no octet
   in_fec : kind ≡ 0x0100 → NoneTells fec_of before → (¬ IsUnlikeValue value) → (f : FecFault) →
       fec_faults.FirstFault (start value) f → offset ≡ 4 + f.place → e ≡ faults.Fec f.reason → ValueFault before kind value offset e
-  behind_fec : kind ≡ 0x0100 → NoneTells fec_of before → (f : Fec) (text more : List ℕ) → fec.Spells f text →
+  after_fec : kind ≡ 0x0100 → NoneTells fec_of before → (f : Fec) (text more : List ℕ) → fec.Spells f text →
       value ≡ text ++ more → 0 < length more → offset ≡ 0 → e ≡ faults.TlvLength → ValueFault before kind value offset e
   label_length : kind ≡ 0x0200 → NoneTells label_of before → length value ≢ 4 → offset ≡ 0 → e ≡ faults.TlvLength →
       ValueFault before kind value offset e
   label_low : kind ≡ 0x0200 → NoneTells label_of before → (high label : ℕ) → high < 2 ^ 12 → label < 16 →
       value ≡ to_be_bytes w32 (high * 2 ^ 20 + label) → offset ≡ 4 → e ≡ faults.Label → ValueFault before kind value offset e
 
--- the TLV at the front fails, behind those before
+-- the TLV at the front fails, after those before
 pub data TlvFault (before : List Tlv) (octets : List ℕ) (offset : ℕ) (e : LdpFault) : Type 0 where
   kind_cut : length octets ≡ 1 → offset ≡ 0 → e ≡ faults.TlvLength → TlvFault before octets offset e
   unknown : (bits kind : ℕ) (after : List ℕ) → IsType bits kind → IsUnknown bits kind → octets ≡ tlv_type bits kind ++ after →
@@ -56,7 +56,7 @@ pub data TlvFault (before : List Tlv) (octets : List ℕ) (offset : ℕ) (e : Ld
 
 -- ---- messages
 
--- a message of a label type stands whole at the front, with these octets behind its id
+-- a message of a label type stands whole at the front, with these octets after its id
 pub record LabelStands (octets body : List ℕ) : Type 0 where
   pub kind : ℕ
   pub id : List ℕ
@@ -80,7 +80,7 @@ pub data MessageFault (octets : List ℕ) (offset : ℕ) (e : LdpFault) : Type 0
 -- ---- PDUs
 
 -- The PDU at the front of a stream fails, and these messages stand in it before the fault: its header with its first four
--- octets, which come before any message; a message once the PDU is whole, behind those before it.
+-- octets, which come before any message; a message once the PDU is whole, after those before it.
 pub data PduFault (octets : List ℕ) (ms : List LabelMessage) (offset : ℕ) (e : LdpFault) : Type 0 where
   version : (number len : ℕ) (rest : List ℕ) → number < 2 ^ 16 → len < 2 ^ 16 →
       octets ≡ to_be_bytes w16 number ++ (to_be_bytes w16 len ++ rest)

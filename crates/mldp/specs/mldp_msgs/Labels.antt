@@ -18,7 +18,7 @@ pub record IsMapped (ms : List LabelMessage) (f : Fec) (l : ℕ) : Type 0 where
 abbrev pub HasLabel : List ℕ → Fec → ℕ → Type 0
 HasLabel octets f l = (ms : List LabelMessage) × Yields SpellsPdu PduFault octets ms × IsMapped ms f l
 
--- whether the label is mapped behind one more message, by whether it was before
+-- whether the label is mapped after one more message, by whether it was before
 abbrev pub MappedBy : LabelMessage → Fec → ℕ → Bool → Bool → Type 0
 MappedBy (messages.Mapping g k) f l before after = IsTrue after ↔ (IsTrue before ⊎ ((g ≡ f) × (k ≡ l)))
 MappedBy (messages.Withdraw g k) f l before after = IsTrue after ↔ (IsTrue before × (¬ ((g ≡ f) × (k ≡ l))))

@@ -52,7 +52,7 @@ abbrev pub latest : {A : Type 0} → (Tlv → Option A) → Option A → List Tl
 latest told o [] = o
 latest told o (t ∷ ts) = latest told (told_or (told t) o) ts
 
--- what is known behind one more TLV, and behind these
+-- what is known after one more TLV, and after these
 abbrev pub found_with : Found → Tlv → Found
 found_with found t = record { fec = told_or (fec_of t) found.fec; label = told_or (label_of t) found.label }
 
@@ -155,7 +155,7 @@ abbrev pub body_by : Option LabelType → ℕ → List ℕ → Result LabelMessa
 body_by None kind body = Ok (messages.Ignored kind)
 body_by (Some label_type) kind body = content_by label_type kind (found_in (parts_of next_tlv body))
 
--- what the octets behind the message id say
+-- what the octets after the message id say
 unfoldable pub body_of : ℕ → List ℕ → Result LabelMessage (ℕ × LdpFault)
 body_of kind body = body_by (label_type kind) kind body
 

@@ -78,7 +78,7 @@ label_of tlvs.Passed = None
 abbrev pub NoneTells : {A : Type 0} → (Tlv → Option A) → List Tlv → Type 0
 NoneTells told ts = AllByRecursion (λ t. told t ≡ None) ts
 
--- a FEC or label TLV is the first of its kind, behind these
+-- a FEC or label TLV is the first of its kind, after these
 abbrev pub IsNew : List Tlv → Tlv → Type 0
 IsNew before (tlvs.Fec f) = NoneTells fec_of before
 IsNew before (tlvs.Label l) = NoneTells label_of before
@@ -114,7 +114,7 @@ pub record IsUnlikeValue (value : List ℕ) : Type 0 where
   pub parts : value ≡ octet ∷ more
   pub other : (k : FecKind) → octet ≢ fec.kind_octet k
 
--- such a TLV stands at the front, and anything behind it
+-- such a TLV stands at the front, and anything after it
 pub record UnlikeStands (octets : List ℕ) : Type 0 where
   pub bits : ℕ
   pub value : List ℕ
@@ -124,7 +124,7 @@ pub record UnlikeStands (octets : List ℕ) : Type 0 where
   pub parts : octets ≡ tlv bits 0x0100 value ++ after
   pub unlike : IsUnlikeValue value
 
--- behind TLVs without a FEC stands such a TLV
+-- after TLVs without a FEC stands such a TLV
 pub record IsUnlike (body : List ℕ) : Type 0 where
   pub before : List Tlv
   pub rest : List ℕ
@@ -132,14 +132,14 @@ pub record IsUnlike (body : List ℕ) : Type 0 where
   pub no_fec : NoneTells fec_of before
   pub stands : UnlikeStands rest
 
--- what the octets behind the message id mean, in a message of that type
+-- what the octets after the message id mean, in a message of that type
 abbrev pub Means : LabelMessage → ℕ → List ℕ → Type 0
 Means (messages.Mapping f l) kind body = (kind ≡ 0x0400) × Carries f l body
 Means (messages.Withdraw f l) kind body = (kind ≡ 0x0402) × Carries f l body
 Means (messages.Release f l) kind body = (kind ≡ 0x0403) × Carries f l body
 Means (messages.Ignored own) kind body = (kind ≡ own) × ((¬ IsLabelType kind) ⊎ (IsLabelType kind × IsUnlike body))
 
--- one message: type, length, any message id, and what is behind it (RFC 5036 section 3.5)
+-- one message: type, length, any message id, and what is after it (RFC 5036 section 3.5)
 pub record SpellsMessage (ms : List LabelMessage) (text : List ℕ) : Type 0 where
   pub message : LabelMessage
   pub kind : ℕ

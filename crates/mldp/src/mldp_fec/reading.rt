@@ -127,7 +127,7 @@ fn read_front(bytes: &[u8]) -> Result<(Fec, usize), FecFault>
 pub fn decode(bytes: &[u8]) -> Result<(Fec, usize), FecFault>
     // It is what reading from left to right gives.
     ensures exact { IsRead result (fec_at (start bytes.now)) }
-    // A fault stands within the octets or right behind them.
+    // A fault stands within the octets or right after them.
     ensures within { IfErr result (λ fault. fault.place ≤ length bytes.now) }
     // What is read is spelled at the front.
     ensures spelled { IfOk result (λ x. Spells x.0 (take x.1 bytes.now) × (x.1 ≤ length bytes.now)) }

@@ -27,7 +27,7 @@ fn len_of_tlv(octets: &[u8]) -> Option<usize>
     Some(header + value)
 }
 
-/// The place of the first octet behind whole TLVs where none begins, if there is one.
+/// The place of the first octet after whole TLVs where none begins, if there is one.
 pub(crate) fn first_misshapen(octets: &[u8]) -> Option<usize>
     ensures value { result ≡ walk tlv_len 0 0 octets.now }
     ensures within { IfSome result (λ place. place < length octets.now) }

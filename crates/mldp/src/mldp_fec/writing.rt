@@ -51,7 +51,7 @@ pub fn encode(fec: &Fec, out: &mut [u8]) -> usize
     put(out, place, opaque)
 }
 
-/// What was written is read again, whatever octets stand behind it.
+/// What was written is read again, whatever octets stand after it.
 pub fn round_trip(fec: &Fec, out: &mut [u8]) -> Result<(Fec, usize), FecFault>
     requires spelled { Spells fec.now (written fec.now) }
     requires room { 86 ≤ length out.old }

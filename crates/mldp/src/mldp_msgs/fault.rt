@@ -11,7 +11,7 @@ pub enum LdpFault {
     /// A message length is below 4 octets, or passes the PDU: at the length. Or the PDU leaves only 1 to 3 octets for a
     /// message: at the first of them.
     MessageLength,
-    /// A TLV passes the message, a label TLV has another length than 4, octets stand behind the FEC element, or a second
+    /// A TLV passes the message, a label TLV has another length than 4, octets stand after the FEC element, or a second
     /// FEC or label TLV comes. It stands at the TLV's first octet.
     TlvLength,
     /// A TLV of an unknown type, whose U bit is clear. It stands at the TLV's first octet.

@@ -12,7 +12,7 @@ fn is_about(own: &Fec, number: u32, fec: &Fec, label: u32) -> bool
     own == fec && number == label
 }
 
-/// Whether the label is mapped to the FEC behind this message, given whether it was before.
+/// Whether the label is mapped to the FEC after this message, given whether it was before.
 fn mapped_by(message: &LabelMessage, fec: &Fec, label: u32, before: bool) -> bool
     ensures { MappedBy message.now fec.now label before result }
 {
@@ -24,7 +24,7 @@ fn mapped_by(message: &LabelMessage, fec: &Fec, label: u32, before: bool) -> boo
     }
 }
 
-/// Whether the label is mapped to the FEC behind these messages.
+/// Whether the label is mapped to the FEC after these messages.
 pub fn is_mapped(messages: &[LabelMessage], fec: &Fec, label: u32) -> bool
     ensures { IsTrue result ↔ IsMapped messages.now fec.now label }
 {

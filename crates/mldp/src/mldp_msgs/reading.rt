@@ -50,7 +50,7 @@ fn labelled(kind: LabelType, found: Found) -> Result<LabelMessage, (usize, LdpFa
     }
 }
 
-/// What the octets behind the message id say. Places count from the message's first octet.
+/// What the octets after the message id say. Places count from the message's first octet.
 #[tactic(auto, unfolding(crate::specs::mldp_msgs::Reading::body_of))]
 fn read_body(kind: u16, body: &[u8]) -> Result<LabelMessage, (usize, LdpFault)>
     ensures value { result ≡ body_of kind body.now }
@@ -86,7 +86,7 @@ fn read_message(octets: &[u8]) -> Result<(LabelMessage, usize), (usize, LdpFault
     Ok((message, 4 + len))
 }
 
-/// Cuts the octets of a PDU behind its header into messages.
+/// Cuts the octets of a PDU after its header into messages.
 pub(crate) fn cut_messages(
     alloc: Global,
     octets: &[u8],

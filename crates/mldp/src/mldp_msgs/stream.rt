@@ -41,7 +41,7 @@ impl Stream {
 
     /// Takes the next piece of the stream. The messages of each PDU that is whole wait then, and of one in which a message
     /// has a fault those before it. A fault of a PDU's version or length is answered with its first four octets, another
-    /// once the PDU is whole. Behind a fault each call answers `Failed`, and adds no message.
+    /// once the PDU is whole. After a fault each call answers `Failed`, and adds no message.
     pub fn feed(&mut self, bytes: &[u8]) -> Result<(), FeedFault>
         // It is what cutting from left to right gives.
         ensures exact { FeedIs pdu_front self.old bytes.now result self.new }

@@ -76,7 +76,7 @@ fn tlvs_of(alloc: Global, fec: &Fec, label: u32) -> Result<Bytes, NoMemory>
     Ok(out)
 }
 
-/// A message of that type and id, with these octets behind the id.
+/// A message of that type and id, with these octets after the id.
 fn message_of(alloc: Global, kind: u16, id: u32, body: &[u8]) -> Result<Bytes, NoMemory>
     requires { 4 + length body.now < 2 ^ 16 }
     ensures { IfOk result (λ octets. octets ≡

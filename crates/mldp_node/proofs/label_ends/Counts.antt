@@ -36,9 +36,9 @@ module _ {X : Type 0} (p : X → Bool) where
         | Less ↦ λ r n. count-cons v (e.1 ∷ values_of es)
         | Equal ↦ λ r n. absurd (not_some e.1 n)
         | Greater ↦ λ r n.
-            let behind = count-put k v es n in
+            let thereafter = count-put k v es n in
             count-cons e.1 (values_of (put node_cmp k v es))
-            ∙ (ap (λ (n : ℕ). cond (p e.1) 1 0 + n) behind
+            ∙ (ap (λ (n : ℕ). cond (p e.1) 1 0 + n) thereafter
             ∙ (swapped (cond (p e.1) 1 0) (cond (p v) 1 0) (count_by p (values_of es))
             ∙ ap (λ (n : ℕ). cond (p v) 1 0 + n) (sym (count-cons e.1 (values_of es)))))
       ] refl none

@@ -28,14 +28,14 @@ pub(crate) fn one_more(count: u64) -> u64
     if count == u64::MAX { count } else { count + 1 }
 }
 
-/// The id behind that of a message.
+/// The id after that of a message.
 fn next_id(id: u32) -> u32
     ensures { result ≡ next_id id }
 {
     if id == u32::MAX { 1 } else { id + 1 }
 }
 
-/// The end behind one message more.
+/// The end after one message more.
 pub(crate) fn told(end: End) -> End
     ensures { result ≡ told end }
 {

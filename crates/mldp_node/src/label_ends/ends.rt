@@ -87,7 +87,7 @@ impl Ends {
         let _ = take(&mut self.waiting, self.alloc, peer);
     }
 
-    /// Tells the message, where its end is up: with its next id, in a PDU of its own behind what waits.
+    /// Tells the message, where its end is up: with its next id, in a PDU of its own after what waits.
     pub fn tell(&mut self, addr: Addr, put: &Put) -> Result<(), NoMemory>
         requires writable { IsWritable put.now.message }
         requires router { IsRouter addr }

@@ -160,8 +160,8 @@ closes links nodes pos = by_growth (grows_or_closes links nodes pos nodes)
 along : (nodes : ℕ) (links : List Link) (round : ℕ) → IsTopology nodes links → IsClosed links nodes round → (steps : List ℕ) (from to cost : ℕ)
     → reached_within links round from ≡ true → IsWalk links from steps to cost → reached_within links round to ≡ true
 along nodes links round t closed [] from to cost h walk = subst (λ (k : ℕ). reached_within links round k ≡ true) walk.0 h
-along nodes links round t closed (next ∷ behind) from to cost h walk =
-    along nodes links round t closed behind next to walk.1
+along nodes links round t closed (next ∷ thereafter) from to cost h walk =
+    along nodes links round t closed thereafter next to walk.1
     (closed next (good nodes links from next walk.0 t walk.2).b_within (further_within links round from next walk.0 walk.2 h)) walk.3
 
 pub within_nodes : (nodes : ℕ) (links : List Link) (node : ℕ) → IsTopology nodes links → node < nodes → Reaches links 0 node
@@ -304,7 +304,7 @@ all_taken marks passes (suc number) fits same =
     ∙ (ap (λ (x : Bool). x && get_or marks number false) (all_taken marks passes number (omega arith) (λ k within. same k (omega arith)))
     ∙ ap (λ (x : Bool). all_below passes number && x) (same number (omega arith))))
 
--- The test of all marks behind the last round.
+-- The test of all marks after the last round.
 pub all_marks : (nodes round : ℕ) (links : List Link) (marks : List Bool) (result : Bool) → IsTopology nodes links → round ≡ nodes
     → AreMarks links round marks → result ≡ list_all (λ (mark : Bool). mark) (take nodes marks) → result ≡ is_connected nodes links
 all_marks nodes round links marks result t last h told =

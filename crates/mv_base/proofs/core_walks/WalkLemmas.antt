@@ -13,7 +13,7 @@ turned a b c d p q (inr h) = inl h
 pub linked_back : (links : List Link) (a b cost : ℕ) → IsLinked links a b cost → IsLinked links b a cost
 linked_back links a b cost h = record { link = h.link; listed = h.listed; ends = turned a b 0 0 _ _ h.ends; priced = h.priced }
 
--- the walk behind the first link
+-- the walk after the first link
 pub further : (links : List Link) (from next to first rest : ℕ) (steps : List ℕ) → IsLinked links from next first → IsWalk links next steps to rest
     → IsWalk links from (next ∷ steps) to (first + rest)
 further links from next to first rest steps linked walk = (first, rest, linked, walk, refl)
@@ -25,15 +25,15 @@ step_reaches links from next to first linked h =
 pub reaches_itself : (links : List Link) (node : ℕ) → Reaches links node node
 reaches_itself links node = record { steps = []; cost = 0; walk = (refl, refl) }
 
--- One walk behind another.
+-- One walk after another.
 both : (links : List Link) (steps : List ℕ) (from middle to cost : ℕ) → IsWalk links from steps middle cost → Reaches links middle to
     → Reaches links from to
-both links [] from middle to cost walk behind = subst (λ (k : ℕ). Reaches links k to) (sym walk.0) behind
-both links (next ∷ steps) from middle to cost walk behind =
-    step_reaches links from next to walk.0 walk.2 (both links steps next middle to walk.1 walk.3 behind)
+both links [] from middle to cost walk thereafter = subst (λ (k : ℕ). Reaches links k to) (sym walk.0) thereafter
+both links (next ∷ steps) from middle to cost walk thereafter =
+    step_reaches links from next to walk.0 walk.2 (both links steps next middle to walk.1 walk.3 thereafter)
 
 pub reaches_through : (links : List Link) (from middle to : ℕ) → Reaches links from middle → Reaches links middle to → Reaches links from to
-reaches_through links from middle to h behind = both links h.steps from middle to h.cost h.walk behind
+reaches_through links from middle to h thereafter = both links h.steps from middle to h.cost h.walk thereafter
 
 -- A walk the other way round.
 back : (links : List Link) (steps : List ℕ) (from to cost : ℕ) → IsWalk links from steps to cost → Reaches links to from

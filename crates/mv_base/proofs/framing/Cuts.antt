@@ -31,8 +31,8 @@ IsOctets-before a b h i =
       | inr le ↦ rw (get_or_past a i 0 le) (omega arith)
     ]
 
-pub IsOctets-behind : (a b : List ℕ) → IsOctets (a ++ b) → IsOctets b
-IsOctets-behind a b h = subst IsOctets (drop_at a b (length a) refl) (IsOctets-drop (length a) (a ++ b) h)
+pub IsOctets-after : (a b : List ℕ) → IsOctets (a ++ b) → IsOctets b
+IsOctets-after a b h = subst IsOctets (drop_at a b (length a) refl) (IsOctets-drop (length a) (a ++ b) h)
 
 -- ---- the walk, step by step
 
@@ -101,7 +101,7 @@ past_all front Spells framing place (u ∷ us) after h =
     ∙ ap (λ (p : ℕ). with_front u.messages (with_front (messages_of us) (cut_at front p 0 after))) len
     ∙ sym (with_both u.messages (messages_of us) (cut_at front (place + length (octets_of (u ∷ us))) 0 after))
 
--- what stands behind whole units is cut as if it came alone
+-- what stands after whole units is cut as if it came alone
 pub begun : {M E : Type 0} (front : List ℕ → Front M E) (Spells : List M → List ℕ → Type 0) (framing : IsFraming front Spells) (place there : ℕ)
     (stream : List ℕ) (ms : List M) (rest : List ℕ) → Begins Spells stream ms rest → there + length rest ≡ place + length stream
     → cut_at front place 0 stream ≡ with_front ms (cut_at front there 0 rest)
@@ -125,9 +125,9 @@ begun_more Spells stream ms rest ys b = record {
   carried = b.carried;
 }
 
-pub begun_behind : {M : Type 0} (Spells : List M → List ℕ → Type 0) (ms : List M) (text after : List ℕ) (ns : List M) (rest stream : List ℕ)
+pub begun_after : {M : Type 0} (Spells : List M → List ℕ → Type 0) (ms : List M) (text after : List ℕ) (ns : List M) (rest stream : List ℕ)
     → Spells ms text → stream ≡ text ++ after → Begins Spells after ns rest → Begins Spells stream (ms ++ ns) rest
-begun_behind Spells ms text after ns rest stream h parts b = record {
+begun_after Spells ms text after ns rest stream h parts b = record {
   units = record { messages = ms; octets = text } ∷ b.units;
   each = (h, b.each);
   parts = parts ∙ ap (λ (xs : List ℕ). text ++ xs) b.parts ∙ sym (append_assoc text (octets_of b.units) rest);
@@ -136,7 +136,7 @@ begun_behind Spells ms text after ns rest stream h parts b = record {
 
 -- ---- what a cut finds
 
--- what stands behind the whole units, whose messages are the first of all, in octets that end at this place
+-- what stands after the whole units, whose messages are the first of all, in octets that end at this place
 abbrev pub Ends : {M E : Type 0} → (List ℕ → Front M E) → ℕ → List ℕ → List M → List M → Option (ℕ × E) → Type 0
 Ends front end rest first all None = (front rest ≡ more) × (all ≡ first)
 Ends {M} front end rest first all (Some f) =
@@ -148,11 +148,11 @@ pub record Found {M E : Type 0} (front : List ℕ → Front M E) (Spells : List 
     pub begins : Begins Spells xs first c.rest
     pub ends : Ends front (place + length xs) c.rest first c.messages c.fault
 
--- the same behind a unit
-ends_behind : {M E : Type 0} (front : List ℕ → Front M E) (end : ℕ) (rest : List ℕ) (ms first all : List M) (o : Option (ℕ × E))
+-- the same after a unit
+ends_thereafter : {M E : Type 0} (front : List ℕ → Front M E) (end : ℕ) (rest : List ℕ) (ms first all : List M) (o : Option (ℕ × E))
     → Ends front end rest first all o → Ends front end rest (ms ++ first) (ms ++ all) o
-ends_behind front end rest ms first all None (stands, same) = (stands, ap (λ (xs : List _). ms ++ xs) same)
-ends_behind front end rest ms first all (Some f) (last, offset, stands, at, same) =
+ends_thereafter front end rest ms first all None (stands, same) = (stands, ap (λ (xs : List _). ms ++ xs) same)
+ends_thereafter front end rest ms first all (Some f) (last, offset, stands, at, same) =
     (last, offset, stands, at, ap (λ (xs : List _). ms ++ xs) same ∙ sym (append_assoc ms first last))
 
 found_at : {M E : Type 0} (front : List ℕ → Front M E) (Spells : List M → List ℕ → Type 0) (framing : IsFraming front Spells) (n place : ℕ)
@@ -174,8 +174,8 @@ found_at front Spells framing n place xs le fits others (whole k ms) e =
     let c : Cut _ _ = cut_at front (place + k) 0 (drop k xs) in
     subst (Found front Spells place xs) (sym (one_further front place k ms xs pos taken.0 e)) (record {
       first = ms ++ rest.first;
-      begins = begun_behind Spells ms (take k xs) (drop k xs) rest.first c.rest xs taken.1 (sym (take-append-drop k xs)) rest.begins;
-      ends = ends_behind front (place + length xs) c.rest ms rest.first c.messages c.fault
+      begins = begun_after Spells ms (take k xs) (drop k xs) rest.first c.rest xs taken.1 (sym (take-append-drop k xs)) rest.begins;
+      ends = ends_thereafter front (place + length xs) c.rest ms rest.first c.messages c.fault
           (subst (λ (m : ℕ). Ends front m c.rest rest.first c.messages c.fault) end rest.ends);
     })
 
@@ -198,7 +198,7 @@ none_whole front Spells framing rest e ms text after h same =
 
 -- ---- one cut and the next
 
--- what comes later is cut behind the whole units and what was held back
+-- what comes later is cut after the whole units and what was held back
 pub cut_on : {M E : Type 0} (front : List ℕ → Front M E) (Spells : List M → List ℕ → Type 0) (framing : IsFraming front Spells) (place there : ℕ)
     (xs ys : List ℕ) (c : Cut M E) → (f : Found front Spells place xs c) → there + length c.rest ≡ place + length xs
     → cut_at front place 0 (xs ++ ys) ≡ with_front f.first (cut_at front there 0 (c.rest ++ ys))
@@ -250,8 +250,8 @@ same_units {M} front Spells framing (u ∷ us) (v ∷ vs) a b h k none none' sam
     let y : List ℕ = octets_of vs ++ b in
     let both : u.octets ++ x ≡ v.octets ++ y = sym (append_assoc u.octets (octets_of us) a) ∙ same ∙ append_assoc v.octets (octets_of vs) b in
     let one = one_unit front Spells framing u.messages v.messages u.octets v.octets x y h.0 k.0 both in
-    let behind : x ≡ y = append_cancel_left u.octets x y (both ∙ ap (λ (text : List ℕ). text ++ y) (sym one.0)) in
-    let rest = same_units front Spells framing us vs a b h.1 k.1 none none' behind in
+    let thereafter : x ≡ y = append_cancel_left u.octets x y (both ∙ ap (λ (text : List ℕ). text ++ y) (sym one.0)) in
+    let rest = same_units front Spells framing us vs a b h.1 k.1 none none' thereafter in
     (ap (λ (ms : List M). ms ++ messages_of us) one.1 ∙ ap (λ (ms : List M). v.messages ++ ms) rest.0, rest.1)
 
 pub one_split : {M E : Type 0} (front : List ℕ → Front M E) (Spells : List M → List ℕ → Type 0) (framing : IsFraming front Spells) (stream : List ℕ)

@@ -13,7 +13,7 @@ use Rattle.mv_base.specs.framing.Feeding.{Appends, Accepts, accepted, Takes, Fee
 use Rattle.mv_base.specs.declared.framing.cutting.Cutting.{Cutting}
 use Rattle.mv_base.specs.declared.framing.fault.FeedFault.{FeedFault}
 use Rattle.mv_base.specs.declared.framing.fault.FeedFault.TheVariants as faults
-use Rattle.mv_base.proofs.framing.Cuts.{IsStream, IsFraming, cut_splits, cut_fails, begun, stops, waits, IsOctets-behind, one_split}
+use Rattle.mv_base.proofs.framing.Cuts.{IsStream, IsFraming, cut_splits, cut_fails, begun, stops, waits, IsOctets-after, one_split}
 use Rattle.mv_base.proofs.framing.Loops.{fed_found}
 use Rattle.std.specs.Result.{IfOk}
 use Rattle.std.specs.Option.{IsSome}
@@ -28,7 +28,7 @@ pub record IsFormat {M E : Type 0} (front : List ℕ → Front M E) (Spells : Li
 
 -- ---- a feed, by what stands at the fronts
 
--- the stream with the piece behind what was held back
+-- the stream with the piece after what was held back
 abbrev with_piece : {M E : Type 0} → Fed M E → List ℕ → Fed M E
 with_piece old piece = record old { held = old.held ++ piece }
 
@@ -106,7 +106,7 @@ no_fault {M} {E} front Spells Faulty limit format rest fits waits ms offset e fa
 
 rest_octets : {M : Type 0} (Spells : List M → List ℕ → Type 0) (stream : List ℕ) (ms : List M) (rest : List ℕ) → IsOctets stream
     → Begins Spells stream ms rest → IsOctets rest
-rest_octets Spells stream ms rest fits b = IsOctets-behind (octets_of b.units) rest (subst IsOctets b.parts fits)
+rest_octets Spells stream ms rest fits b = IsOctets-after (octets_of b.units) rest (subst IsOctets b.parts fits)
 
 adds : {M E : Type 0} (front : List ℕ → Front M E) (Spells : List M → List ℕ → Type 0) (Faulty : List ℕ → List M → ℕ → E → Type 0) (limit : ℕ)
     → IsFormat front Spells Faulty limit → (old : Fed M E) (piece : List ℕ) (new : Fed M E) → Takes front old piece new None

@@ -8,7 +8,7 @@ use Rattle.mv_base.specs.framing.Units.{octets_of}
 use Rattle.mv_base.specs.framing.Cut.{Front, Cut, with_front, cut_at, cut, shifted, shift}
 use Rattle.mv_base.specs.framing.Cut.Front.{more, whole, bad}
 use Rattle.mv_base.specs.framing.Feed.{Fed, further, moved, held_of, fed_by, fed_unless, fed, fed_all, unfed}
-use Rattle.mv_base.proofs.framing.Cuts.{IsStream, Found, Ends, found, cut_on, cut_stays, rest_le, IsOctets-before, IsOctets-behind}
+use Rattle.mv_base.proofs.framing.Cuts.{IsStream, Found, Ends, found, cut_on, cut_stays, rest_le, IsOctets-before, IsOctets-after}
 
 -- ---- a place further on
 
@@ -46,11 +46,11 @@ fault_shifted : {E : Type 0} (by before : ℕ) (fault : Option (ℕ × E)) → b
 fault_shifted by before None at = refl
 fault_shifted by before (Some f) at = let here : further before f.0 ≡ further 0 (by + f.0) = omega (arith, at) in ap (λ (p : ℕ). Some (p, f.1)) here
 
--- two cuts, one behind the other, over plain variables
-behind : {M E : Type 0} (len more_len there : ℕ) (c e : Cut M E) → c.fault ≡ None → there + length c.rest ≡ len
+-- two cuts, one after the other, over plain variables
+thereafter : {M E : Type 0} (len more_len there : ℕ) (c e : Cut M E) → c.fault ≡ None → there + length c.rest ≡ len
     → length e.rest ≤ length c.rest + more_len → fed_by (at_once len c) (length c.rest + more_len) e
     ≡ at_once (len + more_len) (with_front c.messages (shift there e))
-behind len more_len there c e none at le =
+thereafter len more_len there c e none at le =
     let w : ([] ++ c.messages) ++ e.messages ≡ [] ++ (c.messages ++ e.messages) = append_assoc [] c.messages e.messages in
     let front : further 0 (len - length c.rest) ≡ further 0 there = omega (arith, at) in
     let before : further (further 0 (len - length c.rest)) (length c.rest + more_len - length e.rest) ≡ further 0 (len + more_len - length e.rest) =
@@ -81,7 +81,7 @@ after front Spells kind stream piece fits c f rest_fits None none =
     ∙ elsewhere front there 0 0 (c.rest ++ piece)) in
     ap (λ (xs : List ℕ). fed_by (at_once (length stream) c) (length (xs ++ piece)) (cut front (xs ++ piece))) held
     ∙ ap (λ (n : ℕ). fed_by (at_once (length stream) c) n e) (length-append c.rest piece)
-    ∙ behind (length stream) (length piece) there c e none at' le
+    ∙ thereafter (length stream) (length piece) there c e none at' le
     ∙ ap (λ (n : ℕ). at_once n (with_front c.messages (shift there e))) (sym (length-append stream piece))
     ∙ ap (at_once (length (stream ++ piece))) (sym whole_cut)
 after front Spells kind stream piece fits c f rest_fits (Some x) some =
@@ -104,7 +104,7 @@ fed_is front Spells kind stream piece fits =
     let c : Cut _ _ = cut front stream in
     let all_rest : stream ++ piece ≡ octets_of f.begins.units ++ (c.rest ++ piece) =
     ap (λ (xs : List ℕ). xs ++ piece) f.begins.parts ∙ append_assoc (octets_of f.begins.units) c.rest piece in
-    let rest_fits : IsOctets (c.rest ++ piece) = IsOctets-behind (octets_of f.begins.units) (c.rest ++ piece) (subst IsOctets all_rest fits) in
+    let rest_fits : IsOctets (c.rest ++ piece) = IsOctets-after (octets_of f.begins.units) (c.rest ++ piece) (subst IsOctets all_rest fits) in
     after front Spells kind stream piece fits c f rest_fits c.fault refl
 
 -- however the octets are cut, the stream is the same

@@ -43,7 +43,7 @@ pub take_branch : {A : Type 0} (b : Bool) (x y : A) → b ≡ true → cond b x 
 take_branch true x y e = refl
 take_branch false x y e = absurd cc
 
--- The same tests give the same, where what stands behind them does.
+-- The same tests give the same, where what stands after them does.
 pub same_tests : {A : Type 0} (b : Bool) (x y y' z : A) → cond b x y ≡ z → (y ≡ z → y' ≡ z) → cond b x y' ≡ z
 same_tests true x y y' z e f = e
 same_tests false x y y' z e f = f e

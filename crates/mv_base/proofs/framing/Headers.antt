@@ -1,9 +1,9 @@
--- Two numbers of two octets, and what stands behind them.
+-- Two numbers of two octets, and what stands after them.
 use Rattle.std.proofs.Common.{◌≡◌, ℕ, ◌+◌, ◌^◌, ◌<◌, ◌≤◌, List, ◌++◌, length, take, drop, refl, sym, ap, ◌∙◌, arith}
 use Rattle.std.specs.Int.{w16, to_be_bytes, from_be_bytes}
 use Rattle.std.proofs.lemmas.List.{length-drop, length-take-le, take-append-drop, drop-drop, take-append-le, drop-append-le}
 use Rattle.mv_base.specs.Octets.{IsOctets}
-use Rattle.mv_base.proofs.Fields.{wide16, octets_before, octets_behind}
+use Rattle.mv_base.proofs.Fields.{wide16, octets_before, octets_after}
 
 -- the numbers
 abbrev pub first : List ℕ → ℕ
@@ -36,7 +36,7 @@ is_headed xs fits le =
     let a : to_be_bytes w16 (first xs) ≡ take 2 xs = wide16.back (take 2 xs) (length-take-le 2 xs (omega arith)) (octets_before 2 xs fits) in
     let l : length (take 2 (drop 2 xs)) ≡ 2 = length-take-le 2 (drop 2 xs) (omega (arith, length-drop 2 xs)) in
     let b : to_be_bytes w16 (second xs) ≡ take 2 (drop 2 xs) =
-    wide16.back (take 2 (drop 2 xs)) l (octets_before 2 (drop 2 xs) (octets_behind 2 xs fits)) in
+    wide16.back (take 2 (drop 2 xs)) l (octets_before 2 (drop 2 xs) (octets_after 2 xs fits)) in
     sym (take-append-drop 2 xs)
     ∙ ap (λ (ys : List ℕ). take 2 xs ++ ys) (sym (take-append-drop 2 (drop 2 xs)) ∙ ap (λ (ys : List ℕ). take 2 (drop 2 xs) ++ ys) (drop-drop 2 2 xs))
     ∙ ap (λ (ys : List ℕ). ys ++ (take 2 (drop 2 xs) ++ drop 4 xs)) (sym a)

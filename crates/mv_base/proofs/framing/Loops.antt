@@ -53,10 +53,10 @@ sound {M} front octets place found w e =
     (waits front place (drop place octets) e))
 
 -- messages stand before the fault
-pub on_way_fault_behind : {M E : Type 0} (front : List ℕ → Front M E) (octets : List ℕ) (place offset : ℕ) (fault : E) (found ms : List M)
+pub on_way_fault_after : {M E : Type 0} (front : List ℕ → Front M E) (octets : List ℕ) (place offset : ℕ) (fault : E) (found ms : List M)
     → front [] ≡ more → OnWay front octets place found → offset ≤ length (tail_of octets place) → front (tail_of octets place) ≡ bad ms offset fault
     → IsCutting octets (cut front octets) (found ++ ms) place (Some (place + offset, fault))
-on_way_fault_behind front octets place offset fault found ms none w le e =
+on_way_fault_after front octets place offset fault found ms none w le e =
     let le' : offset ≤ length (drop place octets) = subst (λ (xs : List ℕ). offset ≤ length xs) (take_rest octets place) le in
     let e' : front (drop place octets) ≡ bad ms offset fault = ap front (sym (take_rest octets place)) ∙ e in
     cutting octets (cut front octets) (cut_at front place 0 (drop place octets)) found ms place (Some (place + offset, fault)) w.within
@@ -68,7 +68,7 @@ pub on_way_fault : {M E : Type 0} (front : List ℕ → Front M E) (octets : Lis
     → IsCutting octets (cut front octets) found place (Some (place + offset, fault))
 on_way_fault {M} front octets place offset fault found none w le e =
     let P : List M → Type 0 = λ ms. IsCutting octets (cut front octets) ms place (Some (place + offset, fault)) in
-    subst P (append-nil found) (on_way_fault_behind front octets place offset fault found [] none w le e)
+    subst P (append-nil found) (on_way_fault_after front octets place offset fault found [] none w le e)
 
 pub on_way_wait : {M E : Type 0} (front : List ℕ → Front M E) (octets : List ℕ) (place : ℕ) (found : List M) → OnWay front octets place found
     → front (tail_of octets place) ≡ more → IsCutting octets (cut front octets) found place None

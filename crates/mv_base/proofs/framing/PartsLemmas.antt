@@ -3,7 +3,7 @@ use Rattle.std.proofs.Common.{◌≡◌, ℕ, zero, suc, ◌+◌, ◌-◌, ◌<�
 use Rattle.std.proofs.Math.Nat.{add-zero}
 use Rattle.std.proofs.lemmas.List.{length-append, length-drop, length-take-le, drop_at, drop-drop, take_rest, append-nil, take-append-drop}
 use Rattle.mv_base.specs.Octets.{IsOctets}
-use Rattle.mv_base.proofs.Fields.{octets_behind}
+use Rattle.mv_base.proofs.Fields.{octets_after}
 use Rattle.mv_base.specs.framing.Parts.{ArePartsAfter, AreParts, PartFails, parts_at, parts_of}
 
 -- A reader answers exactly the part that stands at the front, or the fault there.
@@ -66,13 +66,13 @@ past_all {M} read Spells Fits Faulty reader before place there octets [] rest h 
     ap (λ (xs : List ℕ). parts_at read before place 0 xs) h ∙ ap (λ (p : ℕ). parts_at read before p 0 rest) same
     ∙ ap (λ (ms : List M). parts_at read ms there 0 rest) (sym (append-nil before))
 past_all {M} read Spells Fits Faulty reader before place there octets (m ∷ ms) rest (text, after, spells, fits, parts, more) at =
-    let behind : there + length rest ≡ place + length text + length after =
+    let thereafter : there + length rest ≡ place + length text + length after =
     omega (arith, at, ap (λ (xs : List ℕ). length xs) parts, length-append text after) in
     ap (λ (xs : List ℕ). parts_at read before place 0 xs) parts
     ∙ one_further read before place (length text) m (text ++ after) (reader.filled m text spells) (omega (arith, length-append text after))
     (reader.again before m text after spells fits)
     ∙ ap (λ (xs : List ℕ). parts_at read (before ++ m ∷ []) (place + length text) 0 xs) (drop_at text after (length text) refl)
-    ∙ past_all read Spells Fits Faulty reader (before ++ m ∷ []) (place + length text) there after ms rest more behind
+    ∙ past_all read Spells Fits Faulty reader (before ++ m ∷ []) (place + length text) there after ms rest more thereafter
     ∙ ap (λ (ns : List M). parts_at read ns there 0 rest) (append_assoc before (m ∷ []) ms)
 
 -- Parts that stand are read.
@@ -107,11 +107,11 @@ fault_again {M} {E} read Spells Fits Faulty reader octets place e fits h =
     rest_octets before octets [] rest fits h = subst IsOctets h fits
     rest_octets before octets (m ∷ ms) rest fits (text, after, spells, is, parts, more) =
         rest_octets (before ++ m ∷ []) after ms rest
-        (subst IsOctets (drop_at text after (length text) refl) (octets_behind (length text) (text ++ after) (subst IsOctets parts fits))) more
+        (subst IsOctets (drop_at text after (length text) refl) (octets_after (length text) (text ++ after) (subst IsOctets parts fits))) more
 
 -- ---- what reading finds
 
--- what stands in octets whose first stands at the place, behind those parts
+-- what stands in octets whose first stands at the place, after those parts
 abbrev Outcome : {M E : Type 0} → (M → List ℕ → Type 0) → (List M → M → Type 0) → (List M → List ℕ → ℕ → E → Type 0) → List M → ℕ → List ℕ
     → Result (List M) (ℕ × E) → Type 0
 Outcome {M} Spells Fits Faulty before place octets (Ok all) = (ms : List M) × (all ≡ before ++ ms) × ArePartsAfter Spells Fits before octets ms []
@@ -119,13 +119,13 @@ Outcome {M} Spells Fits Faulty before place octets (Err f) =
     (ms : List M) × (rest : List ℕ) × (offset : ℕ) × ArePartsAfter Spells Fits before octets ms rest × (0 < length rest)
     × (f.0 + length rest ≡ place + length octets + offset) × Faulty (before ++ ms) rest offset f.1
 
-behind : {M E : Type 0} (Spells : M → List ℕ → Type 0) (Fits : List M → M → Type 0) (Faulty : List M → List ℕ → ℕ → E → Type 0) (before : List M)
+thereafter : {M E : Type 0} (Spells : M → List ℕ → Type 0) (Fits : List M → M → Type 0) (Faulty : List M → List ℕ → ℕ → E → Type 0) (before : List M)
     (place : ℕ) (m : M) (text after octets : List ℕ) (r : Result (List M) (ℕ × E))
     → Spells m text → Fits before m → octets ≡ text ++ after → Outcome Spells Fits Faulty (before ++ m ∷ []) (place + length text) after r
     → Outcome Spells Fits Faulty before place octets r
-behind Spells Fits Faulty before place m text after octets (Ok all) spells fits parts (ms, same, stand) =
+thereafter Spells Fits Faulty before place m text after octets (Ok all) spells fits parts (ms, same, stand) =
     (m ∷ ms, same ∙ append_assoc before (m ∷ []) ms, (text, after, spells, fits, parts, stand))
-behind Spells Fits Faulty before place m text after octets (Err f) spells fits parts (ms, rest, offset, stand, follow, at, faulty) = (
+thereafter Spells Fits Faulty before place m text after octets (Err f) spells fits parts (ms, rest, offset, stand, follow, at, faulty) = (
   m ∷ ms,
   rest,
   offset,
@@ -152,8 +152,8 @@ step read Spells Fits Faulty reader before place xs more fits others (Ok x) e =
     let further : parts_at read before place 0 xs ≡ parts_at read (before ++ x.0 ∷ []) (place + length text) 0 (drop x.1 xs) =
     one_further read before place x.1 x.0 xs pos le e ∙ ap (λ (n : ℕ). parts_at read (before ++ x.0 ∷ []) (place + n) 0 (drop x.1 xs)) (sym size) in
     subst (Outcome Spells Fits Faulty before place xs) (sym further)
-    (behind Spells Fits Faulty before place x.0 text (drop x.1 xs) xs (parts_at read (before ++ x.0 ∷ []) (place + length text) 0 (drop x.1 xs))
-    spells is (sym (take-append-drop x.1 xs)) (others (before ++ x.0 ∷ []) (place + length text) (drop x.1 xs) less (octets_behind x.1 xs fits)))
+    (thereafter Spells Fits Faulty before place x.0 text (drop x.1 xs) xs (parts_at read (before ++ x.0 ∷ []) (place + length text) 0 (drop x.1 xs))
+    spells is (sym (take-append-drop x.1 xs)) (others (before ++ x.0 ∷ []) (place + length text) (drop x.1 xs) less (octets_after x.1 xs fits)))
 
 outcome : {M E : Type 0} (read : List M → List ℕ → Result (M × ℕ) (ℕ × E)) (Spells : M → List ℕ → Type 0) (Fits : List M → M → Type 0)
     (Faulty : List M → List ℕ → ℕ → E → Type 0) → IsPartReader read Spells Fits Faulty

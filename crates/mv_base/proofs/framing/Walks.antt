@@ -5,7 +5,7 @@ use Rattle.std.proofs.Math.Nat.{add-zero}
 use Rattle.std.proofs.lemmas.List.{length-append, drop_at, append-nil}
 use Rattle.std.proofs.lemmas.List.Concat.{flat_map-cons}
 use Rattle.mv_base.specs.Octets.{IsOctets}
-use Rattle.mv_base.proofs.Fields.{octets_behind}
+use Rattle.mv_base.proofs.Fields.{octets_after}
 use Rattle.mv_base.specs.framing.Walk.{walk, AreWhole, StopsAt, IsLen}
 
 -- ---- one step
@@ -84,7 +84,7 @@ pub stop_again : {T : Type 0} (len_of : List ℕ → Option ℕ) (text : T → L
 stop_again len_of text Is lens value offset fits m =
     let here : drop (length (flat_map text m.elements)) value ≡ m.rest =
     rw m.parts (drop_at (flat_map text m.elements) m.rest (length (flat_map text m.elements)) refl) in
-    let rest_fits : IsOctets m.rest = subst IsOctets here (octets_behind (length (flat_map text m.elements)) value fits) in
+    let rest_fits : IsOctets m.rest = subst IsOctets here (octets_after (length (flat_map text m.elements)) value fits) in
     let stop : len_of m.rest ≡ None = none_there len_of text Is lens m.rest rest_fits m.none (len_of m.rest) refl in
     let at : 0 + length (flat_map text m.elements) ≡ offset = omega (arith, m.place) in
     ap (λ (xs : List ℕ). walk len_of 0 0 xs) m.parts ∙ past_all len_of text Is lens 0 m.elements m.rest m.whole
@@ -97,11 +97,11 @@ abbrev Outcome : {T : Type 0} → (T → List ℕ) → (T → Type 0) → ℕ �
 Outcome text Is place xs None = AreWhole text Is xs
 Outcome text Is place xs (Some p) = (offset : ℕ) × (p ≡ place + offset) × StopsAt text Is xs offset
 
-behind : {T : Type 0} (len_of : List ℕ → Option ℕ) (text : T → List ℕ) (Is : T → Type 0) (lens : IsLen len_of text Is) (place : ℕ) (t : T)
+thereafter : {T : Type 0} (len_of : List ℕ → Option ℕ) (text : T → List ℕ) (Is : T → Type 0) (lens : IsLen len_of text Is) (place : ℕ) (t : T)
     (after xs : List ℕ) (o : Option ℕ) → Is t → xs ≡ text t ++ after → Outcome text Is (place + length (text t)) after o → Outcome text Is place xs o
-behind len_of text Is lens place t after xs None h parts out =
+thereafter len_of text Is lens place t after xs None h parts out =
     (t ∷ out.0, (h, out.1), parts ∙ ap (λ (ys : List ℕ). text t ++ ys) out.2 ∙ sym (flat_map-cons text t out.0))
-behind len_of text Is lens place t after xs (Some p) h parts out =
+thereafter len_of text Is lens place t after xs (Some p) h parts out =
     let m = out.2 in
     let flat : flat_map text (t ∷ m.elements) ≡ text t ++ flat_map text m.elements = flat_map-cons text t m.elements in (
       length (text t) + out.0,
@@ -142,13 +142,13 @@ step len_of text Is lens n place xs more le fits others (Some k) e =
     let t = front.element in
     let after_fits : IsOctets front.after =
     subst IsOctets (drop_at (text t) front.after (length (text t)) refl)
-    (octets_behind (length (text t)) (text t ++ front.after) (subst IsOctets front.parts fits)) in
+    (octets_after (length (text t)) (text t ++ front.after) (subst IsOctets front.parts fits)) in
     let less : length front.after ≤ n =
     omega (arith, le, lens.more t, length-append (text t) front.after, ap (λ (ys : List ℕ). length ys) front.parts) in
     let further : walk len_of place 0 xs ≡ walk len_of (place + length (text t)) 0 front.after =
     ap (λ (ys : List ℕ). walk len_of place 0 ys) front.parts ∙ past len_of text Is lens place t front.after front.shape in
     subst (Outcome text Is place xs) (sym further)
-    (behind len_of text Is lens place t front.after xs (walk len_of (place + length (text t)) 0 front.after) front.shape front.parts
+    (thereafter len_of text Is lens place t front.after xs (walk len_of (place + length (text t)) 0 front.after) front.shape front.parts
     (others (place + length (text t)) front.after less after_fits))
 
 outcome : {T : Type 0} (len_of : List ℕ → Option ℕ) (text : T → List ℕ) (Is : T → Type 0) (lens : IsLen len_of text Is) (n place : ℕ) (xs : List ℕ)
@@ -164,7 +164,7 @@ pub whole_found : {T : Type 0} (len_of : List ℕ → Option ℕ) (text : T → 
 whole_found len_of text Is lens value fits e =
     subst (Outcome text Is 0 value) e (outcome len_of text Is lens (length value) 0 value (omega arith) fits)
 
--- What the walk finds is the offset behind whole elements where none begins.
+-- What the walk finds is the offset after whole elements where none begins.
 pub stop_found : {T : Type 0} (len_of : List ℕ → Option ℕ) (text : T → List ℕ) (Is : T → Type 0) (lens : IsLen len_of text Is) (value : List ℕ)
     (p : ℕ) → IsOctets value → walk len_of 0 0 value ≡ Some p → StopsAt text Is value p
 stop_found len_of text Is lens value p fits e =

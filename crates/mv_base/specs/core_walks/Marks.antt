@@ -6,13 +6,13 @@ use Rattle.mv_base.specs.declared.core_link.Link.{Link}
 abbrev pub first_marks : List Bool
 first_marks = set (replicate 64 false) 0 true
 
--- the marks behind a look at the node, which a link joins to the other one
+-- the marks after a look at the node, which a link joins to the other one
 abbrev pub marked : List Bool → List Bool → ℕ → ℕ → List Bool
 marked marks next node other = if get_or marks other false then set next node true else next
 
 abbrev pub marked_link : List Bool → List Bool → Link → List Bool
 marked_link marks next link = marked marks (marked marks next link.a.0 link.b.0) link.b.0 link.a.0
 
--- the marks behind a round: each link is looked at, with the marks from before the round
+-- the marks after a round: each link is looked at, with the marks from before the round
 abbrev pub next_marks : List Bool → List Link → List Bool
 next_marks marks links = fold (marked_link marks) marks links

@@ -11,12 +11,12 @@ pub record IsLinked (links : List Link) (a b cost : ℕ) : Type 0 where
   pub ends : ((link.a.0 ≡ a) × (link.b.0 ≡ b)) ⊎ ((link.a.0 ≡ b) × (link.b.0 ≡ a))
   pub priced : link.cost ≡ cost
 
--- The nodes behind `from` are a walk to `to`: each is linked to the one before it, and the last is `to`. The cost of a
+-- The nodes after `from` are a walk to `to`: each is linked to the one before it, and the last is `to`. The cost of a
 -- walk is the sum of its links' costs.
 abbrev pub IsWalk : List Link → ℕ → List ℕ → ℕ → ℕ → Type 0
 IsWalk links from [] to cost = (from ≡ to) × (cost ≡ 0)
-IsWalk links from (next ∷ behind) to cost =
-    (first : ℕ) × (rest : ℕ) × IsLinked links from next first × IsWalk links next behind to rest × (cost ≡ first + rest)
+IsWalk links from (next ∷ thereafter) to cost =
+    (first : ℕ) × (rest : ℕ) × IsLinked links from next first × IsWalk links next thereafter to rest × (cost ≡ first + rest)
 
 -- a walk leads from the one node to the other
 pub record Reaches (links : List Link) (from to : ℕ) : Type 0 where
@@ -32,9 +32,9 @@ pub record IsLeast (links : List Link) (from to cost : ℕ) : Type 0 where
 
 -- the first step of a walk of least cost
 pub record IsFirstStep (links : List Link) (from to next : ℕ) : Type 0 where
-  pub behind : List ℕ
+  pub thereafter : List ℕ
   pub cost : ℕ
-  pub walk : IsWalk links from (next ∷ behind) to cost
+  pub walk : IsWalk links from (next ∷ thereafter) to cost
   pub least : IsLeast links from to cost
 
 -- the lowest first step of the walks of least cost

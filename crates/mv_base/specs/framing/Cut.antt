@@ -9,7 +9,7 @@ pub data Front (M E : Type 0) : Type 0 where
   whole : ℕ → List M → Front M E
   bad : List M → ℕ → E → Front M E
 
--- the messages of the whole units and of the unit at fault behind them, the octets behind the whole units, and the fault that
+-- the messages of the whole units and of the unit at fault after them, the octets after the whole units, and the fault that
 -- stands there, with its place
 pub record Cut (M E : Type 0) : Type 0 where
   pub messages : List M
@@ -32,7 +32,7 @@ cut_at front place zero (b ∷ bs) = elim (front (b ∷ bs)) [
 abbrev pub cut : {M E : Type 0} → (List ℕ → Front M E) → List ℕ → Cut M E
 cut front octets = cut_at front 0 0 octets
 
--- Whole units carry the first messages. Behind them the front fails, and the last messages stand before the fault there.
+-- Whole units carry the first messages. After them the front fails, and the last messages stand before the fault there.
 pub record Fails {M E : Type 0} (Spells : List M → List ℕ → Type 0) (Faulty : List ℕ → List M → ℕ → E → Type 0)
     (stream : List ℕ) (ms : List M) (place : ℕ) (e : E) : Type 0 where
   pub first : List M
@@ -48,7 +48,7 @@ pub record Fails {M E : Type 0} (Spells : List M → List ℕ → Type 0) (Fault
 abbrev pub NoFault : {M E : Type 0} → (List ℕ → List M → ℕ → E → Type 0) → List ℕ → Type 0
 NoFault {M} {E} Faulty rest = (last : List M) (offset : ℕ) (e : E) → ¬ (Faulty rest last offset e)
 
--- The octets yield these messages: those of whole units, where no fault stands behind these; or those before the first fault.
+-- The octets yield these messages: those of whole units, where no fault stands after these; or those before the first fault.
 pub data Yields {M E : Type 0} (Spells : List M → List ℕ → Type 0) (Faulty : List ℕ → List M → ℕ → E → Type 0)
     (octets : List ℕ) (ms : List M) : Type 0 where
   sound : (rest : List ℕ) → Splits Spells octets ms rest → NoFault Faulty rest → Yields Spells Faulty octets ms
@@ -62,7 +62,7 @@ shifted by (Some f) = Some (by + f.0, f.1)
 abbrev pub shift : {M E : Type 0} → ℕ → Cut M E → Cut M E
 shift by c = record { messages = c.messages; rest = c.rest; fault = shifted by c.fault }
 
--- a fault stands within so many octets, or right behind them
+-- a fault stands within so many octets, or right after them
 abbrev pub IsNear : {E : Type 0} → Option (ℕ × E) → ℕ → Type 0
 IsNear None len = ⊤
 IsNear (Some f) len = f.0 ≤ len

@@ -17,12 +17,12 @@ abbrev pub moved : {E : Type 0} → ℕ → Option (ℕ × E) → Option (ℕ ×
 moved before None = None
 moved before (Some f) = Some (further before f.0, f.1)
 
--- nothing is held back behind a fault
+-- nothing is held back after a fault
 abbrev pub held_of : {E : Type 0} → Option (ℕ × E) → List ℕ → List ℕ
 held_of None rest = rest
 held_of (Some f) rest = []
 
--- behind what is cut stands a piece
+-- after what is cut stands a piece
 abbrev pub fed_by : {M E : Type 0} → Fed M E → ℕ → Cut M E → Fed M E
 fed_by d len c = record {
   waiting = d.waiting ++ c.messages;

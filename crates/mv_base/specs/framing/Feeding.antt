@@ -15,7 +15,7 @@ use Rattle.mv_base.specs.declared.framing.fault.FeedFault.TheVariants as faults
 abbrev pub unfinished : {M E : Type 0} → Fed M E → Option ℕ
 unfinished d = elim d.held [ [] ↦ None | b ∷ bs ↦ Some d.before ]
 
--- the piece stands behind what was held back
+-- the piece stands after what was held back
 abbrev pub Appends : {X M E : Type 0} → Fed M E → List ℕ → Result X (FeedFault E) → Fed M E → Type 0
 Appends old piece (Ok x) new = (old.fault ≡ None) × (new ≡ record old { held = old.held ++ piece })
 Appends old piece (Err (faults.First place fault)) new = ⊥
@@ -61,7 +61,7 @@ abbrev pub NextIs : {M E : Type 0} → Fed M E → Option M → Fed M E → Type
 NextIs old None new = (old.waiting ≡ []) × (new ≡ old)
 NextIs old (Some m) new = (old.waiting ≡ m ∷ new.waiting) × (new ≡ record old { waiting = new.waiting })
 
--- What was held back, with the piece behind it, is the units of the messages added, and then what is held back now:
+-- What was held back, with the piece after it, is the units of the messages added, and then what is held back now:
 -- shorter than the limit, it begins no whole unit and has no fault.
 pub record Adds {M E : Type 0} (Spells : List M → List ℕ → Type 0) (Faulty : List ℕ → List M → ℕ → E → Type 0)
     (limit : ℕ) (old : Fed M E) (piece : List ℕ) (new : Fed M E) : Type 0 where
@@ -74,7 +74,7 @@ pub record Adds {M E : Type 0} (Spells : List M → List ℕ → Type 0) (Faulty
   pub before : new.before ≡ further old.before (length (old.held ++ piece) - length new.held)
   pub still : new.fault ≡ None
 
--- The first fault of the stream stands at the place. The messages added are those before it: of whole units, and behind them of
+-- The first fault of the stream stands at the place. The messages added are those before it: of whole units, and after them of
 -- the unit at fault.
 pub record Stops {M E : Type 0} (Spells : List M → List ℕ → Type 0) (Faulty : List ℕ → List M → ℕ → E → Type 0)
     (old : Fed M E) (piece : List ℕ) (new : Fed M E) (place : ℕ) (fault : E) : Type 0 where

@@ -1,8 +1,8 @@
 -- Parts of a whole that stand end to end, each read knowing those before it.
 use Rattle.std.specs.Prelude.{◌≡◌, ℕ, zero, suc, ◌+◌, ◌-◌, ◌<◌, List, [], ◌∷◌, ◌++◌, length, Result, Ok, Err}
 
--- The parts stand at the front of the octets, end to end, and the rest behind them: `Spells` tells the octets of each,
--- and each fits behind those before it.
+-- The parts stand at the front of the octets, end to end, and the rest after them: `Spells` tells the octets of each,
+-- and each fits after those before it.
 abbrev pub ArePartsAfter : {M : Type 0} → (M → List ℕ → Type 0) → (List M → M → Type 0) → List M → List ℕ → List M → List ℕ → Type 0
 ArePartsAfter Spells Fits before octets [] rest = octets ≡ rest
 ArePartsAfter Spells Fits before octets (m ∷ ms) rest =

@@ -16,7 +16,7 @@ messages_of units = flat_map (λ u. u.messages) units
 abbrev pub AreUnits : {M : Type 0} → (List M → List ℕ → Type 0) → List (Spelled M) → Type 0
 AreUnits Spells units = AllByRecursion (λ u. Spells u.messages u.octets) units
 
--- whole units, end to end, carry these messages, and the rest stands behind them
+-- whole units, end to end, carry these messages, and the rest stands after them
 pub record Begins {M : Type 0} (Spells : List M → List ℕ → Type 0) (stream : List ℕ) (ms : List M) (rest : List ℕ) : Type 0 where
   pub units : List (Spelled M)
   pub each : AreUnits Spells units

@@ -19,7 +19,7 @@ source_as_octets number = 0x00 ∷ 0x09 ∷ (to_be_bytes w16 number ++ 0 ∷ 0 �
 abbrev pub IsImport : ExtComm → Type 0
 IsImport c = kind c ≡ 0x01 ∷ 0x0B ∷ []
 
--- A community is a Source AS by its type and sub-type, and by the zeros behind the AS number.
+-- A community is a Source AS by its type and sub-type, and by the zeros after the AS number.
 abbrev pub IsSourceAs : ExtComm → Type 0
 IsSourceAs c = (kind c ≡ 0x00 ∷ 0x09 ∷ []) × (drop 4 c.0 ≡ 0 ∷ 0 ∷ 0 ∷ 0 ∷ [])
 

@@ -1,4 +1,4 @@
--- A set of targets is held in 8 places, with targets of zeros behind it.
+-- A set of targets is held in 8 places, with targets of zeros after it.
 use Rattle.std.specs.Prelude.{◌≡◌, ℕ, ◌-◌, ◌≤◌, ◌<◌, List, ◌++◌, length, take, drop, replicate}
 use Rattle.std.proofs.Common.{arith, take-append-drop, length-take-le}
 use Rattle.mv_base.specs.declared.route_targets.communities.Target.{Target}
@@ -24,7 +24,7 @@ of_fields : (o p : List Target) (m n : ℕ) → o ≡ p → m ≡ n →
     a ≡ b
 of_fields o p m n h k = cc
 
--- The front and what stands behind it are the places.
+-- The front and what stands after it are the places.
 pub padded-take : (held : Inside) → IsPadded held → padded (take held.len held.targets) ≡ held
 padded-take held h =
     let e : length (take held.len held.targets) ≡ held.len = length-take-le held.len held.targets (omega (arith, h.within, h.places)) in

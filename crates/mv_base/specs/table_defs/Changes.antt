@@ -19,12 +19,12 @@ abbrev pub value_of : {K V : Type 0} → Change K V → Option V
 value_of (Reach key value) = Some value
 value_of (Unreach key) = None
 
--- the table behind a change: an advertisement puts or replaces the value of its key, a withdrawal removes it
+-- the table after a change: an advertisement puts or replaces the value of its key, a withdrawal removes it
 abbrev pub applied : {K V : Type 0} {cmp : K → K → Ordering} → FinMap cmp V → Change K V → FinMap cmp V
 applied old (Reach key value) = table.insert old key value
 applied old (Unreach key) = table.remove old key
 
--- the table behind changes, one after another
+-- the table after changes, one after another
 abbrev pub applied_all : {K V : Type 0} {cmp : K → K → Ordering} → FinMap cmp V → List (Change K V) → FinMap cmp V
 applied_all old changes = fold applied old changes
 
@@ -59,7 +59,7 @@ values_at cmp key (change ∷ rest) =
 abbrev pub difference : {V : Type 0} → (V → V → Bool) → Option V → Option V → List (Option V)
 difference same old new = if option_eq same old new then [] else new ∷ []
 
--- the value behind these values, given one after another
+-- the value after these values, given one after another
 abbrev pub last_value : {V : Type 0} → Option V → List (Option V) → Option V
 last_value from values = fold (λ old new. new) from values
 

@@ -72,7 +72,7 @@ impl<M: Drop, E: Copy + Drop> Inbound<M, E> {
         }
     }
 
-    /// Puts the piece behind the octets held back, unless the stream has had a fault.
+    /// Puts the piece after the octets held back, unless the stream has had a fault.
     pub fn append(&mut self, piece: &[u8]) -> Result<(), FeedFault<E>>
         ensures { Appends self.old piece.now result self.new }
     {

@@ -9,7 +9,7 @@ use Rattle.net_sessions.specs.session_ways.Ways.{is_from, ways_from}
 abbrev node_of : ℕ → NodeId
 node_of number = record { 0 = number }
 
--- One node more stands behind the others.
+-- One node more stands after the others.
 ids_more : (number count : ℕ) → node_ids number (count + 1) ≡ node_ids number count ++ record { 0 = number + count } ∷ []
 ids_more number zero =
     let same : number ≡ number + 0 = omega arith in

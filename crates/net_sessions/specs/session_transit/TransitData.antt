@@ -63,7 +63,7 @@ pub record Loses (hit : Direction → Bool) (old new : TransitData) : Type 0 whe
   pub joined : (over : Direction) → is_joined_at new over ≡ (is_joined_at old over && not (hit over))
   pub octets : (over : Direction) → octets_at new over ≡ (if hit over then [] else octets_at old over)
 
--- octets are put over a direction, behind what is in transit; where its session is not joined, they are lost
+-- octets are put over a direction, after what is in transit; where its session is not joined, they are lost
 pub record Puts (at : Direction) (more : List ℕ) (old new : TransitData) : Type 0 where
   pub joined : (over : Direction) → is_joined_at new over ≡ is_joined_at old over
   pub octets : (over : Direction) → octets_at new over ≡

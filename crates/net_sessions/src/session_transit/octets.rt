@@ -58,7 +58,7 @@ impl Octets {
         self.items.len() - self.start
     }
 
-    /// Puts the octets behind those that are there.
+    /// Puts the octets after those that are there.
     pub(crate) fn put(&mut self, octets: &[u8]) -> Result<(), NoMemory>
         ensures put { OnOk result (self.new ≡ self.old ++ octets.now) }
         ensures same { OnErr result (self.new ≡ self.old) }

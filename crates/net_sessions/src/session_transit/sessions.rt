@@ -148,8 +148,8 @@ pub(crate) fn lose_all(sessions: &mut Sessions, total: &mut u64, node: NodeId)
     *total = count_in(sessions.values().as_slice());
 }
 
-/// Puts the octets behind those in transit, where the direction is there.
-fn put_behind(sessions: &mut Sessions, over: Key, octets: &[u8]) -> Result<(), NoMemory>
+/// Puts the octets after those in transit, where the direction is there.
+fn put_after(sessions: &mut Sessions, over: Key, octets: &[u8]) -> Result<(), NoMemory>
     requires { IsUnique is_key sessions.old }
     ensures put { OnOk result ((k : Key) → get is_key sessions.new k ≡
         (if is_key over k then option_map (λ d. d ++ octets.now) (get is_key sessions.old k) else get is_key sessions.old k)) }
@@ -162,7 +162,7 @@ fn put_behind(sessions: &mut Sessions, over: Key, octets: &[u8]) -> Result<(), N
     }
 }
 
-/// Puts the octets behind those in transit, where the direction is there. Where all octets together would be more than
+/// Puts the octets after those in transit, where the direction is there. Where all octets together would be more than
 /// 64 bits can count, there is no memory for them.
 pub(crate) fn put(
     sessions: &mut Sessions,
@@ -182,7 +182,7 @@ pub(crate) fn put(
         return Ok(());
     }
     let more = total.checked_add(octets.len() as u64).ok_or(NoMemory)?;
-    put_behind(sessions, over, octets)?;
+    put_after(sessions, over, octets)?;
     *total = more;
     Ok(())
 }

@@ -74,7 +74,7 @@ impl Transit {
         sessions::lose_all(&mut self.sessions, &mut self.total, node);
     }
 
-    /// Puts the octets behind those in transit over the direction, where its session is joined. Elsewhere they are lost.
+    /// Puts the octets after those in transit over the direction, where its session is joined. Elsewhere they are lost.
     pub fn put(&mut self, over: Direction, octets: &[u8]) -> Result<(), NoMemory>
         ensures put { OnOk result (Puts over octets.now self.old self.new) }
         ensures same { OnErr result (self.new ≡ self.old) }

@@ -1,4 +1,4 @@
--- A call of a node behind an act on its sessions, as acts of the control plane.
+-- A call of a node after an act on its sessions, as acts of the control plane.
 use Rattle.std.proofs.Common.{◌≡◌, ◌∙◌, refl, sym, subst, ℕ, ◌<◌, Bool, true, false, List, [], ◌++◌, length, get_or, slice_get, slice_set, Option, Some, None, Result, Ok, Err, OnOk}
 use Rattle.std.proofs.lemmas.Option.{same_Some}
 use Rattle.mv_base.specs.declared.ids.NodeId.{NodeId}
@@ -61,8 +61,8 @@ before_begun n network joined moving stream call (any.CoreNode state) same begun
 
 -- ---- what an act begins with
 
--- Node n makes the call behind an act on sessions, from the network of which the plane is: what is joined then, what is in transit and
--- which streams there are, so that the row of acts is that of the call from there, and the network is steady behind it at the moment.
+-- Node n makes the call after an act on sessions, from the network of which the plane is: what is joined then, what is in transit and
+-- which streams there are, so that the row of acts is that of the call from there, and the network is steady after it at the moment.
 pub record Begins (at : Standing) (plane : PlaneView) (n : NodeId) (call : Call) (acts : List (OctetAct NodeCall)) (moment : Moment)
     (transit : TransitData) : Type 0 where
   pub within : n.0 < length at.scenario.nodes

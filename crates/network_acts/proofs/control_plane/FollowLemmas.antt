@@ -96,9 +96,9 @@ module _ (scenario : Scenario) (cores : Cores) (moment : Moment) (n : NodeId) (n
       by m below true early = refl
       by m below false early = is.around.known m below early
 
-  steady_behind : (new : Behind (OctetNetwork Nodes)) → octet_act system network one ≡ Some new
+  steady_after : (new : Behind (OctetNetwork Nodes)) → octet_act system network one ≡ Some new
       → IsElsewhere n (with_known n network) network.transit new → IsSteady next new.network
-  steady_behind new e elsewhere =
+  steady_after new e elsewhere =
       let old : IsSteady moment network = is.around.steady in
       let ends = follows_ends network new n e in
       steady_next next network new.network
@@ -111,11 +111,11 @@ module _ (scenario : Scenario) (cores : Cores) (moment : Moment) (n : NodeId) (n
       (λ over j quiet. ends over.kind over.to over.from ∙ old.up over (sym (elsewhere.joined over) ∙ j) quiet)
       (λ over down. call_streams network (Follow n) new e over ∙ old.fresh over (sym (ends over.kind over.to over.from) ∙ down))
 
-  abbrev behind : AnyNode
-  behind = node_after (following network.state n) n has.is.state Rerouted
+  abbrev thereafter : AnyNode
+  thereafter = node_after (following network.state n) n has.is.state Rerouted
 
   some : (new : Behind (OctetNetwork Nodes)) → octet_act system network one ≡ Some new
-      → IsNodeAt n new.network new.puts behind × IsElsewhere n (with_known n network) network.transit new
+      → IsNodeAt n new.network new.puts thereafter × IsElsewhere n (with_known n network) network.transit new
   some new e = follow_made n network has.is.state has.is.at new e
 
   module _ (node : NetworkNode) (result : Result (Unit {0}) EdgeFault)
@@ -123,13 +123,13 @@ module _ (scenario : Scenario) (cores : Cores) (moment : Moment) (n : NodeId) (n
       (waits : OnOk result (WaitsTowardRootsOf plane.core (labels_in node))) where
     by_made : OnOk result ((network' : Nodes) (m : NodeId) → Stands network' m plane.core plane.clock has.node → (state : AnyNode)
         → IsNode state has.node → IsNode (node_after network' m state Rerouted) node)
-        → OnOk result (spent_in node ≡ None) → result ≡ Ok tt → IsNode behind node × (spent_in node ≡ None)
+        → OnOk result (spent_in node ≡ None) → result ≡ Ok tt → IsNode thereafter node × (spent_in node ≡ None)
     by_made made goes e = by result made goes e
       where
         by : (r : Result (Unit {0}) EdgeFault) → OnOk r
             ((network' : Nodes) (m : NodeId) → Stands network' m plane.core plane.clock has.node → (state : AnyNode) → IsNode state has.node
             → IsNode (node_after network' m state Rerouted) node)
-            → OnOk r (spent_in node ≡ None) → r ≡ Ok tt → IsNode behind node × (spent_in node ≡ None)
+            → OnOk r (spent_in node ≡ None) → r ≡ Ok tt → IsNode thereafter node × (spent_in node ≡ None)
         by (Ok done) m g f = (m (following network.state n) n stands has.is.state has.is.is, g)
         by (Err fault) m g f = absurd cc
 
@@ -138,8 +138,8 @@ module _ (scenario : Scenario) (cores : Cores) (moment : Moment) (n : NodeId) (n
     follow_made_at e =
         let own = by_made answers.made answers.goes_on e in
         turn_made scenario cores moment next n network (with_known n network) network.transit plane plane.transit (octet_act system network one)
-        behind some node
-        is.around within base (follow_lacks n network has.is.state has.is.at) steady_behind own.0 own.1
+        thereafter some node
+        is.around within base (follow_lacks n network has.is.state has.is.at) steady_after own.0 own.1
         (subst (λ (s : Scenario). IsPlacedAt s n node) is.around.scenario_is (answers.placed network.state.scenario n has.placed))
         (subst (λ (r : Result (Unit {0}) EdgeFault). OnOk r (WaitsTowardRootsOf plane.core (labels_in node))) e waits
         (core_at (following network.state n) n) stands.known)
@@ -147,7 +147,7 @@ module _ (scenario : Scenario) (cores : Cores) (moment : Moment) (n : NodeId) (n
     pub follow_lacks_at : result ≡ Err faults.NoLabel → octet_act system network one ≡ None
     follow_lacks_at e =
         turn_lacks scenario cores moment next n network (with_known n network) network.transit plane plane.transit (octet_act system network one)
-        behind some
+        thereafter some
         (answers.lacks e has.unspent (following network.state n) n stands has.is.state has.is.is)
 
 -- ---- what the plane leaves and writes

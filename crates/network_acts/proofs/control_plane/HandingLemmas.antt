@@ -92,7 +92,7 @@ others_wait state way other from apart = handed_for state way.kind other.kind wa
         let to = node_equal way.to other.to parts.1 in
         absurd (apart (λ i. record { kind = sym kind i; from = sym from i; to = sym to i }))
 
--- where nothing waits, nothing waits behind it
+-- where nothing waits, nothing waits after it
 still_none : (state : AnyNode) (way other : Direction) → octets_for state other ≡ [] → octets_for (handed_over state way) other ≡ []
 still_none state way other none = handed_for state way.kind other.kind way.to other.to ∙ by (is_that other.kind other.to way.kind way.to)
   where
@@ -177,7 +177,7 @@ module _ (n : NodeId) (puts : List Put) where
       test : same_direction way over ≡ false
       test = apart (same_direction way over) refl
 
--- ---- the node behind it
+-- ---- the node after it
 
 -- what else the node shares with the network
 abbrev Shares : NodeId → OctetNetwork Nodes → AnyNode → Type 0

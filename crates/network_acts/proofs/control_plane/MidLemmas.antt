@@ -70,7 +70,7 @@ core_elsewhere : (n m : NodeId) (base : OctetNetwork Nodes) (moving : Direction 
     → IsElsewhere n base moving new → core_at base.state m ≡ core_at new.network.state m
 core_elsewhere n m base moving new elsewhere = λ i. sym elsewhere.cores i (sym (elsewhere.known m) i)
 
--- a node besides the one at work is the same behind the act
+-- a node besides the one at work is the same after the act
 pub has_elsewhere : (n m : NodeId) (base : OctetNetwork Nodes) (moving : Direction → List ℕ) (new : Behind (OctetNetwork Nodes))
     (nodes : List NetworkNode) (node : NetworkNode)
     → IsElsewhere n base moving new → (m ≡ n → ⊥) → HasNode base nodes m [] → HasNode new.network (slice_set nodes n.0 node) m []
@@ -209,7 +209,7 @@ module _ (scenario : Scenario) (cores : Cores) (old moment : Moment) (n : NodeId
     (plane : PlaneView) (transit : TransitData)
     (found : Option (Behind (OctetNetwork Nodes))) (state : AnyNode)
     (some : (new : Behind (OctetNetwork Nodes)) → found ≡ Some new → IsNodeAt n new.network new.puts state × IsElsewhere n base moving new) where
-  -- where the node goes on, there is a network behind the step, and the plane is midway there
+  -- where the node goes on, there is a network after the step, and the plane is midway there
   pub turn_made : (node : NetworkNode) → IsAround scenario cores old network plane → n.0 < length scenario.nodes
       → IsBase scenario cores moment n base moving plane transit
       → (found ≡ None → spent_of state ≡ Some LacksLabel)

@@ -53,13 +53,13 @@ taken_streams over [] old new e other =
 taken_streams over (message ∷ more) old new e other =
     by (system.taken over message old.state) (λ next rest h. taken_streams over more next rest h other) e
   where
-    behind : (next : Behind (OctetNetwork Nodes))
+    thereafter : (next : Behind (OctetNetwork Nodes))
         → ((middle : OctetNetwork Nodes) (rest : Behind (OctetNetwork Nodes)) → all_taken system middle over more ≡ Some rest
         → rest.network.stream other ≡ middle.stream other)
         → (o : Option (Behind (OctetNetwork Nodes))) → all_taken system next.network over more ≡ o → with_earlier next.puts o ≡ Some new
         → new.network.stream other ≡ next.network.stream other
-    behind next later None f h = absurd (none-some new h)
-    behind next later (Some rest) f h =
+    thereafter next later None f h = absurd (none-some new h)
+    thereafter next later (Some rest) f h =
         ap (λ (b : Behind (OctetNetwork Nodes)). b.network.stream other)
         (sym (same_Some (record { network = rest.network; puts = next.puts ++ rest.puts }) new h)) ∙ later next.network rest f
 
@@ -70,7 +70,7 @@ taken_streams over (message ∷ more) old new e other =
     by None later h = absurd (none-some new h)
     by (Some stepped) later h =
         let next : Behind (OctetNetwork Nodes) = record { network = octets.with_octets old stepped; puts = stepped.puts } in
-        behind next later (all_taken system next.network over more) refl h
+        thereafter next later (all_taken system next.network over more) refl h
 
 -- octets that are moved go to one stream
 move_streams : (over : Direction) (count : ℕ) (old : OctetNetwork Nodes) (new : Behind (OctetNetwork Nodes))
@@ -144,16 +144,16 @@ module _ (scenario : Scenario) (cores : Cores) (moment : Moment) (network : Octe
   abbrev octets_taken : List ℕ
   octets_taken = take count (network.transit over)
 
-  abbrev behind : AnyNode
-  behind = node_taking network.state n has.is.state kind from octets_taken
+  abbrev thereafter : AnyNode
+  thereafter = node_taking network.state n has.is.state kind from octets_taken
 
   some : (new : Behind (OctetNetwork Nodes)) → octet_act system network one ≡ Some new
-      → IsNodeAt n new.network new.puts behind × IsElsewhere n network (rest_of network over count) new
+      → IsNodeAt n new.network new.puts thereafter × IsElsewhere n network (rest_of network over count) new
   some new e = move_made n from kind count network joined has.is.state has.is.at sessions calm_stream new e
 
-  steady_behind : (new : Behind (OctetNetwork Nodes)) → octet_act system network one ≡ Some new
+  steady_after : (new : Behind (OctetNetwork Nodes)) → octet_act system network one ≡ Some new
       → IsElsewhere n network (rest_of network over count) new → IsSteady moment new.network
-  steady_behind new e elsewhere =
+  steady_after new e elsewhere =
       let ends = moves_ends network new over count e in
       steady_next moment network new.network
       (run_stays network.state.scenario network (lines.Take kind from n octets_taken ∷ []) n (octet_run system network (one ∷ []))
@@ -189,11 +189,11 @@ module _ (scenario : Scenario) (cores : Cores) (moment : Moment) (network : Octe
     module _ (node : NetworkNode) (result : Result (Unit {0}) EdgeFault)
         (answers : AnswersOctets plane.core plane.clock kind from octets_taken has.node node result) where
       by_made : OnOk result (Makes plane.core plane.clock (taking kind from octets_taken) has.node node) → OnOk result (spent_in node ≡ None)
-          → result ≡ Ok tt → IsNode behind node × (spent_in node ≡ None)
+          → result ≡ Ok tt → IsNode thereafter node × (spent_in node ≡ None)
       by_made made goes e = by result made goes e
         where
           by : (r : Result (Unit {0}) EdgeFault) → OnOk r (Makes plane.core plane.clock (taking kind from octets_taken) has.node node)
-              → OnOk r (spent_in node ≡ None) → r ≡ Ok tt → IsNode behind node × (spent_in node ≡ None)
+              → OnOk r (spent_in node ≡ None) → r ≡ Ok tt → IsNode thereafter node × (spent_in node ≡ None)
           by (Ok done) m g f = (m network.state n stands has.is.state has.is.is, g)
           by (Err fault) m g f = absurd cc
 
@@ -202,15 +202,15 @@ module _ (scenario : Scenario) (cores : Cores) (moment : Moment) (network : Octe
           × IsMidway scenario cores moment n new.puts new.network (worked n plane node transit)
       move_made_at e =
           let own = by_made answers.answers.made answers.answers.goes_on e in
-          turn_made scenario cores moment moment n network network (rest_of network over count) plane transit (octet_act system network one) behind
+          turn_made scenario cores moment moment n network network (rest_of network over count) plane transit (octet_act system network one) thereafter
           some node
-          is.around within base (move_lacks n from kind count network joined has.is.state has.is.at sessions calm_stream) steady_behind own.0 own.1
+          is.around within base (move_lacks n from kind count network joined has.is.state has.is.at sessions calm_stream) steady_after own.0 own.1
           (subst (λ (s : Scenario). IsPlacedAt s n node) is.around.scenario_is (answers.answers.placed network.state.scenario n has.placed))
           (answers.answers.toward own.1 (core_at network.state n) stands.known has.is.toward)
 
       pub move_lacks_at : result ≡ Err faults.NoLabel → octet_act system network one ≡ None
       move_lacks_at e =
-          turn_lacks scenario cores moment moment n network network (rest_of network over count) plane transit (octet_act system network one) behind
+          turn_lacks scenario cores moment moment n network network (rest_of network over count) plane transit (octet_act system network one) thereafter
           some
           (answers.answers.lacks e has.unspent network.state n stands has.is.state has.is.is)
 
@@ -224,18 +224,18 @@ module _ (scenario : Scenario) (cores : Cores) (moment : Moment) (network : Octe
           goes : IsSessionFault kind from node fault → spent_in node ≡ None
           goes faulty = answers.answers.spends fault e has.unspent ∙ ap spent_by faulty.2
 
-          own : IsSessionFault kind from node fault → IsNode behind node
+          own : IsSessionFault kind from node fault → IsNode thereafter node
           own faulty = answers.taken fault e has.unspent (goes faulty) network.state n stands has.is.state has.is.is
 
           by : IsSessionFault kind from node fault → (found : Option (Behind (OctetNetwork Nodes))) → octet_act system network one ≡ found → ⊥
           by faulty None f =
-              goes_spent behind node (own faulty) (goes faulty)
+              goes_spent thereafter node (own faulty) (goes faulty)
               (move_lacks n from kind count network joined has.is.state has.is.at sessions calm_stream f)
           by faulty (Some new) f =
               let step = some new f in
               let there = taking_has network.state n has.is.state kind from octets_taken sessions in
               let none : stream_fault node kind from ≡ None =
-              fault_of_node behind node kind from there (own faulty)
-              ∙ (fault_in new.network n new.puts behind kind from there step.0
-              ∙ no_fault_over moment new.network (steady_behind new f step.1) (step.1.joined over ∙ joined)) in
+              fault_of_node thereafter node kind from there (own faulty)
+              ∙ (fault_in new.network n new.puts thereafter kind from there step.0
+              ∙ no_fault_over moment new.network (steady_after new f step.1) (step.1.joined over ∙ joined)) in
               none-some _ (sym (ap told_fault none) ∙ faulty.3)

@@ -1,4 +1,4 @@
--- The control plane behind acts by which nothing is put.
+-- The control plane after acts by which nothing is put.
 use Rattle.std.proofs.Common.{◌≡◌, ◌∙◌, refl, sym, ap, subst, append-nil, if◌then◌else◌, ℕ, ◌+◌, ◌<◌, ◌==◌, ◌&&◌, ◌||◌, not, inl, inr, Bool, true, false, cond, List, [], ◌∷◌, ◌++◌, length, slice_get, slice_set, Option, Some, None, Result, Ok, Err, OnOk, IfOk}
 use Rattle.std.specs.FinMap as maps
 use Rattle.mv_base.specs.declared.ids.NodeId.{NodeId}
@@ -130,7 +130,7 @@ has_first scenario n network nodes node same fresh streams at is = record {
 
 -- ---- what is in transit
 
--- nothing goes behind it
+-- nothing goes after it
 nothing_more : (joined : Bool) (octets : List ℕ) → cond joined (octets ++ []) octets ≡ octets
 nothing_more true octets = append-nil octets
 nothing_more false octets = refl

@@ -75,9 +75,9 @@ module _ (at : Standing) (plane : PlaneView) (is : IsIn at plane) (kind : Kind) 
     | inr f ↦ ap (λ (h : Bool). cond (h && not (network.joined over)) unfed (network.stream over)) f
   ]
 
-  steady_behind : (new : Behind (OctetNetwork Nodes)) → octet_act system base one ≡ Some new → IsElsewhere a base network.transit new
+  steady_after : (new : Behind (OctetNetwork Nodes)) → octet_act system base one ≡ Some new → IsElsewhere a base network.transit new
       → IsSteady at.moment new.network
-  steady_behind new e elsewhere =
+  steady_after new e elsewhere =
       let old : IsSteady at.moment network = is.around.steady in
       let streams = call_streams base (Own a (Noticed kind b)) new e in
       let ends = calls_ends base new a (Noticed kind b) e (notice_has a base kind b) in
@@ -124,5 +124,5 @@ module _ (at : Standing) (plane : PlaneView) (is : IsIn at plane) (kind : Kind) 
     begun = λ own peer e. ap forgotten (session_is a kind b own peer e) ∙ forgotten_there;
     runs = λ new e. run_two network forget one (record { network = base; puts = [] }) new refl e;
     lacks = λ e. none_two network forget one (record { network = base; puts = [] }) refl e;
-    steady = steady_behind;
+    steady = steady_after;
   }

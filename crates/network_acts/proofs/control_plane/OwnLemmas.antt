@@ -66,7 +66,7 @@ may_be scenario n (nodes.CoreNode core) placed kinds.Bgp peer way =
     let edge = (way_has scenario kinds.Bgp n peer way).0 in
     absurd (let t : true ≡ false = sym edge.edge ∙ (ap edge_or (sym edge.at) ∙ placed.1) in cc)
 
--- ---- a node behind its call
+-- ---- a node after its call
 
 -- a call that begins no stream is no raise over BGP
 pub calm_call : (n : NodeId) (network : OctetNetwork Nodes) (call : Call) → ((kind : Kind) (peer : NodeId) → begins call kind peer ≡ false)
@@ -90,9 +90,9 @@ module _ (scenario : Scenario) (cores : Cores) (moment : Moment) (n : NodeId) (n
   stands : Stands network.state n plane.core plane.clock has.node
   stands = stands_in scenario cores moment n network plane has.node is.around (is.around.known n within current) has.placed
 
-  steady_behind : (new : Behind (OctetNetwork Nodes)) → octet_act system network own ≡ Some new → new.network.state.scenario ≡ network.state.scenario
+  steady_after : (new : Behind (OctetNetwork Nodes)) → octet_act system network own ≡ Some new → new.network.state.scenario ≡ network.state.scenario
       → ((over : _) → new.network.joined over ≡ network.joined over) → IsSteady moment new.network
-  steady_behind new e same joined =
+  steady_after new e same joined =
       let old : IsSteady moment network = is.around.steady in
       let ends = calm_ends network n call new e (calm_call n network call calm) calm in
       steady_next moment network new.network
@@ -123,14 +123,14 @@ module _ (scenario : Scenario) (cores : Cores) (moment : Moment) (n : NodeId) (n
       pub own_made : result ≡ Ok tt → (new : Behind (OctetNetwork Nodes)) × (octet_act system network own ≡ Some new)
           × IsMidway scenario cores moment n new.puts new.network (worked n plane node plane.transit)
       own_made e =
-          let behind = by_made answers.made answers.goes_on e in
+          let thereafter = by_made answers.made answers.goes_on e in
           turn_made scenario cores moment moment n network network network.transit plane plane.transit (octet_act system network own)
           (node_after network.state n has.is.state call) some node
           is.around within (same_base scenario cores moment n network plane is)
           (call_lacks n network has.is.state call (before_calm n network call has.is.state calm has.is.at))
-          (λ new f elsewhere. steady_behind new f elsewhere.scenario elsewhere.joined) behind.0 behind.1
+          (λ new f elsewhere. steady_after new f elsewhere.scenario elsewhere.joined) thereafter.0 thereafter.1
           (subst (λ (s : Scenario). IsPlacedAt s n node) is.around.scenario_is (answers.placed network.state.scenario n has.placed))
-          (answers.toward behind.1 (core_at network.state n) stands.known has.is.toward)
+          (answers.toward thereafter.1 (core_at network.state n) stands.known has.is.toward)
 
       -- where it lacks a label, so does the network
       pub own_lacks : result ≡ Err faults.NoLabel → octet_act system network own ≡ None

@@ -1,4 +1,4 @@
--- A network stays steady behind the acts of its nodes.
+-- A network stays steady after the acts of its nodes.
 use Rattle.std.proofs.Common.{◌≡◌, ◌∙◌, refl, sym, ap, subst, ◌<◌, ◌≤◌, ◌==◌, ◌&&◌, Bool, true, false, cond, List, [], ◌∷◌, ◌++◌, length, Option, Some, None}
 use Rattle.std.proofs.lemmas.Option.{none-some, same_Some}
 use Rattle.mv_base.specs.Number.{◌>>?◌}
@@ -70,7 +70,7 @@ run_stays scenario network before node found new e gives =
 pub steady_stays : (moment : Moment) (network : OctetNetwork Nodes) → IsSteady moment network → Stays network.state.scenario network
 steady_stays moment network steady = (steady.sound, (steady.pending, steady.lines))
 
--- A network is steady behind acts that keep it sound, where its ends and streams are as they are to be.
+-- A network is steady after acts that keep it sound, where its ends and streams are as they are to be.
 pub steady_next : (moment : Moment) (old new : OctetNetwork Nodes) → Stays old.state.scenario new → new.state.scenario ≡ old.state.scenario
     → ((over : Direction) → new.joined over ≡ true → IsWay old.state.scenario over)
     → ((over : Direction) → new.joined over ≡ true → moment.rising over ≡ false → is_end_up over.kind (new.state.node over.to) over.from ≡ true)

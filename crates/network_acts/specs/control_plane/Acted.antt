@@ -54,7 +54,7 @@ pub record Acted (at : Standing) (moment : Moment) (acts : List (OctetAct NodeCa
   pub told : new_lines ≡ lines ++ (first ++ put_lines at.scenario new.puts)
 
 -- An act of a node, from every network of which it is the plane and with which this holds. Where it answers Ok it is made; `NoLabel` comes
--- exactly where the definitions have no network behind it, and then no line is written. Of want of memory nothing is said.
+-- exactly where the definitions have no network after it, and then no line is written. Of want of memory nothing is said.
 pub record Acts (Fits : Standing → Type 0) (moment : Moment → Moment) (acts : List (OctetAct NodeCall))
     (first : Standing → List ReportLine) (old new : PlaneView) (lines new_lines : List ReportLine) (result : Result (Unit {0}) NodeFault)
     : Type 0 where

@@ -35,7 +35,7 @@ handing_over state [] over = []
 handing_over state (way ∷ more) over =
     (if same_direction way over then octets_for state way else []) ++ handing_over (handed_over state way) more over
 
--- What waits in the node for these directions was handed out, in their order: nothing is left of it, it goes behind what is in transit
+-- What waits in the node for these directions was handed out, in their order: nothing is left of it, it goes after what is in transit
 -- where the session is joined, and each direction over which octets go has its line.
 pub record HandsOut (ways : List Direction) (state : AnyNode) (node : NetworkNode) (old new : TransitData) (lines new_lines : List ReportLine)
     : Type 0 where

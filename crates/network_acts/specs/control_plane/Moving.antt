@@ -32,7 +32,7 @@ line_of over octets = lines.Take over.kind over.from over.to octets
 abbrev pub taken_line : Direction → ℕ → Standing → List ReportLine
 taken_line over count at = line_of over (take count (at.network.transit over)) ∷ []
 
--- What comes of a move by what the receiver answered: the line of what it took, and behind it the lines of what it puts.
+-- What comes of a move by what the receiver answered: the line of what it took, and after it the lines of what it puts.
 pub record SettlesTaken (over : Direction) (octets : List ℕ) (answer : Result (Unit {0}) EdgeFault) (old new : PlaneView)
     (lines new_lines : List ReportLine) (result : Result (Unit {0}) NodeFault) : Type 0 where
   pub answered : OnOk result (answer ≡ Ok tt)

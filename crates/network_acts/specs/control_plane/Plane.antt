@@ -90,7 +90,7 @@ pub record IsPlane (scenario : Scenario) (cores : Cores) (moment : Moment) (netw
   pub nodes : (n : NodeId) → n.0 < length scenario.nodes → HasNode network plane.nodes n []
   pub transit : (over : Direction) → network.transit over ≡ octets_at plane.transit over
 
--- The same in the midst of an act of node n: the network is behind it, and what it put is not handed out.
+-- The same in the midst of an act of node n: the network is after it, and what it put is not handed out.
 pub record IsMidway (scenario : Scenario) (cores : Cores) (moment : Moment) (n : NodeId) (puts : List Put) (network : OctetNetwork Nodes)
     (plane : PlaneView) : Type 0 where
   pub around : IsAround scenario cores moment network plane

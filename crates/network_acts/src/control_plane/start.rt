@@ -28,7 +28,7 @@ fn close_all(mut nodes: Vec<NetworkNode>) {
     nodes.destroy_empty();
 }
 
-/// The nodes with one more behind them. On want of memory all are closed.
+/// The nodes with one more after them. On want of memory all are closed.
 fn with_more(mut nodes: Vec<NetworkNode>, node: NetworkNode) -> Result<Vec<NetworkNode>, NoMemory>
     ensures { IfOk result (λ new. new.items ≡ nodes.items ++ node ∷ []) }
 {
@@ -42,7 +42,7 @@ fn with_more(mut nodes: Vec<NetworkNode>, node: NetworkNode) -> Result<Vec<Netwo
     }
 }
 
-/// The nodes with the one of that number of the scenario behind them. On want of memory all are closed.
+/// The nodes with the one of that number of the scenario after them. On want of memory all are closed.
 fn with_first(
     nodes: Vec<NetworkNode>,
     scenario: &SharedScenario,

@@ -6,7 +6,7 @@ use Rattle.mv_base.specs.Octets.{IsOctets}
 use Rattle.mv_base.specs.framing.Units.{Spelled, octets_of, messages_of, AreUnits}
 use Rattle.mv_base.specs.framing.Cut.{Front, with_front, cut}
 use Rattle.mv_base.specs.framing.Cut.Front.{more, whole, bad}
-use Rattle.mv_base.proofs.framing.Cuts.{IsStream, waits, past_all, IsOctets-behind}
+use Rattle.mv_base.proofs.framing.Cuts.{IsStream, waits, past_all, IsOctets-after}
 
 -- the units that came whole, those that did not yet, and what came of the first of these
 pub record Came {M E : Type 0} (front : List ℕ → Front M E) (Spells : List M → List ℕ → Type 0) (here coming : List ℕ)
@@ -47,7 +47,7 @@ nothing_in : (xs ys : List ℕ) → xs ++ ys ≡ [] → (xs ≡ []) × (ys ≡ [
 nothing_in [] ys e = (refl, e)
 nothing_in (x ∷ xs) ys e = absurd cc
 
--- the first unit came, and some of what is behind it
+-- the first unit came, and some of what is after it
 one_whole : {M E : Type 0} (front : List ℕ → Front M E) (Spells : List M → List ℕ → Type 0) (here coming after : List ℕ) (unit : Spelled M)
     (units : List (Spelled M)) → Spells unit.messages unit.octets → here ≡ unit.octets ++ after → Came front Spells after coming units
     → Came front Spells here coming (unit ∷ units)
@@ -63,7 +63,7 @@ one_whole front Spells here coming after unit units spells split further = recor
   partial = further.partial;
 }
 
--- What came of whole units is some of them, and less than a whole one behind them.
+-- What came of whole units is some of them, and less than a whole one after them.
 pub came : {M E : Type 0} (front : List ℕ → Front M E) (Spells : List M → List ℕ → Type 0) → IsStream front Spells
     → (here coming : List ℕ) (units : List (Spelled M)) → AreUnits Spells units → IsOctets here → here ++ coming ≡ octets_of units
     → Came front Spells here coming units
@@ -103,7 +103,7 @@ came front Spells stream here coming (unit ∷ units) are fits same =
           sym (append_assoc unit.octets (drop n here) coming) ∙ ap (λ (xs : List ℕ). xs ++ coming) (sym split) ∙ same in
           let tail : drop n here ++ coming ≡ octets_of units = append_cancel_left unit.octets (drop n here ++ coming) (octets_of units) grouped in
           one_whole front Spells here coming (drop n here) unit units are.0 split
-          (came front Spells stream (drop n here) coming units are.1 (IsOctets-behind unit.octets (drop n here) (subst IsOctets split fits)) tail)
+          (came front Spells stream (drop n here) coming units are.1 (IsOctets-after unit.octets (drop n here) (subst IsOctets split fits)) tail)
     ]
 
 -- The cut gives the messages of the units that came whole, and no fault.

@@ -40,7 +40,7 @@ seen_earlier Good puts (Some new) found (left, lines, same, good) = (left, lines
 
 -- ---- what is put
 
--- what is pending behind these puts
+-- what is pending after these puts
 abbrev pub with_news : {S : Type 0} → OctetNetwork S → (Direction → List SessionMessage) → List Put → Direction → List SessionMessage
 with_news network pending puts other = cond (network.joined other) (pending other ++ messages_over other puts) (pending other)
 
@@ -52,7 +52,7 @@ news_are network pending new lines are other =
 
 -- ---- messages in front
 
--- these messages over the direction, and behind them what is pending
+-- these messages over the direction, and after them what is pending
 abbrev pub in_front : Direction → List SessionMessage → (Direction → List SessionMessage) → Direction → List SessionMessage
 in_front direction first pending other = cond (same_direction other direction) (first ++ pending other) (pending other)
 

@@ -46,9 +46,9 @@ pub are_before : {M : Type 0} (P : List M → List ℕ → Type 0) (a b : List (
 are_before P [] b h = tt
 are_before P (unit ∷ units) b h = (h.0, are_before P units b h.1)
 
-pub are_behind : {M : Type 0} (P : List M → List ℕ → Type 0) (a b : List (Spelled M)) → AreUnits P (a ++ b) → AreUnits P b
-are_behind P [] b h = h
-are_behind P (unit ∷ units) b h = are_behind P units b h.1
+pub are_after : {M : Type 0} (P : List M → List ℕ → Type 0) (a b : List (Spelled M)) → AreUnits P (a ++ b) → AreUnits P b
+are_after P [] b h = h
+are_after P (unit ∷ units) b h = are_after P units b h.1
 
 -- ---- one direction
 
@@ -107,9 +107,9 @@ sent_over direction (put ∷ puts) are =
 
 -- ---- lines
 
-put_behind : (kind : Kind) (stream : Stream) (transit : List ℕ) (pending : List SessionMessage) (octets : List ℕ) (messages : List SessionMessage)
+put_after : (kind : Kind) (stream : Stream) (transit : List ℕ) (pending : List SessionMessage) (octets : List ℕ) (messages : List SessionMessage)
     → Sent kind octets messages → Carried kind stream transit pending → Carried kind stream (transit ++ octets) (pending ++ messages)
-put_behind kind stream transit pending octets messages sent c = record {
+put_after kind stream transit pending octets messages sent c = record {
   units = c.units ++ sent.units;
   each = are_both (IsPut kind) c.units sent.units c.each sent.each;
   octets = sym (append_assoc stream.held transit octets) ∙ ap (λ (xs : List ℕ). xs ++ octets) c.octets
@@ -126,7 +126,7 @@ put_behind kind stream transit pending octets messages sent c = record {
 pub line_sent : (kind : Kind) (joined : Bool) (stream : Stream) (transit : List ℕ) (pending : List SessionMessage) (octets : List ℕ)
     (messages : List SessionMessage) → Sent kind octets messages → IsLine kind joined stream transit pending
     → IsLine kind joined stream (cond joined (transit ++ octets) transit) (cond joined (pending ++ messages) pending)
-line_sent kind true stream transit pending octets messages sent line = put_behind kind stream transit pending octets messages sent line
+line_sent kind true stream transit pending octets messages sent line = put_after kind stream transit pending octets messages sent line
 line_sent kind false stream transit pending octets messages sent line = line
 
 pub line_lost : (kind : Kind) (hit joined : Bool) (stream : Stream) (transit : List ℕ) (pending : List SessionMessage)

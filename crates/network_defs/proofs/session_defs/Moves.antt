@@ -17,7 +17,7 @@ use Rattle.network_defs.specs.session_defs.Octets.{Stream, OctetNetwork, all_tak
 use Rattle.network_defs.specs.session_defs.Refined.{Carried, IsLine, AreLines, seen, IsCarried, IsHonest, IsHonestWhile, MovesFirst, deliveries}
 use Rattle.network_defs.proofs.session_defs.Fronts.{stream_of}
 use Rattle.network_defs.proofs.session_defs.Came.{Came, came, came_cut, came_all}
-use Rattle.network_defs.proofs.session_defs.Lines.{are_spelled, are_octets, all_both, are_before, are_behind, line_moved, direction_is}
+use Rattle.network_defs.proofs.session_defs.Lines.{are_spelled, are_octets, all_both, are_before, are_after, line_moved, direction_is}
 use Rattle.network_defs.proofs.session_defs.Deliveries.{IsSeen, in_front, honest_while, taken_seen}
 
 -- ---- what comes of one line
@@ -55,7 +55,7 @@ left_carried : (kind : Kind) (stream : Stream) (transit : List ℕ) (pending : L
     → Carried kind (rests stream (stream.held ++ take count transit) some.rest) (drop count transit) (messages_of some.left)
 left_carried kind stream transit pending count c some = record {
   units = some.left;
-  each = are_behind (IsPut kind) some.done some.left (subst (AreUnits (IsPut kind)) some.both c.each);
+  each = are_after (IsPut kind) some.done some.left (subst (AreUnits (IsPut kind)) some.both c.each);
   octets = some.comes;
   messages = refl;
   partial = some.partial;
@@ -81,7 +81,7 @@ all_carried : (kind : Kind) (text : List ℕ) (before messages : List SessionMes
     → AllByRecursion (λ (message : SessionMessage). IsCarried kind message) messages
 all_carried kind text before [] put = tt
 all_carried kind text before (message ∷ messages) put = (
-  record { before = before; behind = messages; text = text; put = put },
+  record { before = before; thereafter = messages; text = text; put = put },
   all_carried kind text (before ++ message ∷ []) messages
       (subst (λ (ms : List SessionMessage). IsPut kind ms text) (sym (append_assoc before (message ∷ []) messages)) put),
 )

@@ -21,9 +21,9 @@ nothing_earlier : {N : Type 0} (new : Option (Behind N)) → with_earlier [] new
 nothing_earlier None = refl
 nothing_earlier (Some new) = refl
 
-none_behind : {N : Type 0} (puts : List Put) (new : Option (Behind N)) → with_earlier puts new ≡ None → new ≡ None
-none_behind puts None e = refl
-none_behind puts (Some new) e = absurd cc
+none_after : {N : Type 0} (puts : List Put) (new : Option (Behind N)) → with_earlier puts new ≡ None → new ≡ None
+none_after puts None e = refl
+none_after puts (Some new) e = absurd cc
 
 -- what was put before both
 both_earlier : {N : Type 0} (first then_puts : List Put) (new : Option (Behind N))
@@ -32,7 +32,7 @@ both_earlier first then_puts None = refl
 both_earlier first then_puts (Some new) =
     ap (λ (puts : List Put). Some (record { network = new.network; puts = puts })) (append_assoc first then_puts new.puts)
 
--- the acts go on behind a network
+-- the acts go on after a network
 abbrev pub goes_on : {S X : Type 0} → System S X → List (MessageAct X) → Option (Behind (MessageNetwork S)) → Option (Behind (MessageNetwork S))
 goes_on system acts found = found >>? λ next. with_earlier next.puts (message_run system next.network acts)
 
@@ -41,7 +41,7 @@ earlier_goes_on : {S X : Type 0} (system : System S X) (acts : List (MessageAct 
 earlier_goes_on system acts puts None = refl
 earlier_goes_on system acts puts (Some next) = both_earlier puts next.puts (message_run system next.network acts)
 
--- one row behind another
+-- one row after another
 one_more : {S X : Type 0} (system : System S X) (first others : List (MessageAct X))
     → ((network : MessageNetwork S) → message_run system network (first ++ others) ≡ goes_on system others (message_run system network first))
     → (found : Option (Behind (MessageNetwork S))) → goes_on system (first ++ others) found ≡ goes_on system others (goes_on system first found)
@@ -146,7 +146,7 @@ pub record Acted {S X : Type 0} (system : System S X) (Good : S → Type 0) (old
   pub acts : List (MessageAct X)
   pub outcome : IsSeen Good new (message_run system (seen old pending) acts)
 
--- a first act, and the run behind it
+-- a first act, and the run after it
 run_on : {S X : Type 0} (system : System S X) (Good : S → Type 0) (old : OctetNetwork S) (pending : Direction → List SessionMessage)
     (acts : List (OctetAct X)) (new : Option (Behind (OctetNetwork S)))
     → ((next : OctetNetwork S) (waiting : Direction → List SessionMessage) → AreLines next waiting → Good next.state
@@ -195,7 +195,7 @@ record Stops {S X : Type 0} (system : System S X) (old : OctetNetwork S) (acts :
   pub run : octet_run system old before ≡ Some middle
   pub none : octet_act system middle.network act ≡ None
 
--- a first act, and the run behind it
+-- a first act, and the run after it
 stops_on : {S X : Type 0} (system : System S X) (old : OctetNetwork S) (one : OctetAct X) (acts : List (OctetAct X))
     → ((next : OctetNetwork S) → octet_run system next acts ≡ None → Stops system next acts)
     → (new : Option (Behind (OctetNetwork S))) → octet_act system old one ≡ new
@@ -203,7 +203,7 @@ stops_on : {S X : Type 0} (system : System S X) (old : OctetNetwork S) (one : Oc
 stops_on system old one acts others None is e =
     record { before = []; act = one; after = acts; parts = refl; middle = record { network = old; puts = [] }; run = refl; none = is }
 stops_on system old one acts others (Some next) is e =
-    let s = others next.network (none_behind next.puts (octet_run system next.network acts) e) in
+    let s = others next.network (none_after next.puts (octet_run system next.network acts) e) in
     record {
       before = one ∷ s.before;
       act = s.act;

@@ -43,7 +43,7 @@ waiting_at waiting session = elim (maps.get waiting session) [ None ↦ [] | Som
 abbrev pub session_of : Put → PeerSession
 session_of put = record { kind = put.over.kind; peer = put.over.to }
 
--- each unit that is put waits behind what waits for its session
+-- each unit that is put waits after what waits for its session
 abbrev pub with_puts : List Put → FinMap peer_cmp (List ℕ) → FinMap peer_cmp (List ℕ)
 with_puts [] waiting = waiting
 with_puts (put ∷ more) waiting =
@@ -57,14 +57,14 @@ edge_puts place now old new =
 
 -- ---- steps
 
--- the edge behind a step; one that lacks a label is spent
-abbrev pub behind : EdgePlace → ℕ → EdgeState → Option EdgeStepped → EdgeState
-behind place now old None = record old { spent = Some LacksLabel }
-behind place now old (Some new) = record old { edge = new.edge; waiting = with_puts (edge_puts place now old.edge new) old.waiting }
+-- the edge after a step; one that lacks a label is spent
+abbrev pub thereafter : EdgePlace → ℕ → EdgeState → Option EdgeStepped → EdgeState
+thereafter place now old None = record old { spent = Some LacksLabel }
+thereafter place now old (Some new) = record old { edge = new.edge; waiting = with_puts (edge_puts place now old.edge new) old.waiting }
 
 -- a step of an edge, unless it is spent
 abbrev pub stepped_unless : Option Spent → EdgePlace → ℕ → EdgeState → steps.Call → EdgeState
-stepped_unless None place now old call = behind place now old (edge_step place now old.edge call)
+stepped_unless None place now old call = thereafter place now old (edge_step place now old.edge call)
 stepped_unless (Some spent) place now old call = old
 
 abbrev pub stepped : EdgePlace → ℕ → EdgeState → steps.Call → EdgeState
@@ -89,7 +89,7 @@ prepared (steps.Raised kind peer) old = with_stream (record { kind = kind; peer 
 prepared (steps.Noticed kind peer) old = without_session (record { kind = kind; peer = peer }) old
 prepared other old = old
 
--- the edge behind a call of its own, unless it is spent
+-- the edge after a call of its own, unless it is spent
 abbrev pub called_unless : Option Spent → EdgePlace → ℕ → EdgeState → steps.Call → EdgeState
 called_unless None place now old call = stepped place now (prepared call old) call
 called_unless (Some spent) place now old call = old
@@ -115,7 +115,7 @@ fed_octets place now session octets old =
     let new = fed (front_of session.kind) (stream_at old.streams session) octets in
     all_taken place now session.peer new.waiting (record old { streams = maps.insert old.streams session (record new { waiting = [] }) })
 
--- The edge behind octets that it takes. A stream that has had its first fault takes no more, and a node that is spent takes nothing.
+-- The edge after octets that it takes. A stream that has had its first fault takes no more, and a node that is spent takes nothing.
 abbrev pub took_unless : Option Spent → Option (ℕ × SessionFault) → EdgePlace → ℕ → PeerSession → List ℕ → EdgeState → EdgeState
 took_unless None None place now session octets old = fed_octets place now session octets old
 took_unless None (Some fault) place now session octets old = old

@@ -34,7 +34,7 @@ update_unit change = record {
 abbrev pub bgp_put : NodeId → NodeId → Change Key Value → Put
 bgp_put me peer change = record { over = record { kind = kinds.Bgp; from = me; to = peer }; unit = update_unit change }
 
--- what a step of an edge puts to its peers, by what it kept before and keeps behind it
+-- what a step of an edge puts to its peers, by what it kept before and keeps after it
 abbrev pub bgp_puts : EdgePlace → Control → Control → List Put
 bgp_puts place old new = flat_map (λ peer. map (bgp_put place.me peer) (put_to place old new peer)) (edges place.scenario)
 

@@ -53,7 +53,7 @@ start = record {
   stream = λ direction. unfed;
 }
 
--- the messages that have come behind these acts
+-- the messages that have come after these acts
 abbrev pub kept : List (OctetAct ⊤) → Option (List SessionMessage)
 kept acts = octet_run keeping start acts >>? λ new. Some new.network.state
 

@@ -84,7 +84,7 @@ octet_act system old (Join hit) = Some (record {
   puts = [];
 })
 
--- the network behind a row of acts
+-- the network after a row of acts
 abbrev pub octet_run : {S X : Type 0} → System S X → OctetNetwork S → List (OctetAct X) → Option (Behind (OctetNetwork S))
 octet_run system old [] = Some (record { network = old; puts = [] })
 octet_run system old (act ∷ acts) = octet_act system old act >>? λ next. with_earlier next.puts (octet_run system next.network acts)

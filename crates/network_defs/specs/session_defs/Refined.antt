@@ -11,7 +11,7 @@ use Rattle.network_defs.specs.session_defs.System.MessageAct.{Deliver, Call as C
 use Rattle.network_defs.specs.session_defs.Octets.{Stream, OctetNetwork, OctetAct, octet_act, octet_run}
 use Rattle.network_defs.specs.session_defs.Octets.OctetAct.{Move, Call}
 
--- What is held back, with what is in transit behind it, is whole units, and they carry what is pending. No whole unit is held back.
+-- What is held back, with what is in transit after it, is whole units, and they carry what is pending. No whole unit is held back.
 pub record Carried (kind : Kind) (stream : Stream) (transit : List ℕ) (pending : List SessionMessage) : Type 0 where
   pub units : List (Spelled SessionMessage)
   pub each : AreUnits (IsPut kind) units
@@ -43,9 +43,9 @@ ArePut (Some new) = AllByRecursion (λ (put : Put). IsPut put.over.kind put.unit
 -- one of the messages of a unit that is spelled as a session of this kind asks
 pub record IsCarried (kind : Kind) (message : SessionMessage) : Type 0 where
   pub before : List SessionMessage
-  pub behind : List SessionMessage
+  pub thereafter : List SessionMessage
   pub text : List ℕ
-  pub put : IsPut kind (before ++ message ∷ behind) text
+  pub put : IsPut kind (before ++ message ∷ thereafter) text
 
 -- Nodes put only spelled units: at each call of their own, and with each message that a spelled unit carries.
 pub record IsHonest {S X : Type 0} (system : System S X) : Type 0 where
@@ -53,7 +53,7 @@ pub record IsHonest {S X : Type 0} (system : System S X) : Type 0 where
       ArePut (system.taken direction message state)
   pub called : (call : X) (state : S) → ArePut (system.called call state)
 
--- each unit that is put is spelled, and the state behind is a good one
+-- each unit that is put is spelled, and the state after is a good one
 abbrev pub Keeps : {S : Type 0} → (S → Type 0) → Option (Stepped S) → Type 0
 Keeps Good None = ⊤
 Keeps Good (Some new) = ArePut (Some new) × Good new.state

@@ -11,7 +11,7 @@ pub record Put : Type 0 where
   pub over : Direction
   pub unit : Spelled SessionMessage
 
--- all nodes behind a step, and what was put, in order
+-- all nodes after a step, and what was put, in order
 pub record Stepped (S : Type 0) : Type 0 where
   pub state : S
   pub puts : List Put
@@ -37,7 +37,7 @@ pub record MessageNetwork (S : Type 0) : Type 0 where
   pub joined : Direction → Bool
   pub transit : Direction → List SessionMessage
 
--- A network behind acts, and all that was put in them.
+-- A network after acts, and all that was put in them.
 pub record Behind (N : Type 0) : Type 0 where
   pub network : N
   pub puts : List Put
@@ -50,7 +50,7 @@ pub data MessageAct (X : Type 0) : Type 0 where
   Lose : (hit : Direction → Bool) → MessageAct X
   Join : (hit : Direction → Bool) → MessageAct X
 
--- what is put goes behind what is in transit; it is lost where the session is not joined
+-- what is put goes after what is in transit; it is lost where the session is not joined
 abbrev pub with_messages : {S : Type 0} → MessageNetwork S → Stepped S → MessageNetwork S
 with_messages old new = record {
   state = new.state;
@@ -93,12 +93,12 @@ message_act system old (Join hit) = Some (record {
   puts = [];
 })
 
--- the network behind, with what was put before it
+-- the network after, with what was put before it
 abbrev pub with_earlier : {N : Type 0} → List Put → Option (Behind N) → Option (Behind N)
 with_earlier puts None = None
 with_earlier puts (Some new) = Some (record { network = new.network; puts = puts ++ new.puts })
 
--- the network behind a row of acts
+-- the network after a row of acts
 abbrev pub message_run : {S X : Type 0} → System S X → MessageNetwork S → List (MessageAct X) → Option (Behind (MessageNetwork S))
 message_run system old [] = Some (record { network = old; puts = [] })
 message_run system old (act ∷ acts) = message_act system old act >>? λ next. with_earlier next.puts (message_run system next.network acts)

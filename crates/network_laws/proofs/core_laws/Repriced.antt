@@ -96,9 +96,9 @@ module _ (links others : List Link) (h : AreRepriced links others) where
 
   walk_kept : (steps : List ℕ) (from to cost : ℕ) → IsWalk links from steps to cost → Reaches others from to
   walk_kept [] from to cost walk = subst (λ (k : ℕ). Reaches others from k) walk.0 (reaches_itself others from)
-  walk_kept (next ∷ behind) from to cost walk =
+  walk_kept (next ∷ thereafter) from to cost walk =
       let linked = linked_kept from next walk.0 walk.2 in
-      step_reaches others from next to linked.0 linked.1 (walk_kept behind next to walk.1 walk.3)
+      step_reaches others from next to linked.0 linked.1 (walk_kept thereafter next to walk.1 walk.3)
 
   pub repriced_connected : (nodes : ℕ) → IsConnected nodes links → IsConnected nodes others
   repriced_connected nodes reach node within = let walk = reach node within in walk_kept walk.steps 0 node walk.cost walk.walk

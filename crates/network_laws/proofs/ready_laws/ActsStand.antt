@@ -55,7 +55,7 @@ puts_refuse_none scenario puts = none_of_rows (put_line puts) (λ over. by over 
 
 -- ---- what an act gives
 
--- The world behind the act, if it does not lack a label, has the property, and no line refuses an event.
+-- The world after the act, if it does not lack a label, has the property, and no line refuses an event.
 abbrev pub Gives : (World → Type 0) → Result Acted NodeId → Type 0
 Gives P (Err node) = ⊤
 Gives P (Ok new) = (refused_in new.lines ≡ []) × P new.world
@@ -129,7 +129,7 @@ landing_gives P world from to place (Some copy) p = landed_gives P (without_copy
 
 -- ---- acts
 
--- where the sessions stand behind an act
+-- where the sessions stand after an act
 abbrev pub act_stand : Scenario → Act → SessionsStand → SessionsStand
 act_stand scenario (Tick ticks) old = later ticks old
 act_stand scenario (Timers n) old = call_stand scenario n steps.Timers old

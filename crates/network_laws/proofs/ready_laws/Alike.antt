@@ -1,4 +1,4 @@
--- Where the sessions stand by the events and by the acts: alike at each session, also behind a raise.
+-- Where the sessions stand by the events and by the acts: alike at each session, also after a raise.
 use Rattle.std.specs.Prelude.{if◌then◌else◌, find}
 use Rattle.std.proofs.Common.{◌≡◌, ◌==◌, Bool, true, false, cond, ◌&&◌, ◌||◌, List, [], ◌∷◌, Option, Some, None, inl, inr, refl, sym, ap, ◌∙◌}
 use Rattle.std.proofs.lemmas.Bool.{and_parts, or_parts, or_cases}
@@ -59,8 +59,8 @@ none_passes test (first ∷ more) e session h = by (test first) refl e (λ none 
   where
     by : (t : Bool) → test first ≡ t → (if t then Some first else find test more) ≡ None
         → (find test more ≡ None → IsIn session more → test session ≡ false) → test session ≡ false
-    by true is g behind = absurd cc
-    by false is g behind = elim h [ inl same ↦ ap test same ∙ is | inr later ↦ behind g later ]
+    by true is g thereafter = absurd cc
+    by false is g thereafter = elim h [ inl same ↦ ap test same ∙ is | inr later ↦ thereafter g later ]
 
 -- ---- a raise
 
@@ -97,7 +97,7 @@ risen : (t : Bool) (new next old before : Option UpEnd) → new ≡ next → (t 
 risen true new next old before e h = e
 risen false new next old before e h = h refl
 
--- where the sessions stand behind the two acts of a raise
+-- where the sessions stand after the two acts of a raise
 abbrev pub raise_stand : Scenario → Kind → NodeId → NodeId → SessionsStand → SessionsStand
 raise_stand scenario kind a b old = act_stand scenario (RaiseSecond kind a b) (act_stand scenario (RaiseFirst kind a b) old)
 

@@ -24,7 +24,7 @@ use Rattle.scenario_defs.specs.Kinds.{same_kind}
 use Rattle.network_defs.specs.Costs.{Cores}
 use Rattle.network_defs.specs.Counts.{is_joined, are_held, is_ready, unready}
 use Rattle.network_defs.specs.Run.{Traced, Run, report_of}
-use Rattle.network_defs.specs.mvpn_model.Unready.{SessionsStand, none_joined, sessions_stand, is_held, is_ready_in, unready_behind}
+use Rattle.network_defs.specs.mvpn_model.Unready.{SessionsStand, none_joined, sessions_stand, is_held, is_ready_in, unready_after}
 use Rattle.network_defs.specs.World.{World, start}
 use Rattle.network_laws.proofs.ready_laws.Nodes.{end_of, fresh_end}
 use Rattle.network_laws.proofs.ready_laws.TimersAlike.{HasNodes}
@@ -105,7 +105,7 @@ start_tells scenario cores = record {
 
 pub told_unready : (cores : Cores) (script : Script) (events : List Timed) (trace : List Traced) (new : World) → Rules script.scenario
     → Rises 0 events → Run cores script events trace new
-    → unready new ≡ unready_behind (record { scenario = script.scenario; events = events; refused = refused_lines (report_of trace) })
+    → unready new ≡ unready_after (record { scenario = script.scenario; events = events; refused = refused_lines (report_of trace) })
 told_unready cores script events trace new rules rises run =
     let scenario = script.scenario in
     let refused = refused_lines (report_of trace) in

@@ -59,11 +59,11 @@ up_in ends peer = option_map up_end (maps.get ends peer)
 abbrev pub new_end : ℕ → UpEnd
 new_end now = record { raised = now; held = false }
 
--- an end behind the timers
+-- an end after the timers
 abbrev pub end_run : ℕ → ℕ → Option UpEnd → Option UpEnd
 end_run life now old = elim old [ None ↦ None | Some end ↦ Some (hold_run life now end) ]
 
--- the end of the session with a peer behind a call, by what it was before
+-- the end of the session with a peer after a call, by what it was before
 abbrev pub end_by : ℕ → ℕ → Call → NodeId → Option UpEnd → Option UpEnd
 end_by life now (Raised own) peer old = if peer.0 == own.0 then Some (new_end now) else old
 end_by life now (Noticed own) peer old = if peer.0 == own.0 then None else old
@@ -177,7 +177,7 @@ each_leaf new (fec ∷ more) = (by (sets.contains new fec), each_leaf new more)
 pub leaves_are : (old new : FinSet fec_cmp) → AllByRecursion IsOfLeaf (changed_leaves old new)
 leaves_are old new = each_leaf new (filter (λ fec. not (sets.contains old fec && sets.contains new fec)) (in_order (sets.union old new)))
 
--- the ends behind a row are those before it
+-- the ends after a row are those before it
 abbrev SameBehind : LabelData → List LabelStep → Type 0
 SameBehind part row = (peer : NodeId) → up_in (part_after part row).ends peer ≡ up_in part.ends peer
 
@@ -188,19 +188,19 @@ leaves_end place now part (call ∷ more) h =
     holds_then (λ (new : Stepped). (peer : NodeId) → up_in new.part.ends peer ≡ end_by place.scenario.life now call peer (up_in part.ends peer))
     (SameBehind part)
     (label_step (label_place place.scenario place.core place.me) now part call)
-    (λ new. label_row place now new.part more >>? λ behind. Some (record { old = part; call = call; new = new } ∷ behind))
+    (λ new. label_row place now new.part more >>? λ thereafter. Some (record { old = part; call = call; new = new } ∷ thereafter))
     (step_end (label_place place.scenario place.core place.me) now part call) (λ new p.
     holds_then (SameBehind new.part) (SameBehind part) (label_row place now new.part more)
-    (λ behind. Some (record { old = part; call = call; new = new } ∷ behind))
-    (leaves_end place now new.part more h.1) (λ behind q peer. q peer ∙ p peer
+    (λ thereafter. Some (record { old = part; call = call; new = new } ∷ thereafter))
+    (leaves_end place now new.part more h.1) (λ thereafter q peer. q peer ∙ p peer
     ∙ leaf_end place.scenario.life now call peer (up_in part.ends peer) h.0))
 
--- the end of the session with a peer behind the call that a step makes, if it makes one
+-- the end of the session with a peer after the call that a step makes, if it makes one
 abbrev pub end_with : ℕ → ℕ → Option Call → NodeId → Option UpEnd → Option UpEnd
 end_with life now None peer old = old
 end_with life now (Some call) peer old = end_by life now call peer old
 
--- the ends behind a row are those of its first call
+-- the ends after a row are those of its first call
 abbrev pub EndsBehind : ℕ → ℕ → Option Call → LabelData → LabelData → Type 0
 EndsBehind life now own old new = (peer : NodeId) → up_in new.ends peer ≡ end_with life now own peer (up_in old.ends peer)
 
@@ -211,8 +211,8 @@ row_end place now part (Some call) calls h =
     holds_then (λ (new : Stepped). (peer : NodeId) → up_in new.part.ends peer ≡ end_by place.scenario.life now call peer (up_in part.ends peer))
     (λ row. EndsBehind place.scenario.life now (Some call) part (part_after part row))
     (label_step (label_place place.scenario place.core place.me) now part call)
-    (λ new. label_row place now new.part calls >>? λ behind. Some (record { old = part; call = call; new = new } ∷ behind))
+    (λ new. label_row place now new.part calls >>? λ thereafter. Some (record { old = part; call = call; new = new } ∷ thereafter))
     (step_end (label_place place.scenario place.core place.me) now part call) (λ new p.
     holds_then (SameBehind new.part) (λ row. EndsBehind place.scenario.life now (Some call) part (part_after part row))
-    (label_row place now new.part calls) (λ behind. Some (record { old = part; call = call; new = new } ∷ behind))
-    (leaves_end place now new.part calls h) (λ behind q peer. q peer ∙ p peer))
+    (label_row place now new.part calls) (λ thereafter. Some (record { old = part; call = call; new = new } ∷ thereafter))
+    (leaves_end place now new.part calls h) (λ thereafter q peer. q peer ∙ p peer))

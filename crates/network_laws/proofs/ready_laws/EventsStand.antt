@@ -27,14 +27,14 @@ pub record Tells (scenario : Scenario) (told : SessionsStand) (world : World) : 
   pub stands : WorldStands scenario standing world
   pub alike : Alike scenario told standing
 
--- behind a row of acts
+-- after a row of acts
 pub row_tells : (scenario : Scenario) (told standing : SessionsStand) (acts : List Act) (world : World) → WorldStands scenario standing world
     → Alike scenario told (acts_stand scenario acts standing) → Comes (Tells scenario told) (row acts world)
 row_tells scenario told standing acts world s h =
     comes_as (WorldStands scenario (acts_stand scenario acts standing)) (Tells scenario told) (row acts world)
     (λ new p. record { standing = acts_stand scenario acts standing; stands = p; alike = h }) (row_comes scenario standing acts world s)
 
--- behind acts that change nothing of it
+-- after acts that change nothing of it
 pub still_tells : (scenario : Scenario) (told : SessionsStand) (o : Outcome) (world : World) → Tells scenario told world
     → ((standing : SessionsStand) → WorldStands scenario standing world → Comes (WorldStands scenario standing) o) → Comes (Tells scenario told) o
 still_tells scenario told o world t h =

@@ -1,4 +1,4 @@
--- Behind each event the sessions of the network stand as the events tell.
+-- After each event the sessions of the network stand as the events tell.
 use Rattle.std.specs.Prelude.{if◌then◌else◌}
 use Rattle.std.proofs.Common.{◌≡◌, ℕ, ◌+◌, ◌==◌, Bool, true, false, not, cond, ◌&&◌, ◌||◌, ◌++◌, length, List, [], ◌∷◌, Option, Some, None, refl, sym, ap, ◌∙◌}
 use Rattle.mv_base.specs.declared.ids.NodeId.{NodeId}
@@ -23,7 +23,7 @@ use Rattle.network_defs.specs.Counts.{directions, link_ways, all_nodes}
 use Rattle.network_defs.specs.Events.{Done, row, each, times, turn, settled, landings, drain_round, drained, sent, cost_acts, at_edge, done, called}
 use Rattle.network_defs.specs.mvpn_model.Packets.{source_in, group_in}
 use Rattle.network_defs.specs.Refusals.{call_for, edge_for}
-use Rattle.network_defs.specs.mvpn_model.Unready.{SessionsStand, is_that, timed, behind}
+use Rattle.network_defs.specs.mvpn_model.Unready.{SessionsStand, is_that, timed, thereafter}
 use Rattle.network_defs.specs.World.{World, scenario_of}
 use Rattle.network_laws.proofs.ready_laws.Nodes.{KeepsEnds}
 use Rattle.network_laws.proofs.ready_laws.ActsStand.{WorldStands, act_stand}
@@ -79,7 +79,7 @@ notice_alike scenario told standing kind a b h = record {
 }
 
 restart_alike : (scenario : Scenario) (told standing : SessionsStand) (node : NodeId) → Alike scenario told standing
-    → Alike scenario (behind scenario told (events.Restart node)) (act_stand scenario (Restart node) standing)
+    → Alike scenario (thereafter scenario told (events.Restart node)) (act_stand scenario (Restart node) standing)
 restart_alike scenario told standing node h = record {
   clock = h.clock;
   each = λ session is.
@@ -177,7 +177,7 @@ cost_tells told world a b cost t =
 -- ---- events
 
 pub event_tells : (told : SessionsStand) (world : World) → HasNodes (scenario_of world) → Tells (scenario_of world) told world → (event : Event)
-    → Comes (Tells (scenario_of world) (behind (scenario_of world) told event)) (done world event)
+    → Comes (Tells (scenario_of world) (thereafter (scenario_of world) told event)) (done world event)
 event_tells told world has t (events.Tick count) =
     row_tells (scenario_of world) _ t.standing (Tick count ∷ []) world t.stands (later_alike (scenario_of world) told t.standing count t.alike)
 event_tells told world has t (events.Timers node) =

@@ -30,14 +30,14 @@ end_of nodes n peer = up_in (part_of (nodes.node n)).ends peer
 
 -- ---- one node
 
--- Behind a step, only the ends of that node are others, as its label call says.
+-- After a step, only the ends of that node are others, as its label call says.
 pub record Called (old : Nodes) (n : NodeId) (own : Option Call) (new : Nodes) : Type 0 where
   pub place : new.scenario ≡ old.scenario
   pub clock : new.clock ≡ old.clock
   pub ends : (m peer : NodeId) → end_of new m peer
       ≡ (if m.0 == n.0 then end_with old.scenario.life old.clock own peer (end_of old m peer) else end_of old m peer)
 
--- the ends behind one node that becomes another
+-- the ends after one node that becomes another
 pub node_ends : (nodes : Nodes) (n : NodeId) (new : NodeState) (change : NodeId → Option UpEnd → Option UpEnd)
     → ((peer : NodeId) → up_in (part_of new).ends peer ≡ change peer (end_of nodes n peer))
     → (m peer : NodeId) → end_of (with_node nodes n new) m peer ≡ cond (m.0 == n.0) (change peer (end_of nodes m peer)) (end_of nodes m peer)
@@ -48,13 +48,13 @@ node_ends nodes n new change h m peer = by (m.0 == n.0) refl
     by true e = h peer ∙ ap (λ x. change peer (end_of nodes x peer)) (sym (node_equal m n e))
     by false e = refl
 
-node_behind : (nodes : Nodes) (n : NodeId) (own : Option Call) (new : NodeState)
+node_after : (nodes : Nodes) (n : NodeId) (own : Option Call) (new : NodeState)
     → EndsBehind nodes.scenario.life nodes.clock own (part_of (nodes.node n)) (part_of new) → Called nodes n own (with_node nodes n new)
-node_behind nodes n own new h = record { place = refl; clock = refl; ends = node_ends nodes n new (end_with nodes.scenario.life nodes.clock own) h }
+node_after nodes n own new h = record { place = refl; clock = refl; ends = node_ends nodes n new (end_with nodes.scenario.life nodes.clock own) h }
 
-edge_behind : (nodes : Nodes) (n : NodeId) (edge : EdgeData) (call : steps.Call) → nodes.node n ≡ Edge edge
+edge_thereafter : (nodes : Nodes) (n : NodeId) (edge : EdgeData) (call : steps.Call) → nodes.node n ≡ Edge edge
     → Holds (λ (new : Stepped Nodes). Called nodes n (own_label_call call) new.state) (edge_stepped nodes n edge call)
-edge_behind nodes n edge call is =
+edge_thereafter nodes n edge call is =
     let place = place_of nodes n in
     let control = control_step place nodes.clock edge.control call in
     let calls = changed_leaves (leaves place edge.control) (leaves place control) in
@@ -65,29 +65,29 @@ edge_behind nodes n edge call is =
     (λ (new : EdgeStepped). EndsBehind nodes.scenario.life nodes.clock own edge.part new.edge.part)
     (label_row place nodes.clock edge.part (one_call own ++ calls)) _
     (row_end place nodes.clock edge.part own calls (leaves_are (leaves place edge.control) (leaves place control))) (λ row h. h))
-    (λ new h. node_behind nodes n own (Edge new.edge)
+    (λ new h. node_after nodes n own (Edge new.edge)
     (subst (λ (x : NodeState). EndsBehind nodes.scenario.life nodes.clock own (part_of x) new.edge.part) (sym is) h))
 
 same_node : (t : Bool) (old : Option UpEnd) → old ≡ cond t old old
 same_node true old = refl
 same_node false old = refl
 
-core_behind : (nodes : Nodes) (n : NodeId) (part : LabelData) (own : Option Call) → nodes.node n ≡ CoreNode part
+core_after : (nodes : Nodes) (n : NodeId) (part : LabelData) (own : Option Call) → nodes.node n ≡ CoreNode part
     → Holds (λ (new : Stepped Nodes). Called nodes n own new.state) (core_called nodes n part own)
-core_behind nodes n part None is = record { place = refl; clock = refl; ends = λ m peer. same_node (m.0 == n.0) (end_of nodes m peer) }
-core_behind nodes n part (Some call) is =
+core_after nodes n part None is = record { place = refl; clock = refl; ends = λ m peer. same_node (m.0 == n.0) (end_of nodes m peer) }
+core_after nodes n part (Some call) is =
     holds_then (λ (new : settling.Stepped). (peer : NodeId)
     → up_in new.part.ends peer ≡ end_by nodes.scenario.life nodes.clock call peer (up_in part.ends peer))
     (λ (new : Stepped Nodes). Called nodes n (Some call) new.state)
     (label_step (label_place_of nodes n) nodes.clock part call) _
     (step_end (label_place_of nodes n) nodes.clock part call)
-    (λ new h. node_behind nodes n (Some call) (CoreNode new.part)
+    (λ new h. node_after nodes n (Some call) (CoreNode new.part)
     (subst (λ (x : NodeState). EndsBehind nodes.scenario.life nodes.clock (Some call) (part_of x) new.part) (sym is) h))
 
-called_behind : (nodes : Nodes) (n : NodeId) (call : steps.Call) (node : NodeState) → nodes.node n ≡ node
+called_after : (nodes : Nodes) (n : NodeId) (call : steps.Call) (node : NodeState) → nodes.node n ≡ node
     → Holds (λ (new : Stepped Nodes). Called nodes n (own_label_call call) new.state) (node_called nodes n node call)
-called_behind nodes n call (Edge edge) is = edge_behind nodes n edge call is
-called_behind nodes n call (CoreNode part) is = core_behind nodes n part (own_label_call call) is
+called_after nodes n call (Edge edge) is = edge_thereafter nodes n edge call is
+called_after nodes n call (CoreNode part) is = core_after nodes n part (own_label_call call) is
 
 -- ---- all nodes
 
@@ -97,7 +97,7 @@ pub record NodesStand (scenario : Scenario) (standing : SessionsStand) (nodes : 
   pub clock : nodes.clock ≡ standing.clock
   pub ends : (n peer : NodeId) → end_of nodes n peer ≡ standing.end kinds.Ldp n peer
 
--- where the sessions stand behind a call of a node
+-- where the sessions stand after a call of a node
 abbrev pub call_stand : Scenario → NodeId → steps.Call → SessionsStand → SessionsStand
 call_stand scenario n call old =
     record old {
@@ -121,7 +121,7 @@ called_stand scenario standing nodes n call s =
       clock = h.clock ∙ s.clock;
       ends = λ m peer. h.ends m peer ∙ (λ i. cond (m.0 == n.0) (end_with (s.place i).life (s.clock i) (own_label_call call) peer (s.ends m peer i))
           (s.ends m peer i));
-    }) (called_behind nodes n call (nodes.node n) refl)
+    }) (called_after nodes n call (nodes.node n) refl)
 
 -- A call that is none of a session, nor of the timers, changes no end.
 abbrev pub KeepsEnds : Option Call → Type 0
@@ -159,7 +159,7 @@ follow_stand scenario standing nodes n s =
     quiet_stand scenario standing (following nodes n) n steps.Rerouted (λ life now peer old. refl)
     (record { place = s.place; clock = s.clock; ends = s.ends })
 
--- where the sessions stand behind a node that is set back
+-- where the sessions stand after a node that is set back
 abbrev pub reset_stand : NodeId → SessionsStand → SessionsStand
 reset_stand n old = record old { end = λ own m peer. if m.0 == n.0 then None else old.end own m peer }
 

@@ -25,7 +25,7 @@ pub record Stands (scenario : Scenario) (standing : SessionsStand) (network : Oc
 
 -- ---- what acts lead to
 
--- the network behind acts, if there is one, has the property
+-- the network after acts, if there is one, has the property
 abbrev pub Leads : (OctetNetwork Nodes → Type 0) → Option (Behind (OctetNetwork Nodes)) → Type 0
 Leads P None = ⊤
 Leads P (Some new) = P new.network
@@ -109,7 +109,7 @@ move_stands scenario standing old over count s = by (old.joined over)
 
 -- ---- losses and joins
 
--- where the sessions stand behind the loss of some of them
+-- where the sessions stand after the loss of some of them
 abbrev pub lost : (Kind → NodeId → NodeId → Bool) → SessionsStand → SessionsStand
 lost hit old = record old { joined = λ own u n. old.joined own u n && not (hit own u n) }
 
@@ -126,7 +126,7 @@ pub forget_stands : (scenario : Scenario) (standing : SessionsStand) (old : Octe
     → Stands scenario standing old → Leads (Stands scenario standing) (octet_act system old (octets.Forget hit))
 forget_stands scenario standing old hit s = record { nodes = s.nodes; joined = s.joined }
 
--- where they stand behind the joining of some of them
+-- where they stand after the joining of some of them
 abbrev pub joins : (Kind → NodeId → NodeId → Bool) → SessionsStand → SessionsStand
 joins hit old = record old { joined = λ own u n. old.joined own u n || hit own u n }
 

@@ -1,4 +1,4 @@
--- What holds behind rows of acts, and that none of their lines refuses an event.
+-- What holds after rows of acts, and that none of their lines refuses an event.
 use Rattle.std.specs.Prelude.{⊤, replicate}
 use Rattle.std.proofs.Common.{◌≡◌, ℕ, zero, suc, ◌++◌, map, List, [], ◌∷◌, Some, refl, ap, subst, ◌∙◌}
 use Rattle.std.specs.Prelude.{Result, Ok, Err}
@@ -17,14 +17,14 @@ use Rattle.network_laws.proofs.ready_laws.ActsStand.{refused_in, none_refused, G
 abbrev pub lines_in : List Happened → List ReportLine
 lines_in acts = flat_map (λ happened. happened.lines) acts
 
--- The world behind, if no act lacks a label, has the property, and no line refuses an event.
+-- The world after, if no act lacks a label, has the property, and no line refuses an event.
 abbrev pub Comes : (World → Type 0) → Outcome → Type 0
 Comes P (Halted acts node) = ⊤
 Comes P (Done acts new) = (refused_in (lines_in acts) ≡ []) × P new
 
-lines_behind : (first more : List Happened) → refused_in (lines_in first) ≡ [] → refused_in (lines_in more) ≡ []
+lines_after : (first more : List Happened) → refused_in (lines_in first) ≡ [] → refused_in (lines_in more) ≡ []
     → refused_in (lines_in (first ++ more)) ≡ []
-lines_behind first more f m =
+lines_after first more f m =
     ap refused_in (flat_map-append (λ (happened : Happened). happened.lines) first more) ∙ none_refused (lines_in first) (lines_in more) f m
 
 pub then_comes : (P Q : World → Type 0) (first : Outcome) (next : World → Outcome) → Comes P first
@@ -33,9 +33,9 @@ then_comes P Q (Halted acts node) next p h = tt
 then_comes P Q (Done acts world) next p h = by (next world) (h world p.1)
   where
     by : (o : Outcome) → Comes Q o → Comes Q (elim o
-        [ Done behind new ↦ Done (acts ++ behind) new | Halted behind node ↦ Halted (acts ++ behind) node ])
-    by (Halted behind node) q = tt
-    by (Done behind new) q = (lines_behind acts behind p.0 q.0, q.1)
+        [ Done thereafter new ↦ Done (acts ++ thereafter) new | Halted thereafter node ↦ Halted (acts ++ thereafter) node ])
+    by (Halted thereafter node) q = tt
+    by (Done thereafter new) q = (lines_after acts thereafter p.0 q.0, q.1)
 
 pub comes_as : (P Q : World → Type 0) (o : Outcome) → ((world : World) → P world → Q world) → Comes P o → Comes Q o
 comes_as P Q (Halted acts node) h p = tt
@@ -51,7 +51,7 @@ one_comes P world first g = by (act world first) g
 
 -- ---- rows
 
--- where the sessions stand behind a row of acts
+-- where the sessions stand after a row of acts
 abbrev pub acts_stand : Scenario → List Act → SessionsStand → SessionsStand
 acts_stand scenario [] old = old
 acts_stand scenario (first ∷ more) old = acts_stand scenario more (act_stand scenario first old)
@@ -69,15 +69,15 @@ row_comes scenario standing (first ∷ more) world s =
 abbrev pub AreStill : Scenario → SessionsStand → List Act → Type 0
 AreStill scenario standing acts = AllByRecursion (λ one. act_stand scenario one standing ≡ standing) acts
 
-still_behind : (scenario : Scenario) (standing : SessionsStand) (acts : List Act) → AreStill scenario standing acts
+still_after : (scenario : Scenario) (standing : SessionsStand) (acts : List Act) → AreStill scenario standing acts
     → acts_stand scenario acts standing ≡ standing
-still_behind scenario standing [] h = refl
-still_behind scenario standing (first ∷ more) h = ap (acts_stand scenario more) h.0 ∙ still_behind scenario standing more h.1
+still_after scenario standing [] h = refl
+still_after scenario standing (first ∷ more) h = ap (acts_stand scenario more) h.0 ∙ still_after scenario standing more h.1
 
 pub still_row : (scenario : Scenario) (standing : SessionsStand) (acts : List Act) (world : World) → AreStill scenario standing acts
     → WorldStands scenario standing world → Comes (WorldStands scenario standing) (row acts world)
 still_row scenario standing acts world h s =
-    subst (λ (x : SessionsStand). Comes (WorldStands scenario x) (row acts world)) (still_behind scenario standing acts h)
+    subst (λ (x : SessionsStand). Comes (WorldStands scenario x) (row acts world)) (still_after scenario standing acts h)
     (row_comes scenario standing acts world s)
 
 pub still_map : {A : Type 0} (scenario : Scenario) (standing : SessionsStand) (one : A → Act)
@@ -103,13 +103,13 @@ still_copies scenario standing one h (suc count) = (h, still_copies scenario sta
 
 -- ---- turns and rounds
 
--- What each turn keeps holds behind all of them.
+-- What each turn keeps holds after all of them.
 pub each_keeps : {A : Type 0} (P : World → Type 0) (turn : A → World → Outcome) → ((x : A) (world : World) → P world → Comes P (turn x world))
     → (all : List A) (world : World) → P world → Comes P (each turn all world)
 each_keeps P turn h [] world p = (refl, p)
 each_keeps P turn h (x ∷ more) world p = then_comes P P (turn x world) (each turn more) (h x world p) (λ next q. each_keeps P turn h more next q)
 
--- What each round keeps holds behind all of them.
+-- What each round keeps holds after all of them.
 pub times_keeps : (P : World → Type 0) (round : World → Outcome) → ((world : World) → P world → Comes P (round world)) → (count : ℕ) (world : World)
     → P world → Comes P (times round count world)
 times_keeps P round h zero world p = (refl, p)

@@ -1,4 +1,4 @@
--- Behind a run the sessions of the network stand as the events tell.
+-- After a run the sessions of the network stand as the events tell.
 use Rattle.std.specs.Prelude.{if◌then◌else◌}
 use Rattle.std.proofs.Common.{◌≡◌, ℕ, ◌+◌, ◌<◌, ◌≤◌, ◌==◌, Bool, true, false, not, ◌||◌, ◌++◌, map, List, [], ◌∷◌, Option, Some, None, refl, sym, ap, subst, ◌∙◌, append_assoc, arith}
 use Rattle.std.specs.List.{fold, filter, flat_map, list_any}
@@ -16,7 +16,7 @@ use Rattle.network_defs.specs.mvpn_model.Report.{lines_of, refused_line, refused
 use Rattle.network_defs.specs.Events.{Happened, Done, done}
 use Rattle.network_defs.specs.Refusals.{refusal}
 use Rattle.network_defs.specs.Run.{Traced, outcome, traced, report_of, Runs}
-use Rattle.network_defs.specs.mvpn_model.Unready.{SessionsStand, behind}
+use Rattle.network_defs.specs.mvpn_model.Unready.{SessionsStand, thereafter}
 use Rattle.network_defs.specs.World.{World}
 use Rattle.network_laws.proofs.ready_laws.ActsStand.{refused_in}
 use Rattle.network_laws.proofs.ready_laws.Outcomes.{Comes, lines_in}
@@ -34,16 +34,16 @@ line_if refused line = if refused then line ∷ [] else []
 record Turned (scenario : Scenario) (told : SessionsStand) (timed : Timed) (acts : List Happened) (next : World) : Type 0 where
   refused : Bool
   lines : refused_in (lines_in acts) ≡ line_if refused timed.line
-  tells : Tells scenario (if refused then told else behind scenario told timed.event) next
+  tells : Tells scenario (if refused then told else thereafter scenario told timed.event) next
 
 events_of : (scenario : Scenario) → HasNodes scenario → (told : SessionsStand) (world : World) → Tells scenario told world → (event : Event)
-    → Comes (Tells scenario (behind scenario told event)) (done world event)
+    → Comes (Tells scenario (thereafter scenario told event)) (done world event)
 events_of scenario has told world t event =
-    subst (λ (x : Scenario). HasNodes x → Tells x told world → Comes (Tells x (behind x told event)) (done world event)) t.stands.nodes.place
+    subst (λ (x : Scenario). HasNodes x → Tells x told world → Comes (Tells x (thereafter x told event)) (done world event)) t.stands.nodes.place
     (λ own tells. event_tells told world own tells event) has t
 
 done_turned : (scenario : Scenario) (told : SessionsStand) (timed : Timed) (acts : List Happened) (next : World)
-    → Comes (Tells scenario (behind scenario told timed.event)) (Done acts next) → Turned scenario told timed acts next
+    → Comes (Tells scenario (thereafter scenario told timed.event)) (Done acts next) → Turned scenario told timed acts next
 done_turned scenario told timed acts next c = record { refused = false; lines = c.0; tells = c.1 }
 
 turned : (scenario : Scenario) → HasNodes scenario → (told : SessionsStand) (old : World) → Tells scenario told old
@@ -56,7 +56,7 @@ turned scenario has told old t timed acts next e = by (refusal old timed.event) 
           Done (record { act = None; lines = lines.Refused timed.line reason ∷ [] } ∷ []) old
     ]) ≡ Done acts next → Turned scenario told timed acts next
     by None is =
-        done_turned scenario told timed acts next (subst (Comes (Tells scenario (behind scenario told timed.event))) is
+        done_turned scenario told timed acts next (subst (Comes (Tells scenario (thereafter scenario told timed.event))) is
         (events_of scenario has told old t timed.event))
     by (Some reason) is =
         let first : List Happened = record { act = None; lines = lines.Refused timed.line reason ∷ [] } ∷ [] in
@@ -120,20 +120,20 @@ any_middle a b c false d e f = rw (d, e, f) refl
 -- ---- runs
 
 one_more : (scenario : Scenario) (told : SessionsStand) (timed : Timed) (more : List Timed) (accepted refused : Bool) → accepted ≡ not refused
-    → fold (behind scenario) told (map (λ (x : Timed). x.event) (if accepted then timed ∷ more else more))
-    ≡ fold (behind scenario) (if refused then told else behind scenario told timed.event) (map (λ (x : Timed). x.event) more)
+    → fold (thereafter scenario) told (map (λ (x : Timed). x.event) (if accepted then timed ∷ more else more))
+    ≡ fold (thereafter scenario) (if refused then told else thereafter scenario told timed.event) (map (λ (x : Timed). x.event) more)
 one_more scenario told timed more true false e = refl
 one_more scenario told timed more false true e = refl
 one_more scenario told timed more true true e = absurd cc
 one_more scenario told timed more false false e = absurd cc
 
--- Where earlier events refused the front of the lines, the sessions stand behind the later ones as those tell.
+-- Where earlier events refused the front of the lines, the sessions stand after the later ones as those tell.
 pub runs_tell : (scenario : Scenario) → HasNodes scenario
     → (events : List Timed) (old : World) (number : ℕ) (trace : List Traced) (new : World) (told : SessionsStand) (above : ℕ) (front refused : List ℕ)
     → Rises above events
     → ((line : ℕ) → above < line → is_among front line ≡ false) → refused ≡ front ++ refused_lines (report_of trace) → Tells scenario told old
     → Runs old number events trace new
-    → Tells scenario (fold (behind scenario) told (map (λ (timed : Timed). timed.event) (filter (is_accepted refused) events))) new
+    → Tells scenario (fold (thereafter scenario) told (map (λ (timed : Timed). timed.event) (filter (is_accepted refused) events))) new
 runs_tell scenario has [] old number trace new told above front refused h k e t run = subst (Tells scenario told) (sym run.1) t
 runs_tell scenario has (timed ∷ more) old number trace new told above front refused h k e t run =
     let x = turned scenario has told old t timed run.0 run.1 run.3 in

@@ -47,7 +47,7 @@ timers_alike scenario told standing node h =
           };
     }
 
--- behind the timers of the nodes from that number on, so many
+-- after the timers of the nodes from that number on, so many
 pub record AllRun (scenario : Scenario) (number count : ℕ) (old new : SessionsStand) : Type 0 where
   pub clock : new.clock ≡ old.clock
   pub joined : (kind : Kind) (a b : NodeId) → new.joined kind a b ≡ old.joined kind a b
@@ -62,8 +62,8 @@ ran_here : (t : Bool) (old run : Option UpEnd) → t ≡ true → cond t run old
 ran_here true old run e = refl
 ran_here false old run e = absurd cc
 
-behind_it : (n number : ℕ) → number ≤ n → (n ≡ number → ⊥) → number + 1 ≤ n
-behind_it n number le ne = let lt = lt_of_le_of_ne le (λ e. ne (sym e)) in omega (arith, lt)
+after_it : (n number : ℕ) → number ≤ n → (n ≡ number → ⊥) → number + 1 ≤ n
+after_it n number le ne = let lt = lt_of_le_of_ne le (λ e. ne (sym e)) in omega (arith, lt)
 
 pub all_run : (scenario : Scenario) (number count : ℕ) (old : SessionsStand)
     → AllRun scenario number count old (acts_stand scenario (timers_from number count) old)
@@ -83,7 +83,7 @@ all_run scenario number (suc count) old =
       within = λ n peer le lt. elim (cases_eq n.0 number) [
         | inl e ↦ x.below n peer (omega (arith, e))
             ∙ ran_here (n.0 == number) (old.end kinds.Ldp n peer) (end_run scenario.life old.clock (old.end kinds.Ldp n peer)) (eq-eqb n.0 number e)
-        | inr ne ↦ x.within n peer (behind_it n.0 number le ne) (omega (arith, lt))
+        | inr ne ↦ x.within n peer (after_it n.0 number le ne) (omega (arith, lt))
             ∙ ap (end_run scenario.life old.clock) (cond-false (n.0 == number) (end_run scenario.life old.clock (old.end kinds.Ldp n peer))
             (old.end kinds.Ldp n peer) (ne_eqb n.0 number ne))
       ];

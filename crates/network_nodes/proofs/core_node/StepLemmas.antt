@@ -1,4 +1,4 @@
--- What a core node is behind a call of its label part.
+-- What a core node is after a call of its label part.
 use Rattle.std.proofs.Common.{◌≡◌, ◌∙◌, refl, sym, ap, subst, ℕ, [], false, Option, None, Some, Result, Ok, Err, OnOk, is_some}
 use Rattle.std.specs.FinMap as maps
 use Rattle.std.specs.FinMap.{FinMap}
@@ -19,7 +19,7 @@ use Rattle.mldp_node.proofs.NodeLemmas.{waited_one}
 use Rattle.mldp_node.specs.declared.fault.NodeFault.{NodeFault}
 use Rattle.mldp_node.specs.declared.fault.NodeFault.TheVariants as node_faults
 use Rattle.edge_streams.specs.Spelled.{SaysWritableLabel}
-use Rattle.wire_laws.specs.CoreNodes.{core_called, ldp_with, streams_behind}
+use Rattle.wire_laws.specs.CoreNodes.{core_called, ldp_with, streams_after}
 use Rattle.network_nodes.specs.declared.core_node.fault.CoreFault.{CoreFault}
 use Rattle.network_nodes.specs.declared.core_node.fault.CoreFault.TheVariants as faults
 use Rattle.network_nodes.specs.declared.core_node.parts.Parts.{Parts}
@@ -53,7 +53,7 @@ label_lacking node_faults.NoMemory e = absurd cc
 
 module _ (core : Topology) (now : ℕ) (call : Call) (old : Parts) (node : NodeData) (streams : FinMap peer_cmp Stream)
     (live : IsLive old.node old.streams)
-    (are : streams ≡ streams_behind call old.streams) where
+    (are : streams ≡ streams_after call old.streams) where
   abbrev new : Parts
   new = record old { node = node; streams = streams }
 

@@ -24,7 +24,7 @@ use Rattle.network_nodes.specs.declared.core_node.fault.CoreFault.{CoreFault}
 use Rattle.network_nodes.specs.declared.core_node.fault.CoreFault.TheVariants as faults
 use Rattle.network_nodes.specs.declared.core_node.parts.Parts.{Parts}
 use Rattle.network_nodes.specs.core_node.Answers.{Makes, spent_by}
-use Rattle.network_nodes.specs.core_node.Called.{Settles, SettlesCall, behind, going, spent_after}
+use Rattle.network_nodes.specs.core_node.Called.{Settles, SettlesCall, thereafter, going, spent_after}
 use Rattle.network_nodes.specs.core_node.Taking.{AnswersOctets, IsSessionFault, taken_by, took_by}
 use Rattle.network_nodes.specs.core_node.View.{CoreView, IsLive, is_up, state_of}
 use Rattle.network_nodes.proofs.core_node.StepLemmas.{one_fault}
@@ -61,7 +61,7 @@ module _ (core : Topology) (now : ℕ) (peer : NodeId) (message : LabelMessage) 
       place = k.answers.place ∙ h.answers.place;
       before = λ spent e. absurd (none-some spent e);
       unspent = give_ok result refl;
-      made = map_ok result (λ (made : Makes core (taken_by (going mid) now peer more) (going mid) (behind new result)) own is. made own is
+      made = map_ok result (λ (made : Makes core (taken_by (going mid) now peer more) (going mid) (thereafter new result)) own is. made own is
           ∙ (λ i. core_all_taken (h.answers.place i) own now peer more (h.answers.made own is i))) k.answers.made;
       goes_on = k.answers.goes_on;
       toward = λ none own is waits. k.answers.toward none own is (h.answers.toward refl own is waits);
@@ -206,7 +206,7 @@ module _ (core : Topology) (now : ℕ) (peer : NodeId) (octets : List ℕ) (old 
     -- a message made the node spent
     pub octets_stopped : (fault : CoreFault) → Among fault (faults.NoLabel ∷ faults.NoMemory ∷ [])
         → Settles core (taken_by (going mid) now peer messages) (going mid) new (Err fault)
-        → AnswersOctets core now peer octets (going old) (behind new (Err fault)) (Err fault)
+        → AnswersOctets core now peer octets (going old) (thereafter new (Err fault)) (Err fault)
     octets_stopped fault one h = record {
       answers = record {
         place = h.answers.place;
@@ -227,7 +227,7 @@ module _ (core : Topology) (now : ℕ) (peer : NodeId) (octets : List ℕ) (old 
     pub octets_taken : (result : Result (Unit {0}) CoreFault) → OnOk result (fault_at new.streams own ≡ None)
         → ((fault : CoreFault) → result ≡ Err fault → IsSessionFault peer (going new) fault)
         → Settles core (taken_by (going mid) now peer messages) (going mid) new (Ok tt)
-        → AnswersOctets core now peer octets (going old) (behind new result) result
+        → AnswersOctets core now peer octets (going old) (thereafter new result) result
     octets_taken (Ok done) sound faulty h = record {
       answers = record {
         place = h.answers.place;
@@ -266,5 +266,5 @@ module _ (core : Topology) (now : ℕ) (peer : NodeId) (octets : List ℕ) (old 
         no_label : (f : CoreFault) → IsSessionFault peer (going new) f → f ≡ faults.NoLabel → ⊥
         no_label f is e = absurd (let k = sym is.2 ∙ e in cc)
 
-        told_fault_is : (f other : CoreFault) → f ≡ other → IsSessionFault peer (going new) f → IsSessionFault peer (behind new (Err f)) other
+        told_fault_is : (f other : CoreFault) → f ≡ other → IsSessionFault peer (going new) f → IsSessionFault peer (thereafter new (Err f)) other
         told_fault_is f other e is = (is.0, is.1, sym e ∙ is.2, is.3)

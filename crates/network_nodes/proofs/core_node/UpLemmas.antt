@@ -1,4 +1,4 @@
--- Which ends are up behind a call, and which sessions have a stream.
+-- Which ends are up after a call, and which sessions have a stream.
 use Rattle.std.proofs.Common.{◌≡◌, ◌∙◌, refl, sym, ap, ℕ, Bool, true, false, cond, [], Option, None, Some, is_some, option_map}
 use Rattle.std.specs.Ordering.{eq_by_cmp, nat_cmp}
 use Rattle.std.specs.FinMap as maps
@@ -10,7 +10,7 @@ use Rattle.mv_base.specs.framing.Feed.{unfed}
 use Rattle.label_defs.specs.declared.end.End.{End}
 use Rattle.label_defs.specs.Keys.{node_cmp}
 use Rattle.label_defs.specs.LabelData.{LabelData, Place}
-use Rattle.label_defs.specs.Node.{LabelNode, LacksLabel, NodePlace, addr_in, behind, called, called_unless, place_in, prepared}
+use Rattle.label_defs.specs.Node.{LabelNode, LacksLabel, NodePlace, addr_in, thereafter, called, called_unless, place_in, prepared}
 use Rattle.label_defs.specs.Settling.{Stepped}
 use Rattle.label_defs.specs.Steps.{Call, Taken, Want, Unwant, Raised, Noticed, Timers, Rerouted, effect, hold_run, label_step, raised_end}
 use Rattle.label_defs.proofs.IdLemmas.{effect_ends, passed, step_end}
@@ -22,9 +22,9 @@ use Rattle.edge_core.proofs.node_laws.OctetLemmas.{then_equal}
 use Rattle.edge_streams.proofs.DrainLemmas.{stream_or}
 use Rattle.edge_streams.proofs.FedLemmas.{put_quiet}
 use Rattle.edge_streams.proofs.SessionMaps.{peer_cmp_total}
-use Rattle.wire_laws.specs.CoreNodes.{ldp_with, streams_behind}
+use Rattle.wire_laws.specs.CoreNodes.{ldp_with, streams_after}
 
--- whether an end is up behind a call, by whether it was so before
+-- whether an end is up after a call, by whether it was so before
 abbrev pub up_by : Call → NodeId → Bool → Bool
 up_by (Raised peer) q was = cond (eq_by_cmp node_cmp q peer) true was
 up_by (Noticed peer) q was = cond (eq_by_cmp node_cmp q peer) false was
@@ -48,7 +48,7 @@ session_tie : (q peer : NodeId) → eq_by_cmp peer_cmp (ldp_with q) (ldp_with pe
 session_tie q peer = then_equal (nat_cmp q.0 peer.0)
 
 pub streams_up : (call : Call) (streams : FinMap peer_cmp Stream) (q : NodeId)
-    → is_some (maps.get (streams_behind call streams) (ldp_with q)) ≡ up_by call q (is_some (maps.get streams (ldp_with q)))
+    → is_some (maps.get (streams_after call streams) (ldp_with q)) ≡ up_by call q (is_some (maps.get streams (ldp_with q)))
 streams_up (Raised peer) streams q =
     ap (λ (o : Option Stream). is_some o) (maps.get-insert peer_cmp_total streams (ldp_with peer) unfed (ldp_with q))
     ∙ (some_either (eq_by_cmp peer_cmp (ldp_with q) (ldp_with peer)) unfed (maps.get streams (ldp_with q))
@@ -65,7 +65,7 @@ streams_up Rerouted streams q = refl
 
 -- a session that comes up or is lost has nothing that waits in its stream
 pub still_quiet : (call : Call) (streams : FinMap peer_cmp Stream) → ((own : PeerSession) → (stream_at streams own).waiting ≡ [])
-    → (own : PeerSession) → (stream_at (streams_behind call streams) own).waiting ≡ []
+    → (own : PeerSession) → (stream_at (streams_after call streams) own).waiting ≡ []
 still_quiet (Raised peer) streams quiet own = put_quiet streams (ldp_with peer) unfed refl quiet own
 still_quiet (Noticed peer) streams quiet own =
     ap (λ (o : Option Stream). (stream_or o).waiting) (maps.get-remove peer_cmp_total streams (ldp_with peer) own)
@@ -98,17 +98,17 @@ effect_up place now part Timers q =
     ap (λ (o : Option End). is_some o) (timed_end place now part q) ∙ kept_some (hold_run place.life now) (maps.get part.ends q)
 effect_up place now part Rerouted q = refl
 
--- the ends of a label node behind a call that it made
+-- the ends of a label node after a call that it made
 pub ends_up : (at : NodePlace) (core : Core) (now : ℕ) (node : LabelNode) (call : Call) (q : NodeId) → node.spent ≡ None
     → (called at core now node call).spent ≡ None
     → is_some (maps.get (called at core now node call).part.ends q) ≡ up_by call q (is_some (maps.get node.part.ends q))
 ends_up at core now node call q unspent goes = by (label_step (place_in at core) now node.part call) refl
   where
     called_is : (o : Option Stepped) → label_step (place_in at core) now node.part call ≡ o
-        → called at core now node call ≡ behind (addr_in at) (place_in at core) now (prepared call node) call o
+        → called at core now node call ≡ thereafter (addr_in at) (place_in at core) now (prepared call node) call o
     called_is o e =
         (λ i. called_unless (unspent i) (addr_in at) (place_in at core) now node call)
-        ∙ ap (λ (x : Option Stepped). behind (addr_in at) (place_in at core) now (prepared call node) call x) e
+        ∙ ap (λ (x : Option Stepped). thereafter (addr_in at) (place_in at core) now (prepared call node) call x) e
 
     by : (o : Option Stepped) → label_step (place_in at core) now node.part call ≡ o
         → is_some (maps.get (called at core now node call).part.ends q) ≡ up_by call q (is_some (maps.get node.part.ends q))

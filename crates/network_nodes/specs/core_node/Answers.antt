@@ -16,7 +16,7 @@ abbrev pub fault_of : Spent → CoreFault
 fault_of LacksLabel = faults.NoLabel
 fault_of LacksMemory = faults.NoMemory
 
--- why a node is spent behind an answer, if it is
+-- why a node is spent after an answer, if it is
 abbrev pub spent_by : CoreFault → Option Spent
 spent_by faults.NoLabel = Some LacksLabel
 spent_by faults.NoMemory = Some LacksMemory

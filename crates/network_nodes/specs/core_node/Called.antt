@@ -24,24 +24,24 @@ going parts = with_spent parts None
 abbrev pub seen : Parts → Option NodeFault → CoreView
 seen parts spent = with_spent parts (option_map cause spent)
 
--- a node of these parts behind an answer
+-- a node of these parts after an answer
 abbrev pub spent_after : Result (Unit {0}) CoreFault → Option Spent
 spent_after (Ok done) = None
 spent_after (Err fault) = spent_by fault
 
-abbrev pub behind : Parts → Result (Unit {0}) CoreFault → CoreView
-behind parts result = with_spent parts (spent_after result)
+abbrev pub thereafter : Parts → Result (Unit {0}) CoreFault → CoreView
+thereafter parts result = with_spent parts (spent_after result)
 
 -- what a node answers where its label part answers so
 abbrev pub told_as : Result (Unit {0}) NodeFault → Result (Unit {0}) CoreFault
 told_as (Ok done) = Ok done
 told_as (Err fault) = Err (fault_of (cause fault))
 
--- What is answered and left where the node is to make that step, by the parts behind it. A node that is not spent by the answer holds
+-- What is answered and left where the node is to make that step, by the parts after it. A node that is not spent by the answer holds
 -- together still.
 pub record Settles (core : Topology) (step : Core → CoreState → CoreState) (old : CoreView) (parts : Parts)
     (result : Result (Unit {0}) CoreFault) : Type 0 where
-  pub answers : Answers core step old (behind parts result) result
+  pub answers : Answers core step old (thereafter parts result) result
   pub live : spent_after result ≡ None → IsLive parts.node parts.streams
 
 -- the same of a call

@@ -45,7 +45,7 @@ impl Model for CoreNode {
     ghost invariant = { λ n. n.spent ≡ None → IsLive n.parts.node n.parts.streams };
 }
 
-/// Why a node is spent behind the answer, if it is.
+/// Why a node is spent after the answer, if it is.
 fn spent_by(answer: &Result<(), CoreFault>) -> Option<NodeFault>
     ensures { option_map cause result ≡ spent_after answer.now }
 {

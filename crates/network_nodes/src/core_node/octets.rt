@@ -6,7 +6,7 @@ ghost use Rattle.network_defs.specs.session_defs.PeerSession.{fault_at};
 ghost use Rattle.edge_streams.specs.Spelled.{SaysWritableLabel};
 ghost use Rattle.wire_laws.specs.CoreNodes.{ldp_with};
 ghost use Rattle.network_nodes.specs.core_node.Answers.{IsSpending};
-ghost use Rattle.network_nodes.specs.core_node.Called.{Settles, SettlesCall, behind, going, spent_after};
+ghost use Rattle.network_nodes.specs.core_node.Called.{Settles, SettlesCall, thereafter, going, spent_after};
 ghost use Rattle.network_nodes.specs.core_node.Taking.{AnswersOctets, IsSessionFault, taken_by};
 ghost use Rattle.network_nodes.specs.core_node.View.{IsLive, is_up};
 ghost use Rattle.network_nodes.specs.declared.core_node.fault.CoreFault.{CoreFault as CoreFaults};
@@ -91,7 +91,7 @@ impl Parts {
         requires nodes { core.now.nodes ≡ length self.old.node.place.addrs }
         requires now { now < 2 ^ 63 }
         requires up { is_up (going self.old) peer ≡ true }
-        ensures answers { AnswersOctets core.now now peer bytes.now (going self.old) (behind self.new result) result }
+        ensures answers { AnswersOctets core.now now peer bytes.now (going self.old) (thereafter self.new result) result }
         ensures live { spent_after result ≡ None → IsLive self.new.node self.new.streams }
     {
         self.streams.feed_ldp(peer, bytes)?;

@@ -60,7 +60,7 @@ used_by peer originator value fec e =
 
 -- ---- its opaque value
 
--- the type and the length of the identifier, with four octets behind them, are one whole element
+-- the type and the length of the identifier, with four octets after them, are one whole element
 one_element : (octets value : List ℕ) → octets ≡ 1 ∷ 0 ∷ 4 ∷ value → length value ≡ 4 → IsOpaque octets
 one_element octets value parts four =
     let element : Tlv = plain 1 value in

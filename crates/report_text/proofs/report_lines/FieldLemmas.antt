@@ -1,4 +1,4 @@
--- A field that is written, with the space behind it, is read as what it says.
+-- A field that is written, with the space after it, is read as what it says.
 use Rattle.std.proofs.Common.{◌≡◌, ℕ, ◌+◌, ◌^◌, ◌<◌, ◌==◌, true, not, List, [], ◌∷◌, ◌++◌, length, take, drop, refl, ap₂, ◌∙◌, arith, Some, take_at, drop_at, append_assoc, length-append}
 use Rattle.std.specs.Prelude.{position, decimal}
 use Rattle.std.specs.List.{prefix_len, position_or_len}
@@ -35,13 +35,13 @@ cut_there : (text : List ℕ) (place : ℕ) → position (λ octet. octet == 32)
     → cut_of 32 text ≡ Some (take place text, drop (place + 1) text)
 cut_there text place found = rw (cut_of, found) refl
 
--- A word without a space is cut at the space behind it.
+-- A word without a space is cut at the space after it.
 pub cut_word : (front rest : List ℕ) → has_no_space front ≡ true → cut_of 32 (front ++ 32 ∷ rest) ≡ Some (front, rest)
 cut_word front rest h =
-    let behind : drop (length front + 1) (front ++ 32 ∷ rest) ≡ rest =
+    let thereafter : drop (length front + 1) (front ++ 32 ∷ rest) ≡ rest =
     rw (← append_assoc front (32 ∷ []) rest) (drop_at (front ++ 32 ∷ []) rest (length front + 1) (length-append front (32 ∷ []))) in
     let before : take (length front) (front ++ 32 ∷ rest) ≡ front = take_at front (32 ∷ rest) (length front) refl in
-    cut_there (front ++ 32 ∷ rest) (length front) (space_place front rest h) ∙ ap₂ (λ (a b : List ℕ). Some (a, b)) before behind
+    cut_there (front ++ 32 ∷ rest) (length front) (space_place front rest h) ∙ ap₂ (λ (a b : List ℕ). Some (a, b)) before thereafter
 
 -- ---- fields
 

@@ -17,13 +17,13 @@ use Rattle.report_text.specs.declared.report_lines.words.LineWord.TheVariants as
 use Rattle.report_text.specs.report_lines.Bounds.{HasReasonBounds, HasTypeBounds}
 use Rattle.report_text.specs.report_lines.Words.{line_word, bare_refusal}
 use Rattle.report_text.specs.report_lines.Fields.{node_named}
-use Rattle.report_text.specs.report_lines.Lines.{bytes_refusal, refusal_of, out_line, refused_line, state_line, halt_line, direction_field, put_line, take_line, hop_line, land_line, line_behind, named_line}
+use Rattle.report_text.specs.report_lines.Lines.{bytes_refusal, refusal_of, out_line, refused_line, state_line, halt_line, direction_field, put_line, take_line, hop_line, land_line, line_after, named_line}
 use Rattle.report_text.proofs.report_lines.NumberLemmas.{goes, number_back}
 use Rattle.report_text.proofs.report_lines.NameLemmas.{has_no_space, node_back}
 use Rattle.report_text.proofs.report_lines.WordLemmas.{fault_word_back, octets_back}
 use Rattle.report_text.proofs.report_lines.FieldLemmas.{cut_word, number_read, short_read, ttl_read, node_read, iface_read, kind_read}
 
--- ---- the text of a line without its LF: a first word, a space, and what is behind it
+-- ---- the text of a line without its LF: a first word, a space, and what is after it
 
 abbrev first_word : ReportLine → List ℕ
 first_word (lines.Out number iface bytes) = codes "out"
@@ -38,24 +38,24 @@ first_word (lines.Land from to label number) = codes "land"
 abbrev transit_text : Scenario → Kind → NodeId → NodeId → List ℕ → List ℕ
 transit_text scenario kind from to bytes = kind_word kind ++ 32 ∷ (node_name scenario from ++ 32 ∷ (node_name scenario to ++ 32 ∷ hex_text bytes))
 
-abbrev text_behind : Scenario → ReportLine → List ℕ
-text_behind scenario (lines.Out number iface bytes) = decimal number ++ 32 ∷ (iface_name scenario iface ++ 32 ∷ hex_text bytes)
-text_behind scenario (lines.Refused line reason) = decimal line ++ 32 ∷ refusal_text reason
-text_behind scenario (lines.State bytes copies buffers due unready) =
+abbrev text_after : Scenario → ReportLine → List ℕ
+text_after scenario (lines.Out number iface bytes) = decimal number ++ 32 ∷ (iface_name scenario iface ++ 32 ∷ hex_text bytes)
+text_after scenario (lines.Refused line reason) = decimal line ++ 32 ∷ refusal_text reason
+text_after scenario (lines.State bytes copies buffers due unready) =
     decimal bytes ++ 32 ∷ (decimal copies ++ 32 ∷ (decimal buffers ++ 32 ∷ (decimal due ++ 32 ∷ decimal unready)))
-text_behind scenario (lines.Halt line node) = decimal line ++ 32 ∷ (codes "label" ++ 32 ∷ node_name scenario node)
-text_behind scenario (lines.Put kind from to bytes) = transit_text scenario kind from to bytes
-text_behind scenario (lines.Take kind from to bytes) = transit_text scenario kind from to bytes
-text_behind scenario (lines.Hop from to label ttl number) =
+text_after scenario (lines.Halt line node) = decimal line ++ 32 ∷ (codes "label" ++ 32 ∷ node_name scenario node)
+text_after scenario (lines.Put kind from to bytes) = transit_text scenario kind from to bytes
+text_after scenario (lines.Take kind from to bytes) = transit_text scenario kind from to bytes
+text_after scenario (lines.Hop from to label ttl number) =
     node_name scenario from ++ 32 ∷ (node_name scenario to ++ 32 ∷ (decimal label ++ 32 ∷ (decimal ttl ++ 32 ∷ decimal number)))
-text_behind scenario (lines.Land from to label number) =
+text_after scenario (lines.Land from to label number) =
     node_name scenario from ++ 32 ∷ (node_name scenario to ++ 32 ∷ (decimal label ++ 32 ∷ decimal number))
 
 transit_ended : (kind from to hex : List ℕ) → kind ++ codes " " ++ (from ++ codes " " ++ to) ++ codes " " ++ hex ++ codes "\n"
     ≡ (kind ++ 32 ∷ (from ++ 32 ∷ (to ++ 32 ∷ hex))) ++ 10 ∷ []
 transit_ended kind from to hex = simp append_assoc
 
-ended : (scenario : Scenario) (line : ReportLine) → line_text scenario line ≡ (first_word line ++ 32 ∷ text_behind scenario line) ++ 10 ∷ []
+ended : (scenario : Scenario) (line : ReportLine) → line_text scenario line ≡ (first_word line ++ 32 ∷ text_after scenario line) ++ 10 ∷ []
 ended scenario (lines.Out number iface bytes) = simp append_assoc
 ended scenario (lines.Refused line reason) = simp append_assoc
 ended scenario (lines.State bytes copies buffers due unready) = simp append_assoc
@@ -107,28 +107,28 @@ word_of (lines.Take kind from to bytes) = begins.Take
 word_of (lines.Hop from to label ttl number) = begins.Hop
 word_of (lines.Land from to label number) = begins.Land
 
-behind_back : (scenario : Scenario) → Rules scenario → (line : ReportLine) → IsLineOf scenario line → HasTypeBounds line
-    → line_behind scenario (word_of line) (text_behind scenario line) ≡ Some line
+after_back : (scenario : Scenario) → Rules scenario → (line : ReportLine) → IsLineOf scenario line → HasTypeBounds line
+    → line_after scenario (word_of line) (text_after scenario line) ≡ Some line
 unfolding out_line refused_line state_line halt_line put_line take_line hop_line land_line
-behind_back scenario rules (lines.Out number iface bytes) is bounds =
+after_back scenario rules (lines.Out number iface bytes) is bounds =
     goes _ (number_read number _ bounds.0) (goes _ (iface_read scenario rules iface _ is) (goes _ (octets_back bytes bounds.1) refl))
-behind_back scenario rules (lines.Refused line reason) is bounds =
+after_back scenario rules (lines.Refused line reason) is bounds =
     goes _ (short_read line _ bounds.0) (goes _ (refusal_back reason bounds.1) refl)
-behind_back scenario rules (lines.State bytes copies buffers due unready) is bounds =
+after_back scenario rules (lines.State bytes copies buffers due unready) is bounds =
     goes _ (number_read bytes _ bounds.0) (goes _ (number_read copies _ bounds.1) (goes _ (number_read buffers _ bounds.2)
     (goes _ (number_read due _ bounds.3) (goes _ (number_back unready bounds.4) refl))))
-behind_back scenario rules (lines.Halt line node) is bounds =
+after_back scenario rules (lines.Halt line node) is bounds =
     goes _ (short_read line _ bounds) (goes (λ cut. node_named scenario cut.1 >>? λ found. Some (lines.Halt line found))
     (cut_word (codes "label") (node_name scenario node) refl)
     (goes (λ found. Some (lines.Halt line found)) (node_back scenario rules node is).names refl))
-behind_back scenario rules (lines.Put kind from to bytes) is bounds =
+after_back scenario rules (lines.Put kind from to bytes) is bounds =
     goes _ (direction_read scenario rules kind from to _ is.0 is.1) (goes _ (octets_back bytes bounds) refl)
-behind_back scenario rules (lines.Take kind from to bytes) is bounds =
+after_back scenario rules (lines.Take kind from to bytes) is bounds =
     goes _ (direction_read scenario rules kind from to _ is.0 is.1) (goes _ (octets_back bytes bounds) refl)
-behind_back scenario rules (lines.Hop from to label ttl number) is bounds =
+after_back scenario rules (lines.Hop from to label ttl number) is bounds =
     goes _ (node_read scenario rules from _ is.0) (goes _ (node_read scenario rules to _ is.1) (goes _ (short_read label _ bounds.0)
     (goes _ (ttl_read ttl _ bounds.1) (goes _ (number_back number bounds.2) refl))))
-behind_back scenario rules (lines.Land from to label number) is bounds =
+after_back scenario rules (lines.Land from to label number) is bounds =
     goes _ (node_read scenario rules from _ is.0) (goes _ (node_read scenario rules to _ is.1) (goes _ (short_read label _ bounds.0)
     (goes _ (number_back number bounds.1) refl)))
 
@@ -150,16 +150,16 @@ begins_back (lines.Hop from to label ttl number) = record { no_space = refl; wor
 begins_back (lines.Land from to label number) = record { no_space = refl; word = refl }
 
 text_back : (scenario : Scenario) → Rules scenario → (line : ReportLine) → IsLineOf scenario line → HasTypeBounds line
-    → named_line scenario (first_word line ++ 32 ∷ text_behind scenario line) ≡ Some line
+    → named_line scenario (first_word line ++ 32 ∷ text_after scenario line) ≡ Some line
 unfolding named_line
 text_back scenario rules line is bounds =
     let first = begins_back line in
-    goes _ (cut_word (first_word line) (text_behind scenario line) first.no_space) (goes _ first.word (behind_back scenario rules line is bounds))
+    goes _ (cut_word (first_word line) (text_after scenario line) first.no_space) (goes _ first.word (after_back scenario rules line is bounds))
 
 -- A text that is written of a line names it.
 pub line_back : (scenario : Scenario) → Rules scenario → (text : List ℕ) (line : ReportLine) → IsLineOf scenario line → HasTypeBounds line
     → line_text scenario line ≡ text ++ 10 ∷ [] → named_line scenario text ≡ Some line
 line_back scenario rules text line is bounds written =
-    let same : first_word line ++ 32 ∷ text_behind scenario line ≡ text =
+    let same : first_word line ++ 32 ∷ text_after scenario line ≡ text =
     append_cancel_right _ text (10 ∷ []) (sym (ended scenario line) ∙ written) in
     ap (named_line scenario) (sym same) ∙ text_back scenario rules line is bounds

@@ -14,7 +14,7 @@ use Rattle.report_text.specs.declared.report_lines.words.LineWord.TheVariants as
 use Rattle.report_text.specs.declared.report_lines.lines.Direction.{Direction}
 use Rattle.report_text.specs.report_lines.Words.{line_word}
 use Rattle.report_text.specs.report_lines.Fields.{is_node_named, is_iface_named, number_of, octets_of, node_named, iface_named, number_field, short_field, ttl_field, node_field, iface_field, kind_field}
-use Rattle.report_text.specs.report_lines.Lines.{refusal_of, out_line, refused_line, state_line, halt_line, direction_field, put_line, take_line, hop_line, land_line, line_behind, named_line}
+use Rattle.report_text.specs.report_lines.Lines.{refusal_of, out_line, refused_line, state_line, halt_line, direction_field, put_line, take_line, hop_line, land_line, line_after, named_line}
 use Rattle.report_text.proofs.report_lines.NameLemmas.{position_within}
 
 -- ---- nodes and interfaces
@@ -114,19 +114,19 @@ land_is scenario text line e =
     next_some _ (number_of label.1) line h (λ number n i.
     subst (IsLineOf scenario) (same_Some _ _ i) (node_read_is scenario text from u, node_read_is scenario from.1 to v)))))
 
-behind_is : (scenario : Scenario) (word : LineWord) (text : List ℕ) (line : ReportLine) → line_behind scenario word text ≡ Some line
+after_is : (scenario : Scenario) (word : LineWord) (text : List ℕ) (line : ReportLine) → line_after scenario word text ≡ Some line
     → IsLineOf scenario line
-behind_is scenario begins.Out text line e = out_is scenario text line e
-behind_is scenario begins.Refused text line e = refused_is scenario text line e
-behind_is scenario begins.State text line e = state_is scenario text line e
-behind_is scenario begins.Halt text line e = halt_is scenario text line e
-behind_is scenario begins.Put text line e = put_is scenario text line e
-behind_is scenario begins.Take text line e = take_is scenario text line e
-behind_is scenario begins.Hop text line e = hop_is scenario text line e
-behind_is scenario begins.Land text line e = land_is scenario text line e
+after_is scenario begins.Out text line e = out_is scenario text line e
+after_is scenario begins.Refused text line e = refused_is scenario text line e
+after_is scenario begins.State text line e = state_is scenario text line e
+after_is scenario begins.Halt text line e = halt_is scenario text line e
+after_is scenario begins.Put text line e = put_is scenario text line e
+after_is scenario begins.Take text line e = take_is scenario text line e
+after_is scenario begins.Hop text line e = hop_is scenario text line e
+after_is scenario begins.Land text line e = land_is scenario text line e
 
 -- What a text names is a line of the scenario.
 pub named_is : (scenario : Scenario) (text : List ℕ) (line : ReportLine) → named_line scenario text ≡ Some line → IsLineOf scenario line
 unfolding named_line
 named_is scenario text line e =
-    next_some _ (cut_of 32 text) line e (λ cut c f. next_some _ (line_word cut.0) line f (λ word w g. behind_is scenario word cut.1 line g))
+    next_some _ (cut_of 32 text) line e (λ cut c f. next_some _ (line_word cut.0) line f (λ word w g. after_is scenario word cut.1 line g))

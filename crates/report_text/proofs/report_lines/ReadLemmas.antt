@@ -9,7 +9,7 @@ use Rattle.report_text.specs.report_lines.Bounds.{HasTypeBounds}
 use Rattle.report_text.specs.report_lines.Lines.{named_line}
 use Rattle.report_text.proofs.report_lines.LineLemmas.{line_back}
 
--- What was written behind nothing.
+-- What was written after nothing.
 pub only_written : (written start text : List ℕ) → start ≡ [] → written ≡ start ++ text → written ≡ text
 only_written written start text empty e = e ∙ ap (λ (l : List ℕ). l ++ text) empty
 

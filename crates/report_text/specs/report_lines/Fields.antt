@@ -1,4 +1,4 @@
--- The fields of a line: what a word says, and the text behind the space that ends the word.
+-- The fields of a line: what a word says, and the text after the space that ends the word.
 use Rattle.std.specs.Prelude.{ℕ, ◌^◌, ◌&&◌, Bool, nat_eq, nat_le, nat_lt, List, [], length, position, Option, None, Some, Ok, Err, if◌then◌else◌, codes}
 use Rattle.std.specs.Borrow.{Bor}
 use Rattle.std.specs.List.{list_all}
@@ -52,7 +52,7 @@ octets_of text =
     if pointwise nat_eq text (codes "-") then Some [] else
     elim (decode_of text) [ Ok octets ↦ Some octets | Err error ↦ None ]
 
--- what a field says, and the text behind it, which is lent
+-- what a field says, and the text after it, which is lent
 abbrev pub with_rest : {A : Type 0} → A × Bor (List ℕ) → A × List ℕ
 with_rest field = (field.0, field.1.now)
 

@@ -19,7 +19,7 @@ bytes_refusal text = short_field text >>? λ place. fault_word_of place.1 >>? λ
 unfoldable pub refusal_of : List ℕ → Option Refusal
 refusal_of text = elim (cut_of 32 text) [ None ↦ bare_refusal text | Some cut ↦ bytes_refusal cut.1 ]
 
--- each kind of line by the text behind its first word
+-- each kind of line by the text after its first word
 unfoldable pub out_line : Scenario → List ℕ → Option ReportLine
 out_line scenario text =
     number_field text >>? λ number. iface_field scenario number.1 >>? λ iface. octets_of iface.1 >>? λ bytes.
@@ -66,16 +66,16 @@ land_line scenario text =
     node_field scenario text >>? λ from. node_field scenario from.1 >>? λ to. short_field to.1 >>? λ label.
     number_of label.1 >>? λ number. Some (lines.Land from.0 to.0 label.0 number)
 
--- the line by what its first word begins and the text behind that word
-abbrev pub line_behind : Scenario → LineWord → List ℕ → Option ReportLine
-line_behind scenario begins.Out text = out_line scenario text
-line_behind scenario begins.Refused text = refused_line text
-line_behind scenario begins.State text = state_line text
-line_behind scenario begins.Halt text = halt_line scenario text
-line_behind scenario begins.Put text = put_line scenario text
-line_behind scenario begins.Take text = take_line scenario text
-line_behind scenario begins.Hop text = hop_line scenario text
-line_behind scenario begins.Land text = land_line scenario text
+-- the line by what its first word begins and the text after that word
+abbrev pub line_after : Scenario → LineWord → List ℕ → Option ReportLine
+line_after scenario begins.Out text = out_line scenario text
+line_after scenario begins.Refused text = refused_line text
+line_after scenario begins.State text = state_line text
+line_after scenario begins.Halt text = halt_line scenario text
+line_after scenario begins.Put text = put_line scenario text
+line_after scenario begins.Take text = take_line scenario text
+line_after scenario begins.Hop text = hop_line scenario text
+line_after scenario begins.Land text = land_line scenario text
 
 unfoldable pub named_line : Scenario → List ℕ → Option ReportLine
-named_line scenario text = cut_of 32 text >>? λ cut. line_word cut.0 >>? λ word. line_behind scenario word cut.1
+named_line scenario text = cut_of 32 text >>? λ cut. line_word cut.0 >>? λ word. line_after scenario word cut.1

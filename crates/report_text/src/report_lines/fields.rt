@@ -1,4 +1,4 @@
-//! The fields of a line: what a word says, and the text behind the space that ends the word.
+//! The fields of a line: what a word says, and the text after the space that ends the word.
 ghost use Rattle.std.specs.Prelude.{◌≡◌, IfOk, option_map};
 ghost use Rattle.std.specs.List.{list_all};
 ghost use Rattle.std.specs.Char.{is_ascii_digit};

@@ -2,7 +2,7 @@
 ghost use Rattle.std.specs.Prelude.{◌≡◌, IfOk, option_map};
 ghost use Rattle.report_text.specs.report_lines.Fields.{with_rest};
 ghost use Rattle.report_text.specs.report_lines.Lines.{bytes_refusal, refusal_of, out_line, refused_line, state_line, halt_line};
-ghost use Rattle.report_text.specs.report_lines.Lines.{direction_field, put_line, take_line, hop_line, land_line, line_behind, named_line};
+ghost use Rattle.report_text.specs.report_lines.Lines.{direction_field, put_line, take_line, hop_line, land_line, line_after, named_line};
 
 use crate::report_lines::fields::{
     iface_field, kind_field, node_field, number_field, number_of, octets_of, short_field, ttl_field,
@@ -181,13 +181,13 @@ fn land_line(scenario: &Scenario, text: &[u8]) -> Option<ReportLine>
     })
 }
 
-fn line_behind(
+fn line_after(
     alloc: Global,
     scenario: &Scenario,
     word: LineWord,
     text: &[u8],
 ) -> Result<Option<ReportLine>, NoMemory>
-    ensures { IfOk result (λ found. found ≡ line_behind scenario.now word text.now) }
+    ensures { IfOk result (λ found. found ≡ line_after scenario.now word text.now) }
 {
     match word {
         LineWord::Out => out_line(alloc, scenario, text),
@@ -216,5 +216,5 @@ pub fn named_line(
     let Some(word) = line_word(first) else {
         return Ok(None);
     };
-    line_behind(alloc, scenario, word, rest)
+    line_after(alloc, scenario, word, rest)
 }

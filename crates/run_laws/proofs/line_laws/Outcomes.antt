@@ -40,9 +40,9 @@ module _ (scenario : Scenario) where
   then_tells P Q (Done acts world) next t h = by (next world) (h world t.1)
     where
       by : (o : Outcome) → Tells Q o → Tells Q (elim o
-          [ Done behind new ↦ Done (acts ++ behind) new | Halted behind node ↦ Halted (acts ++ behind) node ])
-      by (Halted behind node) u = (each_append HasNamed acts behind t.0 u.0, u.1)
-      by (Done behind new) u = (each_append HasNamed acts behind t.0 u.0, u.1)
+          [ Done thereafter new ↦ Done (acts ++ thereafter) new | Halted thereafter node ↦ Halted (acts ++ thereafter) node ])
+      by (Halted thereafter node) u = (each_append HasNamed acts thereafter t.0 u.0, u.1)
+      by (Done thereafter new) u = (each_append HasNamed acts thereafter t.0 u.0, u.1)
 
   module _ (W : World → Type 0) where
     one_tells : (world : World) (one : Act) → Says (act world one) → Gives W (act world one) → Tells W (one_act world one)

@@ -20,7 +20,7 @@ use Rattle.scenario_text.specs.declared.event_lines.clock_lines.NodeWord.TheVari
 unfoldable pub tick_words : Row → Placed → Result Line TextFault
 tick_words row a = or_fault (number_to 1000000 a.text) row a reasons.Number >>= λ count. Ok (says.Event (events.Tick count))
 
--- the words behind `tick`
+-- the words after `tick`
 unfoldable pub tick_line : Row → List Placed → Result Line TextFault
 tick_line row [] = fault row.number row.after reasons.Count
 tick_line row (a ∷ []) = tick_words row a
@@ -41,7 +41,7 @@ node_event node_kinds.Restart node = events.Restart node
 unfoldable pub node_words : Drafted → Row → NodeWord → Placed → Result Line TextFault
 node_words draft row word a = node_at draft row a >>= λ node. Ok (says.Event (node_event word node))
 
--- the words behind `timers` or `restart`
+-- the words after `timers` or `restart`
 unfoldable pub node_line : Drafted → Row → NodeWord → List Placed → Result Line TextFault
 node_line draft row word [] = fault row.number row.after reasons.Count
 node_line draft row word (a ∷ []) = node_words draft row word a

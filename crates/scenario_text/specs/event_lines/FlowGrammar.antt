@@ -36,7 +36,7 @@ flow_words draft row word a b c =
     iface_at draft row a >>= λ iface. source_at row b >>= λ source. group_at row c >>= λ group.
     unless_broken (family_fault (is_flow_of draft iface source group)) row c (says.Event (flow_event word iface source group))
 
--- the words behind `active` or `idle`
+-- the words after `active` or `idle`
 unfoldable pub flow_line : Drafted → Row → FlowWord → List Placed → Result Line TextFault
 flow_line draft row word [] = fault row.number row.after reasons.Count
 flow_line draft row word (a ∷ []) = fault row.number row.after reasons.Count

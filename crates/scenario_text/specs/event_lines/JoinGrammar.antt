@@ -65,7 +65,7 @@ three_words draft row a b c = iface_at draft row a >>= λ iface. entry_at row b 
 unfoldable pub four_words : Drafted → Row → Placed → Placed → Placed → Placed → Result IfaceEntry TextFault
 four_words draft row a b c d = iface_at draft row a >>= λ iface. rpt_entry row b c d >>= λ entry. at_iface draft row c iface entry
 
--- the words behind `join` or `prune`
+-- the words after `join` or `prune`
 unfoldable pub iface_entry : Drafted → Row → List Placed → Result IfaceEntry TextFault
 iface_entry draft row [] = fault row.number row.after reasons.Count
 iface_entry draft row (a ∷ []) = fault row.number row.after reasons.Count
@@ -74,6 +74,6 @@ iface_entry draft row (a ∷ b ∷ c ∷ []) = three_words draft row a b c
 iface_entry draft row (a ∷ b ∷ c ∷ d ∷ []) = four_words draft row a b c d
 iface_entry draft row (a ∷ b ∷ c ∷ d ∷ e ∷ more) = fault row.number e.column reasons.Count
 
--- a line of a join or a prune by the words behind the first one
+-- a line of a join or a prune by the words after the first one
 unfoldable pub entry_line : Drafted → Row → EntryWord → List Placed → Result Line TextFault
 entry_line draft row word words = iface_entry draft row words >>= λ named. Ok (says.Event (entry_event word named))

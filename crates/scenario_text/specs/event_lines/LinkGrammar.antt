@@ -43,7 +43,7 @@ link_words draft row word a b c =
     or_fault (number_to (highest word) c.text) row c reasons.Number >>= λ number.
     unless_broken (link_fault draft.scenario.links from to) row b (says.Event (link_event word from to number))
 
--- the words behind `hop`, `drop` or `cost`
+-- the words after `hop`, `drop` or `cost`
 unfoldable pub link_line : Drafted → Row → LinkWord → List Placed → Result Line TextFault
 link_line draft row word [] = fault row.number row.after reasons.Count
 link_line draft row word (a ∷ []) = fault row.number row.after reasons.Count

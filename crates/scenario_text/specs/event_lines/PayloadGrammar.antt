@@ -18,7 +18,7 @@ use Rattle.scenario_text.specs.event_lines.Rules.{unless_broken, family_fault}
 unfoldable pub pim_words : Drafted → Row → Placed → Placed → Result Line TextFault
 pim_words draft row a b = iface_at draft row a >>= λ iface. payload_at row b >>= λ bytes. Ok (says.Event (events.Customer (customers.Pim iface bytes)))
 
--- the words behind `pim`
+-- the words after `pim`
 unfoldable pub pim_line : Drafted → Row → List Placed → Result Line TextFault
 pim_line draft row [] = fault row.number row.after reasons.Count
 pim_line draft row (a ∷ []) = fault row.number row.after reasons.Count
@@ -29,7 +29,7 @@ pim_line draft row (a ∷ b ∷ c ∷ more) = fault row.number c.column reasons.
 unfoldable pub packet_words : Drafted → Row → Placed → Placed → Result Line TextFault
 packet_words draft row a b = site_at draft row a >>= λ site. payload_at row b >>= λ bytes. Ok (says.Event (events.Packet site bytes))
 
--- the words behind `packet`
+-- the words after `packet`
 unfoldable pub packet_line : Drafted → Row → List Placed → Result Line TextFault
 packet_line draft row [] = fault row.number row.after reasons.Count
 packet_line draft row (a ∷ []) = fault row.number row.after reasons.Count
@@ -49,7 +49,7 @@ send_words draft row a b c d =
     unless_broken (family_fault (same_family head.source head.group)) row c
     (says.Event (events.Send head.site head.source head.group payload))
 
--- the words behind `send`
+-- the words after `send`
 unfoldable pub send_line : Drafted → Row → List Placed → Result Line TextFault
 send_line draft row [] = fault row.number row.after reasons.Count
 send_line draft row (a ∷ []) = fault row.number row.after reasons.Count

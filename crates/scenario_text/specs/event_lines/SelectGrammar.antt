@@ -52,7 +52,7 @@ select_words draft row word a b c =
     vrf_at draft row a >>= λ vrf. pattern_at row b c >>= λ pattern.
     unless_broken (family_fault (is_of_family pattern)) row c (says.Event (select_event word vrf pattern))
 
--- the words behind `select` or `unselect`
+-- the words after `select` or `unselect`
 unfoldable pub select_line : Drafted → Row → SelectWord → List Placed → Result Line TextFault
 select_line draft row word [] = fault row.number row.after reasons.Count
 select_line draft row word (a ∷ []) = fault row.number row.after reasons.Count

@@ -57,7 +57,7 @@ session_words draft row word k a b =
     session_at draft row k a b >>= λ named.
     unless_broken (session_fault draft.scenario.links named.kind named.a named.b) row b (says.Event (session_event word named))
 
--- the words behind `lose`, `notice` or `raise`
+-- the words after `lose`, `notice` or `raise`
 unfoldable pub session_line : Drafted → Row → SessionWord → List Placed → Result Line TextFault
 session_line draft row word [] = fault row.number row.after reasons.Count
 session_line draft row word (k ∷ []) = fault row.number row.after reasons.Count
@@ -72,7 +72,7 @@ move_words draft row k a b c =
     unless_broken (session_fault draft.scenario.links named.kind named.a named.b) row b
     (says.Event (events.Move named.kind named.a named.b count))
 
--- the words behind `move`
+-- the words after `move`
 unfoldable pub move_line : Drafted → Row → List Placed → Result Line TextFault
 move_line draft row [] = fault row.number row.after reasons.Count
 move_line draft row (k ∷ []) = fault row.number row.after reasons.Count

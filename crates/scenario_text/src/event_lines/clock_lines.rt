@@ -27,7 +27,7 @@ fn tick_words(row: Row, count: &Word) -> Result<Line, TextFault>
     })
 }
 
-/// The line of ticks by the words behind the first one.
+/// The line of ticks by the words after the first one.
 #[tactic(auto, unfolding(crate::specs::event_lines::ClockGrammar::tick_line))]
 pub fn tick_line(row: Row, words: &[Word]) -> Result<Line, TextFault>
     ensures { result ≡ tick_line row (map placed_word words.now) }
@@ -78,7 +78,7 @@ fn node_words(draft: &Draft, row: Row, word: NodeWord, node: &Word) -> Result<Li
     })
 }
 
-/// The line of a node by the words behind the first one.
+/// The line of a node by the words after the first one.
 #[tactic(auto, unfolding(crate::specs::event_lines::ClockGrammar::node_line))]
 pub fn node_line(draft: &Draft, row: Row, word: NodeWord, words: &[Word]) -> Result<Line, TextFault>
     ensures { result ≡ node_line draft.now row word (map placed_word words.now) }

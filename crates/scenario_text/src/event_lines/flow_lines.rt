@@ -65,7 +65,7 @@ fn flow_words(
     unless_broken(family_fault(kept), row, group, Line::Event { event })
 }
 
-/// The line of a source by the words behind the first one.
+/// The line of a source by the words after the first one.
 #[tactic(auto, unfolding(crate::specs::event_lines::FlowGrammar::flow_line))]
 pub fn flow_line(draft: &Draft, row: Row, word: FlowWord, words: &[Word]) -> Result<Line, TextFault>
     ensures { result ≡ flow_line draft.now row word (map placed_word words.now) }

@@ -146,7 +146,7 @@ fn iface_entry(draft: &Draft, row: Row, words: &[Word]) -> Result<IfaceEntry, Te
     }
 }
 
-/// The line of a join or a prune by the words behind the first one.
+/// The line of a join or a prune by the words after the first one.
 #[tactic(auto, unfolding(crate::specs::event_lines::JoinGrammar::entry_line))]
 pub fn entry_line(
     draft: &Draft,

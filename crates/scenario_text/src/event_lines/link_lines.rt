@@ -93,7 +93,7 @@ fn link_words(
     unless_broken(broken, row, b, Line::Event { event })
 }
 
-/// The line of a link by the words behind the first one.
+/// The line of a link by the words after the first one.
 #[tactic(auto, unfolding(crate::specs::event_lines::LinkGrammar::link_line))]
 pub fn link_line(draft: &Draft, row: Row, word: LinkWord, words: &[Word]) -> Result<Line, TextFault>
     ensures { result ≡ link_line draft.now row word (map placed_word words.now) }

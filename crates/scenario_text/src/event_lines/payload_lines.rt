@@ -38,7 +38,7 @@ fn pim_words(
     })
 }
 
-/// The line of a PIM message by the words behind the first one.
+/// The line of a PIM message by the words after the first one.
 #[tactic(auto, unfolding(crate::specs::event_lines::PayloadGrammar::pim_line))]
 pub fn pim_line(alloc: Global, draft: &Draft, row: Row, words: &[Word]) -> Result<Line, ReadFault>
     ensures { Gives result (pim_line draft.now row (map placed_word words.now)) }
@@ -71,7 +71,7 @@ fn packet_words(
     })
 }
 
-/// The line of a packet by the words behind the first one.
+/// The line of a packet by the words after the first one.
 #[tactic(auto, unfolding(crate::specs::event_lines::PayloadGrammar::packet_line))]
 pub fn packet_line(
     alloc: Global,
@@ -137,7 +137,7 @@ fn send_words(
     Ok(unless_broken(family_fault(kept), row, group, Line::Event { event })?)
 }
 
-/// The line of a datagram by the words behind the first one.
+/// The line of a datagram by the words after the first one.
 #[tactic(auto, unfolding(crate::specs::event_lines::PayloadGrammar::send_line))]
 pub fn send_line(alloc: Global, draft: &Draft, row: Row, words: &[Word]) -> Result<Line, ReadFault>
     ensures { Gives result (send_line draft.now row (map placed_word words.now)) }

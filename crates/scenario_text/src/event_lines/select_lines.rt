@@ -90,7 +90,7 @@ fn select_words(
     unless_broken(family_fault(kept), row, group, Line::Event { event })
 }
 
-/// The line of a selection by the words behind the first one.
+/// The line of a selection by the words after the first one.
 #[tactic(auto, unfolding(crate::specs::event_lines::SelectGrammar::select_line))]
 pub fn select_line(
     draft: &Draft,

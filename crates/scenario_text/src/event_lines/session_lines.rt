@@ -112,7 +112,7 @@ fn session_words(
     unless_broken(broken, row, b, Line::Event { event })
 }
 
-/// The line of a session that is lost, noticed to be lost or raised, by the words behind the first one.
+/// The line of a session that is lost, noticed to be lost or raised, by the words after the first one.
 #[tactic(auto, unfolding(crate::specs::event_lines::SessionGrammar::session_line))]
 pub fn session_line(
     draft: &Draft,
@@ -159,7 +159,7 @@ fn move_words(
     unless_broken(broken, row, b, Line::Event { event })
 }
 
-/// The line of octets that move on a session, by the words behind the first one.
+/// The line of octets that move on a session, by the words after the first one.
 #[tactic(auto, unfolding(crate::specs::event_lines::SessionGrammar::move_line))]
 pub fn move_line(draft: &Draft, row: Row, words: &[Word]) -> Result<Line, TextFault>
     ensures { result ≡ move_line draft.now row (map placed_word words.now) }

@@ -45,7 +45,7 @@ use Rattle.edge_words.specs.edge_defs.Keys.{Value}
 use Rattle.edge_words.specs.edge_defs.Place.{EdgePlace, OwnVrf, addr_of}
 use Rattle.edge_words.specs.edge_defs.Upstream as upstreams
 use Rattle.edge_words.specs.edge_defs.Upstream.{known_route, known_routes, costs_of, upstream_by, upstream_for}
-use Rattle.edge_words.proofs.calm_laws.Lists.{passes, among_front, among_behind, among_either, among_map, map_among, among_flat_map, flat_map_among, among_found, found_among}
+use Rattle.edge_words.proofs.calm_laws.Lists.{passes, among_front, among_after, among_either, among_map, map_among, among_flat_map, flat_map_among, among_found, found_among}
 use Rattle.edge_words.proofs.calm_laws.Maps.{entry_get, get_entry}
 use Rattle.edge_words.proofs.calm_laws.Upstreams.{chained}
 use Rattle.edge_words.specs.Known.{AreNodes}
@@ -214,7 +214,7 @@ module _ (place : EdgePlace) (control : Control) (own : OwnVrf) (tree : TreeData
       let addr : addr_of place.scenario peer ≡ held.import.0 =
       sym (join_addr (addr_of place.scenario peer) u.taken.value u.by u.joins) ∙ ap (λ (x : Held). x.import.0) (sym u.is) in
       subst (λ (a : Addr). Among (record { prefix = prefix; origin = origins.Remote peer a rd }) (all place control own)) addr
-      (among_behind route (map of_site (locals place control own)) (flat_map (upstreams.known_from place own.vrf) (maps.entries control.peers))
+      (among_after route (map of_site (locals place control own)) (flat_map (upstreams.known_from place own.vrf) (maps.entries control.peers))
       (among_flat_map (upstreams.known_from place own.vrf) (peer, t.table) route (maps.entries control.peers) t.of_peer
       (among_found (known_route place own.vrf peer) (Unicast rd prefix, u.taken) route (maps.entries t.table) t.among
       (used_known place control own peer rd prefix held u))))
@@ -261,7 +261,7 @@ module _ (place : EdgePlace) (control : Control) (own : OwnVrf) (tree : TreeData
       let one : known_from entry ≡ route =
       λ i. record { prefix = route.prefix; origin = (ap (λ (a : Addr). origins.Remote f.peer a f.rd) addr ∙ sym f.origin) i } in
       subst (λ (r : KnownRoute). Among r kept) one
-      (among_behind (known_from entry) (map known_here (maps.entries tree.vrf.routes.attached))
+      (among_after (known_from entry) (map known_here (maps.entries tree.vrf.routes.attached))
       (map known_from (maps.entries tree.vrf.routes.learned))
       (among_map known_from entry (maps.entries tree.vrf.routes.learned)
       (get_entry key_exact tree.vrf.routes.learned entry.0 entry.1 (learned_at f.peer f.rd route.prefix f.held f.used))))

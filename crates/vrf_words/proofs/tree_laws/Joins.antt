@@ -98,9 +98,9 @@ told_alike tell other h (x ∷ xs) = λ i. elim (h x i) [ None ↦ told_alike te
 -- ---- what a list of entries has first at a key
 
 module _ {K V : Type 0} (R : K → K → Ordering) (key : K) where
-  find_behind : (xs ys : List (K × V)) → find R key xs ≡ None → find R key (xs ++ ys) ≡ find R key ys
-  find_behind [] ys h = refl
-  find_behind (x ∷ xs) ys h = by (eq_by_cmp R key x.0) h (find_behind xs ys)
+  find_after : (xs ys : List (K × V)) → find R key xs ≡ None → find R key (xs ++ ys) ≡ find R key ys
+  find_after [] ys h = refl
+  find_after (x ∷ xs) ys h = by (eq_by_cmp R key x.0) h (find_after xs ys)
     where
       by : (b : Bool) → cond b (Some x.1) (find R key xs) ≡ None → (find R key xs ≡ None → find R key (xs ++ ys) ≡ find R key ys)
           → cond b (Some x.1) (find R key (xs ++ ys)) ≡ find R key ys
@@ -326,7 +326,7 @@ module _ (place : EdgePlace) (control : Control) (peer : NodeId) (rd : Rd) (sour
     held_told : maps.get (held_for place control peer) key ≡ first_told vrf_tells (own_vrfs place)
     held_told =
         maps.get-from_entries key_total (originated place control ++ join_routes place control peer) key
-        ∙ find_behind key_cmp key (originated place control) (join_routes place control peer) (not_originated place control key refl)
+        ∙ find_after key_cmp key (originated place control) (join_routes place control peer) (not_originated place control key refl)
         ∙ find_first key_cmp key (join_route place peer) all
         ∙ one_told (first_told tell all) (first_told vrf_tells (own_vrfs place)) refl refl
 

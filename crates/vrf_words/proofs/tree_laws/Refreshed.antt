@@ -1,4 +1,4 @@
--- The tree of a VRF behind a refresh of the flows.
+-- The tree of a VRF after a refresh of the flows.
 use Rattle.std.proofs.Common.{◌≡◌, ◌↔◌, ℕ, Option, None, Some, option_map, refl, sym, ◌∙◌}
 use Rattle.std.specs.FinMap as maps
 use Rattle.std.specs.FinMap.{FinMap, get-empty}

@@ -24,7 +24,7 @@ use Rattle.edge_words.proofs.Prefixes.{at_among, covering_one, route_of}
 use Rattle.vrf_words.specs.tree_laws.Whole.{AreWhole, HasPrefixes, HaveSpellings}
 use Rattle.vrf_words.proofs.tree_laws.Choices.{FromTaken, route_is}
 
--- a prefix without a bit behind its length, of octets
+-- a prefix without a bit after its length, of octets
 record IsWhole (prefix : Prefix) : Type 0 where
   addr : IsAddr prefix.addr
   bits : IsPrefixOf prefix.addr prefix.bits

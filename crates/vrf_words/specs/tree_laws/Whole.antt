@@ -12,7 +12,7 @@ use Rattle.edge_words.specs.edge_defs.Edge.{Control, TakenRoute}
 use Rattle.edge_words.specs.edge_defs.Imported.{taken_from}
 pub use Rattle.edge_words.specs.edge_defs.Place.{HasPrefixes}
 
--- Prefixes of one length that cover one address are one, as they are where no bit is set behind the length.
+-- Prefixes of one length that cover one address are one, as they are where no bit is set after the length.
 abbrev pub AreWhole : List KnownRoute → Type 0
 AreWhole routes = (route other : KnownRoute) (source : Addr) → Among route routes → Among other routes
     → route.prefix.bits ≡ other.prefix.bits → covers route.prefix source ≡ true → covers other.prefix source ≡ true

@@ -74,7 +74,7 @@ pub fn flow_looked_up()
         ≡ option_map choice_of (maps.get (flows_at place now control) (flow_in own.id flow)) }
 {}
 
-/// Behind a refresh of the edge's flows, the tree is one of the VRF again with the flows that it has at that clock, and what they want; and
+/// After a refresh of the edge's flows, the tree is one of the VRF again with the flows that it has at that clock, and what they want; and
 /// each flow is one of a VRF of the edge, as it is where nothing has happened.
 pub fn trees_are_refreshed()
     ensures tree { (place : EdgePlace) (now : ℕ) (control : Control) (own : OwnVrf) (tree : TreeData) (flows : FinMap flow_cmp Choice) →

@@ -14,12 +14,12 @@ returns-in-Err-Bad c =
 pub loop-rest-smaller : goal.loop-rest-smaller
 loop-rest-smaller c =
     let fits : IsOctets c.args.records.now = λ i. omega (arith, c.type_inv.records i) in
-    shorter c.args.order c.loop-rest.rest.now c.in-Ok.hop c.in-Ok.behind.now
+    shorter c.args.order c.loop-rest.rest.now c.in-Ok.hop c.in-Ok.thereafter.now
     (done_octets c.args.order c.args.records.now c.loop-rest.hops c.loop-rest.rest.now fits c.loop-rest.invariant) c.in-Ok.ensures
 
 pub loop-rest-preserved : goal.loop-rest-preserved
 loop-rest-preserved c =
     let fits : IsOctets c.args.records.now = λ i. omega (arith, c.type_inv.records i) in
     rw c.in_ok-push-in-Ok.ensures.ok
-    (done_more c.args.order c.args.records.now c.loop-rest.hops c.in-Ok.hop c.loop-rest.rest.now c.in-Ok.behind.now fits c.loop-rest.invariant
+    (done_more c.args.order c.args.records.now c.loop-rest.hops c.in-Ok.hop c.loop-rest.rest.now c.in-Ok.thereafter.now fits c.loop-rest.invariant
     c.in-Ok.ensures)

@@ -34,7 +34,7 @@ returns-then-not-is_white c =
     let is = value_at c.digit_values-values.result c.from.result b None c.digit_values-values.ensures c.from.ensures fits c.in-None.is in
     other_met text c.loop-place.octets c.loop-place.high place c.requires c.loop-place-test.true c.loop-place.invariant is
     (sym c.is_white.ensures ∙ c.if-not-is_white.true)
-    ∙ ap (λ (f : TextFault). Err f) (sym c.fault_behind.ensures)
+    ∙ ap (λ (f : TextFault). Err f) (sym c.fault_after.ensures)
 
 pub returns-in-None-high : goal.returns-in-None-high
 returns-in-None-high c =
@@ -45,4 +45,4 @@ pub returns-in-Some-high : goal.returns-in-Some-high
 returns-in-Some-high c =
     let read = all_passed c.args.text.now c.loop-place.octets c.loop-place.high c.loop-place.place c.loop-place-test.false c.loop-place.invariant in
     half_read c.args.text.now c.loop-place.octets c.loop-place.high c.in-Some-high.field-0 c.requires read c.in-Some-high.is
-    ∙ ap (λ (f : TextFault). Err f) (sym c.fault_behind-in-Some-high.ensures)
+    ∙ ap (λ (f : TextFault). Err f) (sym c.fault_after-in-Some-high.ensures)

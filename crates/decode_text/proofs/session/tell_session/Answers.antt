@@ -25,14 +25,14 @@ returns-in-Err g c =
     let octets = c.args.octets.now in
     let front = c.loop-rest.invariant.front in
     let piece = c.split_at.result.0.now in
-    let behind = c.split_at.result.1.now in
+    let thereafter = c.split_at.result.1.now in
     let fits : length octets < 2 ^ 64 = search rules in
     let are : IsOctets octets = λ i. omega (arith, c.type_inv.octets i) in
     let parts =
-    cut_more octets front c.loop-rest.rest.now piece behind c.min.result c.loop-rest.invariant.parts c.split_at.ensures.front
+    cut_more octets front c.loop-rest.rest.now piece thereafter c.min.result c.loop-rest.invariant.parts c.split_at.ensures.front
     c.split_at.ensures.back in
     IfOk-weaker c.tell_fault.result _ _ (λ told h. fault_told (Unit {0}) s g.S.Message.Lined.IsTellable c.requires.session g.S.SessionStream.limit
-    octets front (g.S.SessionStream.state c.loop-rest.stream) c.loop-rest.text piece behind (g.S.SessionStream.state c.feed-fed.new.self)
+    octets front (g.S.SessionStream.state c.loop-rest.stream) c.loop-rest.text piece thereafter (g.S.SessionStream.state c.feed-fed.new.self)
     c.in-Err.fault c.put_waiting.new.text told.refused told.text fits are parts c.loop-rest.invariant.told c.in-Err.ensures
     c.in_ok-put_waiting.ensures.lines h) c.tell_fault.ensures
 
@@ -42,16 +42,16 @@ loop-rest-preserved g c =
     let octets = c.args.octets.now in
     let front = c.loop-rest.invariant.front in
     let piece = c.split_at.result.0.now in
-    let behind = c.split_at.result.1.now in
+    let thereafter = c.split_at.result.1.now in
     let fits : length octets < 2 ^ 64 = search rules in
     let parts =
-    cut_more octets front c.loop-rest.rest.now piece behind c.min.result c.loop-rest.invariant.parts c.split_at.ensures.front
+    cut_more octets front c.loop-rest.rest.now piece thereafter c.min.result c.loop-rest.invariant.parts c.split_at.ensures.front
     c.split_at.ensures.back in
     record {
       front = front ++ piece;
       parts = parts;
       told = piece_told s g.S.SessionStream.limit front (g.S.SessionStream.state c.loop-rest.stream) c.loop-rest.text piece
           (g.S.SessionStream.state c.feed-fed.new.self) (g.S.SessionStream.state c.put_waiting.new.stream) c.put_waiting.new.text
-          (front_fits octets (front ++ piece) behind parts fits) c.loop-rest.invariant.told c.in_default.ensures c.in_ok-put_waiting.ensures.taken
+          (front_fits octets (front ++ piece) thereafter parts fits) c.loop-rest.invariant.told c.in_default.ensures c.in_ok-put_waiting.ensures.taken
           c.in_ok-put_waiting.ensures.lines;
     }

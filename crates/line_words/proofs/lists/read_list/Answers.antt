@@ -1,6 +1,6 @@
 use Rattle.std.proofs.Common.{◌∷◌, ◌++◌, [], ◌∙◌, ◌==◌, ℕ, Bor, List, Option, ap, sym, refl, rules, arith, length-append}
 use Rattle.std.specs.List.{slice_split}
-use Rattle.line_words.specs.Parts.{parts_behind}
+use Rattle.line_words.specs.Parts.{parts_after}
 use Rattle.line_words.proofs.ListFacts.{list_from, from_start, taken, too_many, again, distinct_push, list_done, some_part}
 use Rattle.line_words.proofs.lists.read_list.Goals as goal
 
@@ -15,12 +15,12 @@ returns-then-is_among g c =
     sym (sym c.parts.invariant.left ∙ (ap (list_from T.alike T.read_of c.parts.found) c.cut_comma.ensures
     ∙ again T.alike T.read_of c.parts.found _ _ c.in-Some.item (sym c.read.ensures ∙ c.in-Some.is) (search rules)))
 
-pub returns-in-None-behind : goal.returns-in-None-behind
-returns-in-None-behind g c =
+pub returns-in-None-after : goal.returns-in-None-after
+returns-in-None-after g c =
     let T = g.T.Listed in
     let found = c.parts.found ++ c.in-Some.item ∷ [] in
     let left =
-    taken T.alike T.read_of c.parts.found _ _ (parts_behind c.cut_comma.result.1) c.in-Some.item _ (sym c.read.ensures ∙ c.in-Some.is)
+    taken T.alike T.read_of c.parts.found _ _ (parts_after c.cut_comma.result.1) c.in-Some.item _ (sym c.read.ensures ∙ c.in-Some.is)
     c.cut_comma.ensures c.parts.invariant.left in
     let distinct = distinct_push T.alike c.parts.found c.in-Some.item c.parts.invariant.distinct (search rules) in
     let done =
@@ -30,19 +30,19 @@ returns-in-None-behind g c =
       c.parts.invariant.count,
       c.parts-test.true,
     )) distinct in
-    rw c.in_ok-push.ensures.ok (sym (sym left ∙ (ap (λ (behind : Option (Bor (List ℕ))). list_from T.alike T.read_of found (parts_behind behind))
-    c.in-None-behind.is ∙ done)))
+    rw c.in_ok-push.ensures.ok (sym (sym left ∙ (ap (λ (thereafter : Option (Bor (List ℕ))). list_from T.alike T.read_of found (parts_after thereafter))
+    c.in-None-after.is ∙ done)))
 
 pub parts-preserved : goal.parts-preserved
 parts-preserved g c =
     let T = g.T.Listed in
     let found = c.parts.found ++ c.in-Some.item ∷ [] in
     let left =
-    taken T.alike T.read_of c.parts.found _ _ (parts_behind c.cut_comma.result.1) c.in-Some.item _ (sym c.read.ensures ∙ c.in-Some.is)
+    taken T.alike T.read_of c.parts.found _ _ (parts_after c.cut_comma.result.1) c.in-Some.item _ (sym c.read.ensures ∙ c.in-Some.is)
     c.cut_comma.ensures c.parts.invariant.left in
     let distinct = distinct_push T.alike c.parts.found c.in-Some.item c.parts.invariant.distinct (search rules) in
     rw c.in_ok-push.ensures.ok (record {
-      left = sym (ap (λ (behind : Option (Bor (List ℕ))). list_from T.alike T.read_of found (parts_behind behind)) c.in-Some-behind.is) ∙ left;
+      left = sym (ap (λ (thereafter : Option (Bor (List ℕ))). list_from T.alike T.read_of found (parts_after thereafter)) c.in-Some-after.is) ∙ left;
       count = omega (arith, length-append c.parts.found (c.in-Some.item ∷ []), c.parts.invariant.count);
       distinct = distinct;
     })

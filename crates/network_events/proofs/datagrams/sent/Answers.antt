@@ -8,7 +8,7 @@ use Rattle.network_acts.specs.NetworkView.{NetworkView}
 use Rattle.network_acts.proofs.CopyActs.{accepts, sends, some_sending}
 use Rattle.network_events.specs.Datagrams.{EntersAt}
 use Rattle.network_events.proofs.CustomerLemmas.{found_vrf_edge}
-use Rattle.network_events.proofs.DatagramLemmas.{entering_all, entering_next, entering_none, enters_nowhere, enters_there, sent_all, some_behind, some_handling, some_sent}
+use Rattle.network_events.proofs.DatagramLemmas.{entering_all, entering_next, entering_none, enters_nowhere, enters_there, sent_all, some_after, some_handling, some_sent}
 use Rattle.network_events.proofs.datagrams.sent.Goals as goal
 
 pub loop-vrf-init : goal.loop-vrf-init
@@ -60,7 +60,7 @@ send-requires c =
     c.loop-vrf.lines c.loop-vrf-test.false c.loop-vrf.invariant in
     record {
       sending = some_sending Any _ c.loop-vrf.network c.network-2.view_is
-          (some_behind c.args.site c.args.datagram.now c.args.network.now mid
+          (some_after c.args.site c.args.datagram.now c.args.network.now mid
           (accepts _ c.args.network.now c.network.view_is c.accept.new.self c.accept.ensures.accepted)
           c.as_slice-own.result.now c.loop-vrf.network c.args.lines.now c.loop-vrf.lines enters c.requires.network);
     }

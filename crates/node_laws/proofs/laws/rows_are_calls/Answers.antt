@@ -1,5 +1,5 @@
-use Rattle.node_laws.proofs.RowLemmas.{part_behind, lacks_behind}
+use Rattle.node_laws.proofs.RowLemmas.{part_thereafter, lacks_after}
 use Rattle.node_laws.proofs.laws.rows_are_calls.Goals as goal
 
 pub returns : goal.returns
-returns c = record { made = part_behind; lacks = lacks_behind }
+returns c = record { made = part_thereafter; lacks = lacks_after }

@@ -18,7 +18,7 @@ loop-place-preserved c =
     let ready = subst (λ (places : List Place). AreReady places space) c.in-Some.ensures.items c.loop-place.invariant.ready in
     record {
       ready = rw c.end_place.ensures (ready_step rest c.in-Some.place space ready);
-      behind = λ last ended. c.loop-place.invariant.behind last
+      thereafter = λ last ended. c.loop-place.invariant.thereafter last
           (subst (λ (places : List Place). AreEnded places space last) (sym c.in-Some.ensures.items)
           (ended_step rest c.in-Some.place space last ready (subst (λ (now : Space). AreEnded rest now last) c.end_place.ensures ended)));
     }
@@ -28,4 +28,4 @@ returns c =
     let space = c.loop-place.space in
     let none : c.loop-place.places.items ≡ [] =
     no_places c.loop-place.places.items (omega (arith, c.in_default.ensures.cases.0, c.loop-place.places.ok.0)) in
-    c.loop-place.invariant.behind space (subst (λ (places : List Place). AreEnded places space space) (sym none) (none_ended space))
+    c.loop-place.invariant.thereafter space (subst (λ (places : List Place). AreEnded places space space) (sym none) (none_ended space))

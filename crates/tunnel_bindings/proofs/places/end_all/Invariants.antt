@@ -6,7 +6,7 @@ use Rattle.tunnel_bindings.proofs.places.end_all.Given as goal
 abbrev pub invariant-loop-place : goal.invariant-loop-place
 invariant-loop-place l = record {
   ready : AreReady l.places.items l.space;
-  behind : (last : Space) → AreEnded l.places.items l.space last → AreEnded l.fn.places.items l.fn.space last;
+  thereafter : (last : Space) → AreEnded l.places.items l.space last → AreEnded l.fn.places.items l.fn.space last;
 }
 
 abbrev pub decreases-loop-place : goal.decreases-loop-place

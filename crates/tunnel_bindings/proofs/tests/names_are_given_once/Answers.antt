@@ -3,13 +3,13 @@ use Rattle.tunnel_bindings.specs.declared.any_binding.AnyBinding.TheVariants.{Wa
 use Rattle.tunnel_bindings.specs.Labels.{Space, IsOwned}
 use Rattle.tunnel_bindings.proofs.LabelLemmas.{owned_taken}
 use Rattle.tunnel_bindings.proofs.EndLemmas.{some-same}
-use Rattle.tunnel_bindings.proofs.NamedLemmas.{one_behind}
+use Rattle.tunnel_bindings.proofs.NamedLemmas.{one_after}
 use Rattle.tunnel_bindings.proofs.tests.names_are_given_once.Goals as goal
 
 pub close-requires-clause-owned : goal.close-requires-clause-owned
 close-requires-clause-owned g c = λ name label h.
     let one =
-    one_behind c.of-bindings.result c.keep-first.new.bindings c.take.new.self c.keep-second.new.bindings c.keep-first.result c.keep-second.result
+    one_after c.of-bindings.result c.keep-first.new.bindings c.take.new.self c.keep-second.new.bindings c.keep-first.result c.keep-second.result
     (Wanted c.wanted.result) (Mapped c.mapped-own.result)
     c.of-bindings.ensures c.keep-first.ensures.kept c.take.ensures.taken c.keep-second.ensures.kept name label h in
     let own = c.mapped-own.result.state.label in
@@ -21,7 +21,7 @@ close-requires-clause-owned g c = λ name label h.
 pub close-requires-clause-apart : goal.close-requires-clause-apart
 close-requires-clause-apart g c = λ name other label h k.
     let one =
-    one_behind c.of-bindings.result c.keep-first.new.bindings c.take.new.self c.keep-second.new.bindings c.keep-first.result c.keep-second.result
+    one_after c.of-bindings.result c.keep-first.new.bindings c.take.new.self c.keep-second.new.bindings c.keep-first.result c.keep-second.result
     (Wanted c.wanted.result) (Mapped c.mapped-own.result)
     c.of-bindings.ensures c.keep-first.ensures.kept c.take.ensures.taken c.keep-second.ensures.kept in
     (one name label h).0 ∙ sym (one other label k).0

@@ -25,7 +25,7 @@ attributes-preserved c =
 pub returns-in-Err-clause-value : goal.returns-in-Err-clause-value
 returns-in-Err-clause-value c =
     let (before, read) = c.attributes.invariant in
-    subst (λ (fault : AttributesFault). Fails fault (found_at c.args.octets.now)) (sym c.behind.ensures)
+    subst (λ (fault : AttributesFault). Fails fault (found_at c.args.octets.now)) (sym c.thereafter.ensures)
     (fails_further c.args.octets.now c.attributes.passed before c.attributes.found c.in-Err.fault read c.attributes-test.true
     c.in-Err.ensures.value)
 

@@ -8,20 +8,20 @@ use Rattle.data_plane.proofs.link_copies.aging.give_back_of.Goals as goal
 pub returns-then-not-is_recent-clause-counted : goal.returns-then-not-is_recent-clause-counted
 returns-then-not-is_recent-clause-counted c = λ name.
     let old : is_recent c.args.now c.args.life c.args.kept.now ≡ false = sym c.is_recent.ensures ∙ c.if-not-is_recent.true in
-    let behind : c.give_back.new.self ≡ given_back c.args.pool.now c.args.kept.now.buffer =
+    let thereafter : c.give_back.new.self ≡ given_back c.args.pool.now c.args.kept.now.buffer =
     c.give_back.ensures ∙ ap (given_back c.args.pool.now) c.buffer.ensures in
     let live : 0 < count_of c.args.pool.now c.args.kept.now.buffer = omega (arith, ap (λ (b : Bool). cond {A = ℕ} b 0 1) old, c.requires.held) in
     omega (
       arith,
       ap (λ (b : Bool). cond {A = ℕ} (not b && (c.args.kept.now.buffer == name)) 1 0) old,
-      ap (λ (m : Buffers). count_of m name) behind,
+      ap (λ (m : Buffers). count_of m name) thereafter,
       back_counted c.args.pool.now c.args.kept.now.buffer live name,
     )
 
 pub returns-then-not-is_recent-clause-fades : goal.returns-then-not-is_recent-clause-fades
 returns-then-not-is_recent-clause-fades c =
     let old : is_recent c.args.now c.args.life c.args.kept.now ≡ false = sym c.is_recent.ensures ∙ c.if-not-is_recent.true in
-    let behind : c.give_back.new.self ≡ given_back c.args.pool.now c.args.kept.now.buffer =
+    let thereafter : c.give_back.new.self ≡ given_back c.args.pool.now c.args.kept.now.buffer =
     c.give_back.ensures ∙ ap (given_back c.args.pool.now) c.buffer.ensures in
     let live : 0 < count_of c.args.pool.now c.args.kept.now.buffer = omega (arith, ap (λ (b : Bool). cond {A = ℕ} b 0 1) old, c.requires.held) in
-    subst (λ (m : Buffers). Fades c.args.pool.now m) (sym behind) (back_fades c.args.pool.now c.args.kept.now.buffer live)
+    subst (λ (m : Buffers). Fades c.args.pool.now m) (sym thereafter) (back_fades c.args.pool.now c.args.kept.now.buffer live)

@@ -8,7 +8,7 @@ use Rattle.edge_routes.specs.edge_home.Home.{place_of}
 use Rattle.control_laws.specs.Control.{Kept, control_of}
 use Rattle.edge_control.specs.Sound.{kept_of}
 use Rattle.edge_control.specs.Refreshing.{AreChanged, AreTold}
-use Rattle.edge_control.proofs.RefreshMade.{are_changed, are_of_core, behind_rest, behind_sound, is_node, least_costs, refresh_makes}
+use Rattle.edge_control.proofs.RefreshMade.{are_changed, are_of_core, after_rest, after_sound, is_node, least_costs, refresh_makes}
 use Rattle.edge_control.proofs.control.EdgeControl.refresh.Goals as goal
 
 pub refresh_trees-requires : goal.refresh_trees-requires
@@ -24,7 +24,7 @@ refresh_trees-requires c =
 pub invariant_of-self : goal.invariant_of-self
 invariant_of-self c =
     let kept : Kept = kept_of c.self.inside.home c.self.inside.trees.items c.self.inside.taken in
-    behind_sound kept c.self.invariant c.refresh_trees.new.trees.items c.refresh_trees.ensures.rest
+    after_sound kept c.self.invariant c.refresh_trees.new.trees.items c.refresh_trees.ensures.rest
 
 pub returns-clause-refreshed : goal.returns-clause-refreshed
 returns-clause-refreshed c = λ own is.
@@ -56,7 +56,7 @@ pub returns-clause-rest : goal.returns-clause-rest
 returns-clause-rest c =
     let kept : Kept = kept_of c.self.inside.home c.self.inside.trees.items c.self.inside.taken in
     let new : Control = control_of (record kept { trees = c.refresh_trees.new.trees.items }) in
-    behind_rest kept c.self.invariant c.refresh_trees.new.trees.items c.refresh_trees.ensures.rest
+    after_rest kept c.self.invariant c.refresh_trees.new.trees.items c.refresh_trees.ensures.rest
     ∙ ap (λ (k : Kept). record (control_of k) { flows = new.flows }) c.self.view_is
 
 pub returns-clause-joins : goal.returns-clause-joins

@@ -10,7 +10,7 @@ use Rattle.control_laws.specs.Control.{Kept, control_of}
 use Rattle.control_laws.specs.Customers.{selected}
 use Rattle.control_laws.proofs.Parts.{no_core}
 use Rattle.edge_control.specs.Sound.{kept_of, wants_of}
-use Rattle.edge_control.specs.Places.{IsPlace, changed_at, is_selection_too_many, number_behind, vrfs_of}
+use Rattle.edge_control.specs.Places.{IsPlace, changed_at, is_selection_too_many, number_after, vrfs_of}
 use Rattle.edge_control.proofs.CallLemmas.{is_there, sound_either}
 use Rattle.edge_control.proofs.SelectLemmas.{few_there, is_new, number_of, selected_made}
 use Rattle.edge_control.proofs.WantLemmas.{changed_wants, wants_either}
@@ -68,7 +68,7 @@ returns-clause-number c =
     let kept : Kept = kept_of c.self.inside.home c.self.inside.trees.items c.self.inside.taken in
     let place = subst (λ (k : Kept). IsPlace k.home c.args.place (λ own. own.id.0 == c.args.vrf.0)) (sym c.self.view_is) c.requires.place in
     λ own among id. IfOk-weaker c.select_at.result _ _ (λ lsp is.
-    is ∙ ap (λ (k : Kept). tunnel_number own.vrf (number_behind (control_of k) c.args.vrf)) c.self.view_is)
+    is ∙ ap (λ (k : Kept). tunnel_number own.vrf (number_after (control_of k) c.args.vrf)) c.self.view_is)
     (number_of kept c.self.invariant c.args.place c.args.vrf place c.args.pattern c.args.now c.select_at.result own
     (subst (λ (k : Kept). Among own (vrfs_of k.home)) (sym c.self.view_is) among) id c.select_at.ensures.number)
 

@@ -7,7 +7,7 @@ use Rattle.edge_words.specs.held_laws.Held.{with_selected}
 use Rattle.held_tables.specs.Holding.{HoldAll}
 use Rattle.control_laws.specs.Control.{control_of}
 use Rattle.control_laws.proofs.Parts.{no_core}
-use Rattle.edge_control.specs.Places.{number_behind}
+use Rattle.edge_control.specs.Places.{number_after}
 use Rattle.edge_routing.proofs.CustomerCalls.{held_at, own_at}
 use Rattle.edge_routing.proofs.Selections.{lsp_is, lsp_large, select_made, selected_now, settled}
 use Rattle.edge_routing.proofs.routing.EdgeRouting.select.Goals as goal
@@ -16,7 +16,7 @@ pub hold_selected-requires-clause-number : goal.hold_selected-requires-clause-nu
 hold_selected-requires-clause-number c =
     let old = c.args.self.now.control in
     let own = c.own_of_vrf-own.result.now in
-    lsp_large own.local.vrf (number_behind (control_of old) c.args.vrf) c.in_ok-lsp.lsp
+    lsp_large own.local.vrf (number_after (control_of old) c.args.vrf) c.in_ok-lsp.lsp
     (lsp_is c.args.vrf old c.select.new.self c.home.result.now own c.in_ok-lsp.lsp c.home.ensures.home c.select.ensures.home
     c.own_of_vrf-own.ensures.among c.own_of_vrf-own.ensures.of
     c.in_ok-lsp.ensures.number)

@@ -1,6 +1,6 @@
 use Rattle.std.proofs.Common.{◌+◌, ◌∙◌, ap, subst, sym, List, Some, length}
 use Rattle.mv_base.specs.framing.Cut.{cut, IsCutting}
-use Rattle.mv_base.proofs.framing.Loops.{OnWay, tail_of, on_way_more, on_way_fault_behind, on_way_wait}
+use Rattle.mv_base.proofs.framing.Loops.{OnWay, tail_of, on_way_more, on_way_fault_after, on_way_wait}
 use Rattle.mldp.specs.declared.mldp_msgs.message.LabelMessage.{LabelMessage}
 use Rattle.mldp.specs.declared.mldp_msgs.pdu.Front as pdu
 use Rattle.mldp.specs.mldp_msgs.Reading.{pdu_front}
@@ -28,5 +28,5 @@ returns-in-Bad-clause-exact c =
     let P : List LabelMessage → Type 0 =
     λ ms. IsCutting octets (cut pdu_front octets) ms c.pdus.place (Some (c.pdus.place + c.in-Bad.offset, c.in-Bad.fault)) in
     subst P (sym c.in_ok-append-in-Bad.ensures.items)
-    (on_way_fault_behind pdu_front octets c.pdus.place c.in-Bad.offset c.in-Bad.fault c.pdus.messages.items c.in-Bad.found.items no_pdu
+    (on_way_fault_after pdu_front octets c.pdus.place c.in-Bad.offset c.in-Bad.fault c.pdus.messages.items c.in-Bad.found.items no_pdu
     c.pdus.invariant room (c.in_ok-read_pdu.ensures.value ∙ ap front_of c.in-Bad.is))

@@ -27,10 +27,10 @@ invariant_of-self-2 c =
     let all : from_entries {R = entry_cmp} c.loop-at.self-inside.entries.entries ≡ changed_by (from_entries c.self.inside.entries.entries) changes =
     made-changes c.self.inside.entries.entries c.loop-at.self-inside.entries.entries changes (λ at.
     made at ∙ ap (λ (es : List (IfaceEntry × Expiry)). then_at changes (lookup (is_at at) es) at) c.reserve.ensures.entries) in
-    let behind : len (from_entries {R = entry_cmp} c.loop-at.self-inside.entries.entries) ≡ length c.loop-at.self-inside.entries.entries =
+    let thereafter : len (from_entries {R = entry_cmp} c.loop-at.self-inside.entries.entries) ≡ length c.loop-at.self-inside.entries.entries =
     length-map c.loop-at.self-inside.entries.entries c.loop-at.invariant.unique in (
       c.loop-at.invariant.unique,
-      omega (arith, few, behind, ap (λ (m : Entries). len m) all, c.count_after.ensures),
+      omega (arith, few, thereafter, ap (λ (m : Entries). len m) all, c.count_after.ensures),
       (λ at.
           let there = get is_at c.reserve.new.self at in
           let own : is_listed c.self.inside.index at ≡ is_some there =

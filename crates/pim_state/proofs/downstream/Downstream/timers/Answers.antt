@@ -24,7 +24,7 @@ returns-clause-fewer c =
     filter-RetainsPairs _ _ _ (λ k v b w g call. search rules) _ _ c.retain.ensures.filtered in
     let before : len (from_entries {R = entry_cmp} c.self.inside.entries.entries) ≡ length c.self.inside.entries.entries =
     length-map c.self.inside.entries.entries c.self.invariant.0 in
-    let behind : len (from_entries {R = entry_cmp} c.retain.new.self.entries) ≡ length c.retain.new.self.entries =
+    let thereafter : len (from_entries {R = entry_cmp} c.retain.new.self.entries) ≡ length c.retain.new.self.entries =
     length-map c.retain.new.self.entries c.retain.ensures.unique in
     let fewer : length c.retain.new.self.entries ≤ length c.self.inside.entries.entries =
     omega (
@@ -33,7 +33,7 @@ returns-clause-fewer c =
       length-filter_both (λ (e : IfaceEntry × Expiry). is_after e.1 c.args.now) (λ e. not (is_after e.1 c.args.now))
           (λ _. refl) c.self.inside.entries.entries,
     ) in
-    omega (arith, before, behind, fewer, ap (λ (m : Entries). len m) c.self.view_is)
+    omega (arith, before, thereafter, fewer, ap (λ (m : Entries). len m) c.self.view_is)
 
 pub invariant_of-self : goal.invariant_of-self
 invariant_of-self c =

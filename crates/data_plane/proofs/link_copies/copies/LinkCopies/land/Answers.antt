@@ -50,7 +50,7 @@ invariant_of-self c =
     let none : was.current ≡ None = ap (λ (d : CopiesData). d.current) c.self.view_is ∙ c.requires in
     let account : IsShared (data_of was.ways None was.pool) =
     subst (λ (o : Option Current). IsShared (data_of was.ways o was.pool)) none c.self.invariant.2 in
-    let behind : Some (current_of c.in_ok-kept.kept) ≡ Some c.handled.result = ap (λ (x : Current). Some x) (sym c.handled.ensures) in (
+    let thereafter : Some (current_of c.in_ok-kept.kept) ≡ Some c.handled.result = ap (λ (x : Current). Some x) (sym c.handled.ensures) in (
       c.take_out.ensures.unique,
       omega (
         arith,
@@ -58,7 +58,7 @@ invariant_of-self c =
         lands_count was.ways c.take_out.new.ways (c.args.from, c.args.to) c.saturating_sub-place.result
             c.in_ok-kept.kept was.pool c.take_out.ensures.taken copy,
       ),
-      subst (λ (o : Option Current). IsShared (data_of c.take_out.new.ways o was.pool)) behind
+      subst (λ (o : Option Current). IsShared (data_of c.take_out.new.ways o was.pool)) thereafter
           (lands_shared was.ways c.take_out.new.ways (c.args.from, c.args.to) c.saturating_sub-place.result c.in_ok-kept.kept was.pool
           c.take_out.ensures.taken copy account),
     )

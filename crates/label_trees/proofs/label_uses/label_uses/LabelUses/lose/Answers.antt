@@ -35,9 +35,9 @@ invariant_of-self c =
 pub returns-clause-lost : goal.returns-clause-lost
 returns-clause-lost c =
     let listed = c.deref.ensures.value ∙ c.in_ok-labels.ensures.listed in
-    let behind = c.self-2.view_is ∙ c.lose_all.ensures in
-    let life = ap (λ (u : Uses). u.life) behind in
-    let labels = ap (λ (u : Uses). u.labels) behind
+    let thereafter = c.self-2.view_is ∙ c.lose_all.ensures in
+    let life = ap (λ (u : Uses). u.life) thereafter in
+    let labels = ap (λ (u : Uses). u.labels) thereafter
     ∙ (ap (λ (ls : List ℕ). lost_all c.args.peer c.args.self.now.labels ls) listed
     ∙ (ap (λ (u : Uses). lost_all c.args.peer u.labels (labels_toward c.args.peer c.self.inside.held.entries)) (sym c.self.view_is)
     ∙ (lost_is c.self.inside.space c.self.inside.held (maps.get c.self.inside.bindings.kept) (get is_node c.self.inside.sessions)
@@ -45,6 +45,6 @@ returns-clause-lost c =
     ∙ ap (λ (u : Uses). map (freed c.args.peer) u.labels) c.self.view_is))) in
     let sessions =
     session_goes c.self-2.inside.sessions c.swap_remove.new.self c.args.peer c.swap_remove.ensures.updates.0
-    ∙ ap (λ (u : Uses). maps.remove u.sessions c.args.peer) behind in
-    let waiting = ap (λ (u : Uses). u.waiting) behind in
+    ∙ ap (λ (u : Uses). maps.remove u.sessions c.args.peer) thereafter in
+    let waiting = ap (λ (u : Uses). u.waiting) thereafter in
     λ i. record { life = life i; labels = labels i; waiting = waiting i; sessions = sessions i }

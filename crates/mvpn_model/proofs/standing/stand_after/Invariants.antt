@@ -1,7 +1,7 @@
 use Rattle.std.proofs.Common.{◌≡◌, ◌+◌, ◌<◌, ◌^◌, drop}
 use Rattle.std.specs.List.{fold}
 use Rattle.mvpn_model.specs.Past.{ticks_in, stands_after}
-use Rattle.mvpn_model.proofs.standing.stand_behind.Given as goal
+use Rattle.mvpn_model.proofs.standing.stand_after.Given as goal
 
 abbrev pub invariant-loop-timed : goal.invariant-loop-timed
 invariant-loop-timed l =

@@ -1,7 +1,7 @@
 use Rattle.std.proofs.Common.{◌≤◌, ◌++◌, ◌∙◌, drop, arith, ap}
 use Rattle.std.specs.Fmt.{decimal}
 use Rattle.value_text.proofs.DottedLemmas.{few_digits, mark_before}
-use Rattle.value_text.proofs.addr_text.write_behind_dot.Goals as goal
+use Rattle.value_text.proofs.addr_text.write_after_dot.Goals as goal
 
 pub write_digits-digits-requires : goal.write_digits-digits-requires
 write_digits-digits-requires c =

@@ -1,7 +1,7 @@
 use Rattle.std.proofs.Common.{◌≡◌, drop}
 use Rattle.std.specs.List.{fold}
 use Rattle.mvpn_model.specs.Past.{noted_after}
-use Rattle.mvpn_model.proofs.active.noted_behind.Given as goal
+use Rattle.mvpn_model.proofs.active.noted_thereafter.Given as goal
 
 abbrev pub invariant-loop-timed : goal.invariant-loop-timed
 invariant-loop-timed l =

@@ -15,8 +15,8 @@ returns-then-is_among g c =
     sym (sym c.parts.invariant.left ∙ (ap (list_from T.alike T.read_of c.parts.found) c.cut_comma.ensures
     ∙ again T.alike T.read_of c.parts.found _ _ c.in-Some.item (sym c.read.ensures ∙ c.in-Some.is) (search rules)))
 
-pub returns-in-None-after : goal.returns-in-None-after
-returns-in-None-after g c =
+pub returns-in-None-thereafter : goal.returns-in-None-thereafter
+returns-in-None-thereafter g c =
     let T = g.T.Listed in
     let found = c.parts.found ++ c.in-Some.item ∷ [] in
     let left =
@@ -31,7 +31,7 @@ returns-in-None-after g c =
       c.parts-test.true,
     )) distinct in
     rw c.in_ok-push.ensures.ok (sym (sym left ∙ (ap (λ (thereafter : Option (Bor (List ℕ))). list_from T.alike T.read_of found (parts_after thereafter))
-    c.in-None-after.is ∙ done)))
+    c.in-None-thereafter.is ∙ done)))
 
 pub parts-preserved : goal.parts-preserved
 parts-preserved g c =
@@ -42,7 +42,7 @@ parts-preserved g c =
     c.cut_comma.ensures c.parts.invariant.left in
     let distinct = distinct_push T.alike c.parts.found c.in-Some.item c.parts.invariant.distinct (search rules) in
     rw c.in_ok-push.ensures.ok (record {
-      left = sym (ap (λ (thereafter : Option (Bor (List ℕ))). list_from T.alike T.read_of found (parts_after thereafter)) c.in-Some-after.is) ∙ left;
+      left = sym (ap (λ (thereafter : Option (Bor (List ℕ))). list_from T.alike T.read_of found (parts_after thereafter)) c.in-Some-thereafter.is) ∙ left;
       count = omega (arith, length-append c.parts.found (c.in-Some.item ∷ []), c.parts.invariant.count);
       distinct = distinct;
     })

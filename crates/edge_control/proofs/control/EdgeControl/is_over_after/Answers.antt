@@ -19,9 +19,9 @@ returns c =
     c.requires.place in
     c.is_over.ensures
     ∙ over_is kept c.self.invariant c.args.place c.args.iface place c.args.message.now c.args.now c.index.result.now c.index-2.result.now
-    c.entries_in.result c.pim_entries-own.result c.in_ok-after.thereafter
+    c.entries_in.result c.pim_entries-own.result c.in_ok-thereafter.thereafter
     c.index.ensures c.index-2.ensures
     (c.entries_in.ensures ∙ ap (λ (trees : List TreeData). min (sum_by (λ (tree : TreeData). maps.len tree.vrf.entries) trees) most)
     c.deref.ensures.value)
-    c.pim_entries-own.ensures.count c.pim_entries-own.ensures.few c.in_ok-after.ensures
+    c.pim_entries-own.ensures.count c.pim_entries-own.ensures.few c.in_ok-thereafter.ensures
     ∙ ap (λ (k : Kept). are_too_many (applied (control_of k).entries c.args.iface c.args.message.now c.args.now)) c.self.view_is

@@ -301,9 +301,9 @@ STREAMS = {
     'label': (
         'ldp', pdu(label_mapping(P2MP, 16), label_mapping(P2MP, 15), label_mapping(P2MP, 16)) + MAPPING,
         [MAPPED, f'refused 80 label {left_out(74)}', MAPPED]),
-    'behind messages': (
+    'after messages': (
         'ldp', pdu(label_mapping(P2MP, 16), b'\0\1\0') + MAPPING, [MAPPED, f'refused 47 message-length {left_out(3)}', MAPPED]),
-    'behind messages, and an empty PDU': (
+    'after messages, and an empty PDU': (
         'ldp', pdu(label_mapping(P2MP, 16), b'\0\1\0') + pdu() + MAPPING,
         [MAPPED, f'refused 47 message-length {left_out(3)}', MAPPED]),
     'FEC at the end': ('ldp', pdu(ldp(0x400, 1, bytes.fromhex('01000000'))) + MAPPING, [f'refused 22 fec.short {left_out(12)}', MAPPED]),

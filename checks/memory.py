@@ -116,8 +116,8 @@ def numbers(count, most):
     """The calls that are refused in turn."""
     if count <= most:
         return [*range(1, count + 1)]
-    front, behind = most // 2, most - most // 2
-    return [*range(1, front + 1)] + [front + (count - front) * turn // behind for turn in range(1, behind + 1)]
+    front, after = most // 2, most - most // 2
+    return [*range(1, front + 1)] + [front + (count - front) * turn // after for turn in range(1, after + 1)]
 
 
 def is_want(ran, usual):

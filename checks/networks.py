@@ -324,7 +324,7 @@ class Replay:
         self.datagrams[number] = Sent(self.place, sent.site, sent.source, sent.group, sent.octets)
         self.wanted[number] = receivers(self.scenario, self.past, self.sessions.clock, sent.site, sent.source, sent.group)
 
-    def behind(self, event):
+    def after(self, event):
         state = self.world
         if event.word == 'settle' and (octets_in_transit(state) or due_timers(state)):
             self.wrong('settled', octets_in_transit(state), due_timers(state))
@@ -364,7 +364,7 @@ class Replay:
         self.past.append(Step(timed.event, self.sessions.clock))
         if len(self.world.datagrams) > before:
             self.accepted(timed.event)
-        self.behind(timed.event)
+        self.after(timed.event)
         for line in flat:
             if isinstance(line, report.State):
                 self.told(line)

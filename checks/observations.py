@@ -287,14 +287,14 @@ ANSWERS = {
     'IPv6, and one is lost': (
         with_six(*stream(LONG, flow=FLOW_SIX, at='X6', ifaces=())),
         'no 25 missing\nlost at Y6: site X sent it in frame 1 of X6.in.pcap (+2.000000); it left nowhere'),
-    'what is sent behind a prune goes nowhere': ([*WELL, pruned(6), *lost(b'four', 7)], 'yes'),
+    'what is sent after a prune goes nowhere': ([*WELL, pruned(6), *lost(b'four', 7)], 'yes'),
     'and if it leaves nobody asked': (
         [*WELL, pruned(6), *stream(b'four', first=7)],
         'no 41 asked\nunasked: frame 4 of Y1.out.pcap (+6.010000) left at Y1, where nobody asks for it: site X sent it in frame 4 of '
         'X1.in.pcap (+6.000000)'),
     'a holdtime that ends': (
         [into('Y1', 1, join_prune('10.2.0.1', FLOW, holdtime=5)), *stream(b'one', b'two'), *lost(b'three', 8)], 'yes'),
-    'what is sent behind a span': ([*WELL, *lost(b'four', 11)], 'yes'),
+    'what is sent after a span': ([*WELL, *lost(b'four', 11)], 'yes'),
     'what is sent between two spans': ([*WELL, *lost(b'four', 11), *stream(b'five', first=13)], 'yes', [SPAN, '+11..+14']),
     'what is lost in a second span': (
         [*WELL, *lost(b'four', 11), *lost(b'five', 13)],

@@ -12,9 +12,9 @@ A file of rows is made of blocks, and the first word of a block says what it is.
 `#`, are passed over.
 
     short               lines `NAME TEXT`: NAME stands for TEXT where it is a word of `do` or `>`
-    scenario NAME       lines of input, for `use` and `behind`
+    scenario NAME       lines of input, for `use` and `after`
     table WORDS         rows of one line of input: `STATUS TEXT`, the text escaped as after `<`, and below it the output, indented
-                        by four spaces. `table WORDS behind NAME` puts the lines of the scenario in front of each TEXT
+                        by four spaces. `table WORDS after NAME` puts the lines of the scenario in front of each TEXT
     row TITLE           one row, of these lines in their order:
         words WORDS         the words of the command; `replay` where there is no such line
         by program          the reference program is too slow for it; `by reference`: it is run by that program alone
@@ -141,7 +141,7 @@ class Book:
         self.scenarios[rest] = ''.join(line + '\n' for _, line in block[1:])
 
     def read_table(self, name, rest, block):
-        words, _, scenario = rest.partition(' behind ')
+        words, _, scenario = rest.partition(' after ')
         front = self.scenarios[scenario].encode() if scenario else b''
         for number, line in block[1:]:
             if line.startswith('    '):

@@ -490,10 +490,10 @@ def tunnel_octets(told):
 
 def rd_octets(text):
     """Those of a route distinguisher of type 0 or 1 (RFC 4364 section 4.2)."""
-    front, behind = text.split(':')
+    front, after = text.split(':')
     if '.' in front:
-        return (number(1, 2) + addr(front) + number(int(behind), 2)).hex()
-    return (number(0, 2) + number(int(front), 2) + number(int(behind), 4)).hex()
+        return (number(1, 2) + addr(front) + number(int(after), 2)).hex()
+    return (number(0, 2) + number(int(front), 2) + number(int(after), 4)).hex()
 
 
 def vpn_ipv6_text(told):

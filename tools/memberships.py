@@ -46,8 +46,8 @@ class Memberships:
     def asked(self, packet, iface):
         """For each group that a message names, the joins and prunes: the word, the source or none, and whether it is an `rpt`."""
         kind, octets, size = packet.protocol, packet.payload, len(packet.source)
-        behind = 4 if kind == IGMP else 8
-        group = octets[behind:behind + size]
+        after = 4 if kind == IGMP else 8
+        group = octets[after:after + size]
         if octets[0] in REPORTS[kind]:
             yield group, self.changed((iface, group), IS_EXCLUDE, [])
         elif octets[0] in LEAVES[kind]:

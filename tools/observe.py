@@ -225,7 +225,7 @@ class Composer:
 
     def middle(self, begin, end):
         """The end of a span, or else a time between two datagrams."""
-        ends = [behind for _, behind in self.spans if begin < behind < end]
+        ends = [after for _, after in self.spans if begin < after < end]
         times = sorted({one.seen.time for one in self.datagrams if begin <= one.seen.time < end})
         inside = [one for one in ends if times and times[0] < one <= times[-1]]
         return inside[len(inside) // 2] if inside else times[len(times) // 2] if len(times) > 1 else None

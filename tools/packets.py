@@ -85,9 +85,9 @@ def tcp(source, destination, ports, sequence, acknowledged, flags, payload=b''):
     options = SYN_OPTIONS if flags & SYN else b''
     words = 5 + len(options) // 4
     front = struct.pack('>HHIIBBH', *ports, sequence, acknowledged, words << 4, flags, WINDOW)
-    behind = bytes(2) + options + payload
-    whole = pseudo_header(source, destination, TCP, len(front) + 2 + len(behind)) + front + bytes(2) + behind
-    return front + number(checksum(whole), 2) + behind
+    after = bytes(2) + options + payload
+    whole = pseudo_header(source, destination, TCP, len(front) + 2 + len(after)) + front + bytes(2) + after
+    return front + number(checksum(whole), 2) + after
 
 
 # ---- PIM

@@ -166,10 +166,10 @@ def next_cut(form, octets, at):
     end = at + length
     if length and (is_at_end(form, octets, end) or end < len(octets) and not form.has_marker):
         return Cut(at, end, State.WHOLE)
-    behind = form.next(octets, at + 1)
-    if length and end < behind:
+    after = form.next(octets, at + 1)
+    if length and end < after:
         return Cut(at, end, State.WHOLE)
-    return Cut(at, behind, State.BROKEN)
+    return Cut(at, after, State.BROKEN)
 
 
 def cuts(kind, octets, is_begun):

@@ -98,8 +98,8 @@ def mcast_routes(octets, is_announced):
     while at < len(octets):
         kind, end = octets[at], at + 2 + octets[at + 1]
         if kind in (3, 5, 7):
-            source, behind = sized(octets, at + (14 if kind == 7 else 10))
-            yield Route(is_announced, kind, octets[at + 2:at + 10], source, sized(octets, behind)[0])
+            source, after = sized(octets, at + (14 if kind == 7 else 10))
+            yield Route(is_announced, kind, octets[at + 2:at + 10], source, sized(octets, after)[0])
         else:
             yield Route(is_announced, kind)
         at = end

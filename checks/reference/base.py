@@ -95,8 +95,8 @@ class Prefix:
 def same_front(own, other, bits):
     if type(own) is not type(other):
         return False
-    behind = 8 * len(own.octets) - bits
-    return from_be_bytes(own.octets) // 2 ** behind == from_be_bytes(other.octets) // 2 ** behind
+    after = 8 * len(own.octets) - bits
+    return from_be_bytes(own.octets) // 2 ** after == from_be_bytes(other.octets) // 2 ** after
 
 
 def covers(prefix, addr):

@@ -29,8 +29,8 @@ class Halted:
 def and_then(before, step):
     if isinstance(before, Halted):
         return before
-    behind = step(before.world)
-    return replace(behind, acts=before.acts + behind.acts)
+    after = step(before.world)
+    return replace(after, acts=before.acts + after.acts)
 
 
 def one_act(world, one):

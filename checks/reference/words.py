@@ -61,8 +61,8 @@ def prefix_in(word):
     addr, bits = addr_in(text), number_in(length)
     if addr is None or bits is None:
         return None
-    behind = 8 * len(addr.octets) - bits
-    return Prefix(addr, bits) if behind >= 0 and from_be_bytes(addr_octets(addr)) % 2 ** behind == 0 else None
+    after = 8 * len(addr.octets) - bits
+    return Prefix(addr, bits) if after >= 0 and from_be_bytes(addr_octets(addr)) % 2 ** after == 0 else None
 
 
 # ---- route distinguishers and Route Targets

@@ -1,5 +1,5 @@
 -- The delays of selective routes, by the VRFs of the edge and the addresses of the nodes.
-use Rattle.std.specs.Prelude.{◌≡◌, ℕ, ◌+◌, ◌&&◌, ◌||◌, Bool, true, false, not, nat_le, List, map, is_some, slice_get, None, Some}
+use Rattle.std.specs.Prelude.{◌≡◌, ℕ, ◌+◌, ◌≤◌, ◌&&◌, ◌||◌, Bool, true, false, not, min, nat_le, List, Option, map, is_some, slice_get, None, Some}
 use Rattle.std.specs.List.{list_any}
 use Rattle.std.specs.FinMap as maps
 use Rattle.mv_base.specs.declared.addr.Addr.{Addr}
@@ -41,9 +41,30 @@ is_delayed other = false
 abbrev pub awaits : Key → TakenRoute → Bool
 awaits key route = is_delayed key && not route.run
 
--- where it is noted that nothing waits, the delay of none of the routes may still be run
-abbrev pub IsNoted : Bool → Taken → Type 0
-IsNoted waits taken = waits ≡ false → (key : Key) (route : TakenRoute) → maps.get taken key ≡ Some route → awaits key route ≡ false
+-- the earliest of some clocks, and this one where it counts
+abbrev pub earlier : Bool → Option ℕ → ℕ → Option ℕ
+earlier false earliest clock = earliest
+earlier true None clock = Some clock
+earlier true (Some first) clock = Some (min first clock)
+
+-- the earliest clock at which a route was learned whose delay may still be run, with one more route
+abbrev pub earliest_with : Option ℕ → Key × TakenRoute → Option ℕ
+earliest_with earliest entry = earlier (awaits entry.0 entry.1) earliest entry.1.since
+
+-- whether the delay may be over of a route that was learned then or later
+abbrev pub is_any_over : Option ℕ → ℕ → ℕ → Bool
+is_any_over None delay now = false
+is_any_over (Some since) delay now = nat_le (since + delay) now
+
+-- the clock is none before the earliest one
+abbrev pub IsFrom : Option ℕ → ℕ → Type 0
+IsFrom None clock = ⊥
+IsFrom (Some first) clock = first ≤ clock
+
+-- No route whose delay may still be run was learned before the clock that is noted.
+abbrev pub IsNoted : Option ℕ → Taken → Type 0
+IsNoted earliest taken =
+    (key : Key) (route : TakenRoute) → maps.get taken key ≡ Some route → awaits key route ≡ true → IsFrom earliest route.since
 
 -- These are the VRFs of the edge, the nodes of its network and its delay; and each peer is one of the nodes.
 pub record IsOf (place : EdgePlace) (vrfs : List Local) (nodes : List Node) (delay : ℕ) (tables : Tables) : Type 0 where

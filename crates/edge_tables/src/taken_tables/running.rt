@@ -1,9 +1,9 @@
 //! The delays of the routes of one peer.
-ghost use Rattle.std.specs.Prelude.{◌≡◌, ◌+◌, ◌&&◌, ◌||◌, true, nat_le, is_some};
-ghost use Rattle.std.specs.List.{list_any};
+ghost use Rattle.std.specs.Prelude.{◌≡◌, ◌+◌, ◌&&◌, None, true, nat_le, is_some};
+ghost use Rattle.std.specs.List.{fold};
 ghost use Rattle.std.specs.FinMap as maps;
 ghost use Rattle.edge_defs.specs.Imported.{imported_selective};
-ghost use Rattle.edge_tables.specs.taken_tables.Running.{awaits, imports, is_delayed, run_at, table_run};
+ghost use Rattle.edge_tables.specs.taken_tables.Running.{awaits, earliest_with, imports, is_any_over, is_delayed, run_at, table_run};
 ghost use Rattle.edge_tables.specs.taken_tables.Slots.{taken_in};
 
 use crate::rib_sync::Inbox;
@@ -52,18 +52,42 @@ fn awaits(key: &TakenKey, entry: &TakenEntry) -> bool
     is_delayed(key.key()) && !entry.was_run()
 }
 
-/// Whether the delay of a route of a table may still be run, once this one is put there.
-pub(crate) fn awaits_with(waits: bool, key: &TakenKey, entry: &TakenEntry) -> bool
-    ensures { result ≡ (waits || awaits key.now entry.now) }
+/// The earliest clock at which a route was learned whose delay may still be run, with this route among the others.
+pub(crate) fn earliest_with(
+    earliest: Option<u64>,
+    key: &TakenKey,
+    entry: &TakenEntry,
+) -> Option<u64>
+    ensures { result ≡ earliest_with earliest (key.now, entry.now) }
 {
-    waits || awaits(key, entry)
+    if !awaits(key, entry) {
+        return earliest;
+    }
+    match earliest {
+        None => Some(entry.since()),
+        Some(first) => Some(first.min(entry.since())),
+    }
 }
 
-/// Whether the delay of one of the routes may still be run.
-pub(crate) fn any_awaits(routes: &TakenRoutes) -> bool
-    ensures { result ≡ list_any (λ entry. awaits entry.0 entry.1) (maps.entries (taken_in routes.now)) }
+/// That clock, of all these routes.
+pub(crate) fn earliest_of(routes: &TakenRoutes) -> Option<u64>
+    ensures { result ≡ fold earliest_with None (maps.entries (taken_in routes.now)) }
 {
-    routes.iter().any(|(key, entry)| awaits(key, entry))
+    let mut earliest = None;
+    for (key, entry) in routes.iter() {
+        earliest = earliest_with(earliest, key, entry);
+    }
+    earliest
+}
+
+/// Whether the delay may be over of a route that was learned then or later.
+pub(crate) fn is_any_over(earliest: Option<u64>, delay: u64, now: u64) -> bool
+    ensures { result ≡ is_any_over earliest delay now }
+{
+    match earliest {
+        None => false,
+        Some(since) => is_over(since, delay, now),
+    }
 }
 
 /// Whether the delay of the route is due, and one of the VRFs imports it. Most routes are none that have a delay, so that is asked

@@ -7,7 +7,9 @@ ghost use Rattle.edge_tables.specs.taken_tables.Slots.{taken_in};
 
 use crate::rib_sync::{Entries, Inbox};
 use crate::taken_tables::entry::TakenEntry;
-use crate::taken_tables::running::{TakenRoutes, any_awaits, awaits_with, run_routes};
+use crate::taken_tables::running::{
+    TakenRoutes, earliest_of, earliest_with, is_any_over, run_routes,
+};
 use edge_routes::LocalVrf;
 use edge_routes::route_order::TakenKey;
 use mv_base::{Addr, NoMemory, NodeId};
@@ -15,12 +17,12 @@ use scenario_defs::Node;
 use std::alloc::Global;
 use std::marker::Model;
 
-/// The routes that were taken from a peer, and whether the delay of one of them may still be run. Where none may, a step of the
-/// clock goes through none of them.
+/// The routes that were taken from a peer, and the clock before which none of them was learned whose delay may still be run. Where no
+/// delay can be over, a step of the clock goes through none of them.
 #[derive(Drop)]
 pub(crate) struct TakenTable {
     routes: TakenRoutes,
-    waits: bool,
+    earliest: Option<u64>,
 }
 
 impl Model for TakenTable {
@@ -31,7 +33,7 @@ impl Model for TakenTable {
 
     ghost view = { λ t. t.routes };
 
-    ghost invariant = { λ t. IsNoted t.waits (taken_in t.routes) };
+    ghost invariant = { λ t. IsNoted t.earliest (taken_in t.routes) };
 }
 
 impl TakenTable {
@@ -41,7 +43,7 @@ impl TakenTable {
     {
         TakenTable {
             routes: Inbox::of(alloc),
-            waits: false,
+            earliest: None,
         }
     }
 
@@ -68,9 +70,9 @@ impl TakenTable {
         ensures unchanged { OnErr result (self.new ≡ self.old) }
     {
         let own = key.share()?;
-        let waits = awaits_with(self.waits, &own, &entry);
+        let earliest = earliest_with(self.earliest, &own, &entry);
         let fresh = self.routes.enter(own, entry)?;
-        self.waits = waits;
+        self.earliest = earliest;
         Ok(fresh)
     }
 
@@ -86,11 +88,11 @@ impl TakenTable {
     fn run_delays(&mut self, vrfs: &[LocalVrf], peer: Addr, delay: u64, now: u64)
         ensures { taken_in self.new ≡ table_run vrfs.now delay now peer (taken_in self.old) }
     {
-        if !self.waits {
+        if !is_any_over(self.earliest, delay, now) {
             return;
         }
         run_routes(&mut self.routes, vrfs, peer, delay, now);
-        self.waits = any_awaits(&self.routes);
+        self.earliest = earliest_of(&self.routes);
     }
 }
 

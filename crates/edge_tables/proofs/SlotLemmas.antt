@@ -146,6 +146,10 @@ module _ (slots lent : List Slot) (tables : Tables) (peer : NodeId) (place : ℕ
       ∙ ap (option_map peer_table) (find_at (is_of peer) slots place d there.0 there.1 there.2)
       ∙ ap (λ (slot : Slot). Some (peer_table slot)) (sym is)
 
+  -- and stays so where the slot does
+  pub slot_kept : (Is : PeerTable → PeerTable → Type 0) → Is (peer_table d) (peer_table d) → AtPeer peer Is tables tables
+  slot_kept Is h = (subst (λ (o : Option PeerTable). Both Is o o) (sym slot_at) h, λ other differs. refl)
+
   pub slot_set : (Is : PeerTable → PeerTable → Type 0) (s : Slot) → s.peer ≡ d.peer → Is (peer_table d) (peer_table s)
       → AtPeer peer Is tables (tables_of (set slots place s))
   slot_set Is s node h =

@@ -1,11 +1,14 @@
 -- How the slots of peers make the tables.
-use Rattle.std.specs.Prelude.{◌≡◌, ◌==◌, ℕ, Bool, List, map}
+use Rattle.std.specs.Prelude.{◌≡◌, ◌==◌, ⊤, ℕ, Bool, List, [], map, if◌then◌else◌}
+use Rattle.std.specs.List.{All}
 use Rattle.std.specs.FinMap.{from_entries}
 use Rattle.mv_base.specs.declared.ids.NodeId.{NodeId}
 use Rattle.edge_tables.specs.rib_sync.Ribs.{RibOut, rib_out}
 use Rattle.edge_defs.specs.Keys.{Value, key_cmp}
-use Rattle.edge_tables.specs.Tables.{PeerTable, Tables}
+use Rattle.edge_tables.specs.Tables.{PeerTable, Tables, pending}
 use Rattle.edge_tables.specs.declared.slot.Slot.{Slot}
+use Rattle.edge_tables.specs.declared.tables.Rest.{Rest}
+use Rattle.edge_tables.specs.declared.tables.Rest.TheVariants.{Unknown, Put, Silent}
 
 -- what is kept, by the table and the octets
 abbrev pub of_rib : RibOut key_cmp Value → List ℕ → PeerTable
@@ -24,3 +27,21 @@ tables_of slots = from_entries (map (λ slot. (slot.peer, peer_table slot)) slot
 -- a slot before and after
 abbrev pub Becomes : (PeerTable → PeerTable → Type 0) → Slot → Slot → Type 0
 Becomes Is old new = (new.peer ≡ old.peer) × Is (peer_table old) (peer_table new)
+
+-- the peer was told all that it is to have
+pub record IsPut (table : PeerTable) : Type 0 where
+  pub none : pending table ≡ []
+  pub told : (if table.up then table.set else table.told) ≡ table.told
+
+abbrev pub IsPutAt : Slot → Type 0
+IsPutAt slot = IsPut (peer_table slot)
+
+-- nothing waits for the peer
+abbrev pub IsSilentAt : Slot → Type 0
+IsSilentAt slot = slot.waiting ≡ []
+
+-- what is known of the slots holds of each
+abbrev pub IsResting : Rest → List Slot → Type 0
+IsResting Unknown slots = ⊤
+IsResting Put slots = All IsPutAt slots
+IsResting Silent slots = All IsPutAt slots × All IsSilentAt slots

@@ -1,12 +1,13 @@
 //! What is kept towards one peer.
-ghost use Rattle.std.specs.Prelude.{◌≡◌, [], OnOk, OnErr};
+ghost use Rattle.std.specs.Prelude.{◌≡◌, [], true, OnOk, OnErr};
 ghost use Rattle.edge_tables.specs.Tables.{IsPutPart, downed, fresh, put_after, raised, with_route, without_route};
-ghost use Rattle.edge_tables.specs.Slots.{peer_table};
+ghost use Rattle.edge_tables.specs.Slots.{IsPutAt, peer_table};
 
+use crate::announced::Announced;
 use crate::rib_sync::Outbox;
 use crate::writing::put_changes;
 use edge_routes::Shared;
-use edge_routes::route_order::{TableKey, TableValue};
+use edge_routes::route_order::TableKey;
 use mv_base::{Bytes, NoMemory, NodeId};
 use std::alloc::Global;
 use std::mem;
@@ -14,7 +15,7 @@ use std::mem;
 /// A key, and a value, that the tables of several peers have.
 pub(crate) type SharedKey = Shared<TableKey>;
 
-pub(crate) type SharedValue = Shared<TableValue>;
+pub(crate) type SharedValue = Shared<Announced>;
 
 /// A peer with its table and the octets that wait for it.
 #[derive(Drop)]
@@ -62,6 +63,14 @@ impl Slot {
         ensures unchanged { OnErr result (self.new ≡ self.old) }
     {
         self.table.replay_all()
+    }
+
+    /// Whether the peer was told all that it is to have.
+    #[tactic(auto, using(edge_defs::proofs::KeyLemmas::key_exact, edge_defs::proofs::KeyLemmas::value_exact))]
+    pub(crate) fn is_put(&self) -> bool
+        ensures { result ≡ true → IsPutAt self.now }
+    {
+        self.table.is_flushed()
     }
 
     pub(crate) fn down(&mut self)

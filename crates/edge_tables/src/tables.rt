@@ -1,17 +1,29 @@
 //! What is kept towards all peers.
-ghost use Rattle.std.specs.Prelude.{◌≡◌, ◌<◌, ◌⊎◌, [], length, map, position, IfOk, IfSome, OnOk, OnErr};
-ghost use Rattle.std.specs.List.{AllZip};
+ghost use Rattle.std.specs.Prelude.{◌≡◌, ◌<◌, ◌⊎◌, [], true, length, map, position, IfOk, IfSome, OnOk, OnErr};
+ghost use Rattle.std.specs.List.{All, AllZip};
 ghost use Rattle.std.specs.FinMap.{from_entries};
 ghost use Rattle.edge_tables.specs.Tables.{AtPeer, EachPeer, IsPutPart, downed, fresh, is_up_at, put_after, raised, waiting_at};
 ghost use Rattle.edge_tables.specs.Tables.{with_route, without_route};
-ghost use Rattle.edge_tables.specs.Slots.{Becomes, is_of, peer_table};
+ghost use Rattle.edge_tables.specs.Slots.{Becomes, IsPutAt, IsResting, IsSilentAt, is_of, peer_table};
 
+use crate::announced::Announced;
 use crate::slot::{SharedKey, SharedValue, Slot};
 use edge_routes::Shared;
 use edge_routes::route_order::{TableKey, TableValue};
 use mv_base::{Bytes, NoMemory, NodeId};
 use std::alloc::Global;
 use std::marker::Model;
+
+/// What is known of all slots, so that a call that has nothing to do looks at none of them.
+#[derive(Clone, Copy, Drop)]
+enum Rest {
+    /// Nothing is known.
+    Unknown,
+    /// Nothing is pending at any.
+    Put,
+    /// Nothing is pending at any, and nothing waits.
+    Silent,
+}
 
 /// The tables that an edge holds towards its peers, whether the end of each session is up, what each peer was told, and the
 /// octets that wait for it. Contracts see them as a finite map from peers. A call for a peer that is none of these changes
@@ -20,6 +32,7 @@ use std::marker::Model;
 pub struct EdgeTables {
     alloc: Global,
     slots: Vec<Slot>,
+    rest: Rest,
 }
 
 impl Model for EdgeTables {
@@ -30,8 +43,11 @@ impl Model for EdgeTables {
     ghost coded = { tables_code };
 
     ghost use Rattle.edge_tables.specs.Slots.{tables_of};
+    ghost use Rattle.edge_tables.specs.Slots.{IsResting};
 
     ghost view = { λ t. tables_of t.slots.items };
+
+    ghost invariant = { λ t. IsResting t.rest t.slots.items };
 }
 
 /// The place of the peer.
@@ -40,6 +56,44 @@ fn place_of(slots: &[Slot], peer: NodeId) -> Option<usize>
     ensures within { IfSome result (λ place. place < length slots.now) }
 {
     slots.iter().position(|slot| peer.0 == slot.peer.0)
+}
+
+/// Whether nothing is pending at any slot.
+fn are_put(slots: &[Slot]) -> bool
+    ensures { result ≡ true → All IsPutAt slots.now }
+{
+    for slot in slots {
+        if !slot.is_put() {
+            return false;
+        }
+    }
+    true
+}
+
+/// Whether nothing waits at any slot.
+fn are_silent(slots: &[Slot]) -> bool
+    ensures { result ≡ true → All IsSilentAt slots.now }
+{
+    for slot in slots {
+        if !slot.waiting.is_empty() {
+            return false;
+        }
+    }
+    true
+}
+
+/// What is known of the slots.
+fn rest_of(slots: &[Slot]) -> Rest
+    ensures { IsResting result slots.now }
+{
+    if !are_put(slots) {
+        return Rest::Unknown;
+    }
+    if are_silent(slots) {
+        Rest::Silent
+    } else {
+        Rest::Put
+    }
 }
 
 /// Sets the route in each table.
@@ -88,7 +142,11 @@ impl EdgeTables {
         for peer in peers {
             slots.push(Slot::of(alloc, *peer))?;
         }
-        Ok(EdgeTables { alloc, slots })
+        Ok(EdgeTables {
+            alloc,
+            slots,
+            rest: Rest::Unknown,
+        })
     }
 
     /// Each peer is to have this route. Where memory runs out, some of the tables have the change and the others are as before.
@@ -99,7 +157,8 @@ impl EdgeTables {
             EachPeer (λ old new. (new ≡ old) ⊎ (new ≡ with_route key.now value.now old)) self.old self.new) }
     {
         let key = Shared::of(self.alloc, *key)?;
-        let value = Shared::of(self.alloc, *value)?;
+        let value = Announced::of(self.alloc, &key, value)?;
+        self.rest = Rest::Unknown;
         set_each(&mut self.slots, &key, &value)
     }
 
@@ -111,6 +170,7 @@ impl EdgeTables {
         ensures partly { OnErr result (
             EachPeer (λ old new. (new ≡ old) ⊎ (new ≡ without_route key.now old)) self.old self.new) }
     {
+        self.rest = Rest::Unknown;
         unset_each(&mut self.slots, key)
     }
 
@@ -129,7 +189,8 @@ impl EdgeTables {
             None => Ok(()),
             Some(place) => {
                 let key = Shared::of(self.alloc, *key)?;
-                let value = Shared::of(self.alloc, *value)?;
+                let value = Announced::of(self.alloc, &key, value)?;
+                self.rest = Rest::Unknown;
                 self.slots[place].set(&key, &value)
             }
         }
@@ -143,7 +204,10 @@ impl EdgeTables {
     {
         match place_of(&self.slots, peer) {
             None => Ok(()),
-            Some(place) => self.slots[place].unset(key),
+            Some(place) => {
+                self.rest = Rest::Unknown;
+                self.slots[place].unset(key)
+            }
         }
     }
 
@@ -154,7 +218,10 @@ impl EdgeTables {
     {
         match place_of(&self.slots, peer) {
             None => Ok(()),
-            Some(place) => self.slots[place].raise(),
+            Some(place) => {
+                self.rest = Rest::Unknown;
+                self.slots[place].raise()
+            }
         }
     }
 
@@ -164,7 +231,10 @@ impl EdgeTables {
     {
         match place_of(&self.slots, peer) {
             None => {}
-            Some(place) => self.slots[place].down(),
+            Some(place) => {
+                self.rest = Rest::Unknown;
+                self.slots[place].down();
+            }
         }
     }
 
@@ -185,7 +255,14 @@ impl EdgeTables {
         // Where memory runs out each peer is as before, or was told all with some first messages waiting.
         ensures partly { OnErr result (EachPeer IsPutPart self.old self.new) }
     {
-        put_each(&mut self.slots)
+        match self.rest {
+            Rest::Put | Rest::Silent => Ok(()),
+            Rest::Unknown => {
+                put_each(&mut self.slots)?;
+                self.rest = rest_of(&self.slots);
+                Ok(())
+            }
+        }
     }
 
     /// Hands out all octets that wait for the peer. It takes no memory.
@@ -193,9 +270,19 @@ impl EdgeTables {
         ensures result { result ≡ waiting_at self.old peer }
         ensures taken { AtPeer peer (λ old new. new ≡ record old { waiting = [] }) self.old self.new }
     {
+        if let Rest::Silent = self.rest {
+            return Bytes::new(self.alloc);
+        }
         match place_of(&self.slots, peer) {
             None => Bytes::new(self.alloc),
-            Some(place) => self.slots[place].take_out(),
+            Some(place) => {
+                if self.slots[place].waiting.is_empty() {
+                    return Bytes::new(self.alloc);
+                }
+                let taken = self.slots[place].take_out();
+                self.rest = rest_of(&self.slots);
+                taken
+            }
         }
     }
 }

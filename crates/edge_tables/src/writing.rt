@@ -8,7 +8,7 @@ ghost use Rattle.edge_tables.specs.Tables.{IsFront, advert_of, texts};
 
 use crate::rib_sync::Pending;
 use crate::slot::{SharedKey, SharedValue};
-use bgp_messages::bgp_attributes::{Advert, Comms};
+use bgp_messages::bgp_attributes::{Advert, Change as Update, Comms};
 use bgp_messages::bgp_update::EncodeFault;
 use edge_routes::route_order::{TableKey, TableValue};
 use mv_base::table_defs::Change;
@@ -33,23 +33,41 @@ fn advert(alloc: Global, key: &TableKey, value: &TableValue) -> Result<Advert, N
     })
 }
 
-/// The change as an UPDATE message makes it, which has a spelling within the octets of a message.
-fn update(
+/// The UPDATE message that announces the route.
+pub(crate) fn announced(
     alloc: Global,
-    change: &Change<SharedKey, SharedValue>,
-) -> Result<bgp_messages::bgp_attributes::Change, NoMemory>
-    ensures update { IfOk result (λ update. update ≡ as_update change.now) }
-    ensures writable { IfOk result (λ update. IsWritable update) }
-    ensures short { IfOk result (λ update. length (written update) ≤ 4096) }
+    key: &TableKey,
+    value: &TableValue,
+) -> Result<Bytes, NoMemory>
+    ensures { IfOk result (λ text. text ≡ written (updates.Reach (advert_of key.now value.now))) }
 {
-    match change {
-        Change::Reach(key, value) => {
-            let advert = advert(alloc, key.lent(), value.lent())?;
-            Ok(bgp_messages::bgp_attributes::Change::Reach(advert))
-        }
-        Change::Unreach(key) => Ok(bgp_messages::bgp_attributes::Change::Unreach(
-            *key.lent().key(),
-        )),
+    let advert = advert(alloc, key, value)?;
+    match bgp_messages::bgp_update::encode(alloc, &Update::Reach(advert)) {
+        Ok(text) => Ok(text),
+        Err(EncodeFault::NoMemory) => Err(NoMemory),
+        Err(EncodeFault::TooLong) => unreachable!(),
+    }
+}
+
+/// The change that withdraws the route of the key.
+fn withdrawal(key: &TableKey) -> Update
+    ensures update { result ≡ updates.Unreach key.now }
+    ensures writable { IsWritable result }
+    ensures short { length (written result) ≤ 4096 }
+{
+    Update::Unreach(*key.key())
+}
+
+/// Appends the UPDATE message that withdraws the route of the key.
+fn put_withdrawal(out: &mut Bytes, key: &TableKey) -> Result<(), NoMemory>
+    ensures ok { OnOk result (out.new ≡ out.old ++ written (updates.Unreach key.now)) }
+    ensures err { OnErr result (out.new ≡ out.old) }
+{
+    let update = withdrawal(key);
+    match bgp_messages::bgp_update::encode(out.alloc(), &update) {
+        Ok(text) => out.extend(text.as_slice()),
+        Err(EncodeFault::NoMemory) => Err(NoMemory),
+        Err(EncodeFault::TooLong) => unreachable!(),
     }
 }
 
@@ -58,11 +76,9 @@ fn put_change(out: &mut Bytes, change: &Change<SharedKey, SharedValue>) -> Resul
     ensures ok { OnOk result (out.new ≡ out.old ++ written (as_update change.now)) }
     ensures err { OnErr result (out.new ≡ out.old) }
 {
-    let update = update(out.alloc(), change)?;
-    match bgp_messages::bgp_update::encode(out.alloc(), &update) {
-        Ok(text) => out.extend(text.as_slice()),
-        Err(EncodeFault::NoMemory) => Err(NoMemory),
-        Err(EncodeFault::TooLong) => unreachable!(),
+    match change {
+        Change::Reach(key, value) => value.lent().put(out, key.lent()),
+        Change::Unreach(key) => put_withdrawal(out, key.lent()),
     }
 }
 

@@ -10,7 +10,7 @@ ghost use Rattle.label_forwarding.specs.FibData.{FibData, IsEntry, AreHops, noth
 use crate::branch::Branch;
 use crate::entry::Entry;
 use crate::pairs::{Pairs, forget, note};
-use crate::slots::{Slots, fecs_of, give_back, take};
+use crate::slots::{Slots, add, count, fecs_of, give_back, set_leaf, take};
 use indexmap::IndexMap;
 use label_defs::of_mldp::mldp_fec::Fec;
 use mv_base::{NoMemory, NodeId};
@@ -63,9 +63,7 @@ impl Fib {
         self.pairs.reserve(1)?;
         self.slots.reserve(1)?;
         note(&mut self.pairs, Branch { node: from, label }, &fec);
-        let mut slot = take(&mut self.slots, self.alloc, &fec);
-        slot.mapped += 1;
-        give_back(&mut self.slots, &fec, slot);
+        count(&mut self.slots, self.alloc, &fec);
         Ok(())
     }
 
@@ -86,9 +84,7 @@ impl Fib {
         ensures err { OnErr result (self.new ≡ self.old) }
     {
         self.slots.reserve(1)?;
-        let mut slot = take(&mut self.slots, self.alloc, &fec);
-        slot.entry.leaf = leaf;
-        give_back(&mut self.slots, &fec, slot);
+        set_leaf(&mut self.slots, self.alloc, &fec, leaf);
         Ok(())
     }
 
@@ -98,10 +94,7 @@ impl Fib {
         ensures err { OnErr result (self.new ≡ self.old) }
     {
         self.slots.reserve(1)?;
-        let mut slot = take(&mut self.slots, self.alloc, &fec);
-        let added = slot.entry.branches.insert(branch);
-        give_back(&mut self.slots, &fec, slot);
-        added
+        add(&mut self.slots, self.alloc, &fec, branch)
     }
 
     /// Removes the branch from the tree, where it is there. It takes no memory.

@@ -10,6 +10,7 @@ ghost use Rattle.label_forwarding.specs.FibData.{FibData, IsEntry, AreHops, noth
 use crate::branch::Branch;
 use crate::entry::Entry;
 use crate::pairs::{Pairs, forget, note};
+use crate::room::make_room;
 use crate::slots::{Slots, add, count, fecs_of, give_back, set_leaf, take};
 use indexmap::IndexMap;
 use label_defs::of_mldp::mldp_fec::Fec;
@@ -60,8 +61,8 @@ impl Fib {
         ensures ok { OnOk result (self.new ≡ record self.old { pairs = maps.insert self.old.pairs (hop from label) fec }) }
         ensures err { OnErr result (self.new ≡ self.old) }
     {
-        self.pairs.reserve(1)?;
-        self.slots.reserve(1)?;
+        make_room(&mut self.pairs)?;
+        make_room(&mut self.slots)?;
         note(&mut self.pairs, Branch { node: from, label }, &fec);
         count(&mut self.slots, self.alloc, &fec);
         Ok(())
@@ -83,7 +84,7 @@ impl Fib {
         ensures ok { OnOk result (self.new ≡ record self.old { leaves = with_leaf self.old.leaves fec leaf }) }
         ensures err { OnErr result (self.new ≡ self.old) }
     {
-        self.slots.reserve(1)?;
+        make_room(&mut self.slots)?;
         set_leaf(&mut self.slots, self.alloc, &fec, leaf);
         Ok(())
     }
@@ -93,7 +94,7 @@ impl Fib {
         ensures ok { OnOk result (self.new ≡ record self.old { branches = sets.insert self.old.branches (branch_in fec branch) }) }
         ensures err { OnErr result (self.new ≡ self.old) }
     {
-        self.slots.reserve(1)?;
+        make_room(&mut self.slots)?;
         add(&mut self.slots, self.alloc, &fec, branch)
     }
 

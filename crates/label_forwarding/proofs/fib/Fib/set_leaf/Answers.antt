@@ -7,10 +7,10 @@ use Rattle.label_forwarding.proofs.fib.Fib.set_leaf.Goals as goal
 
 pub invariant_of-self-2 : goal.invariant_of-self-2
 invariant_of-self-2 c =
-    let slot = had c.reserve.new.self c.args.fec in
-    let fib = roomier c.self.inside.pairs c.self.inside.pairs c.self.inside.slots c.reserve.new.self refl c.reserve.ensures.entries c.self.invariant in
+    let slot = had c.make_room.new.table c.args.fec in
+    let fib = roomier c.self.inside.pairs c.self.inside.pairs c.self.inside.slots c.make_room.new.table refl c.make_room.ensures.entries c.self.invariant in
     (
-    leaf_leaves c.self.inside.pairs c.reserve.new.self c.reserve.new.self c.set_leaf.new.slots c.args.fec c.args.leaf slot
+    leaf_leaves c.self.inside.pairs c.make_room.new.table c.make_room.new.table c.set_leaf.new.slots c.args.fec c.args.leaf slot
     (with_mark slot c.args.leaf) fib
     (record {
       value = refl;
@@ -23,10 +23,10 @@ invariant_of-self-2 c =
 
 pub returns-clause-ok : goal.returns-clause-ok
 returns-clause-ok c =
-    let slot = had c.reserve.new.self c.args.fec in
-    let fib = roomier c.self.inside.pairs c.self.inside.pairs c.self.inside.slots c.reserve.new.self refl c.reserve.ensures.entries c.self.invariant in
+    let slot = had c.make_room.new.table c.args.fec in
+    let fib = roomier c.self.inside.pairs c.self.inside.pairs c.self.inside.slots c.make_room.new.table refl c.make_room.ensures.entries c.self.invariant in
     (
-    leaf_leaves c.self.inside.pairs c.reserve.new.self c.reserve.new.self c.set_leaf.new.slots c.args.fec c.args.leaf slot
+    leaf_leaves c.self.inside.pairs c.make_room.new.table c.make_room.new.table c.set_leaf.new.slots c.args.fec c.args.leaf slot
     (with_mark slot c.args.leaf) fib
     (record {
       value = refl;
@@ -37,4 +37,4 @@ returns-clause-ok c =
     })
     refl refl refl).1
     ∙ ap (λ (f : FibData). record f { leaves = with_leaf f.leaves c.args.fec c.args.leaf })
-    (roomier_view c.self.inside.pairs c.self.inside.pairs c.self.inside.slots c.reserve.new.self refl c.reserve.ensures.entries ∙ c.self.view_is)
+    (roomier_view c.self.inside.pairs c.self.inside.pairs c.self.inside.slots c.make_room.new.table refl c.make_room.ensures.entries ∙ c.self.view_is)

@@ -1,7 +1,10 @@
 -- What each call of a forwarding table leaves.
-use Rattle.std.proofs.Common.{◌≡◌, ℕ, ◌+◌, ◌-◌, ◌<◌, ◌^◌, Bool, true, false, cond, List, Option, Some, None, is_some, Result, Ok, Err, refl, sym, ap, ◌∙◌, arith}
+use Rattle.std.proofs.Common.{◌≡◌, ℕ, suc, ◌+◌, ◌-◌, ◌<◌, ◌^◌, ◌==◌, ◌&&◌, Bool, true, false, not, cond, List, [], ◌∷◌, map, length, Option, Some, None, is_some, Result, Ok, Err, refl, sym, ap, ◌∙◌, arith}
 use Rattle.std.specs.Prelude.{OnOk, OnErr, IfNone}
-use Rattle.std.specs.Cmp.{Equal-is}
+use Rattle.std.specs.Cmp.{Equal-is, tied_itself}
+use Rattle.std.specs.List.{list_any}
+use Rattle.std.specs.Ordering.{eq_by_cmp, is_eq}
+use Rattle.std.proofs.lemmas.Bool.{ne_eqb}
 use Rattle.std.specs.Map.{lookup}
 use Rattle.std.specs.Option.{unwrap_or}
 use Rattle.std.specs.FinMap as maps
@@ -12,12 +15,12 @@ use Rattle.label_forwarding.specs.declared.branch.Branch.{Branch}
 use Rattle.label_forwarding.specs.declared.slots.Slot.{Slot}
 use Rattle.label_forwarding.specs.Hops.{hop_cmp, Hops, is_hop}
 use Rattle.label_forwarding.specs.FibData.{FibData, branch_in, with_leaf}
-use Rattle.label_forwarding.specs.Slots.{is_fec, fresh, kept, Pairs, Slots, fib_of, noted, mapped_of, IsFib}
+use Rattle.label_forwarding.specs.Slots.{is_fec, fresh, had, counted, with_hop, is_idle, kept, Pairs, Slots, fib_of, noted, mapped_of, IsFib}
 use Rattle.label_defs.proofs.KeyLemmas.{branch_cmp_total, branch_cmp_exact}
 use Rattle.label_defs.proofs.SetLemmas.{removed_again}
-use Rattle.label_forwarding.proofs.HopLemmas.{hop_cmp_exact, hop-ties}
+use Rattle.label_forwarding.proofs.HopLemmas.{hop_cmp_total, hop_cmp_exact, hop-ties}
 use Rattle.label_forwarding.proofs.SlotLemmas.{leaf_of, has_hop, branch_seen, had_leaf, had_hop, had_count}
-use Rattle.label_defs.proofs.mldp.mldp_fec.SameLemmas.{fec_itself}
+use Rattle.label_defs.proofs.mldp.mldp_fec.SameLemmas.{fec_equal, fec_itself}
 use Rattle.label_forwarding.proofs.FibLemmas.{Changed, changed_by, leaves_stay, leaves_change}
 use Rattle.label_forwarding.proofs.StepLemmas.{branches_stay, branches_add, branches_cut, pairs_put, pairs_cut, fib_kept, same_counts, more_counts, less_counts, roomier}
 
@@ -52,6 +55,62 @@ hop_was old fec taken e q = ap (λ (x : Slot). maps.contains_key x.entry.branche
 pub count_was : (old : Slots) (fec : Fec) (taken : Slot) → taken ≡ unwrap_or (get is_fec old fec) (fresh fec)
     → taken.mapped ≡ mapped_of (get is_fec old fec)
 count_was old fec taken e = ap (λ (x : Slot). x.mapped) e ∙ had_count (get is_fec old fec) fec
+
+-- ---- a slot that is changed in its place
+
+kept_busy : (slot : Slot) → is_idle slot ≡ false → Some slot ≡ kept slot
+kept_busy slot e = sym (ap (λ (b : Bool). cond b None (Some slot)) e)
+
+pub swapped : (old new : Slots) (fec : Fec) (slot : Slot) → slot.entry.fec ≡ (had old fec).entry.fec → is_idle slot ≡ false
+    → ((other : Fec) → get is_fec new other ≡ cond (is_fec fec other) (Some slot) (get is_fec old other)) → IsUnique is_fec new
+    → Swapped old old new fec (had old fec) slot
+swapped old new fec slot own busy each unique = record {
+  value = refl;
+  others = λ other e. refl;
+  own = own;
+  each = λ other. each other ∙ ap (λ (o : Option Slot). cond (is_fec fec other) o (get is_fec old other)) (kept_busy slot busy);
+  unique = unique;
+}
+
+pub counted_busy : (slot : Slot) → is_idle (counted slot) ≡ false
+counted_busy slot =
+    ap (λ (b : Bool). b && not slot.entry.leaf && (length (maps.keys slot.entry.branches) == 0))
+    (ne_eqb (slot.mapped + 1) 0 (λ e. omega (arith, e)))
+
+last_none : (a b c : Bool) → c ≡ false → (a && b && c) ≡ false
+last_none true true c e = e
+last_none true false c e = refl
+last_none false b c e = refl
+
+some_there : (own : Branch) (hops : List Branch) → list_any (eq_by_cmp hop_cmp own) hops ≡ true → (length hops == 0) ≡ false
+some_there own [] e = absurd cc
+some_there own (hop ∷ hops) e = ne_eqb (suc (length hops)) 0 (λ h. omega (arith, h))
+
+hop_there : (hops : Hops) (own : Branch) → maps.contains_key (maps.insert hops own tt) own ≡ true
+hop_there hops own =
+    ap is_some (maps.get-insert hop_cmp_total hops own tt own
+    ∙ ap (λ (b : Bool). cond b (Some tt) (maps.get hops own)) (ap is_eq (tied_itself hop_cmp_total own)))
+
+pub hop_busy : (slot : Slot) (own : Branch) → is_idle (with_hop slot own) ≡ false
+hop_busy slot own =
+    let hops = maps.insert slot.entry.branches own tt in
+    last_none (slot.mapped == 0) (not slot.entry.leaf) (length (maps.keys hops) == 0)
+    (some_there own (maps.keys hops) (sym (maps.contains_key-keys hops own) ∙ hop_there slot.entry.branches own))
+
+-- the fresh slot, and one that is there
+length_keys : (es : List (Branch × Unit {0})) → length (map (λ e. e.0) es) ≡ length es
+length_keys [] = refl
+length_keys (e ∷ es) = ap suc (length_keys es)
+
+fresh_idle : (fec : Fec) → is_idle (fresh fec) ≡ true
+fresh_idle fec =
+    let none : Hops = maps.empty in
+    let short : length (maps.keys none) ≡ 0 = length_keys (maps.entries none) ∙ (sym (maps.len-entries none) ∙ maps.len-empty hop_cmp (Unit {0})) in
+    ap (λ (n : ℕ). (0 == 0) && not false && (n == 0)) short
+
+kept_had : (p : Pairs) (old : Slots) → IsFib p old → (fec : Fec) (o : Option Slot) → get is_fec old fec ≡ o → kept (unwrap_or o (fresh fec)) ≡ o
+kept_had p old fib fec None at = ap (λ (b : Bool). cond b None (Some (fresh fec))) (fresh_idle fec)
+kept_had p old fib fec (Some slot) at = sym (kept_busy slot (fib.needed fec slot at))
 
 -- ---- a note more, and a note less
 
@@ -126,20 +185,51 @@ nothing_leaves p old mid new fec taken slot fib s same is =
     branches_stay old new fec slot h fib.one_slot (λ q. ap (λ (m : Hops). maps.contains_key m q) is ∙ hop_was old fec taken s.value q) in
     λ i. record { pairs = (fib_of p old).pairs; leaves = leaves i; branches = branches i }
 
-pub branch_ok : {E : Type 0} (r : Result (Unit {0}) E) (p : Pairs) (old mid new : Slots) (fec : Fec) (own : Branch) (taken slot : Slot) (f : FibData)
-    → fib_of p old ≡ f → IsFib p old → Swapped old mid new fec taken slot
-    → slot.entry.leaf ≡ taken.entry.leaf → OnOk r (slot.entry.branches ≡ maps.insert taken.entry.branches own tt)
-    → OnOk r (fib_of p new ≡ record f { branches = sets.insert f.branches (branch_in fec own) })
-branch_ok (Ok u) p old mid new fec own taken slot f view fib s same is =
-    branch_leaves p old mid new fec own taken slot fib s same is
-    ∙ ap (λ (g : FibData). record g { branches = sets.insert g.branches (branch_in fec own) }) view
-branch_ok (Err e) p old mid new fec own taken slot f view fib s same is = tt
+hop_put : (old new : Slots) (fec : Fec) (own : Branch)
+    → ((other : Fec) → get is_fec new other ≡ cond (is_fec fec other) (Some (with_hop (had old fec) own)) (get is_fec old other))
+    → IsUnique is_fec new → Swapped old old new fec (had old fec) (with_hop (had old fec) own)
+hop_put old new fec own each unique =
+    swapped old new fec (with_hop (had old fec) own) refl (hop_busy (had old fec) own) each unique
 
-pub branch_err : {E : Type 0} (r : Result (Unit {0}) E) (p : Pairs) (old mid new : Slots) (fec : Fec) (taken slot : Slot) (f : FibData)
-    → fib_of p old ≡ f → IsFib p old → Swapped old mid new fec taken slot → slot.entry.leaf ≡ taken.entry.leaf
-    → OnErr r (slot.entry.branches ≡ taken.entry.branches) → OnErr r (fib_of p new ≡ f)
-branch_err (Ok u) p old mid new fec taken slot f view fib s same is = tt
-branch_err (Err e) p old mid new fec taken slot f view fib s same is = nothing_leaves p old mid new fec taken slot fib s same is ∙ view
+-- each slot stays
+not_put : (p : Pairs) (old new : Slots) (fec : Fec) → IsFib p old → ((other : Fec) → get is_fec new other ≡ get is_fec old other)
+    → IsUnique is_fec new → Swapped old old new fec (had old fec) (had old fec)
+not_put p old new fec fib stays unique = record {
+  value = refl;
+  others = λ other e. refl;
+  own = refl;
+  each = λ other. stays other ∙ by other (is_fec fec other) refl;
+  unique = unique;
+}
+  where
+    by : (other : Fec) (t : Bool) → is_fec fec other ≡ t → get is_fec old other ≡ cond (is_fec fec other) (kept (had old fec)) (get is_fec old other)
+    by other true e =
+        sym (ap (λ (t : Bool). cond t (kept (had old fec)) (get is_fec old other)) e
+        ∙ (kept_had p old fib fec (get is_fec old fec) refl ∙ ap (λ (x : Fec). get is_fec old x) (fec_equal fec other e)))
+    by other false e = sym (ap (λ (t : Bool). cond t (kept (had old fec)) (get is_fec old other)) e)
+
+pub add_keeps : {E : Type 0} (r : Result (Unit {0}) E) (p : Pairs) (old new : Slots) (fec : Fec) (own : Branch) → IsFib p old
+    → OnOk r ((other : Fec) → get is_fec new other ≡ cond (is_fec fec other) (Some (with_hop (had old fec) own)) (get is_fec old other))
+    → OnErr r ((other : Fec) → get is_fec new other ≡ get is_fec old other) → IsUnique is_fec new → IsFib p new
+add_keeps (Ok u) p old new fec own fib ok err unique =
+    branches_keep p old old new fec (had old fec) (with_hop (had old fec) own) fib (hop_put old new fec own ok unique) refl
+add_keeps (Err e) p old new fec own fib ok err unique =
+    branches_keep p old old new fec (had old fec) (had old fec) fib (not_put p old new fec fib err unique) refl
+
+pub add_ok : {E : Type 0} (r : Result (Unit {0}) E) (p : Pairs) (old new : Slots) (fec : Fec) (own : Branch) (f : FibData)
+    → fib_of p old ≡ f → IsFib p old
+    → OnOk r ((other : Fec) → get is_fec new other ≡ cond (is_fec fec other) (Some (with_hop (had old fec) own)) (get is_fec old other))
+    → IsUnique is_fec new → OnOk r (fib_of p new ≡ record f { branches = sets.insert f.branches (branch_in fec own) })
+add_ok (Ok u) p old new fec own f view fib ok unique =
+    branch_leaves p old old new fec own (had old fec) (with_hop (had old fec) own) fib (hop_put old new fec own ok unique) refl refl
+    ∙ ap (λ (g : FibData). record g { branches = sets.insert g.branches (branch_in fec own) }) view
+add_ok (Err e) p old new fec own f view fib ok unique = tt
+
+pub add_err : {E : Type 0} (r : Result (Unit {0}) E) (p : Pairs) (old new : Slots) (fec : Fec) (f : FibData) → fib_of p old ≡ f → IsFib p old
+    → OnErr r ((other : Fec) → get is_fec new other ≡ get is_fec old other) → IsUnique is_fec new → OnErr r (fib_of p new ≡ f)
+add_err (Ok u) p old new fec f view fib err unique = tt
+add_err (Err e) p old new fec f view fib err unique =
+    nothing_leaves p old old new fec (had old fec) (had old fec) fib (not_put p old new fec fib err unique) refl refl ∙ view
 
 pub unbranch_leaves : (p : Pairs) (old mid new : Slots) (fec : Fec) (own : Branch) (taken slot : Slot) → IsFib p old
     → Swapped old mid new fec taken slot → slot.entry.leaf ≡ taken.entry.leaf

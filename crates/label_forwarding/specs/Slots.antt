@@ -1,5 +1,6 @@
 -- How a forwarding table is kept: entries with counts, and what is seen of them.
-use Rattle.std.specs.Prelude.{◌≡◌, ℕ, ◌==◌, ◌&&◌, not, Bool, false, List, [], ◌∷◌, ◌++◌}
+use Rattle.std.specs.Option.{unwrap_or}
+use Rattle.std.specs.Prelude.{◌≡◌, ℕ, ◌+◌, ◌==◌, ◌&&◌, not, Bool, false, List, [], ◌∷◌, ◌++◌}
 use Rattle.std.specs.Prelude.{map, length, Option, None, Some, count_by, if◌then◌else◌}
 use Rattle.std.specs.FinMap as maps
 use Rattle.std.specs.FinSet as sets
@@ -27,6 +28,22 @@ Slots = IndexMap Fec Slot (BuildHasherDefault FoldHasher)
 -- the slot in which nothing stands
 abbrev pub fresh : Fec → Slot
 fresh fec = record { entry = record { fec = fec; leaf = false; branches = maps.empty }; mapped = 0 }
+
+-- the slot of the FEC, where it has one
+abbrev pub had : Slots → Fec → Slot
+had slots fec = unwrap_or (get is_fec slots fec) (fresh fec)
+
+-- the slot with one label more
+abbrev pub counted : Slot → Slot
+counted slot = record slot { mapped = slot.mapped + 1 }
+
+-- the slot of a tree of which the node is a leaf, or is not
+abbrev pub with_mark : Slot → Bool → Slot
+with_mark slot leaf = record slot { entry = record slot.entry { leaf = leaf } }
+
+-- the slot with that branch
+abbrev pub with_hop : Slot → Branch → Slot
+with_hop slot branch = record slot { entry = record slot.entry { branches = maps.insert slot.entry.branches branch tt } }
 
 -- whether nothing needs the slot
 abbrev pub is_idle : Slot → Bool

@@ -10,7 +10,8 @@ ghost use Rattle.label_forwarding.specs.FibData.{FibData, IsEntry, AreHops, noth
 use crate::branch::Branch;
 use crate::entry::Entry;
 use crate::pairs::{Pairs, forget, note};
-use crate::slots::{Slots, fecs_of, give_back, take};
+use crate::room::make_room;
+use crate::slots::{Slots, add, count, fecs_of, give_back, set_leaf, take};
 use indexmap::IndexMap;
 use label_defs::of_mldp::mldp_fec::Fec;
 use mv_base::{NoMemory, NodeId};
@@ -60,12 +61,10 @@ impl Fib {
         ensures ok { OnOk result (self.new ≡ record self.old { pairs = maps.insert self.old.pairs (hop from label) fec }) }
         ensures err { OnErr result (self.new ≡ self.old) }
     {
-        self.pairs.reserve(1)?;
-        self.slots.reserve(1)?;
+        make_room(&mut self.pairs)?;
+        make_room(&mut self.slots)?;
         note(&mut self.pairs, Branch { node: from, label }, &fec);
-        let mut slot = take(&mut self.slots, self.alloc, &fec);
-        slot.mapped += 1;
-        give_back(&mut self.slots, &fec, slot);
+        count(&mut self.slots, self.alloc, &fec);
         Ok(())
     }
 
@@ -85,10 +84,8 @@ impl Fib {
         ensures ok { OnOk result (self.new ≡ record self.old { leaves = with_leaf self.old.leaves fec leaf }) }
         ensures err { OnErr result (self.new ≡ self.old) }
     {
-        self.slots.reserve(1)?;
-        let mut slot = take(&mut self.slots, self.alloc, &fec);
-        slot.entry.leaf = leaf;
-        give_back(&mut self.slots, &fec, slot);
+        make_room(&mut self.slots)?;
+        set_leaf(&mut self.slots, self.alloc, &fec, leaf);
         Ok(())
     }
 
@@ -97,11 +94,8 @@ impl Fib {
         ensures ok { OnOk result (self.new ≡ record self.old { branches = sets.insert self.old.branches (branch_in fec branch) }) }
         ensures err { OnErr result (self.new ≡ self.old) }
     {
-        self.slots.reserve(1)?;
-        let mut slot = take(&mut self.slots, self.alloc, &fec);
-        let added = slot.entry.branches.insert(branch);
-        give_back(&mut self.slots, &fec, slot);
-        added
+        make_room(&mut self.slots)?;
+        add(&mut self.slots, self.alloc, &fec, branch)
     }
 
     /// Removes the branch from the tree, where it is there. It takes no memory.

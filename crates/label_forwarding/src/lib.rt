@@ -18,6 +18,7 @@ mod fib;
 mod laws;
 mod pairs;
 mod reading;
+mod room;
 mod slots;
 
 pub use branch::Branch;
@@ -27,3 +28,4 @@ pub use fault::PacketFault;
 pub use fib::Fib;
 pub use laws::{one_flow, written_is_read};
 pub use reading::read_packet;
+pub use room::make_room;

@@ -1,7 +1,7 @@
 //! The states of numbers, and which of them are free.
-ghost use Rattle.std.specs.Prelude.{◌≡◌, ◌<◌, ◌≤◌, length, replicate, slice_set, IfOk, IfSome, IfNone};
+ghost use Rattle.std.specs.Prelude.{◌≡◌, ◌<◌, ◌≤◌, ◌+◌, ◌-◌, ◌*◌, ◌++◌, length, replicate, slice_set, vec_capacity, IfOk, IfSome, IfNone};
 ghost use Rattle.tunnel_bindings.specs.declared.state.LabelState.TheVariants as LabelState;
-ghost use Rattle.tunnel_bindings.specs.Numbers.{IsFirstFree, NoFree};
+ghost use Rattle.tunnel_bindings.specs.Numbers.{IsFirstFree, NoFree, AreMarked};
 
 use crate::marks::Marks;
 use crate::state::LabelState;
@@ -9,23 +9,42 @@ use mv_base::NoMemory;
 use std::alloc::Global;
 use std::marker::Model;
 
-/// What each number is, and the set of the free ones.
+/// What each of so many numbers is, and the set of the free ones. There is room for the states of all, but only those of the
+/// first numbers are written, as far as one was ever changed: each number after these is free, and not in the set. So memory
+/// that no number needed is never touched.
 #[derive(Drop)]
 pub(crate) struct Numbers {
+    count: usize,
     states: Vec<LabelState>,
     free: Marks,
 }
 
 impl Model for Numbers {
-    ghost use Rattle.std.specs.Prelude.{List};
+    ghost use Rattle.std.specs.Prelude.{List, vec_capacity};
     ghost use Rattle.tunnel_bindings.specs.declared.state.LabelState.{LabelState};
-    ghost use Rattle.tunnel_bindings.specs.Numbers.{AreMarked};
+    ghost use Rattle.tunnel_bindings.specs.Numbers.{IsWritten, all_of};
 
     ghost Value = { List LabelState };
 
-    ghost view = { λ n. n.states.items };
+    ghost view = { λ n. all_of n.count n.states.items };
 
-    ghost invariant = { λ n. AreMarked n.states.items n.free };
+    ghost invariant = { λ n. IsWritten n.count n.states.items (vec_capacity n.states) n.free };
+}
+
+/// Writes the states of the numbers up to this one, as far as they are not written yet.
+fn reach(states: &mut Vec<LabelState>, free: &mut Marks, number: usize)
+    requires room { number < vec_capacity states.old }
+    requires marks { number < 64 * length free.old }
+    requires marked { AreMarked states.old.items free.old }
+    ensures items { states.new.items ≡ states.old.items ++ replicate (number + 1 - length states.old.items) LabelState.Free }
+    ensures capacity { vec_capacity states.old ≤ vec_capacity states.new }
+    ensures marks { length free.new ≡ length free.old }
+    ensures marked { AreMarked states.new.items free.new }
+{
+    'written: while states.len() <= number {
+        free.insert(states.len());
+        states.push(LabelState::Free).unwrap();
+    }
 }
 
 impl Numbers {
@@ -34,12 +53,13 @@ impl Numbers {
         requires { count ≤ 65536 }
         ensures { IfOk result (λ numbers. numbers ≡ replicate count LabelState.Free) }
     {
-        let states = vec![in alloc; LabelState::Free; count]?;
-        let mut free = Marks::of(alloc, count)?;
-        for number in 0..count {
-            free.insert(number);
-        }
-        Ok(Numbers { states, free })
+        let states = Vec::with_capacity(alloc, count)?;
+        let free = Marks::of(alloc, count)?;
+        Ok(Numbers {
+            count,
+            states,
+            free,
+        })
     }
 
     /// The least free number.
@@ -47,7 +67,13 @@ impl Numbers {
         ensures some { IfSome result (λ number. IsFirstFree self.now number) }
         ensures none { IfNone result (NoFree self.now) }
     {
-        self.free.least()
+        if let Some(number) = self.free.least() {
+            return Some(number);
+        }
+        if self.states.len() < self.count {
+            return Some(self.states.len());
+        }
+        None
     }
 
     /// The number becomes so.
@@ -55,6 +81,7 @@ impl Numbers {
         requires { number < length self.old }
         ensures { self.new ≡ slice_set self.old number state }
     {
+        reach(&mut self.states, &mut self.free, number);
         self.states[number] = state;
         match state {
             LabelState::Free => self.free.insert(number),

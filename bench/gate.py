@@ -105,8 +105,8 @@ def measure(command):
 
 def whole_gate():
     """The command of the kit here that proves everything from nothing."""
-    told = subprocess.run(['rt', 'help'], capture_output=True, text=True)
-    return ['rt', 'ci', '--anew'] if '--anew' in told.stdout + told.stderr else ['rt', 'ci']
+    reported = subprocess.run(['rt', 'help'], capture_output=True, text=True)
+    return ['rt', 'ci', '--anew'] if '--anew' in reported.stdout + reported.stderr else ['rt', 'ci']
 
 
 def crate_names():

@@ -83,10 +83,10 @@ def texts_of(seed, events, count):
     """The inputs of a network: that with its report, and some with a changed one; none where it halts."""
     rng = random.Random(seed)
     script = make_text(seed, events)
-    told, status = replay(script, seed % 2 == 0)
+    reported, status = replay(script, seed % 2 == 0)
     if status != 0:
         return []
-    lines = told.splitlines()
+    lines = reported.splitlines()
     rows = script.splitlines()
     numbers = range(rows.index('events') + 2, len(rows) + 1)
     ifaces = [row.split(' ')[1] for row in rows if row.startswith('iface ')]
@@ -117,9 +117,9 @@ def ran(command, words, text):
     return done.stdout, done.returncode
 
 
-def own_report(command, name, script, told):
+def own_report(command, name, script, reported):
     """What differs where a script and its own report are judged."""
-    answer, status = ran(command, ['audit'], script + 'report\n' + told)
+    answer, status = ran(command, ['audit'], script + 'report\n' + reported)
     return None if (answer, status) == ('yes\n', 0) else f'{name}: {answer.strip()!r}, status {status}, and not yes'
 
 
@@ -136,13 +136,13 @@ def row_reports(command):
 def own_reports(command):
     """The same of each example that does not end with a halt, and of a made network, plain and whole."""
     for path in sorted((TOP / 'examples').glob('*.txt')):
-        told = path.with_suffix('.report').read_text()
-        if not told.splitlines()[-1].startswith('halt '):
-            yield own_report(command, path.name, path.read_text(), told)
+        reported = path.with_suffix('.report').read_text()
+        if not reported.splitlines()[-1].startswith('halt '):
+            yield own_report(command, path.name, path.read_text(), reported)
     script, _ = ran(command, ['make', '7'], '')
     for words in (['replay'], ['replay', '--wire']):
-        told, _ = ran(command, words, script)
-        yield own_report(command, f'make 7, {" ".join(words)}', script, told)
+        reported, _ = ran(command, words, script)
+        yield own_report(command, f'make 7, {" ".join(words)}', script, reported)
 
 
 def main():
@@ -162,8 +162,8 @@ def main():
         if fault:
             print(fault)
     with ProcessPoolExecutor(given.jobs) as pool:
-        for seed, found, told in pool.map(compared, tasks):
-            answers += told
+        for seed, found, reported in pool.map(compared, tasks):
+            answers += reported
             passed, failed = passed + (not found), failed + bool(found)
             for fault in found[:3]:
                 print(f'network {seed}: {fault}')

@@ -43,7 +43,7 @@ TYPES = {
 
 # ---- what is read
 
-def told(command, capture):
+def reported(command, capture):
     """The lines that the tool writes of a file, each as frame, time, the two ends and the rest."""
     with tempfile.NamedTemporaryFile() as file:
         file.write(capture)
@@ -159,7 +159,7 @@ def example_differences(program, command, name, text):
     """In what the lines of an example's file are not what they have to be."""
     report, script = replayed(program, name, text), read(text)
     capture = captured(name, text, report)
-    lines = told(command, capture)
+    lines = reported(command, capture)
     own, wanted = by_direction(lines), session_lines(program, script.scenario, report)
     for ends in own.keys() | wanted.keys():
         yield differences(own.get(ends, []), wanted.get(ends, []))
@@ -261,7 +261,7 @@ def other_cases(program, command, text):
     streams = [(kind, bytes(octets)) for (kind, *_), octets in streams_of(report).items()]
     wanted = {f'{SOURCE}:{40000 + place}': decoded(program, kind, octets) for place, (kind, octets) in enumerate(streams)}
     for name, file in other_files(streams):
-        own = by_port(told(command, file))
+        own = by_port(reported(command, file))
         yield name, [differences(own.get(end, []), wanted.get(end, [])) for end in own.keys() | wanted.keys()]
 
 
@@ -372,18 +372,18 @@ def made_cases(command):
     """By name, in what the lines of files that are laid out here differ."""
     for name, (kind, octets, wanted) in STREAMS.items():
         for size in (1000, 7):
-            came = texts(told(command, pcap(in_segments([(kind, octets)], size))))
+            came = texts(reported(command, pcap(in_segments([(kind, octets)], size))))
             yield f'{name}, segments of {size} octets', [differences(came, wanted)]
     for name, packets, wanted in missing_files():
-        yield name, [differences(texts(told(command, pcap(packets))), wanted)]
+        yield name, [differences(texts(reported(command, pcap(packets))), wanted)]
     for name, frames, wanted in pim_files():
-        yield name, [differences(texts(told(command, pcap_file(frames))), wanted)]
+        yield name, [differences(texts(reported(command, pcap_file(frames))), wanted)]
 
 
 def lab_differences(command, path):
     """In what the lines of a kept capture differ from those beside it, each after its frame."""
     capture = path.read_bytes()
-    lines = told(command, capture)
+    lines = reported(command, capture)
     yield differences([f'{line[0]} {line[5]}' for line in lines], path.with_suffix('.lines').read_text().splitlines())
     if shutil.which('tshark'):
         types = [(frame, time, type_of(text)) for frame, time, *_, text in lines if type_of(text) is not None]

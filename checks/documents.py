@@ -61,8 +61,8 @@ MOST_CASES = 35
 
 def documents():
     """The Markdown files of the repository, by their paths."""
-    told = subprocess.run(['git', 'ls-files', '*.md'], cwd=TOP, capture_output=True, text=True, check=True)
-    return told.stdout.split()
+    reported = subprocess.run(['git', 'ls-files', '*.md'], cwd=TOP, capture_output=True, text=True, check=True)
+    return reported.stdout.split()
 
 
 @functools.cache
@@ -197,7 +197,7 @@ def words_of(path, name):
     return ['self' if name == 'Same' else re.sub(r'(?<!^)(?=[A-Z])', '-', name).lower() for name in variants]
 
 
-def told_words(lines):
+def reported_words(lines):
     """The words of the rows of a section of FAULTS."""
     return [found[1] for found in (re.match(r'\| `([a-z-]+)', line) for line in lines) if found]
 
@@ -206,10 +206,10 @@ def faults_of_words(text):
     """The words that are missing in a section of FAULTS or are there for nothing, and rows of it that are none of three cells."""
     for title, (path, name) in WORDS.items():
         number, lines = section(text, title)
-        told, wanted = told_words(lines), words_of(path, name)
-        for word in sorted({*told, *wanted}):
-            if told.count(word) != 1 or word not in wanted:
-                yield number, f'{word} of {name} has {told.count(word)} rows'
+        reported, wanted = reported_words(lines), words_of(path, name)
+        for word in sorted({*reported, *wanted}):
+            if reported.count(word) != 1 or word not in wanted:
+                yield number, f'{word} of {name} has {reported.count(word)} rows'
         for at, line in enumerate(lines, number):
             if line.startswith('| `') and (line.count(' | ') != 2 or ' → ' not in line.split(' | ')[1]):
                 yield at, 'no row of a word, an example and what to do'

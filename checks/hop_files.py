@@ -188,10 +188,10 @@ def main():
         results = list(pool.map(lambda case: differs(command, case), cases(given)))
     tasks = [(command, name, text, place < TOOL_NETWORKS) for place, (name, text) in enumerate(scripts(given))]
     with ProcessPoolExecutor(given.jobs) as pool:
-        results += [told and f'{name}: {told}' for name, told in pool.map(network_differs, tasks)]
-    differing = [told for told in results if told]
-    for told in differing:
-        print(told)
+        results += [reported and f'{name}: {reported}' for name, reported in pool.map(network_differs, tasks)]
+    differing = [reported for reported in results if reported]
+    for reported in differing:
+        print(reported)
     print(f'{len(results) - len(differing)} passed, {len(differing)} failed')
     return 1 if differing else 0
 

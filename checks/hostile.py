@@ -144,17 +144,17 @@ def spliced(one, two, chance):
 
 
 def mutation(messages, chance):
-    told = ()
+    reported = ()
     for _ in range(chance.randint(1, 8)):
         message = chance.choice(messages)
         if chance.random() < 0.15:
             message = changed(message, chance)
         elif chance.random() < 0.05:
             message = resized(spliced(message, chance.choice(messages), chance), chance)
-        told += message
+        reported += message
     if chance.random() < 0.3:
-        told = told[:chance.randrange(len(told) + 1)]
-    return told
+        reported = reported[:chance.randrange(len(reported) + 1)]
+    return reported
 
 
 def text_of(octets, chance):
@@ -174,9 +174,9 @@ def text_of(octets, chance):
 
 # ---- the check
 
-def is_safe(told):
+def is_safe(reported):
     """No tunnel but the peer's, and no VRF but the edge's."""
-    words = [line.split(' ') for line in told.splitlines()]
+    words = [line.split(' ') for line in reported.splitlines()]
     return all(line[2] == '192.0.2.1' for line in words if line[0] == 'want') and all(line[1] in ('V2', 'V3') for line in words if line[0] == 'import')
 
 

@@ -73,17 +73,17 @@ def differences(command):
         if number in COUNTED:
             text = text_of(number)
             report, status = run(command, 'replay', text=text)
-            told = counted(number, text, report), status
-            yield '' if told == came else f'replay of {number}: {told!r}, where sweep tells {came!r}'
+            reported = counted(number, text, report), status
+            yield '' if reported == came else f'replay of {number}: {reported!r}, where sweep tells {came!r}'
 
 
 def main():
     command = sys.argv[1:] or [str(TOP / 'mvpn')]
-    told = list(differences(command))
-    differing = [line for line in told if line]
+    reported = list(differences(command))
+    differing = [line for line in reported if line]
     for line in differing:
         print(line)
-    print(f'{len(told) - len(differing)} passed, {len(differing)} failed')
+    print(f'{len(reported) - len(differing)} passed, {len(differing)} failed')
     return 1 if differing else 0
 
 

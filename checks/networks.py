@@ -337,7 +337,7 @@ class Replay:
         words = [timed.event.word for timed in self.script.events[max(0, self.place - 4):self.place]]
         return words == ['heal', 'settle', 'tick', 'settle'] and self.script.events[self.place - 2].event.count >= 5
 
-    def told(self, line):
+    def reported(self, line):
         if line.unready != self.sessions.unready():
             self.wrong('unready', line, self.sessions.unready())
         if self.is_behind_calm():
@@ -367,7 +367,7 @@ class Replay:
         self.after(timed.event)
         for line in flat:
             if isinstance(line, report.State):
-                self.told(line)
+                self.reported(line)
         return True
 
     def run(self):

@@ -456,9 +456,9 @@ def main():
     options.add_argument('--command', default=str(TOP / 'mvpn'), help='judges as well')
     command = options.parse_args().command
     passed, failed = 0, 0
-    for name, told in cases([REFERENCE, *([command] if has_audit(command) else [])]):
-        print(f'{name}: {told}\n' if told else '', end='')
-        passed, failed = passed + (not told), failed + bool(told)
+    for name, reported in cases([REFERENCE, *([command] if has_audit(command) else [])]):
+        print(f'{name}: {reported}\n' if reported else '', end='')
+        passed, failed = passed + (not reported), failed + bool(reported)
     print(f'{passed} passed, {failed} failed')
     return 1 if failed else 0
 

@@ -37,8 +37,8 @@ def arrows(report, number):
 def is_drawn(script, report, number):
     found = datagram_of(script, report, number)
     drawn = picture(script.scenario, *([found] if found else []))
-    told = sorted(title for title in words_of(drawn, 'title') if title.startswith(('hop ', 'out ')))
-    return told == arrows(report, number) and {node.name for node in script.scenario.nodes} <= set(words_of(drawn, 'text'))
+    reported = sorted(title for title in words_of(drawn, 'title') if title.startswith(('hop ', 'out ')))
+    return reported == arrows(report, number) and {node.name for node in script.scenario.nodes} <= set(words_of(drawn, 'text'))
 
 
 def is_drawn_in_time(text, script, report):

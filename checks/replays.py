@@ -22,9 +22,9 @@ TOP = pathlib.Path(__file__).resolve().parent.parent
 LONGEST = 300
 
 
-def first_difference(told, wanted):
+def first_difference(reported, wanted):
     """The first line in which two texts differ, as each has it."""
-    for number, (own, other) in enumerate(zip(told.split('\n') + [''], wanted.split('\n') + ['']), 1):
+    for number, (own, other) in enumerate(zip(reported.split('\n') + [''], wanted.split('\n') + ['']), 1):
         if own != other:
             return f'line {number} is {own[:200]!r}, and not {other[:200]!r}'
     return 'one text goes on'

@@ -286,9 +286,9 @@ def main():
         return 1
     runs = [(row, commands[runner], runner) for row in rows for runner in row.runners()]
     with ThreadPoolExecutor(4) as pool:
-        differing = [told for told in pool.map(lambda run: differs(*run), runs) if told]
-    for told in differing:
-        print(told)
+        differing = [reported for reported in pool.map(lambda run: differs(*run), runs) if reported]
+    for reported in differing:
+        print(reported)
     print('%d passed, %d failed' % (len(runs) - len(differing), len(differing)))
     return 1 if differing or not runs else 0
 

@@ -61,18 +61,18 @@ def main():
     with tempfile.TemporaryDirectory() as folder:
         root = copy_crates(pathlib.Path(folder))
         source = root.read_text()
-        told, errors = try_with(root, source, SPENDS)
-        results.append(('a binding that is spent', told, not errors and 'run=ended status=0' in told))
+        reported, errors = try_with(root, source, SPENDS)
+        results.append(('a binding that is spent', reported, not errors and 'run=ended status=0' in reported))
         for state in STATES:
-            told, errors = try_with(root, source, LETS_GO % state)
-            results.append(('Binding<%s> that is let go' % state, told, is_let_go(errors, source)))
-        told, errors = try_with(root, source, LETS_ANY_GO)
-        results.append(('AnyBinding that is let go', told, is_let_go(errors, source)))
+            reported, errors = try_with(root, source, LETS_GO % state)
+            results.append(('Binding<%s> that is let go' % state, reported, is_let_go(errors, source)))
+        reported, errors = try_with(root, source, LETS_ANY_GO)
+        results.append(('AnyBinding that is let go', reported, is_let_go(errors, source)))
     failed = 0
-    for name, told, as_wanted in results:
+    for name, reported, as_wanted in results:
         if not as_wanted:
             failed += 1
-            print('%s: other than wanted:\n%s' % (name, told))
+            print('%s: other than wanted:\n%s' % (name, reported))
     print('%d passed, %d failed' % (len(results) - failed, failed))
     return 1 if failed else 0
 

@@ -437,55 +437,55 @@ def spelled(text):
     return str(getattr(address, 'ipv4_mapped', None) or address.exploded)
 
 
-def route_line(told):
-    kind = told.number(NLRI + '_route_type')
+def route_line(reported):
+    kind = reported.number(NLRI + '_route_type')
     originator = NLRI + '_origin_router_ipv4'
     if kind == 4:
-        key = lines_of('nlri', [bytes.fromhex(told.octets(NLRI + '_route_key'))])[0]
-        return ' '.join(['leaf', told.addr(originator)] + key)
+        key = lines_of('nlri', [bytes.fromhex(reported.octets(NLRI + '_route_key'))])[0]
+        return ' '.join(['leaf', reported.addr(originator)] + key)
     if kind not in ROUTE_WORDS:
-        return f'other {kind} {told.octets(NLRI)}'
-    words = [ROUTE_WORDS[kind], told.octets(NLRI + '_rd')]
+        return f'other {kind} {reported.octets(NLRI)}'
+    words = [ROUTE_WORDS[kind], reported.octets(NLRI + '_rd')]
     if kind in (2, 6, 7):
-        words.append(str(told.number(NLRI + '_source_as')))
+        words.append(str(reported.number(NLRI + '_source_as')))
     if kind in (3, 5, 6, 7):
-        words += [told.part('source'), told.part('group')]
+        words += [reported.part('source'), reported.part('group')]
     if kind in (1, 3):
-        words.append(told.addr(originator))
+        words.append(reported.addr(originator))
     return ' '.join(words)
 
 
-def identifier_text(kind, told):
+def identifier_text(kind, reported):
     if kind == 1:
         reserved = '0000'
-        return told.octets(PMSI + 'rsvp.id') + reserved + told.inside(PMSI + 'rsvp.tunnel_id', PMSI + 'rsvp.ext_')
+        return reported.octets(PMSI + 'rsvp.id') + reserved + reported.inside(PMSI + 'rsvp.tunnel_id', PMSI + 'rsvp.ext_')
     if kind == 2:
         mldp = PMSI + 'mldp.fec.'
-        word = FEC_WORDS[told.number(mldp + 'type')]
-        return f'{word} {told.addr(mldp + "root_nodev4")} {told.inside(mldp + "opaque_value", mldp + "opaque_ext")}'
+        word = FEC_WORDS[reported.number(mldp + 'type')]
+        return f'{word} {reported.addr(mldp + "root_nodev4")} {reported.inside(mldp + "opaque_value", mldp + "opaque_ext")}'
     if kind == 6:
-        return told.addr(PMSI + 'ingress_rep_ip')
-    return told.inside(PMSI + {0: 'tunnel_id.', 3: 'pimssm.', 4: 'pimsm.', 5: 'bidir_pim_tree.'}[kind]) or '-'
+        return reported.addr(PMSI + 'ingress_rep_ip')
+    return reported.inside(PMSI + {0: 'tunnel_id.', 3: 'pimssm.', 4: 'pimsm.', 5: 'bidir_pim_tree.'}[kind]) or '-'
 
 
-def pmsi_line(told):
+def pmsi_line(reported):
     """Leaf information is the lowest of the flags, and a label of 0 is none (RFC 6514 section 5)."""
-    leaf, kind = told.number(PMSI + 'tunnel.flags') % 2, told.number(PMSI + 'tunnel.type')
-    return f'pmsi {leaf} {kind} {told.number(LABEL) or "-"} {identifier_text(kind, told)}'
+    leaf, kind = reported.number(PMSI + 'tunnel.flags') % 2, reported.number(PMSI + 'tunnel.type')
+    return f'pmsi {leaf} {kind} {reported.number(LABEL) or "-"} {identifier_text(kind, reported)}'
 
 
-def communities_text(told):
+def communities_text(reported):
     """The octets of all communities, which tshark reports by type, sub-type and parts of the value."""
     parts = re.compile(r'bgp\.ext_com\.(type|stype_\w+|value_\w+)$')
-    octets = ''.join(f.get('value') for f in told.fields if parts.match(f.get('name')))
+    octets = ''.join(f.get('value') for f in reported.fields if parts.match(f.get('name')))
     return ','.join(octets[i:i + 16] for i in range(0, len(octets), 16)) or '-'
 
 
-def tunnel_octets(told):
+def tunnel_octets(reported):
     """The octets of an attribute whose tunnel is an mLDP P2MP LSP."""
-    if PMSI + 'tunnel.type' not in told:
+    if PMSI + 'tunnel.type' not in reported:
         return '-'
-    return told.inside(PMSI + 'tunnel.flags', PMSI + 'tunnel.type') + told[LABEL].get('unmaskedvalue') + told.inside(PMSI + 'mldp.')
+    return reported.inside(PMSI + 'tunnel.flags', PMSI + 'tunnel.type') + reported[LABEL].get('unmaskedvalue') + reported.inside(PMSI + 'mldp.')
 
 
 def rd_octets(text):
@@ -496,47 +496,47 @@ def rd_octets(text):
     return (number(0, 2) + number(int(front), 2) + number(int(after), 4)).hex()
 
 
-def vpn_ipv6_text(told):
-    rd, prefix, bits = re.search(r' RD=(\S+), IPv6=(\S+)/(\d+)$', told['bgp.label_stack'].get('showname')).groups()
+def vpn_ipv6_text(reported):
+    rd, prefix, bits = re.search(r' RD=(\S+), IPv6=(\S+)/(\d+)$', reported['bgp.label_stack'].get('showname')).groups()
     return f'unicast {rd_octets(rd)} {spelled(prefix)}/{bits}'
 
 
-def nlri_text(told, attribute, prefix):
-    is_six = told.number(attribute + '.afi') == 2
-    if told.number(attribute + '.safi') == 5:
-        return f'ipv{6 if is_six else 4} {route_line(told)}'
+def nlri_text(reported, attribute, prefix):
+    is_six = reported.number(attribute + '.afi') == 2
+    if reported.number(attribute + '.safi') == 5:
+        return f'ipv{6 if is_six else 4} {route_line(reported)}'
     if is_six:
-        return vpn_ipv6_text(told)
-    return f'unicast {told.octets("bgp.rd")} {told.addr(prefix)}/{told.number("bgp.prefix_length") - 88}'
+        return vpn_ipv6_text(reported)
+    return f'unicast {reported.octets("bgp.rd")} {reported.addr(prefix)}/{reported.number("bgp.prefix_length") - 88}'
 
 
-def next_hop(told):
-    if told.has_ipv4_hop():
-        return socket.inet_ntoa(bytes.fromhex(told.octets(REACH + '.next_hop'))[1:])
-    is_six = REACH + '.next_hop.ipv6' in told
-    return told.addr(f'{REACH}.next_hop.ipv{6 if is_six else 4}')
+def next_hop(reported):
+    if reported.has_ipv4_hop():
+        return socket.inet_ntoa(bytes.fromhex(reported.octets(REACH + '.next_hop'))[1:])
+    is_six = REACH + '.next_hop.ipv6' in reported
+    return reported.addr(f'{REACH}.next_hop.ipv{6 if is_six else 4}')
 
 
-def bgp_line(told):
-    kind = told.number('bgp.type')
+def bgp_line(reported):
+    kind = reported.number('bgp.type')
     if kind != 2:
         return BGP_WORDS[kind]
-    if REACH + '.safi' in told:
-        key = nlri_text(told, REACH, 'bgp.mp_reach_nlri_ipv4_prefix')
-        return f'update\nreach {next_hop(told)} {communities_text(told)} {tunnel_octets(told)} {key}'
-    return f'update\nunreach {nlri_text(told, UNREACH, "bgp.mp_unreach_nlri_ipv4_prefix")}'
+    if REACH + '.safi' in reported:
+        key = nlri_text(reported, REACH, 'bgp.mp_reach_nlri_ipv4_prefix')
+        return f'update\nreach {next_hop(reported)} {communities_text(reported)} {tunnel_octets(reported)} {key}'
+    return f'update\nunreach {nlri_text(reported, UNREACH, "bgp.mp_unreach_nlri_ipv4_prefix")}'
 
 
-def ldp_line(told):
-    kind = told.number('ldp.msg.type')
+def ldp_line(reported):
+    kind = reported.number('ldp.msg.type')
     if kind not in LDP_WORDS:
         return f'ignored {kind}'
-    return f'{LDP_WORDS[kind]} {told.number(LDP + "generic.label")} {fec_line(told)}'
+    return f'{LDP_WORDS[kind]} {reported.number(LDP + "generic.label")} {fec_line(reported)}'
 
 
-def fec_line(told):
-    word = FEC_WORDS[told.number(LDP + 'fec.type')]
-    return f'{word} {told.addr(LDP + "ldp_p2mp.ipv4_rtnodeaddr")} {told.octets(LDP + "ldp_p2mp.opvalue") or "-"}'
+def fec_line(reported):
+    word = FEC_WORDS[reported.number(LDP + 'fec.type')]
+    return f'{word} {reported.addr(LDP + "ldp_p2mp.ipv4_rtnodeaddr")} {reported.octets(LDP + "ldp_p2mp.opvalue") or "-"}'
 
 
 def inner(field, name):
@@ -551,11 +551,11 @@ def source_line(word, field):
     return f'{word} {kind} {inner(field, "pim.source")}'
 
 
-def join_prune_lines(told):
-    if told.number('pim.cksum.status') != 1:
+def join_prune_lines(reported):
+    if reported.number('pim.cksum.status') != 1:
         return 'tshark: another checksum'
-    lines = [f'joinprune {told.addr("pim.unicast")} {told.number("pim.holdtime")}']
-    for field in told.fields:
+    lines = [f'joinprune {reported.addr("pim.unicast")} {reported.number("pim.holdtime")}']
+    for field in reported.fields:
         name = field.get('name')
         if name == 'pim.group_set':
             lines.append(f'group {inner(field, "pim.group")}')
@@ -588,19 +588,19 @@ def dissect(capture, *options):
 
 def values_of(elements, first):
     """What is in front of the values of a packet, and then each value: it begins with the field `first`."""
-    told = [Told()]
+    reported = [Told()]
     for element in elements:
         if element.get('name') == first:
-            told.append(Told())
-        told[-1].add(element)
-    return told
+            reported.append(Told())
+        reported[-1].add(element)
+    return reported
 
 
-def line_of(line, told):
-    if told.has_fault():
+def line_of(line, reported):
+    if reported.has_fault():
         return 'tshark: a fault'
     try:
-        return line(told)
+        return line(reported)
     except KeyError as name:
         return f'tshark: no field {name}'
 
@@ -609,7 +609,7 @@ def lines_of(command, octets):
     """For each of the octets the lines of what tshark reads in them."""
     _, packet, message, first, line = COMMANDS[command]
     packets = dissect(pcap(packet(place, message(o)) for place, o in enumerate(octets)))
-    return [[line_of(line, told) for told in values_of(elements, first)[1:]] for elements in packets]
+    return [[line_of(line, reported) for reported in values_of(elements, first)[1:]] for elements in packets]
 
 
 # ---- what the nodes of the examples put
@@ -658,7 +658,7 @@ def stream_lines(kind, octets):
     lines = [[] for _ in octets]
     for place, elements in zip(places, dissect(pcap(packets))):
         front, *values = values_of(elements, first)
-        lines[place] += ['tshark: a fault'] * front.has_fault() + [line_of(line, told) for told in values]
+        lines[place] += ['tshark: a fault'] * front.has_fault() + [line_of(line, reported) for reported in values]
     for own, stream in zip(lines, octets):
         if len(own) != count_of(kind, stream):
             own.append(f'tshark: {len(own)} messages of {count_of(kind, stream)}')
@@ -707,13 +707,13 @@ def many_sites():
     return ''.join(line + '\n' for line in [*edges, *vrfs, *sites, 'events', 'heal', 'move bgp E1 E2 7', 'settle'])
 
 
-def captured(name, text, told):
+def captured(name, text, reported):
     """The file that the tool writes of a script and its report."""
     with tempfile.NamedTemporaryFile(suffix='.txt') as file:
         file.write(text.encode())
         file.flush()
         tool = [sys.executable, str(TOP / 'tools' / 'wireshark.py'), file.name]
-        run = subprocess.run(tool, input=told.encode(), capture_output=True)
+        run = subprocess.run(tool, input=reported.encode(), capture_output=True)
     if run.returncode:
         sys.exit(f'{name}: {run.stderr.decode()}')
     return run.stdout
@@ -763,49 +763,49 @@ def wanted_shown(text):
         world = new.world
 
 
-def ends_told(scenario, told):
+def ends_told(scenario, reported):
     """The nodes between which a frame goes, by their Ethernet addresses."""
-    numbers = [int.from_bytes(bytes.fromhex(told.octets(name))[4:], 'big') for name in ('eth.src', 'eth.dst')]
+    numbers = [int.from_bytes(bytes.fromhex(reported.octets(name))[4:], 'big') for name in ('eth.src', 'eth.dst')]
     return ' '.join(scenario.nodes[number].name for number in numbers)
 
 
-def shown_of_packet(scenario, told):
+def shown_of_packet(scenario, reported):
     """How a packet is seen, or nothing where it has no octets of a line."""
-    kind, *nodes = told['frame.interface_name'].get('show').split(' ')
+    kind, *nodes = reported['frame.interface_name'].get('show').split(' ')
     if kind in SESSIONS and nodes:
-        return f'put {kind} {ends_told(scenario, told)}' if told.number('tcp.len') else ''
+        return f'put {kind} {ends_told(scenario, reported)}' if reported.number('tcp.len') else ''
     if nodes:
-        return f'hop {ends_told(scenario, told)} {told.number("mpls.label")} {told.number("mpls.ttl")}'
-    if 'pim.type' in told:
+        return f'hop {ends_told(scenario, reported)} {reported.number("mpls.label")} {reported.number("mpls.ttl")}'
+    if 'pim.type' in reported:
         return f'pim {kind}'
-    family = 'ip' if 'ip.src' in told else 'ipv6'
-    return f'out {kind} {told[family + ".src"].get("show")} {told[family + ".dst"].get("show")}'
+    family = 'ip' if 'ip.src' in reported else 'ipv6'
+    return f'out {kind} {reported[family + ".src"].get("show")} {reported[family + ".dst"].get("show")}'
 
 
-def tick_of(told):
-    seconds, nanoseconds = told['frame.time_epoch'].get('show').split('.')
+def tick_of(reported):
+    seconds, nanoseconds = reported['frame.time_epoch'].get('show').split('.')
     return (int(seconds) * 10 ** 9 + int(nanoseconds)) // 10 ** 6
 
 
-def faults_told(told):
+def faults_told(reported):
     """The faults of a packet; the length of a next hop that tshark does not know is none."""
-    shows = [(field.get('name'), field.get('show')) for field in told.fields]
+    shows = [(field.get('name'), field.get('show')) for field in reported.fields]
     errors = sum(name == '_ws.expert.severity' and int(show) == ERROR for name, show in shows)
     known = sum(name == EXPERT and show == SHORT_HOP for name, show in shows)
-    if errors > known or (MALFORMED in told and not errors):
+    if errors > known or (MALFORMED in reported and not errors):
         yield 'a fault'
     yield from (name for name, show in shows if name in STATUSES and show != GOOD)
 
 
 def file_differs(scenario, text, told_report, packets):
     """In what tshark reports something else of a file than it has to."""
-    for place, told in enumerate(packets, 1):
-        yield from (f'packet {place}: {fault}' for fault in faults_told(told))
-    seen = [(tick_of(told), shown_of_packet(scenario, told)) for told in packets]
+    for place, reported in enumerate(packets, 1):
+        yield from (f'packet {place}: {fault}' for fault in faults_told(reported))
+    seen = [(tick_of(reported), shown_of_packet(scenario, reported)) for reported in packets]
     came, wanted = [f'{tick} {one}' for tick, one in seen if one], list(wanted_shown(text))
     yield from (f'{own!r} and not {other!r}' for own, other in itertools.zip_longest(came, wanted) if own != other)
     for kind, name in (('bgp', 'bgp.type'), ('ldp', 'ldp.msg.type')):
-        found = sum(field.get('name') == name for told in packets for field in told.fields)
+        found = sum(field.get('name') == name for reported in packets for field in reported.fields)
         put = sum(count_of(kind, octets) for (own, *_), octets in streams_of(told_report).items() if own == kind)
         if found != put:
             yield f'{found} messages of {kind}, and not {put}'
@@ -833,12 +833,12 @@ def told_by(*command):
     return ran.stdout.splitlines() if ran.returncode == 0 else [f'status {ran.returncode}: {ran.stderr}']
 
 
-def hop_of_packet(told):
+def hop_of_packet(reported):
     """How a frame is seen."""
-    ends = [int.from_bytes(bytes.fromhex(told.octets(name))[4:], 'big') for name in ('eth.src', 'eth.dst')]
-    shim = [told.number(f'mpls.{name}') for name in ('label', 'exp', 'bottom', 'ttl')]
-    family = 'ip' if 'ip.src' in told else 'ipv6'
-    return ' '.join(map(str, [tick_of(told), *ends, *shim, *(told[f'{family}.{end}'].get('show') for end in ('src', 'dst'))]))
+    ends = [int.from_bytes(bytes.fromhex(reported.octets(name))[4:], 'big') for name in ('eth.src', 'eth.dst')]
+    shim = [reported.number(f'mpls.{name}') for name in ('label', 'exp', 'bottom', 'ttl')]
+    family = 'ip' if 'ip.src' in reported else 'ipv6'
+    return ' '.join(map(str, [tick_of(reported), *ends, *shim, *(reported[f'{family}.{end}'].get('show') for end in ('src', 'dst'))]))
 
 
 def wanted_hop(hop):
@@ -867,11 +867,11 @@ def hop_file_differs(name, text, octets):
     wanted = hops_of(read(text))[0]
     options = UDP_SHOWN if name == 'udp-datagrams.txt' else SHOWN
     packets = [values_of(elements, 'frame.encap_type')[1] for elements in dissect(octets, *options)] if wanted else []
-    for place, told in enumerate(packets, 1):
-        yield from (f'packet {place}: {fault}' for fault in faults_told(told))
-        if options is UDP_SHOWN and (told.number('udp.checksum.status'), told.number('udp.dstport')) != (1, 5004):
+    for place, reported in enumerate(packets, 1):
+        yield from (f'packet {place}: {fault}' for fault in faults_told(reported))
+        if options is UDP_SHOWN and (reported.number('udp.checksum.status'), reported.number('udp.dstport')) != (1, 5004):
             yield f'packet {place}: another datagram of UDP'
-    came = [hop_of_packet(told) for told in packets]
+    came = [hop_of_packet(reported) for reported in packets]
     yield from (f'{own!r} and not {other!r}' for own, other in itertools.zip_longest(came, map(wanted_hop, wanted)) if own != other)
     yield from tools_differ(octets, wanted)
 
@@ -915,11 +915,11 @@ def main():
     cases = [(command, *case) for command in COMMANDS for case in own_cases(command)]
     cases += [(kind, *case) for kind in SESSIONS for case in example_cases(reports, kind)]
     results = [(f'{command}, {name}', differs(program, command, octets, lines)) for command, name, octets, lines in cases]
-    results += [(f'file of {name}', '\n'.join(told)) for name, told in file_cases(program, reports)]
-    results += [(f'hops of {name}', '\n'.join(told)) for name, told in hop_file_cases(program)]
-    differing = [f'{name}: {told}' for name, told in results if told]
-    for told in differing:
-        print(told)
+    results += [(f'file of {name}', '\n'.join(reported)) for name, reported in file_cases(program, reports)]
+    results += [(f'hops of {name}', '\n'.join(reported)) for name, reported in hop_file_cases(program)]
+    differing = [f'{name}: {reported}' for name, reported in results if reported]
+    for reported in differing:
+        print(reported)
     print('%d passed, %d failed' % (len(results) - len(differing), len(differing)))
     return 1 if differing else 0
 

@@ -181,9 +181,9 @@ def main():
         source.mkdir(parents=True)
         (source / 'main.rt').write_text(program)
         run = subprocess.run(['rt', 'try'], cwd=source.parent, stdout=subprocess.PIPE, stderr=subprocess.STDOUT, text=True)
-    told = dict(re.findall(r'^case (\S+) (true|false)$', run.stdout, re.MULTILINE))
+    reported = dict(re.findall(r'^case (\S+) (true|false)$', run.stdout, re.MULTILINE))
     wanted = [name for name, _ in calls()]
-    wrong = [name for name in wanted if told.get(name) != 'true']
+    wrong = [name for name in wanted if reported.get(name) != 'true']
     if wrong:
         print(run.stdout)
         print('written otherwise:', *wrong)

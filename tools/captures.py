@@ -116,9 +116,9 @@ def options_in(order, octets):
 
 def interface_in(order, body):
     link, _, _ = numbers(order, 'HHI', body, 0)
-    told = options_in(order, body[8:])
-    power = int.from_bytes(told.get(RESOLUTION, MICROSECONDS)[:1], 'big')
-    offset = int.from_bytes(told.get(TIME_OFFSET, b''), 'little' if order == '<' else 'big', signed=True)
+    reported = options_in(order, body[8:])
+    power = int.from_bytes(reported.get(RESOLUTION, MICROSECONDS)[:1], 'big')
+    offset = int.from_bytes(reported.get(TIME_OFFSET, b''), 'little' if order == '<' else 'big', signed=True)
     return Interface(link, 2 ** (power & 0x7f) if power & 0x80 else 10 ** power, offset)
 
 

@@ -377,7 +377,7 @@ def pieces_of(path):
     return reading.all()
 
 
-def told(program, path):
+def reported(program, path):
     """The lines of a capture, in the order of its frames."""
     pieces = pieces_of(path)
     found = texts(program, pieces)
@@ -394,7 +394,7 @@ def main():
     given = options.parse_args()
     for path in given.captures:
         front = f'{path} ' if len(given.captures) > 1 else ''
-        for line in told(shlex.split(given.command), path):
+        for line in reported(shlex.split(given.command), path):
             print(front + line)
 
 

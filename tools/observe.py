@@ -420,7 +420,7 @@ def tell(scenario, reading, composer, inputs):
     for what, count in sorted(reading.passed.items()):
         print(f'{count} {what} are passed over', file=sys.stderr)
     if reading.cut:
-        print(f'{reading.cut} datagrams were cut by a capture, and are told apart by what it has', file=sys.stderr)
+        print(f'{reading.cut} datagrams were cut by a capture, and are reported apart by what it has', file=sys.stderr)
     lacking = {iface.name for iface in scenario.ifaces} - {scenario.ifaces[number].name for number in reading.ifaces}
     if lacking:
         print(f'no capture of {", ".join(sorted(lacking))}: what leaves there is not known', file=sys.stderr)

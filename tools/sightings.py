@@ -108,16 +108,16 @@ def with_payload(octets, payload):
 
 def digest(octets, payload):
     """A short payload in the place of a long one: the ports, and a digest of the whole."""
-    told = hashlib.sha256(payload).digest()
+    reported = hashlib.sha256(payload).digest()
     packet = read(octets)
     if packet.protocol != UDP or len(packet.payload) != len(payload) or packet.is_fragment:
-        return told
-    front = payload[:4] + number(8 + len(told), 2)
-    total = checksum(pseudo_header(packet.source, packet.destination, UDP, 8 + len(told)) + front + bytes(2) + told)
-    return front + number(total or 0xffff, 2) + told
+        return reported
+    front = payload[:4] + number(8 + len(reported), 2)
+    total = checksum(pseudo_header(packet.source, packet.destination, UDP, 8 + len(reported)) + front + bytes(2) + reported)
+    return front + number(total or 0xffff, 2) + reported
 
 
-def told(octets):
+def reported(octets):
     """The packet as a script has it."""
     payload = octets[header_length(octets):]
     return with_payload(octets, digest(octets, payload) if len(payload) > 8 + MOST else payload)
@@ -227,7 +227,7 @@ class Reading:
         if is_cut(octets):
             self.cut += 1
         if is_out:
-            self.leaving.append(Leaving(seen, key_of(octets), told(octets)))
+            self.leaving.append(Leaving(seen, key_of(octets), reported(octets)))
         else:
             self.enter(seen, octets, packet)
 
@@ -237,7 +237,7 @@ class Reading:
         self.entered[seen.iface, key] += 1
         known = self.at_site.setdefault((site, key), [])
         if self.entered[seen.iface, key] > len(known):
-            known.append(Datagram(seen, key, told(octets), packet.source, packet.destination))
+            known.append(Datagram(seen, key, reported(octets), packet.source, packet.destination))
             self.datagrams.append(known[-1])
 
     # ---- messages

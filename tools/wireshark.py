@@ -197,7 +197,7 @@ class Wire:
 
     # ---- all
 
-    def told(self, words):
+    def reported(self, words):
         """The frames of a line of the report."""
         match words:
             case ('put', kind, start, end, octets):
@@ -222,7 +222,7 @@ class Wire:
             case Noticed(_, over):
                 return self.noticed(over)
             case Told(_, words):
-                return self.told(words)
+                return self.reported(words)
 
 
 # ---- the file

@@ -187,7 +187,7 @@ class Audited:
         self.sent = [
             sent_by(place, timed.event) for place, timed in enumerate(script.events)
             if self.accepted[place] and timed.event.word in ('send', 'packet')]
-        self.told = {
+        self.reported = {
             one.event: one.value for one in self.lines
             if isinstance(one.value, report.State) and script.events[one.event].event.word == 'state'}
 
@@ -206,9 +206,9 @@ class Audited:
 
     def is_window(self, first, last):
         """The events from the first to the last: after a calm `state`, up to a `drain` or a `state` that reports no copy."""
-        ends = self.events[last].event.word == 'drain' or (last in self.told and self.told[last].copies == 0)
+        ends = self.events[last].event.word == 'drain' or (last in self.reported and self.reported[last].copies == 0)
         return (
-            first - 1 in self.told and is_calm(self.told[first - 1]) and ends
+            first - 1 in self.reported and is_calm(self.reported[first - 1]) and ends
             and all(not self.accepted[place] or self.events[place].event.word in OF_WINDOW for place in range(first, last + 1)))
 
     def in_window(self, sent):

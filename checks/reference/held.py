@@ -23,7 +23,7 @@ def held_for(place, control, peer):
     return from_entries(key_parts, originated(place, control) + join_routes(place, control, peer))
 
 
-def told(place, control, peer):
+def reported(place, control, peer):
     return held_for(place, control, peer) if control.peers.get(peer) is not None else FinMap(key_parts)
 
 
@@ -52,4 +52,4 @@ def changes(old, new):
 
 
 def put_to(place, old, new, peer):
-    return changes(told(place, old, peer), told(place, new, peer)) if new.peers.get(peer) is not None else ()
+    return changes(reported(place, old, peer), reported(place, new, peer)) if new.peers.get(peer) is not None else ()

@@ -171,16 +171,16 @@ QUIET = ('send', 'packet', 'hop', 'drain', 'state')
 def windows(script, lines, refused):
     """The windows: from right after a calm line to a `drain`, or a `state` whose copies are 0; all events in it that were not
     refused send, land or report. Each is a pair of places in the script, without the first and with the last."""
-    told = {place: line for place, line in lines if isinstance(line, report.State)}
+    reported = {place: line for place, line in lines if isinstance(line, report.State)}
     found = []
-    for first, line in told.items():
+    for first, line in reported.items():
         if not is_calm(line):
             continue
         for last in range(first + 1, len(script.events)):
             word = script.events[last].event.word
             if last not in refused and word not in QUIET:
                 break
-            if word == 'drain' or (last in told and told[last].copies == 0):
+            if word == 'drain' or (last in reported and reported[last].copies == 0):
                 found.append((first, last))
     return found
 

@@ -43,19 +43,19 @@ def answer(advert, leaf, label):
     return b'\xff' * 16 + (23 + len(attributes)).to_bytes(2, 'big') + b'\x02\x00\x00' + len(attributes).to_bytes(2, 'big') + attributes
 
 
-def label_of(advert, leaf, told):
+def label_of(advert, leaf, reported):
     """The label of the copy to a leaf whose table has that route under the key of its answer, or None."""
-    if told is None or told.pmsi is None:
+    if reported is None or reported.pmsi is None:
         return None
-    is_answer = told.next_hop == leaf and target_of(advert.next_hop) in told.comms and told.pmsi.tunnel == Ingress(leaf)
-    return told.pmsi.label if is_answer and (told.pmsi.label or 0) >= 16 else None
+    is_answer = reported.next_hop == leaf and target_of(advert.next_hop) in reported.comms and reported.pmsi.tunnel == Ingress(leaf)
+    return reported.pmsi.label if is_answer and (reported.pmsi.label or 0) >= 16 else None
 
 
 class Peer:
     """The octets of a peer, their first fault, and the route under the key of its answer."""
 
     def __init__(self, advert, addr):
-        self.key, self.octets, self.fault, self.told, self.count = answer_key(advert, addr), (), None, None, 0
+        self.key, self.octets, self.fault, self.reported, self.count = answer_key(advert, addr), (), None, None, 0
 
     def take(self, octets):
         self.octets += tuple(octets)
@@ -63,10 +63,10 @@ class Peer:
         for message in messages[self.count:]:
             if isinstance(message, forms.Update):
                 if self.key in message.unreach:
-                    self.told = None
+                    self.reported = None
                 for route in message.reach:
                     if route.key == self.key:
-                        self.told = route
+                        self.reported = route
         self.count, self.fault = len(messages), fault
 
 
@@ -140,7 +140,7 @@ def dotted(addr):
     return '.'.join(map(str, addr.octets))
 
 
-def told(text):
+def reported(text):
     """The lines, and whether a peer has a fault."""
     peers, lines, refused = {}, [], False
     for number, addr, said in text.lines:
@@ -155,14 +155,14 @@ def told(text):
             if before is None and peer.fault is not None:
                 lines.append(f'refused {number} {peer.fault.place} {peer.fault.word}')
                 refused = True
-    labels = [(addr, label_of(text.root, addr, peer.told)) for addr, peer in sorted(peers.items(), key=lambda entry: entry[0].octets)]
+    labels = [(addr, label_of(text.root, addr, peer.reported)) for addr, peer in sorted(peers.items(), key=lambda entry: entry[0].octets)]
     return lines + [f'copy {dotted(addr)} {label}' for addr, label in labels if label is not None], refused
 
 
 def ingress(octets):
     """What is written, and the status."""
     try:
-        lines, refused = told(read(octets))
+        lines, refused = reported(read(octets))
     except TextFault as fault:
         return f'{fault}\n', 3
     return ''.join(line + '\n' for line in lines), 1 if refused else 0

@@ -135,8 +135,8 @@ def hops(octets):
     if len(octets) > TEXT_LIMIT:
         return 'fault 1:1 long\n', 3
     found, fault = read_file(octets)
-    told = ''.join(map(hop_line, found))
-    return (told, 0) if fault is None else (f'{told}refused {fault.place} {fault.word}\n', 1)
+    reported = ''.join(map(hop_line, found))
+    return (reported, 0) if fault is None else (f'{reported}refused {fault.place} {fault.word}\n', 1)
 
 
 def hops_of(script):

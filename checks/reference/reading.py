@@ -193,9 +193,9 @@ def read_label_message(fields):
         return forms.Ignored(kind)
     found = {}
     while own.left:
-        told = own.number(2) & 0x3FFF
+        reported = own.number(2) & 0x3FFF
         value = own.part(own.number(2))
-        found[told] = read_fec(value) if told == 0x0100 else value.number(4) & 0xFFFFF
+        found[reported] = read_fec(value) if reported == 0x0100 else value.number(4) & 0xFFFFF
         value.end()
     return make(found[0x0100], found[0x0200])
 

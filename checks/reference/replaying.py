@@ -13,5 +13,5 @@ def replay(text, wire):
     except TextFault as fault:
         return f'{fault}\n', 3
     lines, is_halted = run(script)
-    told = [line_text(script.scenario, line) for line in lines if wire or not isinstance(line, WIRE)]
-    return ''.join(told), 7 if is_halted else 0
+    reported = [line_text(script.scenario, line) for line in lines if wire or not isinstance(line, WIRE)]
+    return ''.join(reported), 7 if is_halted else 0

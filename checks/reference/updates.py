@@ -351,12 +351,12 @@ class Attributes:
 
 
 def read_attributes(octets, start, end):
-    told = Attributes()
+    reported = Attributes()
     while start < end:
         if end - start < 2:
             raise Fault(start, 'attribute-length')
         flags, kind = octets[start], octets[start + 1]
-        if kind in told.seen:
+        if kind in reported.seen:
             raise Fault(start, 'attribute-list')
         size = 2 if flags & 16 else 1
         head = start + 2 + size
@@ -366,10 +366,10 @@ def read_attributes(octets, start, end):
         if head + length > end:
             raise Fault(start, 'attribute-length')
         if kind in (14, 15, 16, 22):
-            told.seen.add(kind)
-            told.read(kind, octets[head:head + length], start, head)
+            reported.seen.add(kind)
+            reported.read(kind, octets[head:head + length], start, head)
         start = head + length
-    return told.update()
+    return reported.update()
 
 
 # ---- messages (RFC 4271 section 4)

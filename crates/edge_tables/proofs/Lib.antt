@@ -2,4 +2,4 @@ pub mod WrittenLemmas
 pub mod WayLemmas
 pub mod SlotLemmas
 pub mod PutLemmas
-pub mod RestLemmas
+pub mod ActivityLemmas

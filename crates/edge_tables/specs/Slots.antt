@@ -7,8 +7,8 @@ use Rattle.edge_tables.specs.rib_sync.Ribs.{RibOut, rib_out}
 use Rattle.edge_defs.specs.Keys.{Value, key_cmp}
 use Rattle.edge_tables.specs.Tables.{PeerTable, Tables, pending}
 use Rattle.edge_tables.specs.declared.slot.Slot.{Slot}
-use Rattle.edge_tables.specs.declared.tables.Rest.{Rest}
-use Rattle.edge_tables.specs.declared.tables.Rest.TheVariants.{Unknown, Put, Silent}
+use Rattle.edge_tables.specs.declared.tables.Activity.{Activity}
+use Rattle.edge_tables.specs.declared.tables.Activity.TheVariants.{Unknown, Put, Silent}
 
 -- what is kept, by the table and the octets
 abbrev pub of_rib : RibOut key_cmp Value → List ℕ → PeerTable
@@ -41,7 +41,7 @@ abbrev pub IsSilentAt : Slot → Type 0
 IsSilentAt slot = slot.waiting ≡ []
 
 -- what is known of the slots holds of each
-abbrev pub IsResting : Rest → List Slot → Type 0
-IsResting Unknown slots = ⊤
-IsResting Put slots = All IsPutAt slots
-IsResting Silent slots = All IsPutAt slots × All IsSilentAt slots
+abbrev pub HasActivity : Activity → List Slot → Type 0
+HasActivity Unknown slots = ⊤
+HasActivity Put slots = All IsPutAt slots
+HasActivity Silent slots = All IsPutAt slots × All IsSilentAt slots

@@ -4,7 +4,7 @@ ghost use Rattle.std.specs.List.{All, AllZip};
 ghost use Rattle.std.specs.FinMap.{from_entries};
 ghost use Rattle.edge_tables.specs.Tables.{AtPeer, EachPeer, IsPutPart, downed, fresh, is_up_at, put_after, raised, waiting_at};
 ghost use Rattle.edge_tables.specs.Tables.{with_route, without_route};
-ghost use Rattle.edge_tables.specs.Slots.{Becomes, IsPutAt, IsResting, IsSilentAt, is_of, peer_table};
+ghost use Rattle.edge_tables.specs.Slots.{Becomes, IsPutAt, HasActivity, IsSilentAt, is_of, peer_table};
 
 use crate::announced::Announced;
 use crate::slot::{SharedKey, SharedValue, Slot};
@@ -16,7 +16,7 @@ use std::marker::Model;
 
 /// What is known of all slots, so that a call that has nothing to do looks at none of them.
 #[derive(Clone, Copy, Drop)]
-enum Rest {
+enum Activity {
     /// Nothing is known.
     Unknown,
     /// Nothing is pending at any.
@@ -32,7 +32,7 @@ enum Rest {
 pub struct EdgeTables {
     alloc: Global,
     slots: Vec<Slot>,
-    rest: Rest,
+    activity: Activity,
 }
 
 impl Model for EdgeTables {
@@ -43,11 +43,11 @@ impl Model for EdgeTables {
     ghost coded = { tables_code };
 
     ghost use Rattle.edge_tables.specs.Slots.{tables_of};
-    ghost use Rattle.edge_tables.specs.Slots.{IsResting};
+    ghost use Rattle.edge_tables.specs.Slots.{HasActivity};
 
     ghost view = { λ t. tables_of t.slots.items };
 
-    ghost invariant = { λ t. IsResting t.rest t.slots.items };
+    ghost invariant = { λ t. HasActivity t.activity t.slots.items };
 }
 
 /// The place of the peer.
@@ -83,16 +83,16 @@ fn are_silent(slots: &[Slot]) -> bool
 }
 
 /// What is known of the slots.
-fn rest_of(slots: &[Slot]) -> Rest
-    ensures { IsResting result slots.now }
+fn activity_of(slots: &[Slot]) -> Activity
+    ensures { HasActivity result slots.now }
 {
     if !are_put(slots) {
-        return Rest::Unknown;
+        return Activity::Unknown;
     }
     if are_silent(slots) {
-        Rest::Silent
+        Activity::Silent
     } else {
-        Rest::Put
+        Activity::Put
     }
 }
 
@@ -145,7 +145,7 @@ impl EdgeTables {
         Ok(EdgeTables {
             alloc,
             slots,
-            rest: Rest::Unknown,
+            activity: Activity::Unknown,
         })
     }
 
@@ -158,7 +158,7 @@ impl EdgeTables {
     {
         let key = Shared::of(self.alloc, *key)?;
         let value = Announced::of(self.alloc, &key, value)?;
-        self.rest = Rest::Unknown;
+        self.activity = Activity::Unknown;
         set_each(&mut self.slots, &key, &value)
     }
 
@@ -170,7 +170,7 @@ impl EdgeTables {
         ensures partly { OnErr result (
             EachPeer (λ old new. (new ≡ old) ⊎ (new ≡ without_route key.now old)) self.old self.new) }
     {
-        self.rest = Rest::Unknown;
+        self.activity = Activity::Unknown;
         unset_each(&mut self.slots, key)
     }
 
@@ -190,7 +190,7 @@ impl EdgeTables {
             Some(place) => {
                 let key = Shared::of(self.alloc, *key)?;
                 let value = Announced::of(self.alloc, &key, value)?;
-                self.rest = Rest::Unknown;
+                self.activity = Activity::Unknown;
                 self.slots[place].set(&key, &value)
             }
         }
@@ -205,7 +205,7 @@ impl EdgeTables {
         match place_of(&self.slots, peer) {
             None => Ok(()),
             Some(place) => {
-                self.rest = Rest::Unknown;
+                self.activity = Activity::Unknown;
                 self.slots[place].unset(key)
             }
         }
@@ -219,7 +219,7 @@ impl EdgeTables {
         match place_of(&self.slots, peer) {
             None => Ok(()),
             Some(place) => {
-                self.rest = Rest::Unknown;
+                self.activity = Activity::Unknown;
                 self.slots[place].raise()
             }
         }
@@ -232,7 +232,7 @@ impl EdgeTables {
         match place_of(&self.slots, peer) {
             None => {}
             Some(place) => {
-                self.rest = Rest::Unknown;
+                self.activity = Activity::Unknown;
                 self.slots[place].down();
             }
         }
@@ -255,11 +255,11 @@ impl EdgeTables {
         // Where memory runs out each peer is as before, or was told all with some first messages waiting.
         ensures partly { OnErr result (EachPeer IsPutPart self.old self.new) }
     {
-        match self.rest {
-            Rest::Put | Rest::Silent => Ok(()),
-            Rest::Unknown => {
+        match self.activity {
+            Activity::Put | Activity::Silent => Ok(()),
+            Activity::Unknown => {
                 put_each(&mut self.slots)?;
-                self.rest = rest_of(&self.slots);
+                self.activity = activity_of(&self.slots);
                 Ok(())
             }
         }
@@ -270,7 +270,7 @@ impl EdgeTables {
         ensures result { result ≡ waiting_at self.old peer }
         ensures taken { AtPeer peer (λ old new. new ≡ record old { waiting = [] }) self.old self.new }
     {
-        if let Rest::Silent = self.rest {
+        if let Activity::Silent = self.activity {
             return Bytes::new(self.alloc);
         }
         match place_of(&self.slots, peer) {
@@ -280,7 +280,7 @@ impl EdgeTables {
                     return Bytes::new(self.alloc);
                 }
                 let taken = self.slots[place].take_out();
-                self.rest = rest_of(&self.slots);
+                self.activity = activity_of(&self.slots);
                 taken
             }
         }

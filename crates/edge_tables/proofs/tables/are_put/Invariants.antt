@@ -1,5 +1,5 @@
 use Rattle.edge_tables.specs.Slots.{IsPutAt}
-use Rattle.edge_tables.proofs.RestLemmas.{AllBefore}
+use Rattle.edge_tables.proofs.ActivityLemmas.{AllBefore}
 use Rattle.edge_tables.proofs.tables.are_put.Given as goal
 
 abbrev pub invariant-loop-slot : goal.invariant-loop-slot

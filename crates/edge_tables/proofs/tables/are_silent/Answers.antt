@@ -1,5 +1,5 @@
 use Rattle.edge_tables.specs.Slots.{IsSilentAt}
-use Rattle.edge_tables.proofs.RestLemmas.{all_end, all_more}
+use Rattle.edge_tables.proofs.ActivityLemmas.{all_end, all_more}
 use Rattle.edge_tables.proofs.tables.are_silent.Goals as goal
 
 pub loop-slot-init : goal.loop-slot-init

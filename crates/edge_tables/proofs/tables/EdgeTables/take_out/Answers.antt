@@ -1,6 +1,6 @@
 use Rattle.std.proofs.Common.{◌≡◌, [], ◌∙◌, ap, sym}
 use Rattle.edge_tables.specs.Tables.{PeerTable, waiting_of}
-use Rattle.edge_tables.proofs.RestLemmas.{none_taken, none_waiting, silent_all, silent_already}
+use Rattle.edge_tables.proofs.ActivityLemmas.{none_taken, none_waiting, silent_all, silent_already}
 use Rattle.edge_tables.proofs.SlotLemmas.{no_slot, slot_at, slot_kept, slot_set, unknown}
 use Rattle.edge_tables.proofs.tables.EdgeTables.take_out.Goals as goal
 
@@ -8,12 +8,12 @@ pub returns-in-Silent-clause-result : goal.returns-in-Silent-clause-result
 returns-in-Silent-clause-result c =
     c.new.ensures
     ∙ sym (none_waiting c.self.inside.slots.items c.args.self.now c.args.peer c.self.view_is
-    (silent_all c.self.inside.rest c.self.inside.slots.items c.in-Silent.is c.self.invariant))
+    (silent_all c.self.inside.activity c.self.inside.slots.items c.in-Silent.is c.self.invariant))
 
 pub returns-in-Silent-clause-taken : goal.returns-in-Silent-clause-taken
 returns-in-Silent-clause-taken c =
     none_taken c.self.inside.slots.items c.args.self.now c.args.peer c.self.view_is
-    (silent_all c.self.inside.rest c.self.inside.slots.items c.in-Silent.is c.self.invariant)
+    (silent_all c.self.inside.activity c.self.inside.slots.items c.in-Silent.is c.self.invariant)
 
 pub returns-in-None-clause-result : goal.returns-in-None-clause-result
 returns-in-None-clause-result c =

@@ -5,9 +5,9 @@ use Rattle.std.specs.List.{All, AllZip}
 use Rattle.std.specs.FinMap.{get}
 use Rattle.mv_base.specs.declared.ids.NodeId.{NodeId}
 use Rattle.edge_tables.specs.Tables.{AtPeer, Both, EachPeer, PeerTable, Tables, put_after, texts, waiting_of}
-use Rattle.edge_tables.specs.declared.tables.Rest.{Rest}
-use Rattle.edge_tables.specs.declared.tables.Rest.TheVariants.{Put, Silent}
-use Rattle.edge_tables.specs.Slots.{Becomes, IsPut, IsPutAt, IsResting, IsSilentAt, peer_table, tables_of}
+use Rattle.edge_tables.specs.declared.tables.Activity.{Activity}
+use Rattle.edge_tables.specs.declared.tables.Activity.TheVariants.{Put, Silent}
+use Rattle.edge_tables.specs.Slots.{Becomes, IsPut, IsPutAt, HasActivity, IsSilentAt, peer_table, tables_of}
 use Rattle.edge_tables.specs.declared.slot.Slot.{Slot}
 use Rattle.edge_tables.proofs.SlotLemmas.{each_peer}
 
@@ -37,12 +37,12 @@ module _ {A : Type 0} (P : A → Type 0) where
 
 -- ---- what is known
 
-pub told_all : (rest : Rest) (slots : List Slot) → (rest ≡ Put) ⊎ (rest ≡ Silent) → IsResting rest slots → All IsPutAt slots
-told_all rest slots (inl is) known = subst (λ (r : Rest). IsResting r slots) is known
-told_all rest slots (inr is) known = (subst (λ (r : Rest). IsResting r slots) is known).0
+pub told_all : (activity : Activity) (slots : List Slot) → (activity ≡ Put) ⊎ (activity ≡ Silent) → HasActivity activity slots → All IsPutAt slots
+told_all activity slots (inl is) known = subst (λ (r : Activity). HasActivity r slots) is known
+told_all activity slots (inr is) known = (subst (λ (r : Activity). HasActivity r slots) is known).0
 
-pub silent_all : (rest : Rest) (slots : List Slot) → rest ≡ Silent → IsResting rest slots → All IsSilentAt slots
-silent_all rest slots is known = (subst (λ (r : Rest). IsResting r slots) is known).1
+pub silent_all : (activity : Activity) (slots : List Slot) → activity ≡ Silent → HasActivity activity slots → All IsSilentAt slots
+silent_all activity slots is known = (subst (λ (r : Activity). HasActivity r slots) is known).1
 
 -- ---- each peer
 

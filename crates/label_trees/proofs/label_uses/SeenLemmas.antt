@@ -33,7 +33,7 @@ use Rattle.tunnel_bindings.specs.States.{label_of, label_in}
 use Rattle.label_trees.specs.declared.label_uses.held.Held.{Held}
 use Rattle.label_trees.specs.declared.label_uses.table.Waiting.{Waiting}
 use Rattle.label_forwarding.proofs.SlotLemmas.{fec-ties, fec_flips}
-use Rattle.mldp.proofs.mldp_fec.SameLemmas.{fec_equal, fec_itself}
+use Rattle.mldp.proofs.mldp_fec.SameLemmas.{fec_itself}
 use Rattle.label_trees.specs.label_uses.Uses.{Uses, use_in, mapped_in, binding_for, awaiting, IsOfLabel, IsOfTree, AreBindings}
 use Rattle.label_trees.specs.label_uses.Held.{is_fec, is_node, use_held, use_by, uses_from, binding_of, waiting_binding, towards, IsNamed, IsAwaited, HoldsOwned}
 use Rattle.label_trees.proofs.label_uses.HoldLemmas.{same_own, not_waiting, tree_of}
@@ -217,15 +217,6 @@ waiting_goes old new fec each = same_map fec_cmp_total fec_cmp_exact _ _ (λ q. 
     let seen = sym (waiting_seen old q) in
     waiting_seen new q ∙ (ap (option_map (λ (x : Waiting). x.upstream)) (each q) ∙ (mapped_cond (is_fec fec q) None (get is_fec old q)
     ∙ ((λ i. cond (fec-flips fec q i) None (seen i)) ∙ sym (maps.get-remove fec_cmp_total (maps.from_entries (towards old.entries)) fec q))))))
-
--- a tree that does not wait stays so
-pub waiting_none : (w : WaitingMap) (fec : Fec) → get is_fec w fec ≡ None
-    → maps.from_entries {R = fec_cmp} (towards w.entries) ≡ maps.remove (maps.from_entries (towards w.entries)) fec
-waiting_none w fec none = waiting_goes w w fec (λ q. gone q (is_fec fec q) refl)
-  where
-    gone : (q : Fec) (b : Bool) → is_fec fec q ≡ b → get is_fec w q ≡ cond (is_fec fec q) None (get is_fec w q)
-    gone q true e = sym (ap (get is_fec w) (fec_equal fec q e)) ∙ (none ∙ sym (ap (λ (b : Bool). cond b None (get is_fec w q)) e))
-    gone q false e = sym (ap (λ (b : Bool). cond b None (get is_fec w q)) e)
 
 -- what is seen of all
 abbrev pub seen_uses : Space → HeldMap → WaitingMap → SessionMap → Uses

@@ -19,6 +19,7 @@ use crate::label_uses::held::{Held, HeldLabels, is_leaving_to, labels_toward};
 use crate::label_uses::table::{MappedTrees, Sessions, Waiting, WaitingTrees};
 use crate::label_uses::{held, table};
 use indexmap::IndexMap;
+use label_forwarding::make_room;
 use mldp::mldp_fec::Fec;
 use mv_base::{NoMemory, NodeId};
 use std::alloc::Global;
@@ -115,7 +116,7 @@ impl LabelUses {
         ensures waits_not { OnErr result (self.new ≡ record self.old { waiting = maps.remove self.old.waiting fec.now }) }
     {
         self.unwait(fec);
-        self.waiting.reserve(1)?;
+        make_room(&mut self.waiting)?;
         let wanted = Binding::<Wanted>::new(*fec, upstream);
         match self.bindings.keep(AnyBinding::Wanted(wanted)) {
             Err(back) => {
@@ -133,9 +134,8 @@ impl LabelUses {
     pub fn unwait(&mut self, fec: &Fec)
         ensures { self.new ≡ record self.old { waiting = maps.remove self.old.waiting fec.now } }
     {
-        if let Some(own) = self.waiting.get(fec).copied() {
+        if let Some(own) = table::take_waiting(&mut self.waiting, fec) {
             let binding = self.bindings.take(own.name).unwrap();
-            table::forget_waiting(&mut self.waiting, fec);
             binding.end(&mut self.space);
         }
     }
@@ -151,8 +151,8 @@ impl LabelUses {
     {
         self.unwait(fec);
         let session = self.sessions.get(&upstream).copied().unwrap();
-        self.held.reserve(1)?;
-        self.mapped.reserve(1)?;
+        make_room(&mut self.held)?;
+        make_room(&mut self.mapped)?;
         let wanted = Binding::<Wanted>::new(*fec, upstream);
         match wanted.map(&mut self.space, session) {
             Err(wanted) => {

@@ -1,5 +1,5 @@
 //! The trees to which a label is mapped, those that wait for one, and the raises of sessions.
-ghost use Rattle.std.specs.Prelude.{◌≡◌, ◌<◌, ◌&&◌, ℕ, not, None, Some, IfOk, if◌then◌else◌};
+ghost use Rattle.std.specs.Prelude.{◌≡◌, ◌<◌, ◌&&◌, ℕ, not, None, Some, IfOk, IfNone, if◌then◌else◌};
 ghost use Rattle.indexmap.specs.IndexMap.{get, keys, spare};
 ghost use Rattle.mldp.specs.declared.mldp_fec.fec.Fec.{Fec};
 ghost use Rattle.label_trees.specs.declared.label_uses.table.Waiting.{Waiting};
@@ -64,12 +64,28 @@ pub(crate) fn note_waiting(waiting: &mut WaitingTrees, fec: &Fec, own: Waiting)
     waiting.insert(*fec, own).unwrap();
 }
 
-/// Forgets that the tree waits.
-pub(crate) fn forget_waiting(waiting: &mut WaitingTrees, fec: &Fec)
+/// A table in which no tree waits gives its memory back: most trees wait together, when sessions come up, and few do later.
+fn tidy(waiting: &mut WaitingTrees)
+    ensures { waiting.new.entries ≡ waiting.old.entries }
+{
+    if waiting.is_empty() {
+        waiting.shrink_to_fit();
+    }
+}
+
+/// Forgets that the tree waits, where it does.
+pub(crate) fn take_waiting(waiting: &mut WaitingTrees, fec: &Fec) -> Option<Waiting>
+    ensures value { result ≡ get is_fec waiting.old fec.now }
     ensures each { (other : Fec) →
         get is_fec waiting.new other ≡ (if is_fec fec.now other then None else get is_fec waiting.old other) }
+    ensures unchanged { IfNone result (waiting.new.entries ≡ waiting.old.entries) }
 {
-    waiting.swap_remove(fec);
+    if waiting.is_empty() {
+        return None;
+    }
+    let own = waiting.swap_remove(fec);
+    tidy(waiting);
+    own
 }
 
 /// The trees that wait.

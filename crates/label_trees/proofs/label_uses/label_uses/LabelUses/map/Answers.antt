@@ -25,21 +25,21 @@ unwrap-session-requires c =
 
 pub invariant_of-self : goal.invariant_of-self
 invariant_of-self c =
-    same_tables c.self.inside.space c.self.inside.held c.reserve.new.self (maps.get c.self.inside.bindings.kept) (get is_node c.self.inside.sessions)
+    same_tables c.self.inside.space c.self.inside.held c.make_room.new.table (maps.get c.self.inside.bindings.kept) (get is_node c.self.inside.sessions)
     c.self.inside.mapped c.self.inside.mapped (get is_fec c.self.inside.waiting)
-    c.reserve.ensures.entries refl c.self.invariant
+    c.make_room.ensures.entries refl c.self.invariant
 
-pub invariant_of-self-in_err-reserve-2 : goal.invariant_of-self-in_err-reserve-2
-invariant_of-self-in_err-reserve-2 c =
-    same_tables c.self.inside.space c.self.inside.held c.reserve.new.self (maps.get c.self.inside.bindings.kept) (get is_node c.self.inside.sessions)
-    c.self.inside.mapped c.reserve-2.new.self (get is_fec c.self.inside.waiting)
-    c.reserve.ensures.entries c.reserve-2.ensures.entries c.self.invariant
+pub invariant_of-self-in_err-make_room-2 : goal.invariant_of-self-in_err-make_room-2
+invariant_of-self-in_err-make_room-2 c =
+    same_tables c.self.inside.space c.self.inside.held c.make_room.new.table (maps.get c.self.inside.bindings.kept) (get is_node c.self.inside.sessions)
+    c.self.inside.mapped c.make_room-2.new.table (get is_fec c.self.inside.waiting)
+    c.make_room.ensures.entries c.make_room-2.ensures.entries c.self.invariant
 
 pub invariant_of-self-in-Err : goal.invariant_of-self-in-Err
 invariant_of-self-in-Err c =
-    same_tables c.map.new.space c.self.inside.held c.reserve.new.self (maps.get c.self.inside.bindings.kept) (get is_node c.self.inside.sessions)
-    c.self.inside.mapped c.reserve-2.new.self (get is_fec c.self.inside.waiting)
-    c.reserve.ensures.entries c.reserve-2.ensures.entries
+    same_tables c.map.new.space c.self.inside.held c.make_room.new.table (maps.get c.self.inside.bindings.kept) (get is_node c.self.inside.sessions)
+    c.self.inside.mapped c.make_room-2.new.table (get is_fec c.self.inside.waiting)
+    c.make_room.ensures.entries c.make_room-2.ensures.entries
     (subst (λ (x : Space). HoldsOwned (state_of x) (get nat_eq c.self.inside.held) (maps.get c.self.inside.bindings.kept)
     (get is_node c.self.inside.sessions) (get is_fec c.self.inside.mapped) (get is_fec c.self.inside.waiting)) (sym c.in-Err.ensures.unchanged)
     c.self.invariant)
@@ -54,11 +54,11 @@ invariant_of-self-in-Err-keep c =
     let back =
     given_back c.self.inside.space c.map.new.space c.end.new.space c.in-Ok.mapped.state.label c.in-Ok.ensures.least c.in-Ok.ensures.owned
     (c.end.ensures ∙ ap (λ (b : AnyBinding). with_free c.map.new.space (label_of b)) c.in-Err-keep.ensures.back) in
-    subst (λ n. HoldsOwned (state_of c.end.new.space) (get nat_eq c.reserve.new.self) (maps.get n.kept) (get is_node c.self.inside.sessions)
-    (get is_fec c.reserve-2.new.self) (get is_fec c.self.inside.waiting)) (sym c.in-Err-keep.ensures.unchanged)
-    (same_tables c.end.new.space c.self.inside.held c.reserve.new.self (maps.get c.self.inside.bindings.kept) (get is_node c.self.inside.sessions)
-    c.self.inside.mapped c.reserve-2.new.self (get is_fec c.self.inside.waiting)
-    c.reserve.ensures.entries c.reserve-2.ensures.entries
+    subst (λ n. HoldsOwned (state_of c.end.new.space) (get nat_eq c.make_room.new.table) (maps.get n.kept) (get is_node c.self.inside.sessions)
+    (get is_fec c.make_room-2.new.table) (get is_fec c.self.inside.waiting)) (sym c.in-Err-keep.ensures.unchanged)
+    (same_tables c.end.new.space c.self.inside.held c.make_room.new.table (maps.get c.self.inside.bindings.kept) (get is_node c.self.inside.sessions)
+    c.self.inside.mapped c.make_room-2.new.table (get is_fec c.self.inside.waiting)
+    c.make_room.ensures.entries c.make_room-2.ensures.entries
     (subst (λ (x : Space). HoldsOwned (state_of x) (get nat_eq c.self.inside.held) (maps.get c.self.inside.bindings.kept)
     (get is_node c.self.inside.sessions) (get is_fec c.self.inside.mapped) (get is_fec c.self.inside.waiting)) (sym back) c.self.invariant))
 
@@ -69,7 +69,7 @@ returns-in-Err-keep-clause-none_mapped c =
     (c.end.ensures ∙ ap (λ (b : AnyBinding). with_free c.map.new.space (label_of b)) c.in-Err-keep.ensures.back) in
     (λ i. record {
       life = (back i).life;
-      labels = uses_from 16 (λ q. lookup (nat_eq q) (c.reserve.ensures.entries i)) (back i).states;
+      labels = uses_from 16 (λ q. lookup (nat_eq q) (c.make_room.ensures.entries i)) (back i).states;
       waiting =
           maps.from_entries (towards c.self.inside.waiting.entries);
       sessions = maps.from_entries c.self.inside.sessions.entries;
@@ -87,18 +87,18 @@ invariant_of-self-in-Ok-keep c =
     (get is_fec c.self.inside.mapped) (get is_fec c.self.inside.waiting) c.self.invariant c.args.fec.now
     ∙ (ap (λ (u : Uses). mapped_in u.labels c.args.fec.now) (c.self.view_is ∙ c.unwait.ensures) ∙ c.requires.unmapped) in
     let trees =
-    same_tables c.self.inside.space c.self.inside.held c.reserve.new.self (maps.get c.self.inside.bindings.kept)
-    (get is_node c.self.inside.sessions) c.self.inside.mapped c.reserve-2.new.self (get is_fec c.self.inside.waiting)
-    c.reserve.ensures.entries c.reserve-2.ensures.entries c.self.invariant in
-    map_holds c.self.inside.space c.map.new.space c.reserve.new.self c.note.new.held c.self.inside.bindings.kept c.keep.new.self.kept
-    (get is_node c.self.inside.sessions) c.reserve-2.new.self c.note-in-Ok-keep.new.mapped (get is_fec c.self.inside.waiting)
+    same_tables c.self.inside.space c.self.inside.held c.make_room.new.table (maps.get c.self.inside.bindings.kept)
+    (get is_node c.self.inside.sessions) c.self.inside.mapped c.make_room-2.new.table (get is_fec c.self.inside.waiting)
+    c.make_room.ensures.entries c.make_room-2.ensures.entries c.self.invariant in
+    map_holds c.self.inside.space c.map.new.space c.make_room.new.table c.note.new.held c.self.inside.bindings.kept c.keep.new.self.kept
+    (get is_node c.self.inside.sessions) c.make_room-2.new.table c.note-in-Ok-keep.new.mapped (get is_fec c.self.inside.waiting)
     c.label-label.result own c.unwrap-session.result (bindings.Mapped c.in-Ok.mapped)
     trees (subst (λ (l : ℕ). IsLeastFree c.self.inside.space l) (sym label) c.in-Ok.ensures.least)
     (c.in-Ok.ensures.owned ∙ ap (λ (l : ℕ). set_label c.self.inside.space l states.Owned) (sym label))
     c.note.ensures.each c.in-Ok-keep.ensures.absent c.in-Ok-keep.ensures.kept
     (mapped_binding c.new-wanted.result c.in-Ok.mapped c.args.fec.now c.args.upstream c.in-Ok-keep.name c.unwrap-session.result c.label-label.result
     c.new-wanted.ensures c.in-Ok.ensures.mapped label)
-    up (ap (lookup (is_fec c.args.fec.now)) c.reserve-2.ensures.entries ∙ unmapped) c.note-in-Ok-keep.ensures.each refl
+    up (ap (lookup (is_fec c.args.fec.now)) c.make_room-2.ensures.entries ∙ unmapped) c.note-in-Ok-keep.ensures.each refl
 
 pub returns-in-Err-clause-least : goal.returns-in-Err-clause-least
 returns-in-Err-clause-least c =
@@ -118,11 +118,11 @@ returns-in-Ok-keep-clause-mapped c =
     let own : Held = record { fec = c.args.fec.now; upstream = c.args.upstream; leaving = false; name = c.in-Ok-keep.name } in
     let label : c.label-label.result ≡ c.in-Ok.mapped.state.label = c.label-label.ensures in
     let life = ap (λ (x : Space). x.life) c.in-Ok.ensures.owned in
-    let labels = map_labels c.self.inside.space c.map.new.space c.reserve.new.self c.note.new.held c.label-label.result own
+    let labels = map_labels c.self.inside.space c.map.new.space c.make_room.new.table c.note.new.held c.label-label.result own
     (subst (λ (l : ℕ). IsLeastFree c.self.inside.space l) (sym label) c.in-Ok.ensures.least)
     (c.in-Ok.ensures.owned ∙ ap (λ (l : ℕ). set_label c.self.inside.space l states.Owned) (sym label)) c.note.ensures.each
     ∙ ap (λ (es : List (ℕ × Held)). set_use (uses_from 16 (λ q. lookup (nat_eq q) es) c.self.inside.space.states) c.label-label.result
-    (uses.Mapped c.args.fec.now c.args.upstream)) c.reserve.ensures.entries in
+    (uses.Mapped c.args.fec.now c.args.upstream)) c.make_room.ensures.entries in
     (λ i. record {
       life = life i;
       labels = labels i;

@@ -29,20 +29,20 @@ invariant_of-self-in-Ok c =
     (maps.get (maps.insert c.self.inside.bindings.kept c.in-Ok.name (bindings.Wanted c.new-wanted.result))) c.in-Ok.name (Some x)) binding
     (name_kept c.self.inside.bindings.kept c.in-Ok.name (bindings.Wanted c.new-wanted.result))) in
     holds_wait (state_of c.self.inside.space) (get nat_eq c.self.inside.held) (maps.get c.self.inside.bindings.kept) (maps.get c.keep.new.self.kept)
-    (get is_node c.self.inside.sessions) (get is_fec c.self.inside.mapped) (get is_fec c.reserve.new.self) (get is_fec c.note_waiting.new.waiting)
+    (get is_node c.self.inside.sessions) (get is_fec c.self.inside.mapped) (get is_fec c.make_room.new.table) (get is_fec c.note_waiting.new.waiting)
     c.args.fec.now own
     (subst (λ (es : List (Fec × Waiting)). HoldsOwned (state_of c.self.inside.space) (get nat_eq c.self.inside.held)
     (maps.get c.self.inside.bindings.kept) (get is_node c.self.inside.sessions) (get is_fec c.self.inside.mapped) (λ q. lookup (is_fec q) es))
-    (sym c.reserve.ensures.entries) c.self.invariant)
-    (ap (lookup (is_fec c.args.fec.now)) c.reserve.ensures.entries ∙ absent) c.in-Ok.ensures.absent names
-    (sets_tree (get is_fec c.reserve.new.self) (get is_fec c.note_waiting.new.waiting) c.args.fec.now (Some own) c.note_waiting.ensures.each)
+    (sym c.make_room.ensures.entries) c.self.invariant)
+    (ap (lookup (is_fec c.args.fec.now)) c.make_room.ensures.entries ∙ absent) c.in-Ok.ensures.absent names
+    (sets_tree (get is_fec c.make_room.new.table) (get is_fec c.note_waiting.new.waiting) c.args.fec.now (Some own) c.note_waiting.ensures.each)
 
 pub returns-in-Ok-clause-waits : goal.returns-in-Ok-clause-waits
 returns-in-Ok-clause-waits c =
     let own : Waiting = record { upstream = c.args.upstream; name = c.in-Ok.name } in
-    let waiting = waiting_comes c.reserve.new.self c.note_waiting.new.waiting c.args.fec.now own c.note_waiting.ensures.each
+    let waiting = waiting_comes c.make_room.new.table c.note_waiting.new.waiting c.args.fec.now own c.note_waiting.ensures.each
     ∙ ap (λ (es : List (Fec × Waiting)). maps.insert (maps.from_entries {R = fec_cmp} (towards es)) c.args.fec.now c.args.upstream)
-    c.reserve.ensures.entries in
+    c.make_room.ensures.entries in
     let removed = insert_removed c.args.self.now.waiting c.args.fec.now c.args.upstream in
     (λ i. record {
       life = c.self.inside.space.life;

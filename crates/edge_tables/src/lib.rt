@@ -6,9 +6,10 @@
 //! (`Outbox`), and the table taken from a peer (`Inbox`), over any keys and values. Beside the table that is set only
 //! the keys are kept at which the table sent differs. `taken_tables`: the routes that an edge took from its peers, one
 //! `Inbox` for each peer whose session is up, with the clock at which each route was learned and whether its delay was
-//! run. Beside each `Inbox` stands whether a delay may still be run there: where none may, a step of the clock looks at
-//! no route. The invariant says of each key that it has a spelling. Below it are `table_laws` and `edge_routes`; above
-//! it `held_tables` sets what each peer is to have, and `edge_control` keeps what was taken.
+//! run. Beside each `Inbox` is the clock before which no route was learned whose delay may still be run: a step at which
+//! no delay can be over looks at no route. The invariant says of each key that it has a spelling. Below it are
+//! `table_laws` and `edge_routes`; above it `held_tables` sets what each peer is to have, and `edge_control` keeps what
+//! was taken.
 #![tactic(auto)]
 
 mod announced;

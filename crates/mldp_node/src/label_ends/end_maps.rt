@@ -90,6 +90,17 @@ pub(crate) fn take(waiting: &mut Waiting, alloc: Global, peer: NodeId) -> Bytes
     waiting.swap_remove(&peer).unwrap_or(Bytes::new(alloc))
 }
 
+/// The octets wait for the neighbour, for which nothing waited.
+fn start(waiting: &mut Waiting, alloc: Global, peer: NodeId, octets: &[u8]) -> Result<(), NoMemory>
+    ensures { OnOk result ((other : NodeId) →
+        get is_node waiting.new other ≡ (if is_node peer other then Some octets.now else get is_node waiting.old other)) }
+{
+    let mut own = Bytes::new(alloc);
+    own.extend(octets)?;
+    waiting.insert(peer, own)?;
+    Ok(())
+}
+
 /// Appends the octets to what waits for the neighbour.
 pub(crate) fn append(
     waiting: &mut Waiting,
@@ -101,10 +112,10 @@ pub(crate) fn append(
         get is_node waiting.new other ≡
         (if is_node peer other then Some (octets_at waiting.old peer ++ octets.now) else get is_node waiting.old other)) }
 {
-    let mut own = take(waiting, alloc, peer);
-    own.extend(octets)?;
-    waiting.insert(peer, own)?;
-    Ok(())
+    match waiting.get_mut(&peer) {
+        Some(own) => own.extend(octets),
+        None => start(waiting, alloc, peer, octets),
+    }
 }
 
 /// How many of the holds are due.

@@ -23,7 +23,7 @@ INPUTS = [
     ('events', ['replay'], 100_000, 0),
     ('drains', ['replay'], 100_000, 0),
     ('network', ['replay'], 10_000, 0),
-    ('mix', ['replay'], 10_000, 0),
+    ('mix', ['replay'], 20_000, 0),
     ('settles', ['replay'], 10_000, 0),
     ('restarts', ['replay'], 150, 0),
     ('costs', ['replay'], 250, 0),

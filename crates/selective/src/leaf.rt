@@ -18,13 +18,23 @@ use std::marker::Model;
 /// A list of FECs.
 pub type Fecs = Seq<Fec>;
 
+/// Routes that were learned, in the order of their keys.
+pub type LearnedRoutes = BTreeMap<RouteKey, Learned>;
+
+/// Whether the delay of the route is due, and was not run.
+fn is_waiting(learned: &Learned, delay: u64, now: u64) -> bool
+    ensures { result ≡ is_waiting delay now learned.now }
+{
+    !learned.run && is_due(delay, now, learned.since)
+}
+
 /// How many routes are due and not run.
-fn count_waiting(routes: &BTreeMap<RouteKey, Learned>, delay: u64, now: u64) -> u64
+fn count_waiting(routes: &LearnedRoutes, delay: u64, now: u64) -> u64
     ensures { result ≡ count_by (is_waiting delay now) (tree.values routes.now) }
 {
     routes
         .values()
-        .filter(|learned| !learned.run && is_due(delay, now, learned.since))
+        .filter(|learned| is_waiting(learned, delay, now))
         .count() as u64
 }
 
@@ -32,7 +42,7 @@ fn count_waiting(routes: &BTreeMap<RouteKey, Learned>, delay: u64, now: u64) -> 
 #[derive(Drop)]
 pub struct LeafTunnels {
     delay: u64,
-    routes: BTreeMap<RouteKey, Learned>,
+    routes: LearnedRoutes,
 }
 
 impl Model for LeafTunnels {
@@ -127,6 +137,20 @@ impl LeafTunnels {
                 true
             },
         );
+    }
+
+    /// The routes that were learned, by key.
+    pub fn routes(&self) -> &LearnedRoutes
+        ensures { result.now.entries ≡ entries self.now.routes }
+    {
+        &self.routes
+    }
+
+    /// Whether the delay of the route is due, and was not run.
+    pub fn is_waiting(&self, learned: &Learned, now: u64) -> bool
+        ensures { result ≡ is_waiting self.now.delay now learned.now }
+    {
+        is_waiting(learned, self.delay, now)
     }
 
     /// How many routes are due and not run.

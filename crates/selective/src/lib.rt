@@ -15,6 +15,6 @@ mod root;
 mod route_key;
 
 pub use laws::{routes_in_order, tests_are};
-pub use leaf::{Fecs, LeafTunnels};
+pub use leaf::{Fecs, LeafTunnels, LearnedRoutes};
 pub use root::RootTunnels;
 pub use route_key::{Learned, Place, RouteKey};

@@ -5,6 +5,7 @@ ghost use Rattle.std.specs.Cmp.Lexicographic.{slice_cmp};
 ghost use Rattle.std.specs.Cmp.{partial_equiv_from_equiv, eq_by_cmp_equiv, partial_order_from_total};
 ghost use Rattle.choice_defs.specs.Choice.{addr_cmp, rd_cmp};
 ghost use Rattle.umh_select.specs.Order.{end_cmp, family_cmp, front, key_cmp, key_total, place_part};
+ghost use Rattle.umh_select.specs.Routes.{is_from};
 
 use mv_base::{Addr, NodeId, Prefix, Rd};
 use std::cmp::Ordering;
@@ -25,6 +26,18 @@ pub enum Place {
 pub struct RouteKey {
     pub prefix: Prefix,
     pub place: Place,
+}
+
+impl RouteKey {
+    /// Whether it is the key of a route from the peer.
+    pub fn is_from(&self, peer: NodeId) -> bool
+        ensures { result ≡ is_from peer self.now.place }
+    {
+        match self.place {
+            Place::From { peer: other, rd: _ } => other.0 == peer.0,
+            _ => false,
+        }
+    }
 }
 
 /// The first bits of an IPv6 address, as a number.

@@ -19,4 +19,4 @@ mod umh;
 
 pub use key::{Place, RouteKey};
 pub use route::{Choice, Held, Learned};
-pub use umh::Umh;
+pub use umh::{LearnedRoutes, Umh};

@@ -21,16 +21,6 @@ use std::alloc::Global;
 use std::collections::BTreeMap;
 use std::marker::Model;
 
-/// Whether the route at this place is from the peer.
-fn is_from(peer: NodeId, place: Place) -> bool
-    ensures { result ≡ is_from peer place }
-{
-    match place {
-        Place::From { peer: other, rd: _ } => other.0 == peer.0,
-        _ => false,
-    }
-}
-
 /// Whether it is a choice.
 fn is_found(choice: Choice) -> bool
     ensures { result ≡ is_found choice }
@@ -58,6 +48,9 @@ fn no_lengths() -> [bool; 256]
     [false; 256]
 }
 
+/// Routes that were learned, in the order of their keys.
+pub type LearnedRoutes = BTreeMap<RouteKey, Held>;
+
 /// The routes of a VRF: those that it learned, each one of its peer, route distinguisher and prefix, and its attached prefixes
 /// with their sites. Both stand by the lengths and first bits of their prefixes.
 #[derive(Drop)]
@@ -67,7 +60,7 @@ pub struct Umh {
     lengths: [bool; 256],
     /// All of these are below it.
     bound: usize,
-    learned: BTreeMap<RouteKey, Held>,
+    learned: LearnedRoutes,
     attached: BTreeMap<RouteKey, SiteId>,
 }
 
@@ -132,6 +125,13 @@ impl Umh {
         });
     }
 
+    /// The routes that were learned, by key.
+    pub fn learned(&self) -> &LearnedRoutes
+        ensures { result.now.entries ≡ entries self.now.learned }
+    {
+        &self.learned
+    }
+
     /// Forgets all routes of the peer. It takes no memory.
     pub fn forget_peer(&mut self, peer: NodeId)
         ensures { self.new ≡ record self.old { learned = without_peer peer self.old.learned } }
@@ -139,7 +139,7 @@ impl Umh {
         self.learned.retain(
             |key: &RouteKey, held: &mut Held| -> bool
                 ensures { (result ≡ not (is_from peer key.now.place)) × (held.new ≡ held.old) }
-            { !is_from(peer, key.place) },
+            { !key.is_from(peer) },
         );
     }
 

@@ -1,11 +1,13 @@
 -- The upstream of a flow does not depend on routes that do not cover its source.
 use Rattle.std.proofs.Common.{◌≡◌, ℕ, ◌==◌, ◌&&◌, Bool, true, false, not, cond, List, [], ◌∷◌, ◌++◌, map, Option, None, Some, refl, sym, ap, ◌∙◌, arith}
 use Rattle.std.specs.Prelude.{max}
-use Rattle.std.specs.List.{filter}
+use Rattle.std.specs.List.{filter, list_any}
 use Rattle.std.specs.Ordering.{eq_by_cmp}
 use Rattle.std.specs.Cmp.{Equal-is}
 use Rattle.std.specs.FinMap as maps
-use Rattle.std.specs.FinMap.{FinMap, entries, entries-insert, get-insert, get-remove}
+use Rattle.std.specs.FinMap.{FinMap, entries, entries-insert, find, get-entries, get-insert, get-remove}
+use Rattle.std.specs.FinMap.Entries.{where_key}
+use Rattle.std.proofs.lemmas.Bool.{or_parts}
 use Rattle.std.proofs.lemmas.List.Elements.{filter-append}
 use Rattle.mv_base.specs.Prefix.{covers}
 use Rattle.mv_base.specs.declared.addr.Addr.{Addr}
@@ -22,11 +24,12 @@ use Rattle.choice_defs.proofs.BestLemmas.{BestIs, best}
 use Rattle.umh_select.specs.declared.key.RouteKey.{RouteKey}
 use Rattle.umh_select.specs.declared.route.Held.{Held}
 use Rattle.umh_select.specs.Order.{key_cmp, key_total}
-use Rattle.umh_select.specs.Routes.{Routes, choice_by, chosen, key_from, known, known_from, known_here, remote_choice}
+use Rattle.umh_select.specs.Routes.{Routes, choice_by, chosen, is_from, key_from, known, known_from, known_here, remote_choice, without_peer}
 use Rattle.umh_select.proofs.OrderLemmas.{key_exact}
 use Rattle.vrf_words.specs.declared.tree_defs.flow.Flow.{Flow}
 use Rattle.vrf_words.specs.tree_defs.Flows.{chosen_for}
-use Rattle.vrf_flows.proofs.EntryLemmas.{entries-remove, filter-put, filter-within}
+use Rattle.vrf_flows.specs.Held.{covers_from}
+use Rattle.vrf_flows.proofs.EntryLemmas.{entries-remove, entries-where, filter-put, filter-within, get-where}
 
 -- ---- routes that cover a source
 
@@ -189,3 +192,64 @@ forgotten-apart routes cost peer rd prefix q out =
         key_exact (key_from peer rd prefix) e.0 ((Equal-is (key_cmp (key_from peer rd prefix) e.0)).0
         (not-false (eq_by_cmp key_cmp (key_from peer rd prefix) e.0) k)) in
         ap (λ (x : RouteKey). covers x.prefix q.source) (sym key) ∙ out
+
+-- ---- the routes of a peer
+
+module _ (peer : NodeId) (q : Flow) where
+  abbrev stays : RouteKey → Bool
+  stays key = not (is_from peer key.place)
+
+  filter-others : (es : List (RouteKey × Held)) → list_any (covers_from peer q) es ≡ false
+      → filter (covers_entry q.source) (where_key key_cmp stays es) ≡ filter (covers_entry q.source) es
+  filter-others [] none = refl
+  filter-others (e ∷ es) none =
+      let both = or_parts (covers_from peer q e) (list_any (covers_from peer q) es) none in
+      by (is_from peer e.0.place) (covers e.0.prefix q.source) refl refl both.0 (filter-others es both.1)
+    where
+      by : (b c : Bool) → is_from peer e.0.place ≡ b → covers e.0.prefix q.source ≡ c → covers_from peer q e ≡ false
+          → filter (covers_entry q.source) (where_key key_cmp stays es) ≡ filter (covers_entry q.source) es
+          → filter (covers_entry q.source) (cond (not (is_from peer e.0.place)) (e ∷ where_key key_cmp stays es) (where_key key_cmp stays es))
+          ≡ cond (covers e.0.prefix q.source) (e ∷ filter (covers_entry q.source) es) (filter (covers_entry q.source) es)
+      by false c f k out rest =
+          ap (λ (b : Bool). filter (covers_entry q.source) (cond (not b) (e ∷ where_key key_cmp stays es) (where_key key_cmp stays es))) f
+          ∙ ap (λ (l : List (RouteKey × Held)). cond (covers e.0.prefix q.source) (e ∷ l) l) rest
+      by true false f k out rest =
+          ap (λ (b : Bool). filter (covers_entry q.source) (cond (not b) (e ∷ where_key key_cmp stays es) (where_key key_cmp stays es))) f
+          ∙ (rest ∙ sym (ap (λ (b : Bool). cond b (e ∷ filter (covers_entry q.source) es) (filter (covers_entry q.source) es)) k))
+      by true true f k out rest = let e : true ≡ false = (λ i. sym f i && sym k i) ∙ out in absurd cc
+
+  none-found : (key : RouteKey) → is_from peer key.place ≡ true → covers key.prefix q.source ≡ true → (es : List (RouteKey × Held))
+      → list_any (covers_from peer q) es ≡ false → None ≡ find key_cmp key es
+  none-found key from in_it [] none = refl
+  none-found key from in_it (e ∷ es) none =
+      let both = or_parts (covers_from peer q e) (list_any (covers_from peer q) es) none in
+      by (eq_by_cmp key_cmp key e.0) refl both.0 (none-found key from in_it es both.1)
+    where
+      by : (b : Bool) → eq_by_cmp key_cmp key e.0 ≡ b → covers_from peer q e ≡ false → None ≡ find key_cmp key es
+          → None ≡ cond (eq_by_cmp key_cmp key e.0) (Some e.1) (find key_cmp key es)
+      by false s out rest = rest ∙ sym (ap (λ (b : Bool). cond b (Some e.1) (find key_cmp key es)) s)
+      by true s out rest =
+          let same : key ≡ e.0 = key_exact key e.0 ((Equal-is (key_cmp key e.0)).0 s) in
+          let e : true ≡ false =
+          sym (λ i. from i && in_it i) ∙ (ap (λ (k : RouteKey). is_from peer k.place && covers k.prefix q.source) same ∙ out) in
+          absurd cc
+
+  -- Where no route of the peer covers its source, the upstream of a flow is the same without these routes.
+  pub lost-apart : (routes : Routes) (cost : NodeId → ℕ) → list_any (covers_from peer q) (entries routes.learned) ≡ false
+      → chosen_for routes cost q ≡ chosen_for (record routes { learned = without_peer peer routes.learned }) cost q
+  lost-apart routes cost none =
+      for-same routes (without_peer peer routes.learned) cost q
+      (sym (ap (filter (covers_entry q.source)) (entries-where key_exact routes.learned stays) ∙ filter-others (entries routes.learned) none))
+      (λ edge rd prefix in_it. by edge rd prefix in_it (edge.0 == peer.0) refl
+      ∙ sym (get-where key_exact routes.learned stays (key_from edge rd prefix)))
+    where
+      by : (edge : NodeId) (rd : Rd) (prefix : Prefix) → covers prefix q.source ≡ true → (b : Bool) → edge.0 == peer.0 ≡ b
+          → maps.get routes.learned (key_from edge rd prefix)
+          ≡ cond (not (edge.0 == peer.0)) (find key_cmp (key_from edge rd prefix) (entries routes.learned)) None
+      by edge rd prefix in_it false s =
+          get-entries routes.learned (key_from edge rd prefix)
+          ∙ sym (ap (λ (b : Bool). cond (not b) (find key_cmp (key_from edge rd prefix) (entries routes.learned)) None) s)
+      by edge rd prefix in_it true s =
+          get-entries routes.learned (key_from edge rd prefix)
+          ∙ (sym (none-found (key_from edge rd prefix) s in_it (entries routes.learned) none)
+          ∙ sym (ap (λ (b : Bool). cond (not b) (find key_cmp (key_from edge rd prefix) (entries routes.learned)) None) s))

@@ -5,7 +5,7 @@ use Rattle.std.specs.Ordering.{eq_by_cmp}
 use Rattle.std.specs.Cmp.{IsTotalOrder, eq_by_cmp_equiv}
 use Rattle.std.specs.declared.cmp.Ordering.{Ordering}
 use Rattle.std.specs.declared.cmp.Ordering.TheVariants.{Less, Equal, Greater}
-use Rattle.std.specs.FinMap.{FinMap, IsAntisymmetric, entries, entries-from_sorted, entries_sorted, find, from_sorted, get-entries, get-from_sorted, get-remove, is_sorted, remove, same_map}
+use Rattle.std.specs.FinMap.{FinMap, IsAntisymmetric, entries, entries-from_sorted, entries_sorted, find, from_sorted, get, get-entries, get-from_sorted, get-remove, is_sorted, remove, same_map}
 use Rattle.std.specs.FinMap.Entries.{by_order, find-where_key, is_sorted-where_key, put, where_key}
 
 module _ {K X : Type 0} (R : K → K → Ordering) (exact : IsAntisymmetric R) (test : K → Bool) where
@@ -55,3 +55,16 @@ module _ {K X : Type 0} {R : K → K → Ordering} (total : IsTotalOrder R) (exa
 
   pub entries-remove : entries (remove m k) ≡ where_key R other (entries m)
   entries-remove = ap entries (sym without-key) ∙ entries-from_sorted R (where_key R other (entries m)) sorted-rest
+
+-- Entries of keys that pass a test, as a map.
+module _ {K X : Type 0} {R : K → K → Ordering} (exact : IsAntisymmetric R) (m : FinMap R X) (test : K → Bool) where
+  sorted-where : T (is_sorted R (where_key R test (entries m)))
+  sorted-where = is_sorted-where_key R test (entries m) (entries_sorted m)
+
+  pub entries-where : entries (from_sorted {R = R} (where_key R test (entries m))) ≡ where_key R test (entries m)
+  entries-where = entries-from_sorted R (where_key R test (entries m)) sorted-where
+
+  pub get-where : (k : K) → get (from_sorted {R = R} (where_key R test (entries m))) k ≡ cond (test k) (find R k (entries m)) None
+  get-where k =
+      get-from_sorted R (where_key R test (entries m)) k sorted-where
+      ∙ find-where_key R test k (λ x t. ap test (sym (exact k x t))) (entries m)

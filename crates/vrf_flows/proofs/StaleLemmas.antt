@@ -1,6 +1,7 @@
 -- Lists of flows that may be stale.
-use Rattle.std.proofs.Common.{◌≡◌, ℕ, ◌+◌, ◌<◌, is_some, Bool, true, false, not, cond, ◌||◌, List, [], ◌∷◌, ◌++◌, take, length, get_or, Option, None, Some, IfSome, refl, sym, ap, subst, ◌∙◌}
+use Rattle.std.proofs.Common.{◌≡◌, ℕ, ◌+◌, ◌<◌, is_some, Bool, true, false, not, cond, ◌||◌, ◌&&◌, List, [], ◌∷◌, ◌++◌, take, length, get_or, Option, None, Some, IfSome, refl, sym, ap, subst, ◌∙◌}
 use Rattle.std.specs.List.{list_any}
+use Rattle.std.specs.Map.{lookup}
 use Rattle.std.proofs.lemmas.Bool.{or_left, or_right}
 use Rattle.std.proofs.lemmas.List.Folds.{list_any-append, list_any_more}
 use Rattle.vrf_words.specs.declared.tree_defs.flow.Flow.{Flow}
@@ -10,7 +11,7 @@ use Rattle.vrf_flows.specs.declared.held.Held.{Held}
 use Rattle.vrf_flows.specs.declared.stale.StaleFlows.{StaleFlows}
 use Rattle.vrf_flows.specs.Held.{Now, is_fresh, is_stale, marked, settled_as, unknown}
 use Rattle.vrf_flows.specs.Plan.{planned, put_at, replan, settled}
-use Rattle.vrf_flows.specs.Stale.{AreAmong, AreListed, is_listed}
+use Rattle.vrf_flows.specs.Stale.{AreAmong, AreListed, is_listed, passes}
 
 -- ---- one flow more
 
@@ -95,6 +96,37 @@ mark-lists look next flow news old new all fresh each added kept =
         let same : flow ≡ q = same_flow_equal flow q s in
         subst (λ (f : Flow). is_listed new f ≡ true) same
         (added (fresh ∙ (ap (λ (f : Flow). is_fresh (look f)) same ∙ (ap is_fresh e ∙ ap not (sym (ap is_stale e) ∙ m)))))
+
+-- ---- flows that pass a test
+
+-- whether the entry is that of the flow, and passes the test
+abbrev pub is_entry : {X : Type 0} → (Flow → X → Bool) → Flow → Flow × X → Bool
+is_entry test q e = same_flow q e.0 && test e.0 e.1
+
+-- A flow that passes the test has such an entry.
+pub passing-entry : {X : Type 0} (test : Flow → X → Bool) (q : Flow) (es : List (Flow × X)) → passes test q (lookup (same_flow q) es) ≡ true
+    → list_any (is_entry test q) es ≡ true
+passing-entry test q [] h = h
+passing-entry {X} test q (e ∷ es) h = by (passing-entry test q es) (same_flow q e.0) refl h
+  where
+    by : (passes test q (lookup (same_flow q) es) ≡ true → list_any (is_entry test q) es ≡ true) → (b : Bool) → same_flow q e.0 ≡ b
+        → passes test q (cond (same_flow q e.0) (Some e.1) (lookup (same_flow q) es)) ≡ true
+        → (is_entry test q e || list_any (is_entry test q) es) ≡ true
+    by more true s h =
+        let own : test q e.1 ≡ true = ap (λ (b : Bool). passes test q (cond b (Some e.1) (lookup (same_flow q) es))) (sym s) ∙ h in
+        or_left (is_entry test q e) (list_any (is_entry test q) es)
+        (λ i. s i && (ap (λ (f : Flow). test f e.1) (sym (same_flow_equal q e.0 s)) ∙ own) i)
+    by more false s h =
+        or_right (is_entry test q e) (list_any (is_entry test q) es)
+        (more (ap (λ (b : Bool). passes test q (cond b (Some e.1) (lookup (same_flow q) es))) (sym s) ∙ h))
+
+-- Once all entries were looked at, each flow that passes the test is listed.
+pub all-listed : {X : Type 0} (test : Flow → X → Bool) (q : Flow) (es rest : List (Flow × X)) (stale : StaleFlows) → rest ≡ []
+    → (list_any (is_entry test q) es ≡ true → (is_listed stale q || list_any (is_entry test q) rest) ≡ true)
+    → passes test q (lookup (same_flow q) es) ≡ true → is_listed stale q ≡ true
+all-listed {X} test q es rest stale done all h =
+    sym (or-none (is_listed stale q))
+    ∙ (ap (λ (l : List (Flow × X)). is_listed stale q || list_any (is_entry test q) l) (sym done) ∙ all (passing-entry test q es h))
 
 -- ---- plans of the flows that are listed
 

@@ -1,5 +1,5 @@
 -- The state as plain data.
-use Rattle.std.proofs.Common.{◌≡◌, ℕ, is_some, Result, Ok, Err, OnErr, Bool, true, false, cond, ◌||◌, List, [], ◌∷◌, filter, Option, None, Some, refl, sym, ap, subst, ◌∙◌, true≢false}
+use Rattle.std.proofs.Common.{◌≡◌, ℕ, is_some, Result, Ok, Err, OnErr, Bool, true, false, cond, ◌||◌, List, [], ◌∷◌, filter, map, Option, None, Some, refl, sym, ap, subst, ◌∙◌, true≢false}
 use Rattle.std.specs.List.{list_any, AllByRecursion, IsDistinct}
 use Rattle.std.specs.Map.{lookup, keys_of}
 use Rattle.std.specs.FinMap as maps
@@ -134,6 +134,38 @@ kept-asking state now q sound clock fresh =
     ap ifaces_of (sound.keeps.fresh q fresh)
     ∙ (ifaces-by (asking_of state.ifaces state.entries (is_sent state.sent.keys q) state.clock q) (chosen_for state.routes sound.cost q)
     ∙ ((λ i. asking_of state.ifaces state.entries (is_sent state.sent.keys q) (sym clock i) q) ∙ asking-same state now q sound.sent))
+
+-- The choice of a flow that is kept is what is chosen, where the flow is not stale and costs count for none.
+pub kept-choice : (state : State) (q : Flow) (choice : Choice) → IsSound state → compares_costs state.rule ≡ false
+    → is_stale (get same_flow state.flows q) ≡ false → choice_in (kept_of (get same_flow state.flows q)) ≡ Some choice → (cost : NodeId → ℕ)
+    → choice ≡ chosen_for state.routes cost q
+kept-choice state q choice sound costless fresh kept cost =
+    by (asking_of state.ifaces state.entries (is_sent state.sent.keys q) state.clock q)
+    (sym kept ∙ ap choice_in (sound.keeps.fresh q fresh))
+    ∙ steady state.routes sound.cost cost q (sym (ap compares_costs sound.rule) ∙ costless)
+  where
+    by : (list : List SiteIface) → Some choice ≡ choice_in (flow_by list (chosen_for state.routes sound.cost q))
+        → choice ≡ chosen_for state.routes sound.cost q
+    by [] e = absurd cc
+    by (own ∷ more) e = cc e
+
+-- A flow that is not held is needed by none, so that no interface asks for it, at any clock.
+pub unheld-asking : (state : State) (now : ℕ) (q : Flow) → IsSound state → is_some (get same_flow state.flows q) ≡ false
+    → [] ≡ asking (vrf_of state) now q
+unheld-asking state now q sound none =
+    ap ifaces_of (sym (absent-none state.ifaces state.entries state.sent.keys (chosen_for state.routes sound.cost) now q (by (needed_in state q) refl)))
+    ∙ (ifaces-by (asking_of state.ifaces state.entries (is_sent state.sent.keys q) now q) (chosen_for state.routes sound.cost q)
+    ∙ asking-same state now q sound.sent)
+  where
+    by : (b : Bool) → needed_in state q ≡ b → needed_in state q ≡ false
+    by false e = e
+    by true e = absurd (true≢false (sym (sound.keeps.needed q e) ∙ none))
+
+-- Where no interface asks, none is left, whatever is accepted.
+pub none-leave : {X Y : Type 0} (accepted : Bool) (test : X → Bool) (give : X → Y) (asking : List X) → [] ≡ asking
+    → [] ≡ cond accepted (map give (filter test asking)) []
+none-leave false test give asking none = refl
+none-leave true test give asking none = ap (λ list. map give (filter test list)) none
 
 -- ---- refresh
 

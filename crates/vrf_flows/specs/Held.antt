@@ -5,6 +5,7 @@ use Rattle.std.specs.declared.hash.FoldHasher.{FoldHasher}
 use Rattle.std.specs.declared.hash.BuildHasherDefault.{BuildHasherDefault}
 use Rattle.indexmap.specs.IndexMap.{IndexMap, get}
 use Rattle.mv_base.specs.declared.addr.Addr.{Addr}
+use Rattle.mv_base.specs.declared.ids.NodeId.{NodeId}
 use Rattle.mv_base.specs.Address.{same_addr}
 use Rattle.mv_base.specs.Prefix.{covers}
 use Rattle.scenario_defs.specs.declared.event.JoinEntry.{JoinEntry}
@@ -15,6 +16,9 @@ use Rattle.pim_joinprune.specs.declared.group.Group.{Group}
 use Rattle.pim_defs.specs.declared.expiry.Expiry.{Expiry}
 use Rattle.pim_defs.specs.Expiry.{is_after}
 use Rattle.pim_defs.specs.Mention.{entry_of, same_entry}
+use Rattle.umh_select.specs.declared.key.RouteKey.{RouteKey}
+use Rattle.umh_select.specs.declared.route.Held.{Held as Learned}
+use Rattle.umh_select.specs.Routes.{is_from}
 use Rattle.vrf_words.specs.declared.tree_defs.flow.Flow.{Flow}
 use Rattle.vrf_words.specs.tree_defs.Keys.{same_flow}
 use Rattle.vrf_flows.specs.declared.held.Held.{Held}
@@ -64,6 +68,10 @@ cause_of (Rpt source group) = causes.Flow (record { source = source; group = gro
 abbrev pub touches : JoinEntry → Flow → Bool
 touches entry flow = concerns (cause_of entry) flow
 
+-- whether the route is from the peer, and covers the source of the flow
+abbrev pub covers_from : NodeId → Flow → RouteKey × Learned → Bool
+covers_from peer flow route = is_from peer route.0.place && covers route.0.prefix flow.source
+
 -- ---- marks
 
 abbrev pub mark : Bool → Held → Held
@@ -72,6 +80,10 @@ mark touched held = record { stale = held.stale || touched; kept = held.kept }
 abbrev pub marked : Bool → Option Held → Option Held
 marked touched None = None
 marked touched (Some held) = Some (mark touched held)
+
+-- whether a flow that is held is not stale, and the cause touches it
+abbrev pub is_news : Cause → Flow → Held → Bool
+is_news cause flow held = not held.stale && concerns cause flow
 
 -- what is held of a flow of which nothing is known
 abbrev pub unknown : Held

@@ -4,15 +4,21 @@ ghost use Rattle.std.specs.List.{list_any};
 ghost use Rattle.indexmap.specs.IndexMap.{get, IsUnique};
 ghost use Rattle.vrf_words.specs.declared.tree_defs.flow.Flow.{Flow};
 ghost use Rattle.vrf_words.specs.tree_defs.Keys.{same_flow};
-ghost use Rattle.vrf_flows.specs.Held.{concerns, mark, marked, forgotten, unknown, names, names_in, lapses, ends, lapsed, ended, differ};
+ghost use Rattle.mv_base.specs.Prefix.{covers};
+ghost use Rattle.umh_select.specs.Routes.{is_from};
+ghost use Rattle.vrf_flows.specs.Held.{concerns, covers_from, mark, marked, forgotten, unknown, names, names_in, lapses, ends, lapsed, ended};
+ghost use Rattle.vrf_flows.specs.Held.{differ, is_news};
+ghost use Rattle.vrf_flows.specs.Stale.{is_listed, passes};
 
 use crate::held::{Cause, Held, HeldFlows, cause_of};
+use crate::stale::StaleFlows;
 use crate::table::FlowTable;
 use indexmap::IndexMap;
-use mv_base::Addr;
+use mv_base::{Addr, NodeId};
 use pim_defs::{Expiry, entry_of};
 use pim_joinprune::{Group, JpSource};
 use scenario_defs::IfaceEntry;
+use umh_select::{LearnedRoutes, RouteKey};
 use vrf_words::tree_defs::Flow;
 
 /// Marks the flow, where it is held.
@@ -23,6 +29,16 @@ pub(crate) fn mark_held(flows: &mut HeldFlows, flow: Flow)
 {
     if let Some(held) = flows.get_mut(&flow) {
         held.stale = true;
+    }
+}
+
+/// Lists the flows that the cause touches and that are not stale yet. It looks at each flow that is held.
+pub(crate) fn list_where(stale: &mut StaleFlows, held: &HeldFlows, cause: &Cause)
+    ensures listed { (q : Flow) → passes (is_news cause.now) q (get same_flow held.now q) ≡ true → is_listed stale.new q ≡ true }
+    ensures kept { (q : Flow) → is_listed stale.old q ≡ true → is_listed stale.new q ≡ true }
+{
+    for (flow, own) in held.iter() {
+        stale.add_if(*flow, !own.stale && cause.concerns(flow));
     }
 }
 
@@ -51,6 +67,30 @@ pub(crate) fn mark(flows: &mut FlowTable, cause: &Cause)
     match cause {
         Cause::Flow(flow) => flows.mark(*flow),
         _ => flows.mark_where(cause),
+    }
+}
+
+/// Marks the flows whose sources the route of the key covers, where it is from the peer.
+fn mark_route(flows: &mut FlowTable, key: &RouteKey, peer: NodeId)
+    requires unique { IsUnique same_flow flows.old }
+    ensures each { (q : Flow) → get same_flow flows.new q
+        ≡ marked (is_from peer key.now.place && covers key.now.prefix q.source) (get same_flow flows.old q) }
+    ensures unique { IsUnique same_flow flows.new }
+{
+    if key.is_from(peer) {
+        mark(flows, &Cause::Prefix(key.prefix));
+    }
+}
+
+/// Marks the flows whose sources a route from the peer covers.
+pub(crate) fn mark_peer(flows: &mut FlowTable, learned: &LearnedRoutes, peer: NodeId)
+    requires unique { IsUnique same_flow flows.old }
+    ensures each { (q : Flow) → get same_flow flows.new q
+        ≡ marked (list_any (covers_from peer q) learned.now.entries) (get same_flow flows.old q) }
+    ensures unique { IsUnique same_flow flows.new }
+{
+    for (key, _route) in learned.iter() {
+        mark_route(flows, key, peer);
     }
 }
 

@@ -1,6 +1,6 @@
 //! What a VRF keeps, with its flows as the last refresh left them.
 ghost use Rattle.std.specs.Prelude.{◌≡◌, ◌<◌, ◌≤◌, ◌||◌, ◌++◌, [], ◌∷◌, ℕ, filter, map, min, true, false, if◌then◌else◌};
-ghost use Rattle.std.specs.Prelude.{is_some, IfOk, IfSome, OnOk, OnErr};
+ghost use Rattle.std.specs.Prelude.{is_some, Some, IfOk, IfSome, OnOk, OnErr};
 ghost use Rattle.std.specs.FinMap as maps;
 ghost use Rattle.std.specs.FinSet as sets;
 ghost use Rattle.std.specs.List.{list_any};
@@ -13,12 +13,13 @@ ghost use Rattle.vrf_words.specs.declared.tree_defs.flow.Flow.{Flow};
 ghost use Rattle.vrf_words.specs.tree_defs.Keys.{same_flow};
 ghost use Rattle.vrf_words.specs.tree_defs.Flows.{asking, chosen_for, flow_of, gained, lost, is_from, is_noted, is_outside, outgoing, upstream_of};
 ghost use Rattle.vrf_flows.specs.Held.{lapsed, marked};
+ghost use Rattle.vrf_flows.specs.Plan.{choice_in};
 ghost use Rattle.vrf_flows.specs.Sight.{ifaces_of, is_sent};
 ghost use Rattle.vrf_flows.specs.State.{IsSound, iface_in, no_vrf, compares_costs};
 ghost use Rattle.vrf_flows.specs.State.{given_at, is_announced_in, is_noted_in, needed_in, vrf_of};
 
-use crate::held::{Cause, Kept, hold, hold_entries};
-use crate::marks::{mark, mark_between, mark_ended};
+use crate::held::{Cause, Held, Kept, hold, hold_entries};
+use crate::marks::{mark, mark_between, mark_ended, mark_peer};
 use crate::plan::{Joins, joined_before, joins_of, leaves_of, plan, settle};
 use crate::sight::{Sight, asking_now};
 use crate::table::FlowTable;
@@ -138,6 +139,16 @@ fn is_from(from: Origin, choice: Choice) -> bool
             },
         ) => own.0 == edge.0,
         _ => false,
+    }
+}
+
+/// The upstream of a flow that is held, where it is a flow of the VRF and not stale.
+fn fresh_choice(held: &Held) -> Option<Choice>
+    ensures { IfSome result (λ choice. (held.now.stale ≡ false) × (choice_in held.now.kept ≡ Some choice)) }
+{
+    match &held.kept {
+        Some(kept) if !held.stale => Some(kept.choice),
+        _ => None,
     }
 }
 
@@ -314,8 +325,8 @@ impl State {
               { learned = without_peer peer self.old.routes.learned };
         } }
     {
+        mark_peer(&mut self.flows, self.routes.learned(), peer);
         self.routes.forget_peer(peer);
-        mark(&mut self.flows, &Cause::All);
     }
 
     pub(crate) fn umh_attach(&mut self, prefix: Prefix, site: SiteId) -> Result<(), NoMemory>
@@ -428,13 +439,41 @@ impl State {
         self.flows.forget();
     }
 
+    /// The upstream of a flow as the last refresh left it, where the flow is not stale and costs count for none.
+    fn kept_choice(&self, flow: &Flow) -> Option<Choice>
+        requires sound { IsSound self.now }
+        ensures { (cost : NodeId → ℕ) → IfSome result (λ choice. choice ≡ chosen_for self.now.routes cost flow.now) }
+    {
+        if compares_costs(self.rule) {
+            return None;
+        }
+        match self.flows.held().get(flow) {
+            None => None,
+            Some(held) => fresh_choice(held),
+        }
+    }
+
+    /// The upstream that is chosen for a flow.
+    fn chosen(&self, flow: Flow, me: NodeId, core: &Core) -> Choice
+        requires me { me.0 < core.now.nodes }
+        requires peers { AreOfCore core.now.nodes self.now.routes.learned }
+        requires sound { IsSound self.now }
+        ensures { (cost : NodeId → ℕ) → AreCosts core.now me cost → result ≡ chosen_for self.now.routes cost flow }
+    {
+        match self.kept_choice(&flow) {
+            Some(choice) => choice,
+            None => self.routes.choose(flow.source, flow.group, me, core),
+        }
+    }
+
     /// Whether the flow's upstream is where a datagram comes from.
     pub(crate) fn accepts(&self, flow: Flow, from: Origin, me: NodeId, core: &Core) -> bool
         requires me { me.0 < core.now.nodes }
         requires peers { AreOfCore core.now.nodes self.now.routes.learned }
+        requires sound { IsSound self.now }
         ensures { (cost : NodeId → ℕ) → AreCosts core.now me cost → result ≡ is_from from (chosen_for self.now.routes cost flow) }
     {
-        is_from(from, self.routes.choose(flow.source, flow.group, me, core))
+        is_from(from, self.chosen(flow, me, core))
     }
 
     /// The edge that was joined for the flow at the last refresh.
@@ -489,7 +528,8 @@ impl State {
         asking_now(alloc, &sight, flow)
     }
 
-    pub(crate) fn outgoing(
+    /// The interfaces at which a datagram of a flow leaves.
+    fn outgoing_accepted(
         &self,
         alloc: Global,
         flow: Flow,
@@ -514,5 +554,27 @@ impl State {
                 leaving(alloc, found.as_slice(), from)
             }
         }
+    }
+
+    pub(crate) fn outgoing(
+        &self,
+        alloc: Global,
+        flow: Flow,
+        from: Origin,
+        now: u64,
+        me: NodeId,
+        core: &Core,
+    ) -> Result<IfaceList, NoMemory>
+        requires me { me.0 < core.now.nodes }
+        requires peers { AreOfCore core.now.nodes self.now.routes.learned }
+        requires sound { IsSound self.now }
+        ensures { (cost : NodeId → ℕ) → AreCosts core.now me cost →
+            IfOk result (λ ifaces. ifaces ≡ outgoing (vrf_of self.now) cost now flow from) }
+    {
+        // No entry joins a flow that is not held, and it is not known to be sent.
+        if !self.flows.holds(&flow) {
+            return Ok(Seq::new(alloc));
+        }
+        self.outgoing_accepted(alloc, flow, from, now, me, core)
     }
 }

@@ -7,7 +7,7 @@ ghost use Rattle.vrf_flows.specs.Held.{concerns, forgotten, is_fresh, is_stale_i
 ghost use Rattle.vrf_flows.specs.Stale.{AreAmong};
 
 use crate::held::{Cause, Held, HeldFlows, Kept};
-use crate::marks::{forget_held, mark_held, mark_where};
+use crate::marks::{forget_held, list_where, mark_held, mark_where};
 use crate::stale::StaleFlows;
 use indexmap::IndexMap;
 use mv_base::NoMemory;
@@ -138,7 +138,7 @@ impl FlowTable {
         self.held.swap_remove(flow);
     }
 
-    /// Marks the flow, where it is held. It takes no memory.
+    /// Marks the flow, where it is held. It needs no memory.
     pub fn mark(&mut self, flow: Flow)
         requires unique { IsUnique same_flow self.old }
         ensures each { (q : Flow) → get same_flow self.new q ≡ marked (same_flow flow q) (get same_flow self.old q) }
@@ -149,14 +149,17 @@ impl FlowTable {
         self.stale.add_if(flow, news);
     }
 
-    /// Marks the flows that the cause touches. It looks at each flow that is held, and takes no memory.
+    /// Marks the flows that the cause touches. It looks at each flow that is held, and needs no memory.
     pub fn mark_where(&mut self, cause: &Cause)
         requires unique { IsUnique same_flow self.old }
         ensures each { (q : Flow) → get same_flow self.new q ≡ marked (concerns cause.now q) (get same_flow self.old q) }
         ensures unique { IsUnique same_flow self.new }
     {
+        match cause {
+            Cause::All => self.stale.add_all(),
+            _ => list_where(&mut self.stale, &self.held, cause),
+        }
         mark_where(&mut self.held, cause);
-        self.stale.add_all();
     }
 
     /// Keeps nothing of what the flows were, and marks them all. It takes no memory.

@@ -1,19 +1,23 @@
 -- Marks on what flows want.
-use Rattle.std.proofs.Common.{◌≡◌, Bool, true, false, cond, List, [], ◌∷◌, ◌++◌, map, Option, None, Some, is_some, refl, sym, ap, subst, ◌∙◌}
+use Rattle.std.proofs.Common.{◌≡◌, ℕ, ◌&&◌, ◌||◌, Bool, true, false, cond, List, [], ◌∷◌, ◌++◌, map, Option, None, Some, is_some, refl, sym, ap, subst, ◌∙◌}
+use Rattle.std.specs.List.{list_any}
 use Rattle.std.specs.Map.{lookup}
 use Rattle.std.specs.Map.Calls.{RetainsPairs}
 use Rattle.std.proofs.lemmas.Bool.{or_parts}
 use Rattle.mldp.specs.declared.mldp_fec.fec.Fec.{Fec}
 use Rattle.mv_base.specs.declared.ids.NodeId.{NodeId}
-use Rattle.selective.specs.Leaves.{Leaf}
+use Rattle.selective.specs.declared.route_key.Learned.{Learned}
+use Rattle.selective.specs.declared.route_key.RouteKey.{RouteKey}
+use Rattle.selective.specs.Leaves.{Leaf, is_waiting}
 use Rattle.vrf_words.specs.declared.tree_defs.flow.Flow.{Flow}
 use Rattle.vrf_words.specs.declared.tree_defs.flow.Upstream.{Upstream}
 use Rattle.vrf_words.specs.tree_defs.Keys.{same_flow}
 use Rattle.vrf_words.proofs.tree_defs.KeyLemmas.{same_flow_equal}
 use Rattle.vrf_trees.specs.declared.wants.Wants.{Wants}
 use Rattle.vrf_trees.specs.declared.wants.Cause.{Cause}
+use Rattle.vrf_trees.specs.declared.wants.Cause.TheVariants as causes
 use Rattle.vrf_trees.specs.Plan.{fecs_in}
-use Rattle.vrf_trees.specs.Wants.{Holds, edge_in, is_stale, mark, marked, touches, tunnels_in, tunnels_of, wants_by}
+use Rattle.vrf_trees.specs.Wants.{Holds, edge_in, is_stale, mark, marked, marked_by, marked_waiting, touches, tunnels_in, tunnels_of, waits_for, wants_by}
 
 abbrev pub mark_each : Cause → List (Flow × Wants) → List (Flow × Wants)
 mark_each cause es = map (λ (e : Flow × Wants). (e.0, mark cause e.0 e.1)) es
@@ -49,28 +53,28 @@ edge_or edge None = edge
 edge_or edge (Some own) = own.edge
 
 -- With each flow marked that may want other tunnels, what is held is in step with the routes.
-pub marked-holds : (leaf next : Leaf) (ups : Flow → Option Upstream) (held new : Flow → Option Wants) (cause : Cause) → Holds leaf ups held
-    → ((q : Flow) → new q ≡ marked cause q (held q)) →
-    ((q : Flow) (edge : NodeId) → touches cause q edge ≡ false → tunnels_of leaf edge q ≡ tunnels_of next edge q) → Holds next ups new
-marked-holds leaf next ups held new cause holds each same = record {
+pub marked-holds : (leaf next : Leaf) (ups : Flow → Option Upstream) (held new : Flow → Option Wants) (touched : Flow → NodeId → Bool)
+    → Holds leaf ups held → ((q : Flow) → new q ≡ marked_by touched q (held q)) →
+    ((q : Flow) (edge : NodeId) → touched q edge ≡ false → tunnels_of leaf edge q ≡ tunnels_of next edge q) → Holds next ups new
+marked-holds leaf next ups held new touched holds each same = record {
   edges = λ q. ap edge_in (each q) ∙ (edges (held q) q ∙ holds.edges q);
   fresh = λ q h. each q ∙ fresh q (held q) (ups q) (holds.fresh q) (sym (ap is_stale (each q)) ∙ h);
 }
   where
-    edges : (o : Option Wants) (q : Flow) → edge_in (marked cause q o) ≡ edge_in o
+    edges : (o : Option Wants) (q : Flow) → edge_in (marked_by touched q o) ≡ edge_in o
     edges None q = refl
     edges (Some own) q = refl
 
-    fresh : (q : Flow) (o : Option Wants) (u : Option Upstream) → (is_stale o ≡ false → o ≡ wants_by leaf q u) → is_stale (marked cause q o) ≡ false
-        → marked cause q o ≡ wants_by next q u
+    fresh : (q : Flow) (o : Option Wants) (u : Option Upstream) → (is_stale o ≡ false → o ≡ wants_by leaf q u) → is_stale (marked_by touched q o) ≡ false
+        → marked_by touched q o ≡ wants_by next q u
     fresh q None None f s = refl
     fresh q None (Some up) f s = let e : false ≡ true = ap is_some (f refl) in absurd cc
     fresh q (Some own) None f s =
-        let both = or_parts own.stale (touches cause q own.edge) s in
+        let both = or_parts own.stale (touched q own.edge) s in
         let e : true ≡ false = ap is_some (f both.0) in absurd cc
     fresh q (Some own) (Some up) f s =
-        let both = or_parts own.stale (touches cause q own.edge) s in
+        let both = or_parts own.stale (touched q own.edge) s in
         let edge : own.edge ≡ up.edge = ap (edge_or up.edge) (f both.0) in
         let fecs : own.fecs ≡ tunnels_of leaf up.edge q = ap fecs_in (f both.0) in
-        let kept : tunnels_of leaf up.edge q ≡ tunnels_of next up.edge q = same q up.edge (sym (ap (touches cause q) edge) ∙ both.1) in
+        let kept : tunnels_of leaf up.edge q ≡ tunnels_of next up.edge q = same q up.edge (sym (ap (touched q) edge) ∙ both.1) in
         λ i. Some (record { edge = edge i; stale = s i; fecs = (fecs ∙ kept) i })

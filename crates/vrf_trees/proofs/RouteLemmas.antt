@@ -1,15 +1,14 @@
 -- Which tunnels of an edge a flow wants does not depend on routes of other edges, nor on those that do not match the flow.
-use Rattle.std.proofs.Common.{◌≡◌, ℕ, ◌+◌, ◌==◌, ◌&&◌, ◌||◌, Bool, true, false, not, cond, T, List, [], ◌∷◌, ◌++◌, map, Option, None, Some, refl, sym, ap, ◌∙◌, arith}
-use Rattle.std.specs.Prelude.{count_by}
+use Rattle.std.proofs.Common.{◌≡◌, ℕ, ◌+◌, ◌==◌, ◌&&◌, ◌||◌, Bool, true, false, not, cond, T, List, [], ◌∷◌, ◌++◌, map, Option, None, Some, refl, sym, ap, subst, ◌∙◌, arith}
 use Rattle.std.specs.List.{AllByRecursion, filter, list_any}
 use Rattle.std.specs.Option.{option_eq}
-use Rattle.std.specs.Ordering.{eq_by_cmp}
+use Rattle.std.specs.Ordering.{eq_by_cmp, is_lt}
 use Rattle.std.specs.Cmp.{Equal-is, IsTotalOrder, eq_by_cmp_equiv}
 use Rattle.std.specs.declared.cmp.Ordering.{Ordering}
 use Rattle.std.specs.declared.cmp.Ordering.TheVariants.{Less, Equal, Greater}
-use Rattle.std.specs.FinMap.{FinMap, IsAntisymmetric, entries, entries-from_sorted, entries-insert, entries_sorted, find, from_sorted, get-entries, get-from_sorted, get-remove, insert, is_sorted, remove, same_entries_map, same_map, values}
-use Rattle.std.specs.FinMap.Entries.{by_order, find-where_key, is_sorted-where_key, put, where_key}
-use Rattle.std.proofs.lemmas.Bool.{and_from, and_parts}
+use Rattle.std.specs.FinMap.{FinMap, IsAntisymmetric, entries, entries-from_sorted, entries-insert, entries_sorted, find, from_sorted, get-entries, get-from_sorted, get-remove, insert, is_sorted, remove, same_map}
+use Rattle.std.specs.FinMap.Entries.{below_all, by_order, find-where_key, is_sorted-where_key, put, where_key}
+use Rattle.std.proofs.lemmas.Bool.{and_from, and_parts, or_parts}
 use Rattle.std.proofs.lemmas.Bool.Decides.{nat_tests}
 use Rattle.mv_base.specs.Address.{same_addr}
 use Rattle.mv_base.specs.declared.addr.Addr.{Addr}
@@ -17,7 +16,6 @@ use Rattle.mv_base.specs.declared.ids.NodeId.{NodeId}
 use Rattle.mv_base.specs.declared.pattern.Pattern.{Pattern}
 use Rattle.mv_base.specs.declared.rd.Rd.{Rd}
 use Rattle.mv_base.proofs.SortedMaps.{map_sorted}
-use Rattle.label_defs.proofs.MemberLemmas.{count-cons}
 use Rattle.selective_defs.specs.Selective.{allows, matches}
 use Rattle.selective.specs.declared.route_key.Learned.{Learned}
 use Rattle.selective.specs.declared.route_key.RouteKey.{RouteKey}
@@ -29,7 +27,7 @@ use Rattle.selective.proofs.OrderLemmas.{route_exact}
 use Rattle.vrf_words.specs.declared.tree_defs.flow.Flow.{Flow}
 use Rattle.vrf_flows.proofs.EntryLemmas.{entries-remove, filter-put, filter-within}
 use Rattle.vrf_trees.specs.declared.wants.Cause.TheVariants as causes
-use Rattle.vrf_trees.specs.Wants.{touches, tunnels_of}
+use Rattle.vrf_trees.specs.Wants.{touches, tunnels_of, waits_for}
 
 -- ---- patterns
 
@@ -61,12 +59,12 @@ turned : (a b : ℕ) → (a == b) ≡ true → (b == a) ≡ true
 turned a b h = grind (arith, nat_tests)
 
 -- A key of a route that does not touch the flow is found by none of its patterns.
-abbrev Apart : NodeId → RouteKey → List Pattern → Type 0
-Apart edge key patterns = AllByRecursion (λ (p : Pattern). (key.peer.0 == edge.0 && same_pattern key.pattern p) ≡ false) patterns
+abbrev Apart : NodeId → NodeId → Pattern → List Pattern → Type 0
+Apart edge peer pattern patterns = AllByRecursion (λ (p : Pattern). (peer.0 == edge.0 && same_pattern pattern p) ≡ false) patterns
 
-apart : (peer : NodeId) (rd : Rd) (pattern : Pattern) (q : Flow) (edge : NodeId) → touches (causes.Routes peer pattern) q edge ≡ false
-    → Apart edge (key_of peer rd pattern) (patterns_of q.source q.group)
-apart peer rd pattern q edge h = (
+apart : (peer : NodeId) (pattern : Pattern) (q : Flow) (edge : NodeId) → touches (causes.Routes peer pattern) q edge ≡ false
+    → Apart edge peer pattern (patterns_of q.source q.group)
+apart peer pattern q edge h = (
   one (record { source = Some q.source; group = Some q.group }) (named q.source) (named q.group),
   (
     one (record { source = Some q.source; group = None }) (named q.source) (wild q.group),
@@ -113,6 +111,17 @@ tunnels-same leaf next edge q h =
 abbrev finds : NodeId → Pattern → RouteKey → Bool
 finds edge p key = key.peer.0 == edge.0 && same_pattern key.pattern p
 
+-- By none of its patterns is a flow found by a route that does not touch it.
+apart-each : (q : Flow) (edge : NodeId) → AllByRecursion (λ (p : Pattern).
+    (e : Entry) → touches (causes.Routes e.0.peer e.0.pattern) q edge ≡ false → finds edge p e.0 ≡ false) (patterns_of q.source q.group)
+apart-each q edge = (
+  λ e h. (apart e.0.peer e.0.pattern q edge h).0,
+  (
+    λ e h. (apart e.0.peer e.0.pattern q edge h).1.0,
+    (λ e h. (apart e.0.peer e.0.pattern q edge h).1.1.0, (λ e h. (apart e.0.peer e.0.pattern q edge h).1.1.1.0, tt)),
+  ),
+)
+
 pub tunnels-learned : (leaf : Leaf) (peer : NodeId) (rd : Rd) (pattern : Pattern) (own : Learned) (q : Flow) (edge : NodeId)
     → touches (causes.Routes peer pattern) q edge ≡ false →
     tunnels_of leaf edge q ≡ tunnels_of (record leaf { routes = insert leaf.routes (key_of peer rd pattern) own }) edge q
@@ -120,7 +129,7 @@ tunnels-learned leaf peer rd pattern own q edge h =
     tunnels-same leaf (record leaf { routes = insert leaf.routes (key_of peer rd pattern) own }) edge q
     (all-more _ _ (λ p out. sym (ap (routes_at edge p) (entries-insert route_total leaf.routes (key_of peer rd pattern) own)
     ∙ filter-put route_cmp route_exact (finds edge p) (key_of peer rd pattern) own (entries leaf.routes) out))
-    (patterns_of q.source q.group) (apart peer rd pattern q edge h))
+    (patterns_of q.source q.group) (apart peer pattern q edge h))
 
 pub tunnels-forgotten : (leaf : Leaf) (peer : NodeId) (rd : Rd) (pattern : Pattern) (q : Flow) (edge : NodeId)
     → touches (causes.Routes peer pattern) q edge ≡ false →
@@ -130,7 +139,7 @@ tunnels-forgotten leaf peer rd pattern q edge h =
     (all-more _ _ (λ p out. sym (ap (routes_at edge p) (entries-remove route_total route_exact leaf.routes (key_of peer rd pattern))
     ∙ filter-within (λ (e : Entry). finds edge p e.0) (λ (e : Entry). not (eq_by_cmp route_cmp (key_of peer rd pattern) e.0)) (gone p out)
     (entries leaf.routes)))
-    (patterns_of q.source q.group) (apart peer rd pattern q edge h))
+    (patterns_of q.source q.group) (apart peer pattern q edge h))
   where
     not-false : (b : Bool) → not b ≡ false → b ≡ true
     not-false true k = refl
@@ -176,20 +185,48 @@ idle-run delay now own h = let e = by own.run _ h in λ i. record { fec = own.fe
     by true d k = refl
     by false d k = k
 
-map-idle : (delay now : ℕ) (es : List Entry) → count_by (is_waiting delay now) (map (λ (e : Entry). e.1) es) ≡ 0
-    → map (λ (e : Entry). (e.0, run_due delay now e.1)) es ≡ es
-map-idle delay now [] h = refl
-map-idle delay now (e ∷ es) h =
-    by (is_waiting delay now e.1) refl (sym (count-cons (is_waiting delay now) e.1 (map (λ (x : Entry). x.1) es)) ∙ h) (map-idle delay now es)
-  where
-    by : (b : Bool) → is_waiting delay now e.1 ≡ b → cond b 1 0 + count_by (is_waiting delay now) (map (λ (x : Entry). x.1) es) ≡ 0 →
-        (count_by (is_waiting delay now) (map (λ (x : Entry). x.1) es) ≡ 0 → map (λ (x : Entry). (x.0, run_due delay now x.1)) es ≡ es) →
-        (e.0, run_due delay now e.1) ∷ map (λ (x : Entry). (x.0, run_due delay now x.1)) es ≡ e ∷ es
-    by true w n rest = absurd (omega (arith, n))
-    by false w n rest = λ i. (e.0, idle-run delay now e.1 w i) ∷ rest (omega (arith, n)) i
+-- the entries, each with its delay run where that is due
+abbrev all_run : ℕ → ℕ → List Entry → List Entry
+all_run delay now es = map (λ (e : Entry). (e.0, run_due delay now e.1)) es
 
--- Where no delay is due, none is run.
-pub routes-idle : (delay now : ℕ) (routes : Routes) → count_by (is_waiting delay now) (values routes) ≡ 0 → routes_run delay now routes ≡ routes
-routes-idle delay now routes h =
-    ap from_sorted (map-idle delay now (entries routes) h)
-    ∙ same_entries_map (from_sorted (entries routes)) routes (entries-from_sorted route_cmp (entries routes) (entries_sorted routes))
+below-run : (delay now : ℕ) (x : RouteKey) (es : List Entry) → below_all route_cmp x (all_run delay now es) ≡ below_all route_cmp x es
+below-run delay now x [] = refl
+below-run delay now x (e ∷ es) = ap (λ (b : Bool). is_lt (route_cmp x e.0) && b) (below-run delay now x es)
+
+sorted-run : (delay now : ℕ) (es : List Entry) → is_sorted route_cmp (all_run delay now es) ≡ is_sorted route_cmp es
+sorted-run delay now [] = refl
+sorted-run delay now (e ∷ es) = λ i. below-run delay now e.0 es i && sorted-run delay now es i
+
+entries-run : (delay now : ℕ) (routes : Routes) → entries (routes_run delay now routes) ≡ all_run delay now (entries routes)
+entries-run delay now routes =
+    entries-from_sorted route_cmp (all_run delay now (entries routes)) (subst T (sym (sorted-run delay now (entries routes))) (entries_sorted routes))
+
+-- Routes of a pattern by which the flow is found are the same where none of them waits for it.
+run-at : (delay now : ℕ) (q : Flow) (edge : NodeId) (p : Pattern)
+    → ((e : Entry) → touches (causes.Routes e.0.peer e.0.pattern) q edge ≡ false → finds edge p e.0 ≡ false)
+    → (es : List Entry) → list_any (waits_for delay now q edge) es ≡ false → routes_at edge p es ≡ routes_at edge p (all_run delay now es)
+run-at delay now q edge p out [] none = refl
+run-at delay now q edge p out (e ∷ es) none =
+    let both = or_parts (waits_for delay now q edge e) (list_any (waits_for delay now q edge) es) none in
+    by (is_waiting delay now e.1) (touches (causes.Routes e.0.peer e.0.pattern) q edge) refl refl both.0 (run-at delay now q edge p out es both.1)
+  where
+    by : (w t : Bool) → is_waiting delay now e.1 ≡ w → touches (causes.Routes e.0.peer e.0.pattern) q edge ≡ t
+        → waits_for delay now q edge e ≡ false → routes_at edge p es ≡ routes_at edge p (all_run delay now es)
+        → cond (finds edge p e.0) (e ∷ routes_at edge p es) (routes_at edge p es)
+        ≡ cond (finds edge p e.0) ((e.0, run_due delay now e.1) ∷ routes_at edge p (all_run delay now es)) (routes_at edge p (all_run delay now es))
+    by false t w k h rest =
+        λ i. cond (finds edge p e.0) ((e.0, sym (idle-run delay now e.1 w) i) ∷ rest i) (rest i)
+    by true false w k h rest =
+        ap (λ (b : Bool). cond b (e ∷ routes_at edge p es) (routes_at edge p es)) (out e k)
+        ∙ (rest ∙ sym (ap (λ (b : Bool). cond b ((e.0, run_due delay now e.1) ∷ routes_at edge p (all_run delay now es))
+        (routes_at edge p (all_run delay now es))) (out e k)))
+    by true true w k h rest = let e : true ≡ false = (λ i. sym w i && sym k i) ∙ h in absurd cc
+
+-- With the delays run that are due, a flow wants the same tunnels where no route waits for it.
+pub tunnels-run : (leaf : Leaf) (now : ℕ) (q : Flow) (edge : NodeId) → list_any (waits_for leaf.delay now q edge) (entries leaf.routes) ≡ false
+    → tunnels_of leaf edge q ≡ tunnels_of (record leaf { routes = routes_run leaf.delay now leaf.routes }) edge q
+tunnels-run leaf now q edge none =
+    tunnels-same leaf (record leaf { routes = routes_run leaf.delay now leaf.routes }) edge q
+    (all-more _ _ (λ p out. run-at leaf.delay now q edge p out (entries leaf.routes) none
+    ∙ sym (ap (routes_at edge p) (entries-run leaf.delay now leaf.routes)))
+    (patterns_of q.source q.group) (apart-each q edge))

@@ -1,5 +1,5 @@
 -- The selective tunnels that flows want of other edges, kept flow by flow.
-use Rattle.std.specs.Prelude.{◌≡◌, ◌==◌, ◌&&◌, ◌||◌, Bool, true, false, List, map, Option, None, Some}
+use Rattle.std.specs.Prelude.{◌≡◌, ℕ, ◌==◌, ◌&&◌, ◌||◌, not, Bool, true, false, List, map, Option, None, Some}
 use Rattle.std.specs.List.{list_any, flat_map}
 use Rattle.std.specs.FinMap as maps
 use Rattle.std.specs.FinMap.{FinMap}
@@ -10,7 +10,9 @@ use Rattle.mv_base.specs.declared.ids.NodeId.{NodeId}
 use Rattle.mldp.specs.declared.mldp_fec.fec.Fec.{Fec}
 use Rattle.mldp.specs.contracts.mldp_fec.fec.FecPartialEq.TheImpl as fecs_equal
 use Rattle.selective_defs.specs.Selective.{matches, wanted}
-use Rattle.selective.specs.Leaves.{Leaf, peer_routes}
+use Rattle.selective.specs.declared.route_key.Learned.{Learned}
+use Rattle.selective.specs.declared.route_key.RouteKey.{RouteKey}
+use Rattle.selective.specs.Leaves.{Leaf, is_waiting, peer_routes}
 use Rattle.umh_select.specs.declared.route.Choice.{Choice}
 use Rattle.vrf_words.specs.declared.tree_defs.flow.Flow.{Flow}
 use Rattle.vrf_words.specs.declared.tree_defs.flow.Upstream.{Upstream}
@@ -60,14 +62,29 @@ wants_by leaf flow (Some up) = Some (wants_of leaf up.edge flow)
 abbrev pub touches : Cause → Flow → NodeId → Bool
 touches (causes.Routes peer pattern) flow edge = edge.0 == peer.0 && matches pattern flow.source flow.group
 touches (causes.Peer peer) flow edge = edge.0 == peer.0
-touches causes.All flow edge = true
+
+-- what the flow wants, marked where a flow whose upstream is its edge is touched
+abbrev pub marked_by : (Flow → NodeId → Bool) → Flow → Option Wants → Option Wants
+marked_by touched flow None = None
+marked_by touched flow (Some own) = Some (record { edge = own.edge; stale = own.stale || touched flow own.edge; fecs = own.fecs })
 
 abbrev pub mark : Cause → Flow → Wants → Wants
 mark cause flow own = record { edge = own.edge; stale = own.stale || touches cause flow own.edge; fecs = own.fecs }
 
 abbrev pub marked : Cause → Flow → Option Wants → Option Wants
-marked cause flow None = None
-marked cause flow (Some own) = Some (mark cause flow own)
+marked cause = marked_by (touches cause)
+
+-- whether what the flow wants is not stale, and the cause touches it
+abbrev pub is_news : Cause → Flow → Wants → Bool
+is_news cause flow own = not own.stale && touches cause flow own.edge
+
+-- whether the delay of the route is due and was not run, and the flow is one of its edge and pattern
+abbrev pub waits_for : ℕ → ℕ → Flow → NodeId → RouteKey × Learned → Bool
+waits_for delay now flow edge route = is_waiting delay now route.1 && touches (causes.Routes route.0.peer route.0.pattern) flow edge
+
+-- what the flow wants, marked where one of the routes is such a one
+abbrev pub marked_waiting : ℕ → ℕ → List (RouteKey × Learned) → Flow → Option Wants → Option Wants
+marked_waiting delay now routes = marked_by (λ flow edge. list_any (waits_for delay now flow edge) routes)
 
 -- ---- the invariant
 

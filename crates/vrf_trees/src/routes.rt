@@ -1,18 +1,19 @@
 //! The selective routes that an egress learned, with marks on the flows that a change of them may touch.
-ghost use Rattle.std.specs.Prelude.{◌≡◌, OnOk, OnErr};
+ghost use Rattle.std.specs.Prelude.{◌≡◌, [], ◌∷◌, OnOk, OnErr};
 ghost use Rattle.std.specs.FinMap as maps;
 ghost use Rattle.std.specs.FinMap.{FinMap};
-ghost use Rattle.indexmap.specs.IndexMap.{IsUnique};
+ghost use Rattle.indexmap.specs.IndexMap.{get, IsUnique};
 ghost use Rattle.selective.specs.Leaves.{key_of, learned_now, routes_run, without_peer};
 ghost use Rattle.umh_select.specs.declared.route.Choice.{Choice};
+ghost use Rattle.vrf_words.specs.declared.tree_defs.flow.Flow.{Flow};
 ghost use Rattle.vrf_words.specs.tree_defs.Keys.{flow_cmp, same_flow};
-ghost use Rattle.vrf_trees.specs.Wants.{IsSound, tunnels_in};
+ghost use Rattle.vrf_trees.specs.Wants.{IsSound, marked_waiting, tunnels_in};
 
 use crate::table::WantTable;
 use crate::wants::Cause;
 use mldp::mldp_fec::Fec;
 use mv_base::{NoMemory, NodeId, Pattern, Rd};
-use selective::LeafTunnels;
+use selective::{LeafTunnels, Learned, RouteKey};
 
 /// The route is learned now, in place of one of that peer, route distinguisher and pattern.
 pub(crate) fn learn(
@@ -65,17 +66,45 @@ pub(crate) fn forget_peer(leaf: &mut LeafTunnels, wants: &mut WantTable, peer: N
     wants.mark(&Cause::Peer(peer));
 }
 
-/// Runs the delay of each route that is due. Where none is, no flow is looked at.
+/// Marks the flows of the route's pattern, where its delay is due and was not run.
+fn mark_route(
+    wants: &mut WantTable,
+    leaf: &LeafTunnels,
+    key: &RouteKey,
+    learned: &Learned,
+    now: u64,
+)
+    requires unique { IsUnique same_flow wants.old }
+    ensures each { (q : Flow) → get same_flow wants.new q
+        ≡ marked_waiting leaf.now.delay now ((key.now, learned.now) ∷ []) q (get same_flow wants.old q) }
+    ensures unique { IsUnique same_flow wants.new }
+    ensures tunnels { tunnels_in wants.new.entries ≡ tunnels_in wants.old.entries }
+{
+    if leaf.is_waiting(learned, now) {
+        wants.mark(&Cause::Routes(key.peer, key.pattern));
+    }
+}
+
+/// Marks the flows of the patterns of all routes whose delay is due and was not run.
+fn mark_waiting(wants: &mut WantTable, leaf: &LeafTunnels, now: u64)
+    requires unique { IsUnique same_flow wants.old }
+    ensures each { (q : Flow) → get same_flow wants.new q
+        ≡ marked_waiting leaf.now.delay now (maps.entries leaf.now.routes) q (get same_flow wants.old q) }
+    ensures unique { IsUnique same_flow wants.new }
+    ensures tunnels { tunnels_in wants.new.entries ≡ tunnels_in wants.old.entries }
+{
+    for (key, learned) in leaf.routes().iter() {
+        mark_route(wants, leaf, key, learned, now);
+    }
+}
+
+/// Runs the delay of each route that is due. The flows that are looked at are those of the patterns of such routes.
 pub(crate) fn run_routes(leaf: &mut LeafTunnels, wants: &mut WantTable, now: u64)
     requires unique { IsUnique same_flow wants.old }
     ensures run { leaf.new ≡ record leaf.old { routes = routes_run leaf.old.delay now leaf.old.routes } }
     ensures sound { (flows : FinMap flow_cmp Choice) → IsSound leaf.old flows wants.old → IsSound leaf.new flows wants.new }
     ensures tunnels { tunnels_in wants.new.entries ≡ tunnels_in wants.old.entries }
 {
-    if leaf.due(now) == 0 {
-        leaf.timers(now);
-    } else {
-        leaf.timers(now);
-        wants.mark(&Cause::All);
-    }
+    mark_waiting(wants, leaf, now);
+    leaf.timers(now);
 }

@@ -6,7 +6,7 @@ ghost use Rattle.vrf_words.specs.tree_defs.Keys.{same_flow};
 ghost use Rattle.vrf_flows.specs.Stale.{AreAmong};
 ghost use Rattle.vrf_trees.specs.Wants.{is_stale_in, marked, tunnels_in};
 
-use crate::wants::{Cause, FlowWants, Wants, mark_where};
+use crate::wants::{Cause, FlowWants, Wants, list_where, mark_where};
 use indexmap::IndexMap;
 use mv_base::NoMemory;
 use std::alloc::Global;
@@ -93,15 +93,15 @@ impl WantTable {
         self.held.swap_remove(flow);
     }
 
-    /// Marks the flows that the cause touches. It looks at each flow, and takes no memory.
+    /// Marks the flows that the cause touches. It looks at each flow, and needs no memory.
     pub fn mark(&mut self, cause: &Cause)
         requires unique { IsUnique same_flow self.old }
         ensures each { (q : Flow) → get same_flow self.new q ≡ marked cause.now q (get same_flow self.old q) }
         ensures unique { IsUnique same_flow self.new }
         ensures tunnels { tunnels_in self.new.entries ≡ tunnels_in self.old.entries }
     {
+        list_where(&mut self.stale, &self.held, cause);
         mark_where(&mut self.held, cause);
-        self.stale.add_all();
     }
 
     /// The list of stale flows is empty from now on, since there are none. It takes no memory.

@@ -5,7 +5,8 @@ ghost use Rattle.indexmap.specs.IndexMap.{get, IsUnique};
 ghost use Rattle.selective_defs.specs.Selective.{matches};
 ghost use Rattle.vrf_words.specs.declared.tree_defs.flow.Flow.{Flow};
 ghost use Rattle.vrf_words.specs.tree_defs.Keys.{same_flow};
-ghost use Rattle.vrf_trees.specs.Wants.{has_fec, is_fec, is_in, mark, marked, touches, tunnels_in, wants_of};
+ghost use Rattle.vrf_flows.specs.Stale.{is_listed, passes};
+ghost use Rattle.vrf_trees.specs.Wants.{has_fec, is_fec, is_in, is_news, mark, marked, touches, tunnels_in, wants_of};
 
 use crate::table::WantTable;
 use indexmap::IndexMap;
@@ -13,6 +14,7 @@ use mldp::mldp_fec::Fec;
 use mv_base::{Addr, NoMemory, NodeId, Pattern};
 use selective::{Fecs, LeafTunnels};
 use std::alloc::Global;
+use vrf_flows::StaleFlows;
 use vrf_words::tree_defs::Flow;
 
 /// What a flow wants whose upstream is another edge.
@@ -35,7 +37,6 @@ pub(crate) enum Cause {
     Routes(NodeId, Pattern),
     /// All routes of an edge.
     Peer(NodeId),
-    All,
 }
 
 /// Whether the flow is one of the pattern.
@@ -55,8 +56,17 @@ impl Cause {
                 edge.0 == peer.0 && matches(pattern, flow.source, flow.group)
             }
             Cause::Peer(peer) => edge.0 == peer.0,
-            Cause::All => true,
         }
+    }
+}
+
+/// Lists the flows that the cause touches and that are not stale yet. It looks at each flow.
+pub(crate) fn list_where(stale: &mut StaleFlows, wants: &FlowWants, cause: &Cause)
+    ensures listed { (q : Flow) → passes (is_news cause.now) q (get same_flow wants.now q) ≡ true → is_listed stale.new q ≡ true }
+    ensures kept { (q : Flow) → is_listed stale.old q ≡ true → is_listed stale.new q ≡ true }
+{
+    for (flow, own) in wants.iter() {
+        stale.add_if(*flow, !own.stale && cause.touches(flow, own.edge));
     }
 }
 

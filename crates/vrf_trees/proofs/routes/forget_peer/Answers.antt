@@ -3,7 +3,7 @@ use Rattle.indexmap.specs.IndexMap.{get}
 use Rattle.selective.specs.Leaves.{Leaf, without_peer}
 use Rattle.vrf_words.specs.tree_defs.Keys.{same_flow}
 use Rattle.vrf_trees.specs.declared.wants.Cause.TheVariants as causes
-use Rattle.vrf_trees.specs.Wants.{Holds, ups_in}
+use Rattle.vrf_trees.specs.Wants.{Holds, touches, ups_in}
 use Rattle.vrf_trees.proofs.MarkLemmas.{marked-holds}
 use Rattle.vrf_trees.proofs.RouteLemmas.{tunnels-without}
 use Rattle.vrf_trees.proofs.routes.forget_peer.Goals as goal
@@ -13,6 +13,6 @@ returns-clause-sound c = λ flows sound. record {
   unique = c.mark.ensures.unique;
   holds = subst (λ (leaf : Leaf). Holds leaf (ups_in flows) (get same_flow c.mark.new.self)) (sym c.forget_peer.ensures)
       (marked-holds c.args.leaf.now (record c.args.leaf.now { routes = without_peer c.args.peer c.args.leaf.now.routes }) (ups_in flows)
-      (get same_flow c.args.wants.now) (get same_flow c.mark.new.self) (causes.Peer c.args.peer) sound.holds c.mark.ensures.each
+      (get same_flow c.args.wants.now) (get same_flow c.mark.new.self) (touches (causes.Peer c.args.peer)) sound.holds c.mark.ensures.each
       (tunnels-without c.args.leaf.now c.args.peer));
 }

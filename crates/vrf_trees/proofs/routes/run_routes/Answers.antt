@@ -1,15 +1,21 @@
-use Rattle.std.proofs.Common.{rules, ◌≡◌, sym, ap, subst, ◌∙◌}
-use Rattle.std.specs.Prelude.{count_by}
-use Rattle.std.specs.FinMap.{values}
-use Rattle.selective.specs.Leaves.{Leaf, Routes, is_waiting}
-use Rattle.vrf_trees.specs.Wants.{IsSound}
-use Rattle.vrf_trees.proofs.RouteLemmas.{routes-idle}
+use Rattle.std.proofs.Common.{sym, subst}
+use Rattle.std.specs.FinMap as maps
+use Rattle.std.specs.List.{list_any}
+use Rattle.indexmap.specs.IndexMap.{get}
+use Rattle.selective.specs.Leaves.{Leaf, routes_run}
+use Rattle.vrf_words.specs.tree_defs.Keys.{same_flow}
+use Rattle.vrf_trees.specs.Wants.{Holds, ups_in, waits_for}
+use Rattle.vrf_trees.proofs.MarkLemmas.{marked-holds}
+use Rattle.vrf_trees.proofs.RouteLemmas.{tunnels-run}
 use Rattle.vrf_trees.proofs.routes.run_routes.Goals as goal
 
-pub returns-then-due-eq0-clause-sound : goal.returns-then-due-eq0-clause-sound
-returns-then-due-eq0-clause-sound c = λ flows sound.
-    let none : count_by (is_waiting c.args.leaf.now.delay c.args.now) (values c.args.leaf.now.routes) ≡ 0 = search rules in
-    let same : c.timers.new.self ≡ c.args.leaf.now =
-    c.timers.ensures ∙ ap (λ (r : Routes). record c.args.leaf.now { routes = r })
-    (routes-idle c.args.leaf.now.delay c.args.now c.args.leaf.now.routes none) in
-    subst (λ (leaf : Leaf). IsSound leaf flows c.args.wants.now) (sym same) sound
+pub returns-clause-sound : goal.returns-clause-sound
+returns-clause-sound c = λ flows sound. record {
+  unique = c.mark_waiting.ensures.unique;
+  holds = subst (λ (leaf : Leaf). Holds leaf (ups_in flows) (get same_flow c.mark_waiting.new.wants)) (sym c.timers.ensures)
+      (marked-holds c.args.leaf.now (record c.args.leaf.now { routes = routes_run c.args.leaf.now.delay c.args.now c.args.leaf.now.routes })
+      (ups_in flows) (get same_flow c.args.wants.now) (get same_flow c.mark_waiting.new.wants)
+      (λ flow edge. list_any (waits_for c.args.leaf.now.delay c.args.now flow edge) (maps.entries c.args.leaf.now.routes)) sound.holds
+      c.mark_waiting.ensures.each
+      (tunnels-run c.args.leaf.now c.args.now));
+}

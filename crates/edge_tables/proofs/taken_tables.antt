@@ -2,3 +2,4 @@ pub mod KeyLemmas
 pub mod MapLemmas
 pub mod SpelledLemmas
 pub mod WaitLemmas
+pub mod TunnelLemmas

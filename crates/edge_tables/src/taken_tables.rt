@@ -9,6 +9,6 @@ mod slots;
 mod table;
 mod tables;
 
-pub use entry::{RouteValue, TakenEntry, same_value};
+pub use entry::{RouteValue, TakenEntry, is_tunnel, same_value};
 pub use laws::{active_keys_are_one, changes_are_one, join_keys_are_one, selective_keys_are_one};
 pub use tables::{TableEntries, TakenTables};

@@ -1,13 +1,16 @@
 //! What is kept of a route that was taken.
-ghost use Rattle.std.specs.Prelude.{◌≡◌, ◌||◌, false};
+ghost use Rattle.std.specs.Prelude.{◌≡◌, ◌||◌, ◌↔◌, IsTrue, false};
+ghost use Rattle.edge_defs.specs.Datagrams.{is_tunnel};
+ghost use Rattle.edge_defs.specs.Imported.{lsp_of};
 ghost use Rattle.edge_defs.specs.Keys.{same_value};
 ghost use Rattle.edge_routes.specs.Judged.{value_of};
-ghost use Rattle.edge_tables.specs.taken_tables.Routes.{handed};
+ghost use Rattle.edge_tables.specs.taken_tables.Routes.{handed, mark_in, mark_of};
 
 use bgp_messages::bgp_attributes::Comms;
-use bgp_values::pmsi_attr::Pmsi;
+use bgp_values::pmsi_attr::{Pmsi, Tunnel};
 use edge_routes::route_order::{same_attribute, same_comms, same_hop};
-use edge_routes::{Shared, TakenValue};
+use edge_routes::{Shared, TakenValue, lsp_of};
+use mldp::mldp_fec::Fec;
 use mv_base::Addr;
 use std::marker::Model;
 
@@ -32,12 +35,53 @@ impl RouteValue {
     }
 }
 
+/// The last octet of the opaque value of a FEC element, in which the tunnels of one root mostly differ.
+fn mark_of(fec: &Fec) -> Option<u8>
+    ensures { result ≡ mark_of fec.now }
+{
+    fec.opaque.octets().last().copied()
+}
+
+/// That of a tunnel, where it is one of mLDP.
+fn mark_in(pmsi: &Option<Pmsi>) -> Option<u8>
+    ensures { result ≡ mark_in pmsi.now }
+{
+    match pmsi {
+        Some(
+            Pmsi {
+                leaf_info: _,
+                tunnel: Tunnel::Mldp(fec),
+                label: _,
+            },
+        ) => mark_of(fec),
+        _ => None,
+    }
+}
+
+fn same_mark(own: Option<u8>, other: Option<u8>) -> bool
+    ensures { IsTrue result ↔ (own ≡ other) }
+{
+    own == other
+}
+
+/// Whether the tunnel is that one.
+pub fn is_tunnel(own: Option<Fec>, fec: &Fec) -> bool
+    ensures { result ≡ is_tunnel fec.now own }
+{
+    match own {
+        None => false,
+        Some(own) => own == *fec,
+    }
+}
+
 /// A route that was taken: its value, the clock at which it was learned, and whether its delay was run. Values are kept beside the
-/// table, so that a search goes through keys alone.
+/// table, so that a search goes through keys alone; of the tunnel a mark is kept in it, so that a search for a tunnel looks at few
+/// values.
 #[derive(Drop)]
 pub struct TakenEntry {
     value: Shared<RouteValue>,
     since: u64,
+    mark: Option<u8>,
     run: bool,
 }
 
@@ -51,6 +95,11 @@ impl Model for TakenEntry {
     ghost coded = { route_code };
 
     ghost view = { λ e. record { value = handed e.value; since = e.since; run = e.run } };
+
+    ghost use Rattle.std.specs.Prelude.{◌≡◌};
+    ghost use Rattle.edge_tables.specs.taken_tables.Routes.{mark_in};
+
+    ghost invariant = { λ e. e.mark ≡ mark_in e.value.pmsi };
 }
 
 impl TakenEntry {
@@ -58,9 +107,11 @@ impl TakenEntry {
     pub(crate) fn of(value: Shared<RouteValue>, now: u64) -> TakenEntry
         ensures { result ≡ record { value = handed value; since = now; run = false } }
     {
+        let mark = mark_in(&value.lent().pmsi);
         TakenEntry {
             value,
             since: now,
+            mark,
             run: false,
         }
     }
@@ -70,6 +121,16 @@ impl TakenEntry {
         ensures { value_of result ≡ self.now.value }
     {
         self.value.lent().lent()
+    }
+
+    /// Whether the tunnel of the route is that one, and such a one as edges use.
+    pub fn has_tunnel(&self, fec: &Fec) -> bool
+        ensures { result ≡ is_tunnel fec.now (lsp_of self.now.value.pmsi) }
+    {
+        if !same_mark(self.mark, mark_of(fec)) {
+            return false;
+        }
+        is_tunnel(lsp_of(self.value().pmsi), fec)
     }
 
     /// The clock at which the route was learned.

@@ -70,7 +70,7 @@ impl EdgeRouting {
         ensures home { self.new.control.home ≡ self.old.control.home }
     {
         self.control.take_pim(iface, message, now)?;
-        Ok(self.finish(alloc, Vec::new(alloc), now, core)?)
+        Ok(self.finish(alloc, Vec::new(alloc), None, now, core)?)
     }
 
     /// Notes at the interface, which is one of a VRF of the edge, that the source sends to the group (RFC 6514 section 14). Where there
@@ -97,7 +97,7 @@ impl EdgeRouting {
         self.control.note(iface, source, group)?;
         let own = own_of_iface(self.control.home(), iface);
         hold_source(&mut self.tables, own, source, group)?;
-        Ok(self.finish(alloc, Vec::new(alloc), now, core)?)
+        Ok(self.finish(alloc, Vec::new(alloc), None, now, core)?)
     }
 
     /// The note is there no more.
@@ -119,6 +119,6 @@ impl EdgeRouting {
     {
         self.control.unnote(iface, source, group);
         drop_unnoted(&mut self.tables, &self.control, iface, source, group)?;
-        self.finish(alloc, Vec::new(alloc), now, core)
+        self.finish(alloc, Vec::new(alloc), None, now, core)
     }
 }

@@ -5,4 +5,4 @@ mod timers;
 mod wanted;
 
 pub use timers::due;
-pub use wanted::{wanted_of, wants};
+pub use wanted::wanted_of;

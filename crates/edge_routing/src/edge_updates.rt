@@ -7,4 +7,4 @@ mod updates;
 
 pub use inclusive::inclusive_from;
 pub use laws::{tunnels_of_a_peer_go, tunnels_of_two_steps, tunnels_stay};
-pub use updates::take_update;
+pub use updates::{TunnelChanges, take_update};

@@ -11,6 +11,7 @@ use crate::edge_leaves::wanted_of;
 use crate::routing::{EdgeRouting, LeafCandidates};
 use core_paths::Core;
 use edge_control::{ControlChanges, EdgeControl};
+use edge_routes::route_order::TakenKey;
 use mldp::mldp_fec::Fec;
 use mv_base::NoMemory;
 use std::alloc::Global;
@@ -41,11 +42,13 @@ impl EdgeRouting {
     }
 
     /// The rest of a step of each VRF, after the effect of the call itself: flows are refreshed; each peer is to have the joins of the
-    /// flows as they are, and is sent what changed; and the trees of which the edge is to be a leaf are answered.
+    /// flows as they are, and is sent what changed; and the trees of which the edge is to be a leaf are answered. Where one of the tunnels
+    /// came, it most likely came by the route of that key.
     pub(crate) fn finish(
         &mut self,
         alloc: Global,
         tunnels: Vec<Fec>,
+        near: Option<TakenKey>,
         now: u64,
         core: &Core,
     ) -> Result<LeafCandidates, NoMemory>
@@ -58,7 +61,7 @@ impl EdgeRouting {
         let changes = self.refresh(now, core)?;
         self.tables.put()?;
         let candidates = joined(tunnels, &changes.tunnels)?;
-        let leaves = wanted_of(&self.control, alloc, &candidates)?;
+        let leaves = wanted_of(&self.control, alloc, &candidates, near.as_ref())?;
         Ok(LeafCandidates { candidates, leaves })
     }
 }

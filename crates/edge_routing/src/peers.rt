@@ -8,7 +8,7 @@ ghost use Rattle.edge_routes.specs.edge_home.Home.{peers_of};
 ghost use Rattle.edge_streams.specs.Spelled.{SaysWritable};
 ghost use Rattle.edge_routing.specs.Routing.{IsInStep, IsStepped};
 
-use crate::edge_updates::{inclusive_from, take_update};
+use crate::edge_updates::{TunnelChanges, inclusive_from, take_update};
 use crate::routing::{EdgeRouting, LeafCandidates};
 use bgp_messages::bgp_attributes::Message;
 use core_paths::Core;
@@ -31,8 +31,9 @@ impl EdgeRouting {
         ensures stepped { IfOk result (IsStepped core.now now (Update peer message) self.old self.new) }
         ensures home { self.new.control.home ≡ self.old.control.home }
     {
-        let tunnels = take_update(&mut self.control, alloc, peer, message, now)?;
-        self.finish(alloc, tunnels, now, core)
+        let changed = take_update(&mut self.control, alloc, peer, message, now)?;
+        let TunnelChanges { tunnels, near } = changed;
+        self.finish(alloc, tunnels, near, now, core)
     }
 
     /// The end of the session with the peer comes up: it is sent all that the edge holds for it.
@@ -52,7 +53,7 @@ impl EdgeRouting {
     {
         self.control.raise(peer)?;
         self.tables.raise(peer)?;
-        self.finish(alloc, Vec::new(alloc), now, core)
+        self.finish(alloc, Vec::new(alloc), None, now, core)
     }
 
     /// The loss of the session with the peer is noticed: all that was taken from it is forgotten, and what waits for it is dropped.
@@ -71,7 +72,7 @@ impl EdgeRouting {
         let tunnels = inclusive_from(&self.control, alloc, peer)?;
         self.control.lose(peer);
         self.tables.down(peer);
-        self.finish(alloc, tunnels, now, core)
+        self.finish(alloc, tunnels, None, now, core)
     }
 
     /// Runs the timers that are due at the clock.
@@ -87,7 +88,7 @@ impl EdgeRouting {
         ensures home { self.new.control.home ≡ self.old.control.home }
     {
         self.control.run_timers(now)?;
-        self.finish(alloc, Vec::new(alloc), now, core)
+        self.finish(alloc, Vec::new(alloc), None, now, core)
     }
 
     /// A step of each VRF without an effect of its own: a label message was taken, or an end of an LDP session came up or was lost, or
@@ -98,6 +99,6 @@ impl EdgeRouting {
         ensures stepped { IfOk result (IsStepped core.now now Rerouted self.old self.new) }
         ensures home { self.new.control.home ≡ self.old.control.home }
     {
-        self.finish(alloc, Vec::new(alloc), now, core)
+        self.finish(alloc, Vec::new(alloc), None, now, core)
     }
 }

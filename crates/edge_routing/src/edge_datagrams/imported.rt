@@ -4,7 +4,7 @@ ghost use Rattle.std.specs.List.{list_any};
 ghost use Rattle.mv_base.specs.Lists.{Among};
 ghost use Rattle.mv_base.specs.declared.ids.NodeId.{NodeId};
 ghost use Rattle.mv_base.specs.core_walks.Core.{Core};
-ghost use Rattle.edge_defs.specs.Datagrams.{is_route_of, is_tunnel, selective_fec};
+ghost use Rattle.edge_defs.specs.Datagrams.{is_route_of, selective_fec};
 ghost use Rattle.edge_defs.specs.Edge.{TakenRoute};
 ghost use Rattle.edge_defs.specs.Imported.{imported_selective};
 ghost use Rattle.edge_defs.specs.Place as places;
@@ -16,22 +16,12 @@ ghost use Rattle.control_laws.specs.Control.{control_of};
 ghost use Rattle.edge_control.specs.Places.{is_own_vrf};
 
 use bgp_messages::bgp_attributes::Key;
-use edge_control::of_edge_tables::taken_tables::{TableEntries, TakenEntry};
+use edge_control::of_edge_tables::taken_tables::{TableEntries, TakenEntry, is_tunnel};
 use edge_control::{EdgeControl, own_of_vrf};
 use edge_routes::edge_home::OwnVrf;
 use edge_routes::{TakenValue, imported_inclusive, imported_selective};
 use mldp::mldp_fec::Fec;
 use mv_base::{Addr, NodeId, VrfId};
-
-/// Whether the tunnel is that one.
-fn is_tunnel(own: Option<Fec>, fec: &Fec) -> bool
-    ensures { result ≡ is_tunnel fec.now own }
-{
-    match own {
-        None => false,
-        Some(own) => own == *fec,
-    }
-}
 
 /// The tunnel of the selective route of that key and value, where the VRF imports it from the peer of that address.
 fn selective_tunnel(own: &OwnVrf, addr: Addr, key: &Key, value: &TakenValue) -> Option<Fec>
@@ -44,11 +34,15 @@ fn selective_tunnel(own: &OwnVrf, addr: Addr, key: &Key, value: &TakenValue) -> 
     }
 }
 
-/// Whether the VRF imports the route of that key from the peer of that address, and it is one of the tunnel.
+/// Whether the VRF imports the route of that key from the peer of that address, and it is one of the tunnel. Most routes are of other
+/// tunnels, and keys are not beside the table, so the tunnel is looked at first.
 fn is_route_of(own: &OwnVrf, addr: Addr, fec: &Fec, key: &Key, entry: &TakenEntry) -> bool
     ensures { (place : EdgePlace) (peer : NodeId) → addr_of place.scenario peer ≡ addr →
         result ≡ is_route_of place (as_own own.now) peer fec.now (key.now, entry.now) }
 {
+    if !entry.has_tunnel(fec) {
+        return false;
+    }
     let value = entry.value();
     is_tunnel(imported_inclusive(own.local.vrf(), addr, key, &value), fec)
         || is_tunnel(selective_tunnel(own, addr, key, &value), fec)

@@ -1,5 +1,5 @@
 //! Which tunnels are those of inclusive routes that a VRF imports (RFC 6514 section 9.1.2).
-ghost use Rattle.std.specs.Prelude.{◌≡◌, ◌↔◌, ◌&&◌, IsTrue};
+ghost use Rattle.std.specs.Prelude.{◌≡◌, ◌↔◌, ◌&&◌, true, IsTrue};
 ghost use Rattle.std.specs.List.{list_any};
 ghost use Rattle.mv_base.specs.core_walks.Core.{Core};
 ghost use Rattle.edge_defs.specs.Datagrams.{is_tunnel};
@@ -16,20 +16,11 @@ use bgp_messages::bgp_attributes::Key;
 use edge_control::EdgeControl;
 use edge_control::of_edge_tables::taken_tables::{TableEntries, TakenEntry};
 use edge_routes::edge_home::OwnVrf;
-use edge_routes::{TakenValue, inclusive_tunnel, is_admitted, lsp_of};
+use edge_routes::route_order::TakenKey;
+use edge_routes::{inclusive_tunnel, is_admitted};
 use mldp::mldp_fec::Fec;
 use mv_base::route_targets::ExtComm;
 use mv_base::{Addr, NodeId};
-
-/// Whether this is the tunnel of a route.
-fn has_tunnel(fec: &Fec, value: &TakenValue) -> bool
-    ensures { result ≡ is_tunnel fec.now (lsp_of (value_of value.now).pmsi) }
-{
-    match lsp_of(value.pmsi) {
-        None => false,
-        Some(tunnel) => tunnel == *fec,
-    }
-}
 
 /// Whether the route of that key from the peer of that address is an inclusive one of the tunnel, for each VRF that admits it. The tunnel
 /// is looked at first, since keys are not beside the table.
@@ -37,8 +28,7 @@ fn is_of_tunnel(addr: Addr, fec: &Fec, key: &Key, entry: &TakenEntry) -> bool
     ensures { (vrf : Vrf) → is_tunnel fec.now (imported_inclusive vrf addr (key.now, entry.now))
         ≡ (result && is_admitted vrf entry.now.value.comms) }
 {
-    let value = entry.value();
-    has_tunnel(fec, &value) && inclusive_tunnel(addr, key, &value).is_some()
+    entry.has_tunnel(fec) && inclusive_tunnel(addr, key, &entry.value()).is_some()
 }
 
 /// Whether one of the VRFs admits a route with these communities.
@@ -72,6 +62,26 @@ fn has_route(vrfs: &[OwnVrf], addr: Addr, fec: &Fec, entries: TableEntries<'_>) 
     false
 }
 
+/// Whether the edge has sent a route of that key, one of the VRFs imports it, and it is an inclusive one of the tunnel.
+fn is_at(
+    control: &EdgeControl,
+    vrfs: &[OwnVrf],
+    edge: NodeId,
+    fec: &Fec,
+    near: Option<&TakenKey>,
+) -> bool
+    ensures { (core : Core) → result ≡ true → list_any (λ own.
+        imports_inclusive (place_of control.now.home core) (control_of control.now) (as_own own) edge fec.now) vrfs.now ≡ true }
+{
+    let Some(key) = near else {
+        return false;
+    };
+    match control.taken().get(edge, key) {
+        None => false,
+        Some(entry) => is_route_of(vrfs, control.home().addr_of(edge), fec, key.key(), entry),
+    }
+}
+
 /// Whether one of the VRFs imports an inclusive route of the tunnel from the edge.
 fn any_imports(control: &EdgeControl, vrfs: &[OwnVrf], edge: NodeId, fec: &Fec) -> bool
     ensures { (core : Core) → result
@@ -83,12 +93,27 @@ fn any_imports(control: &EdgeControl, vrfs: &[OwnVrf], edge: NodeId, fec: &Fec) 
     }
 }
 
-/// Whether a VRF of the edge imports an inclusive route of the tunnel. Such a route is its root's, so no other peer is looked at.
-pub(crate) fn is_inclusive(control: &EdgeControl, fec: &Fec) -> bool
+/// The same, where the route of that key is looked at first.
+fn any_imports_near(
+    control: &EdgeControl,
+    vrfs: &[OwnVrf],
+    edge: NodeId,
+    fec: &Fec,
+    near: Option<&TakenKey>,
+) -> bool
+    ensures { (core : Core) → result
+        ≡ list_any (λ own. imports_inclusive (place_of control.now.home core) (control_of control.now) (as_own own) edge fec.now) vrfs.now }
+{
+    is_at(control, vrfs, edge, fec, near) || any_imports(control, vrfs, edge, fec)
+}
+
+/// Whether a VRF of the edge imports an inclusive route of the tunnel. Such a route is its root's, so no other peer is looked at. The route
+/// of that key is looked at first.
+pub(crate) fn is_inclusive(control: &EdgeControl, fec: &Fec, near: Option<&TakenKey>) -> bool
     ensures { (core : Core) → IsTrue result ↔ IsInclusive (place_of control.now.home core) (control_of control.now) fec.now }
 {
     match root_of(control.home().scenario(), fec) {
         None => false,
-        Some(root) => any_imports(control, control.home().vrfs(), root, fec),
+        Some(root) => any_imports_near(control, control.home().vrfs(), root, fec, near),
     }
 }

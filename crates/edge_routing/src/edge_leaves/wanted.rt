@@ -13,6 +13,7 @@ ghost use Rattle.control_laws.specs.Control.{AreTrees, control_of};
 use crate::edge_leaves::inclusive::is_inclusive;
 use edge_control::EdgeControl;
 use edge_control::of_vrf_trees::VrfTree;
+use edge_routes::route_order::TakenKey;
 use mldp::mldp_fec::Fec;
 use mv_base::NoMemory;
 use std::alloc::Global;
@@ -26,15 +27,20 @@ fn is_wanted(trees: &[VrfTree], fec: &Fec) -> bool
 
 /// Whether the edge is to be a leaf of the tunnel: a VRF imports an inclusive route of it, or a flow of a VRF wants it (RFC 6514 sections
 /// 9.1.2 and 12.3).
-pub fn wants(control: &EdgeControl, fec: &Fec) -> bool
+fn wants(control: &EdgeControl, fec: &Fec, near: Option<&TakenKey>) -> bool
     requires { AreTrees control.now }
     ensures { (core : Core) → result ≡ sets.contains (leaves (place_of control.now.home core) (control_of control.now)) fec.now }
 {
-    is_inclusive(control, fec) || is_wanted(control.trees(), fec)
+    is_inclusive(control, fec, near) || is_wanted(control.trees(), fec)
 }
 
-/// Those of the tunnels of which the edge is to be a leaf, in their order.
-pub fn wanted_of(control: &EdgeControl, alloc: Global, fecs: &[Fec]) -> Result<Vec<Fec>, NoMemory>
+/// Those of the tunnels of which the edge is to be a leaf, in their order. A route of that key is looked at first for each.
+pub fn wanted_of(
+    control: &EdgeControl,
+    alloc: Global,
+    fecs: &[Fec],
+    near: Option<&TakenKey>,
+) -> Result<Vec<Fec>, NoMemory>
     requires { AreTrees control.now }
     ensures wanted { (core : Core) → IfOk result (λ found. (fec : Fec) → list_any (same_fec fec) fecs.now ≡ true →
         list_any (same_fec fec) found.items ≡ sets.contains (leaves (place_of control.now.home core) (control_of control.now)) fec) }
@@ -43,7 +49,7 @@ pub fn wanted_of(control: &EdgeControl, alloc: Global, fecs: &[Fec]) -> Result<V
 {
     let mut found = Vec::new(alloc);
     for fec in fecs {
-        if wants(control, fec) {
+        if wants(control, fec, near) {
             found.push(*fec)?;
         }
     }

@@ -25,6 +25,14 @@ use mldp::mldp_fec::Fec;
 use mv_base::{NoMemory, NodeId};
 use std::alloc::Global;
 
+/// Inclusive tunnels that may come or go, in no order; one may be there more than once. Beside them is the key of the last route that was
+/// announced: where one of them came, it most likely came by that, so it is looked at first.
+#[derive(Drop)]
+pub struct TunnelChanges {
+    pub tunnels: Vec<Fec>,
+    pub near: Option<TakenKey>,
+}
+
 /// The peer withdraws the route of the key. The tunnels that may go are appended.
 fn withdraw(
     control: &mut EdgeControl,
@@ -86,14 +94,14 @@ fn announce_again(
     append_at(fecs, control, peer, key)
 }
 
-/// The peer announces the route. The tunnels that may come or go are appended.
+/// The peer announces the route. The tunnels that may come or go are appended. It answers the key.
 fn announce(
     control: &mut EdgeControl,
     fecs: &mut Vec<Fec>,
     peer: NodeId,
     advert: Advert,
     now: u64,
-) -> Result<(), NoMemory>
+) -> Result<TakenKey, NoMemory>
     requires { IsWritableKey advert.key }
     ensures taken { OnOk result (AreTaken now peer (Reach advert ∷ []) control.old control.new fecs.old.items fecs.new.items) }
     ensures home { control.new.home ≡ control.old.home }
@@ -114,9 +122,10 @@ fn announce(
     };
     let value = Shared::of(alloc, value)?;
     if enter(control, fecs, peer, &own, &value, now)? {
-        return Ok(());
+        return Ok(own);
     }
-    announce_again(control, fecs, peer, &own, &value, now)
+    announce_again(control, fecs, peer, &own, &value, now)?;
+    Ok(own)
 }
 
 /// The peer withdraws the routes of the keys, one after another.
@@ -138,24 +147,25 @@ fn withdraw_all(
     Ok(())
 }
 
-/// The peer announces the routes, one after another.
+/// The peer announces the routes, one after another. It answers the key of the last one.
 fn announce_all(
     control: &mut EdgeControl,
     fecs: &mut Vec<Fec>,
     peer: NodeId,
     adverts: Vec<Advert>,
     now: u64,
-) -> Result<(), NoMemory>
+) -> Result<Option<TakenKey>, NoMemory>
     requires { AllByRecursion IsWritableAdvert adverts.items }
     ensures taken { OnOk result (
         AreTaken now peer (announced adverts.items) control.old control.new fecs.old.items fecs.new.items) }
     ensures home { control.new.home ≡ control.old.home }
     ensures wants { wants_of control.new.trees ≡ wants_of control.old.trees }
 {
+    let mut near = None;
     for advert in adverts {
-        announce(control, fecs, peer, advert, now)?;
+        near = Some(announce(control, fecs, peer, advert, now)?);
     }
-    Ok(())
+    Ok(near)
 }
 
 /// The peer withdraws what the message withdraws, and then announces what it announces.
@@ -165,19 +175,19 @@ fn take_parts(
     peer: NodeId,
     update: Update,
     now: u64,
-) -> Result<Vec<Fec>, NoMemory>
+) -> Result<TunnelChanges, NoMemory>
     requires reach { AllByRecursion IsWritableAdvert update.reach }
     requires unreach { AllByRecursion IsWritableKey update.unreach }
-    ensures taken { IfOk result (λ fecs.
-        AreTaken now peer (unannounced update.unreach ++ announced update.reach) control.old control.new [] fecs.items) }
+    ensures taken { IfOk result (λ changed.
+        AreTaken now peer (unannounced update.unreach ++ announced update.reach) control.old control.new [] changed.tunnels.items) }
     ensures home { control.new.home ≡ control.old.home }
     ensures wants { wants_of control.new.trees ≡ wants_of control.old.trees }
 {
     let Update { reach, unreach } = update;
-    let mut fecs = Vec::new(alloc);
-    withdraw_all(control, &mut fecs, peer, unreach.as_slice())?;
-    announce_all(control, &mut fecs, peer, reach.into_vec(), now)?;
-    Ok(fecs)
+    let mut tunnels = Vec::new(alloc);
+    withdraw_all(control, &mut tunnels, peer, unreach.as_slice())?;
+    let near = announce_all(control, &mut tunnels, peer, reach.into_vec(), now)?;
+    Ok(TunnelChanges { tunnels, near })
 }
 
 /// Takes an UPDATE message of the peer: its withdrawals first, and then its advertisements (RFC 4271 section 4.3). A peer whose session
@@ -189,17 +199,20 @@ pub fn take_update(
     peer: NodeId,
     message: Message,
     now: u64,
-) -> Result<Vec<Fec>, NoMemory>
+) -> Result<TunnelChanges, NoMemory>
     requires writable { SaysWritable message }
     ensures taken { (core : Core) → OnOk result (
         control_of control.new ≡ steps.effect (place_of control.old.home core) now (control_of control.old) (steps.Update peer message)) }
     ensures home { control.new.home ≡ control.old.home }
     ensures wants { wants_of control.new.trees ≡ wants_of control.old.trees }
-    ensures tunnels { (core : Core) → IfOk result (λ fecs.
-        AreTunnels (place_of control.old.home core) (control_of control.old) (control_of control.new) fecs.items) }
+    ensures tunnels { (core : Core) → IfOk result (λ changed.
+        AreTunnels (place_of control.old.home core) (control_of control.old) (control_of control.new) changed.tunnels.items) }
 {
     match message {
-        Message::Other(_) => Ok(Vec::new(alloc)),
+        Message::Other(_) => Ok(TunnelChanges {
+            tunnels: Vec::new(alloc),
+            near: None,
+        }),
         Message::Update(update) => take_parts(control, alloc, peer, update, now),
     }
 }

@@ -15,5 +15,5 @@ pub returns-in-Some : goal.returns-in-Some
 returns-in-Some c = λ core.
     let scenario = c.scenario.ensures.scenario ∙ ap (λ (home : Home). home.scenario) c.home.ensures.home in
     let root = sym (ap (λ (s : Scenario). node_with s c.args.fec.now.root) scenario) ∙ sym c.root_of.ensures ∙ c.in-Some.is in
-    inclusive_is c.args.control.now c.home.ensures.sound core c.args.fec.now c.in-Some.root root c.any_imports.result c.vrfs.result.now
-    (subst (λ (home : Home). AreOwn home c.vrfs.result.now) c.home-in-Some.ensures.home c.vrfs.ensures.vrfs) (c.any_imports.ensures core)
+    inclusive_is c.args.control.now c.home.ensures.sound core c.args.fec.now c.in-Some.root root c.any_imports_near.result c.vrfs.result.now
+    (subst (λ (home : Home). AreOwn home c.vrfs.result.now) c.home-in-Some.ensures.home c.vrfs.ensures.vrfs) (c.any_imports_near.ensures core)

@@ -1,5 +1,4 @@
 use Rattle.std.proofs.Common.{[], ◌∷◌, subst}
-use Rattle.std.proofs.lemmas.Result.{on_ok_weaker}
 use Rattle.bgp_messages.specs.declared.bgp_attributes.key.Key.{Key}
 use Rattle.bgp_messages.specs.declared.bgp_attributes.update.Change.TheVariants.{Reach}
 use Rattle.edge_control.specs.edge_tables.declared.taken_tables.entry.RouteValue.{RouteValue}
@@ -20,12 +19,11 @@ returns-then-branch-clause-taken c =
 
 pub returns-clause-taken : goal.returns-clause-taken
 returns-clause-taken c =
-    on_ok_weaker c.announce_again.result (λ taken.
     taken_then c.args.now c.args.peer [] (Reach c.args.advert ∷ []) c.args.control.now c.enter.new.control c.announce_again.new.control
     c.args.fecs.now.items c.enter.new.fecs.items c.announce_again.new.fecs.items (c.in_ok-enter.ensures.stays c.if-branch.false)
     (subst (λ (key : Key). AreTaken c.args.now c.args.peer
     (reach key (handed (record { next_hop = c.args.advert.next_hop; comms = c.args.advert.comms; pmsi = c.args.advert.pmsi })) ∷ [])
     c.enter.new.control c.announce_again.new.control c.enter.new.fecs.items c.announce_again.new.fecs.items) c.in_ok-own.ensures
     (subst (λ (value : RouteValue). AreTaken c.args.now c.args.peer (reach c.in_ok-own.own (handed value) ∷ []) c.enter.new.control
-    c.announce_again.new.control c.enter.new.fecs.items c.announce_again.new.fecs.items) c.in_ok-value.ensures taken)))
-    c.announce_again.ensures.taken
+    c.announce_again.new.control c.enter.new.fecs.items c.announce_again.new.fecs.items) c.in_ok-value.ensures
+    c.in_ok-announce_again.ensures.taken))

@@ -11,10 +11,10 @@ returns-clause-taken c =
     let new = c.announce_all.new.control in
     let listed = c.withdraw_all.new.fecs.items in
     let gone =
-    subst (λ fecs. AreTaken c.args.now c.args.peer (unannounced c.as_slice.result.now) old middle fecs listed) c.new-fecs.ensures.items
+    subst (λ fecs. AreTaken c.args.now c.args.peer (unannounced c.as_slice.result.now) old middle fecs listed) c.new-tunnels.ensures.items
     (c.in_ok-withdraw_all.ensures.taken c.args.now) in
     taken_then c.args.now c.args.peer (unannounced c.args.update.unreach) (announced c.args.update.reach) old middle new _ listed
     c.announce_all.new.fecs.items
     (subst (λ keys. AreTaken c.args.now c.args.peer (unannounced keys) old middle _ listed) c.as_slice.ensures gone)
     (subst (λ adverts. AreTaken c.args.now c.args.peer (announced adverts) middle new listed c.announce_all.new.fecs.items) c.into_vec.ensures
-    c.in_ok-announce_all.ensures.taken)
+    c.in_ok-near.ensures.taken)

@@ -22,9 +22,9 @@ returns-in-Update-clause-taken c = λ core.
     let message = messages.Update c.in-Update.update in
     let old = c.args.control.now in
     let new = c.take_parts.new.control in
-    IfOk-weaker c.take_parts.result (λ fecs. AreTaken c.args.now c.args.peer (changes_of message) old new [] fecs.items)
+    IfOk-weaker c.take_parts.result (λ changed. AreTaken c.args.now c.args.peer (changes_of message) old new [] changed.tunnels.items)
     (λ _. control_of new ≡ with_update c.args.now c.args.peer c.args.message (control_of old))
-    (λ fecs taken.
+    (λ changed taken.
     taken.control ∙ update_is c.args.now c.args.peer message (control_of old)
     ∙ ap (λ (m : Message). with_update c.args.now c.args.peer m (control_of old)) (sym c.in-Update.is)) c.take_parts.ensures.taken
 
@@ -34,6 +34,6 @@ returns-in-Update-clause-tunnels c = λ core.
     let old = c.args.control.now in
     let new = c.take_parts.new.control in
     let place = place_of old.home core in
-    IfOk-weaker c.take_parts.result (λ fecs. AreTaken c.args.now c.args.peer (changes_of message) old new [] fecs.items)
-    (λ fecs. AreTunnels place (control_of old) (control_of new) fecs.items)
-    (λ fecs taken. tunnels_listed place (control_of old) (control_of new) fecs.items (taken.tunnels core)) c.take_parts.ensures.taken
+    IfOk-weaker c.take_parts.result (λ changed. AreTaken c.args.now c.args.peer (changes_of message) old new [] changed.tunnels.items)
+    (λ changed. AreTunnels place (control_of old) (control_of new) changed.tunnels.items)
+    (λ changed taken. tunnels_listed place (control_of old) (control_of new) changed.tunnels.items (taken.tunnels core)) c.take_parts.ensures.taken

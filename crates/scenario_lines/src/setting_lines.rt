@@ -1,28 +1,11 @@
 //! The lines of settings.
 ghost use Rattle.std.specs.Prelude.{◌≡◌, map};
 ghost use Rattle.line_words.specs.Words.{placed_word};
-ghost use Rattle.scenario_lines.specs.SettingGrammar.{setting_of, value_of, setting_words, setting_line};
+ghost use Rattle.scenario_lines.specs.SettingGrammar.{value_of, setting_words, setting_line};
 
 use crate::scenario_draft::{Draft, Line, Setting};
 use line_words::{Reason, Row, TextFault, Word, fault_at, or_fault};
 use mv_base::read_number;
-
-/// The setting whose line begins with the text.
-pub fn setting_of(text: &[u8]) -> Option<Setting>
-    ensures { result ≡ setting_of text.now }
-{
-    if text == b"life".as_slice() {
-        Some(Setting::Life)
-    } else if text == b"delay".as_slice() {
-        Some(Setting::Delay)
-    } else if text == b"labels".as_slice() {
-        Some(Setting::Labels)
-    } else if text == b"as".as_slice() {
-        Some(Setting::System)
-    } else {
-        None
-    }
-}
 
 #[tactic(auto, unfolding(crate::specs::SettingGrammar::value_of))]
 fn value_of(setting: Setting, text: &[u8]) -> Option<u64>

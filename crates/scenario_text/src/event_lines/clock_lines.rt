@@ -1,7 +1,7 @@
 //! The lines of the clock and of a node.
 ghost use Rattle.std.specs.Prelude.{◌≡◌, map};
 ghost use Rattle.line_words.specs.Words.{placed_word};
-ghost use Rattle.scenario_text.specs.event_lines.ClockGrammar.{tick_words, tick_line, node_word, node_event, node_words, node_line};
+ghost use Rattle.scenario_text.specs.event_lines.ClockGrammar.{tick_words, tick_line, node_event, node_words, node_line};
 
 use line_words::{Reason, Row, TextFault, Word, fault_at, number_to, or_fault};
 use mv_base::NodeId;
@@ -44,19 +44,6 @@ pub fn tick_line(row: Row, words: &[Word]) -> Result<Line, TextFault>
 pub enum NodeWord {
     Timers,
     Restart,
-}
-
-/// The event whose line begins with the text.
-pub fn node_word(text: &[u8]) -> Option<NodeWord>
-    ensures { result ≡ node_word text.now }
-{
-    if text == b"timers".as_slice() {
-        Some(NodeWord::Timers)
-    } else if text == b"restart".as_slice() {
-        Some(NodeWord::Restart)
-    } else {
-        None
-    }
 }
 
 fn node_event(word: NodeWord, node: NodeId) -> Event

@@ -1,7 +1,7 @@
 //! The lines of sources that begin or cease to send.
 ghost use Rattle.std.specs.Prelude.{◌≡◌, map};
 ghost use Rattle.line_words.specs.Words.{placed_word};
-ghost use Rattle.scenario_text.specs.event_lines.FlowGrammar.{flow_word, flow_event, flow_words, flow_line};
+ghost use Rattle.scenario_text.specs.event_lines.FlowGrammar.{flow_event, flow_words, flow_line};
 
 use crate::event_lines::rules::{family_fault, is_flow_of, unless_broken};
 use line_words::{Reason, Row, TextFault, Word, fault_at, group_at, source_at};
@@ -14,19 +14,6 @@ use scenario_lines::scenario_draft::{Draft, Line, iface_at};
 pub enum FlowWord {
     Active,
     Idle,
-}
-
-/// The event whose line begins with the text.
-pub fn flow_word(text: &[u8]) -> Option<FlowWord>
-    ensures { result ≡ flow_word text.now }
-{
-    if text == b"active".as_slice() {
-        Some(FlowWord::Active)
-    } else if text == b"idle".as_slice() {
-        Some(FlowWord::Idle)
-    } else {
-        None
-    }
 }
 
 fn flow_event(word: FlowWord, iface: IfaceId, source: Addr, group: Addr) -> Event

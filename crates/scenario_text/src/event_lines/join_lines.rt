@@ -1,7 +1,7 @@
 //! The lines of joins and prunes.
 ghost use Rattle.std.specs.Prelude.{◌≡◌, map};
 ghost use Rattle.line_words.specs.Words.{placed_word};
-ghost use Rattle.scenario_text.specs.event_lines.JoinGrammar.{entry_word, entry_event, star_entry, source_entry, if_rpt, rpt_entry, entry_at};
+ghost use Rattle.scenario_text.specs.event_lines.JoinGrammar.{entry_event, star_entry, source_entry, if_rpt, rpt_entry, entry_at};
 ghost use Rattle.scenario_text.specs.event_lines.JoinGrammar.{at_iface, three_words, four_words, iface_entry, entry_line};
 
 use crate::event_lines::rules::{family_fault, is_entry_of, unless_broken};
@@ -15,19 +15,6 @@ use scenario_lines::scenario_draft::{Draft, Line, iface_at};
 pub enum EntryWord {
     Join,
     Prune,
-}
-
-/// The event whose line begins with the text.
-pub fn entry_word(text: &[u8]) -> Option<EntryWord>
-    ensures { result ≡ entry_word text.now }
-{
-    if text == b"join".as_slice() {
-        Some(EntryWord::Join)
-    } else if text == b"prune".as_slice() {
-        Some(EntryWord::Prune)
-    } else {
-        None
-    }
 }
 
 fn entry_event(word: EntryWord, named: IfaceEntry) -> Event

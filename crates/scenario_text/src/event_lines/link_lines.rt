@@ -1,7 +1,7 @@
 //! The lines of links and of the copies on them.
 ghost use Rattle.std.specs.Prelude.{◌≡◌, map};
 ghost use Rattle.line_words.specs.Words.{placed_word};
-ghost use Rattle.scenario_text.specs.event_lines.LinkGrammar.{link_word, highest, link_event, link_words, link_line};
+ghost use Rattle.scenario_text.specs.event_lines.LinkGrammar.{highest, link_event, link_words, link_line};
 
 use crate::event_lines::rules::{link_fault, unless_broken};
 use line_words::{Reason, Row, TextFault, Word, fault_at, number_to, or_fault};
@@ -20,21 +20,6 @@ pub enum LinkWord {
     Hop,
     Drop,
     Cost,
-}
-
-/// The event whose line begins with the text.
-pub fn link_word(text: &[u8]) -> Option<LinkWord>
-    ensures { result ≡ link_word text.now }
-{
-    if text == b"hop".as_slice() {
-        Some(LinkWord::Hop)
-    } else if text == b"drop".as_slice() {
-        Some(LinkWord::Drop)
-    } else if text == b"cost".as_slice() {
-        Some(LinkWord::Cost)
-    } else {
-        None
-    }
 }
 
 /// The highest number of its line.

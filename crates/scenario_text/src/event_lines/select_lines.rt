@@ -1,7 +1,7 @@
 //! The lines of selections.
 ghost use Rattle.std.specs.Prelude.{◌≡◌, map};
 ghost use Rattle.line_words.specs.Words.{placed_word};
-ghost use Rattle.scenario_text.specs.event_lines.SelectGrammar.{select_word, select_event, any_source_at, any_group_at, pattern_at};
+ghost use Rattle.scenario_text.specs.event_lines.SelectGrammar.{select_event, any_source_at, any_group_at, pattern_at};
 ghost use Rattle.scenario_text.specs.event_lines.SelectGrammar.{select_words, select_line};
 
 use crate::event_lines::rules::{family_fault, is_of_family, unless_broken};
@@ -15,19 +15,6 @@ use scenario_lines::scenario_draft::{Draft, Line, vrf_at};
 pub enum SelectWord {
     Select,
     Unselect,
-}
-
-/// The event whose line begins with the text.
-pub fn select_word(text: &[u8]) -> Option<SelectWord>
-    ensures { result ≡ select_word text.now }
-{
-    if text == b"select".as_slice() {
-        Some(SelectWord::Select)
-    } else if text == b"unselect".as_slice() {
-        Some(SelectWord::Unselect)
-    } else {
-        None
-    }
 }
 
 fn select_event(word: SelectWord, vrf: VrfId, pattern: Pattern) -> Event

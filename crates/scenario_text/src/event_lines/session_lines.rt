@@ -1,13 +1,14 @@
 //! The lines of sessions.
 ghost use Rattle.std.specs.Prelude.{◌≡◌, map};
 ghost use Rattle.line_words.specs.Words.{placed_word};
-ghost use Rattle.scenario_text.specs.event_lines.SessionGrammar.{session_word, session_event, kind_at, end_at, session_at, session_words};
+ghost use Rattle.scenario_text.specs.event_lines.SessionGrammar.{session_event, kind_at, end_at, session_at, session_words};
 ghost use Rattle.scenario_text.specs.event_lines.SessionGrammar.{session_line, move_words, move_line};
 
 use crate::event_lines::rules::{session_fault, unless_broken};
 use line_words::{Reason, Row, TextFault, Word, fault_at, number_to, or_fault};
 use mv_base::NodeId;
 use scenario_defs::{Event, Kind};
+use scenario_lines::meaning_of;
 use scenario_lines::scenario_draft::{Draft, Line, edge_at, node_at};
 
 /// The most octets that one event moves.
@@ -29,21 +30,6 @@ pub struct Session {
     pub b: NodeId,
 }
 
-/// The event whose line begins with the text.
-pub fn session_word(text: &[u8]) -> Option<SessionWord>
-    ensures { result ≡ session_word text.now }
-{
-    if text == b"lose".as_slice() {
-        Some(SessionWord::Lose)
-    } else if text == b"notice".as_slice() {
-        Some(SessionWord::Notice)
-    } else if text == b"raise".as_slice() {
-        Some(SessionWord::Raise)
-    } else {
-        None
-    }
-}
-
 fn session_event(word: SessionWord, named: Session) -> Event
     ensures { result ≡ session_event word named }
 {
@@ -59,13 +45,8 @@ fn session_event(word: SessionWord, named: Session) -> Event
 fn kind_at(row: Row, word: &Word) -> Result<Kind, TextFault>
     ensures { result ≡ kind_at row (placed_word word.now) }
 {
-    if word.text == b"bgp".as_slice() {
-        Ok(Kind::Bgp)
-    } else if word.text == b"ldp".as_slice() {
-        Ok(Kind::Ldp)
-    } else {
-        Err(fault_at(row.number, word.column, Reason::Choice))
-    }
+    let kind = meaning_of(word.text, &[(b"bgp", Kind::Bgp), (b"ldp", Kind::Ldp)]);
+    or_fault(kind, row, word, Reason::Choice)
 }
 
 /// An end of a session: over BGP an edge, over LDP any node.

@@ -1,4 +1,4 @@
-pub mod Choice
+pub mod Forms
 pub mod SettingGrammar
 pub mod NodeGrammar
 pub mod VrfGrammar

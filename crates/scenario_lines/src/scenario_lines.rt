@@ -6,7 +6,7 @@ ghost use Rattle.line_words.specs.Answers.{Gives};
 ghost use Rattle.line_words.specs.Words.{placed_word};
 ghost use Rattle.scenario_lines.specs.ScenarioGrammar.{scenario_word, events_line, scenario_words, scenario_line};
 
-use crate::choice::meaning_of;
+use crate::forms::meaning_of;
 use crate::node_lines::{link_line, node_line};
 use crate::scenario_draft::{Draft, Line, Setting};
 use crate::setting_lines::setting_line;

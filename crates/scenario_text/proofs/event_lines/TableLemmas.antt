@@ -11,7 +11,7 @@ two f false false x y rest = refl
 
 pub three : {A B : Type 0} (f : A → B) (b c d : Bool) (x y z : A) (rest : Option B)
     → (if b then Some (f x) else if c then Some (f y) else if d then Some (f z) else rest)
-        ≡ option_or (option_map f (if b then Some x else if c then Some y else if d then Some z else None)) rest
+    ≡ option_or (option_map f (if b then Some x else if c then Some y else if d then Some z else None)) rest
 three f true c d x y z rest = refl
 three f false true d x y z rest = refl
 three f false false true x y z rest = refl
@@ -19,7 +19,7 @@ three f false false false x y z rest = refl
 
 pub last_four : {A B : Type 0} (f : A → B) (b c d e : Bool) (x y z w : A)
     → (if b then Some (f x) else if c then Some (f y) else if d then Some (f z) else if e then Some (f w) else None)
-        ≡ option_map f (if b then Some x else if c then Some y else if d then Some z else if e then Some w else None)
+    ≡ option_map f (if b then Some x else if c then Some y else if d then Some z else if e then Some w else None)
 last_four f true c d e x y z w = refl
 last_four f false true d e x y z w = refl
 last_four f false false true e x y z w = refl
@@ -28,7 +28,7 @@ last_four f false false false false x y z w = refl
 
 pub five : {A : Type 0} (b c d e g : Bool) (x y z v w : A) (rest : Option A)
     → (if b then Some x else if c then Some y else if d then Some z else if e then Some v else if g then Some w else rest)
-        ≡ option_or (if b then Some x else if c then Some y else if d then Some z else if e then Some v else if g then Some w else None) rest
+    ≡ option_or (if b then Some x else if c then Some y else if d then Some z else if e then Some v else if g then Some w else None) rest
 five true c d e g x y z v w rest = refl
 five false true d e g x y z v w rest = refl
 five false false true e g x y z v w rest = refl

@@ -8,6 +8,7 @@ use crate::event_lines::rules::{family_fault, is_entry_of, unless_broken};
 use line_words::{Reason, Row, TextFault, Word, fault_at, group_at, source_at};
 use mv_base::IfaceId;
 use scenario_defs::{CustomerEvent, Event, IfaceEntry, JoinEntry};
+use scenario_lines::count_fault;
 use scenario_lines::scenario_draft::{Draft, Line, iface_at};
 
 /// The events of an entry.
@@ -128,8 +129,7 @@ fn iface_entry(draft: &Draft, row: Row, words: &[Word]) -> Result<IfaceEntry, Te
     match words {
         [iface, source, group] => three_words(draft, row, iface, source, group),
         [iface, source, group, last] => four_words(draft, row, iface, source, group, last),
-        [_, _, _, _, extra, ..] => Err(fault_at(row.number, extra.column, Reason::Count)),
-        _ => Err(fault_at(row.number, row.after, Reason::Count)),
+        _ => Err(count_fault(row, words, 4)),
     }
 }
 

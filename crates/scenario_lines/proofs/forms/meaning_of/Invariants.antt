@@ -1,6 +1,6 @@
 use Rattle.std.proofs.Common.{◌≡◌, drop}
-use Rattle.scenario_lines.specs.Choice.{meaning_of}
-use Rattle.scenario_lines.proofs.choice.meaning_of.Given as goal
+use Rattle.scenario_lines.specs.Forms.{meaning_of}
+use Rattle.scenario_lines.proofs.forms.meaning_of.Given as goal
 
 -- none of the words so far is the text
 abbrev pub invariant-loop-word : goal.invariant-loop-word

@@ -5,19 +5,12 @@ use Rattle.std.specs.Cmp.Lexicographic.{pointwise}
 use Rattle.scenario_text.specs.declared.event_lines.words.EventWord.{EventWord}
 use Rattle.scenario_text.specs.declared.event_lines.words.EventWord.TheVariants as word_kinds
 use Rattle.scenario_text.specs.declared.event_lines.words.BareWord.{BareWord}
-use Rattle.scenario_text.specs.declared.event_lines.words.BareWord.TheVariants as bare_kinds
 use Rattle.scenario_text.specs.declared.event_lines.clock_lines.NodeWord.{NodeWord}
-use Rattle.scenario_text.specs.declared.event_lines.clock_lines.NodeWord.TheVariants as node_kinds
 use Rattle.scenario_text.specs.declared.event_lines.session_lines.SessionWord.{SessionWord}
-use Rattle.scenario_text.specs.declared.event_lines.session_lines.SessionWord.TheVariants as session_kinds
 use Rattle.scenario_text.specs.declared.event_lines.link_lines.LinkWord.{LinkWord}
-use Rattle.scenario_text.specs.declared.event_lines.link_lines.LinkWord.TheVariants as link_kinds
 use Rattle.scenario_text.specs.declared.event_lines.join_lines.EntryWord.{EntryWord}
-use Rattle.scenario_text.specs.declared.event_lines.join_lines.EntryWord.TheVariants as entry_kinds
 use Rattle.scenario_text.specs.declared.event_lines.flow_lines.FlowWord.{FlowWord}
-use Rattle.scenario_text.specs.declared.event_lines.flow_lines.FlowWord.TheVariants as flow_kinds
 use Rattle.scenario_text.specs.declared.event_lines.select_lines.SelectWord.{SelectWord}
-use Rattle.scenario_text.specs.declared.event_lines.select_lines.SelectWord.TheVariants as select_kinds
 use Rattle.scenario_text.specs.event_lines.ClockGrammar.{node_word}
 use Rattle.scenario_text.specs.event_lines.SessionGrammar.{session_word}
 use Rattle.scenario_text.specs.event_lines.LinkGrammar.{link_word}
@@ -41,21 +34,21 @@ returns c =
     let sessions : Option EventWord = option_map (λ (word : SessionWord). word_kinds.Session word) (session_word text) in
     let nodes : Option EventWord = option_map (λ (word : NodeWord). word_kinds.Node word) (node_word text) in
     let of_bares = last_four (λ (word : BareWord). word_kinds.Bare word) (pointwise nat_eq text (codes "heal")) (pointwise nat_eq text (codes "settle"))
-    (pointwise nat_eq text (codes "drain")) (pointwise nat_eq text (codes "state")) bare_kinds.Heal bare_kinds.Settle bare_kinds.Drain bare_kinds.State in
+    (pointwise nat_eq text (codes "drain")) (pointwise nat_eq text (codes "state")) _ _ _ _ in
     let of_selections = two (λ (word : SelectWord). word_kinds.Select word) (pointwise nat_eq text (codes "select")) (pointwise nat_eq text (codes "unselect"))
-    select_kinds.Select select_kinds.Unselect _ ∙ ap (option_or selections) of_bares in
+    _ _ _ ∙ ap (option_or selections) of_bares in
     let of_flows = two (λ (word : FlowWord). word_kinds.Flow word) (pointwise nat_eq text (codes "active")) (pointwise nat_eq text (codes "idle"))
-    flow_kinds.Active flow_kinds.Idle _ ∙ ap (option_or flows) of_selections in
+    _ _ _ ∙ ap (option_or flows) of_selections in
     let of_entries = two (λ (word : EntryWord). word_kinds.Entry word) (pointwise nat_eq text (codes "join")) (pointwise nat_eq text (codes "prune"))
-    entry_kinds.Join entry_kinds.Prune _ ∙ ap (option_or entries) of_flows ∙ together entries flows selections bares in
+    _ _ _ ∙ ap (option_or entries) of_flows ∙ together entries flows selections bares in
     let of_links = three (λ (word : LinkWord). word_kinds.Link word) (pointwise nat_eq text (codes "hop")) (pointwise nat_eq text (codes "drop"))
-    (pointwise nat_eq text (codes "cost")) link_kinds.Hop link_kinds.Drop link_kinds.Cost _ ∙ ap (option_or links) of_entries in
+    (pointwise nat_eq text (codes "cost")) _ _ _ _ ∙ ap (option_or links) of_entries in
     let of_sessions = three (λ (word : SessionWord). word_kinds.Session word) (pointwise nat_eq text (codes "lose")) (pointwise nat_eq text (codes "notice"))
-    (pointwise nat_eq text (codes "raise")) session_kinds.Lose session_kinds.Notice session_kinds.Raise _ ∙ ap (option_or sessions) of_links in
+    (pointwise nat_eq text (codes "raise")) _ _ _ _ ∙ ap (option_or sessions) of_links in
     let of_nodes = two (λ (word : NodeWord). word_kinds.Node word) (pointwise nat_eq text (codes "timers")) (pointwise nat_eq text (codes "restart"))
-    node_kinds.Timers node_kinds.Restart _ ∙ ap (option_or nodes) of_sessions ∙ together nodes sessions links _ in
+    _ _ _ ∙ ap (option_or nodes) of_sessions ∙ together nodes sessions links _ in
     c.meaning_of.ensures
     ∙ five (pointwise nat_eq text (codes "tick")) (pointwise nat_eq text (codes "move")) (pointwise nat_eq text (codes "pim"))
     (pointwise nat_eq text (codes "packet")) (pointwise nat_eq text (codes "send"))
-    word_kinds.Tick word_kinds.Move word_kinds.Pim word_kinds.Packet word_kinds.Send _
+    _ _ _ _ _ _
     ∙ ap (option_or (single_word text)) of_nodes

@@ -52,14 +52,7 @@ pub fn is_marker(line: &ReportLine) -> bool
     ensures { result ≡ is_marker line.now }
 {
     match line {
-        ReportLine::State {
-            bytes: _,
-            copies: _,
-            buffers: _,
-            due: _,
-            unready: _,
-        }
-        | ReportLine::Refused { line: _, reason: _ } => true,
+        ReportLine::State { .. } | ReportLine::Refused { line: _, reason: _ } => true,
         _ => false,
     }
 }
@@ -75,13 +68,7 @@ fn marks(timed: &Timed, line: &ReportLine) -> bool
     ensures { result ≡ marks timed.now line.now }
 {
     match line {
-        ReportLine::State {
-            bytes: _,
-            copies: _,
-            buffers: _,
-            due: _,
-            unready: _,
-        } => is_state(&timed.event),
+        ReportLine::State { .. } => is_state(&timed.event),
         ReportLine::Refused { line, reason: _ } => {
             *line == timed.line && is_refusable(&timed.event)
         }
@@ -113,20 +100,14 @@ fn fate_of(line: &ReportLine) -> Fate
 {
     match line {
         ReportLine::State {
-            bytes,
-            copies,
-            buffers,
-            due,
-            unready,
-        } => {
-            if *copies != 0 {
-                Fate::Busy
-            } else if *bytes == 0 && *buffers == 0 && *due == 0 && *unready == 0 {
-                Fate::Calm
-            } else {
-                Fate::Clear
-            }
-        }
+            bytes: 0,
+            copies: 0,
+            buffers: 0,
+            due: 0,
+            unready: 0,
+        } => Fate::Calm,
+        ReportLine::State { copies: 0, .. } => Fate::Clear,
+        ReportLine::State { .. } => Fate::Busy,
         _ => Fate::Refused,
     }
 }

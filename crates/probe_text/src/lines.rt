@@ -4,7 +4,7 @@ ghost use Rattle.mv_base.specs.core_walks.Topology.{IsTopology};
 ghost use Rattle.line_words.specs.Answers.{Gives};
 ghost use Rattle.line_words.specs.Words.{placed_word};
 ghost use Rattle.probe_text.specs.Grammar.{declared_by, declaring, ends_line, given_by, given_words, is_iface_at, join_line};
-ghost use Rattle.probe_text.specs.Grammar.{join_words, own_iface_at, piece_line, probe_line, two_ends};
+ghost use Rattle.probe_text.specs.Grammar.{own_iface_at, piece_line, probe_line, two_ends};
 
 use crate::input::Ends;
 use line_words::{
@@ -16,7 +16,7 @@ use mv_base::{IfaceId, NodeId};
 use probe_defs::ProbeLine;
 use scenario_defs::Scenario;
 use scenario_lines::scenario_draft::{Draft, Line, edge_at, iface_at, is_of_iface};
-use scenario_lines::scenario_line;
+use scenario_lines::{count_fault, scenario_line};
 use std::alloc::Global;
 
 /// The most joins of a text.
@@ -62,8 +62,7 @@ fn ends_line(draft: &Draft, row: Row, words: &[Word]) -> Result<Ends, TextFault>
     match words {
         [] => Err(fault_at(row.number, 1, Reason::Count)),
         [_, edge, peer] => two_ends(draft, row, edge, peer),
-        [_, _, _, extra, ..] => Err(fault_at(row.number, extra.column, Reason::Count)),
-        _ => Err(fault_at(row.number, row.after, Reason::Count)),
+        _ => Err(count_fault(row, words, 3)),
     }
 }
 
@@ -91,17 +90,14 @@ fn own_iface_at(draft: &Draft, edge: NodeId, row: Row, word: &Word) -> Result<If
     Ok(iface)
 }
 
-#[tactic(auto, unfolding(crate::specs::Grammar::join_words))]
-fn join_words(
-    draft: &Draft,
-    edge: NodeId,
-    row: Row,
-    iface: &Word,
-    source: &Word,
-    group: &Word,
-) -> Result<ProbeLine, TextFault>
-    ensures { result ≡ join_words draft.now edge row (placed_word iface.now) (placed_word source.now) (placed_word group.now) }
+/// A line `join` by the words after the first one.
+#[tactic(auto, unfolding(crate::specs::Grammar::join_line, crate::specs::Grammar::join_words))]
+fn join_line(draft: &Draft, edge: NodeId, row: Row, words: &[Word]) -> Result<ProbeLine, TextFault>
+    ensures { result ≡ join_line draft.now edge row (map placed_word words.now) }
 {
+    let [iface, source, group] = words else {
+        return Err(count_fault(row, words, 3));
+    };
     let iface = own_iface_at(draft, edge, row, iface)?;
     let from = source_at(row, source)?;
     let to = group_at(row, group)?;
@@ -115,31 +111,16 @@ fn join_words(
     })
 }
 
-/// A line `join` by the words after the first one.
-#[tactic(auto, unfolding(crate::specs::Grammar::join_line))]
-fn join_line(draft: &Draft, edge: NodeId, row: Row, words: &[Word]) -> Result<ProbeLine, TextFault>
-    ensures { result ≡ join_line draft.now edge row (map placed_word words.now) }
-{
-    match words {
-        [iface, source, group] => join_words(draft, edge, row, iface, source, group),
-        [_, _, _, extra, ..] => Err(fault_at(row.number, extra.column, Reason::Count)),
-        _ => Err(fault_at(row.number, row.after, Reason::Count)),
-    }
-}
-
 /// A line `piece` by the words after the first one.
 #[tactic(auto, unfolding(crate::specs::Grammar::piece_line))]
 fn piece_line(alloc: Global, row: Row, words: &[Word]) -> Result<ProbeLine, ReadFault>
     ensures { Gives result (piece_line row (map placed_word words.now)) }
 {
-    match words {
-        [octets] => {
-            let bytes = payload_at(alloc, row, octets)?;
-            Ok(ProbeLine::Piece(bytes))
-        }
-        [_, extra, ..] => Err(ReadFault::Text(fault_at(row.number, extra.column, Reason::Count))),
-        _ => Err(ReadFault::Text(fault_at(row.number, row.after, Reason::Count))),
-    }
+    let [octets] = words else {
+        return Err(ReadFault::Text(count_fault(row, words, 1)));
+    };
+    let bytes = payload_at(alloc, row, octets)?;
+    Ok(ProbeLine::Piece(bytes))
 }
 
 /// What a line of the scenario says, given what the lines before it declared.

@@ -1,3 +1,4 @@
+pub mod Forms
 pub mod SettingGrammar
 pub mod NodeGrammar
 pub mod VrfGrammar

@@ -1,9 +1,9 @@
 //! The lines of nodes and links.
 ghost use Rattle.std.specs.Prelude.{◌≡◌, map, count_by};
 ghost use Rattle.line_words.specs.Words.{placed_word};
-ghost use Rattle.scenario_lines.specs.NodeGrammar.{node_words, node_counted, is_full, node_line, link_between, link_words};
-ghost use Rattle.scenario_lines.specs.NodeGrammar.{link_counted, link_line};
+ghost use Rattle.scenario_lines.specs.NodeGrammar.{is_full, node_line, link_between, link_line};
 
+use crate::forms::count_fault;
 use crate::scenario_draft::{Draft, Line, new_name, node_addr_at, node_at, other_end_at};
 use line_words::{Reason, Row, TextFault, Word, fault_at, number_to, or_fault};
 use mv_base::{Link, NodeId};
@@ -17,42 +17,6 @@ const EDGE_LIMIT: usize = 32;
 const LINK_LIMIT: usize = 256;
 
 const COST_LIMIT: u32 = 65535;
-
-#[tactic(auto, unfolding(crate::specs::NodeGrammar::node_words))]
-fn node_words(
-    draft: &Draft,
-    row: Row,
-    edge: bool,
-    id: NodeId,
-    name: &Word,
-    addr: &Word,
-) -> Result<Line, TextFault>
-    ensures { result ≡ node_words draft.now row edge id (placed_word name.now) (placed_word addr.now) }
-{
-    let name = new_name(draft, row, name)?;
-    let addr = node_addr_at(draft, row, addr)?;
-    Ok(Line::Node {
-        id,
-        node: Node { name, addr, edge },
-    })
-}
-
-#[tactic(auto, unfolding(crate::specs::NodeGrammar::node_counted))]
-fn node_counted(
-    draft: &Draft,
-    row: Row,
-    edge: bool,
-    id: NodeId,
-    words: &[Word],
-) -> Result<Line, TextFault>
-    ensures { result ≡ node_counted draft.now row edge id (map placed_word words.now) }
-{
-    match words {
-        [name, addr] => node_words(draft, row, edge, id, name, addr),
-        [_, _, extra, ..] => Err(fault_at(row.number, extra.column, Reason::Count)),
-        _ => Err(fault_at(row.number, row.after, Reason::Count)),
-    }
-}
 
 fn edge_count(nodes: &[Node]) -> usize
     ensures { result ≡ count_by (λ node. node.edge) nodes.now }
@@ -69,7 +33,7 @@ fn is_full(scenario: &Scenario, edge: bool) -> bool
 }
 
 /// The line of a node by its words.
-#[tactic(auto, unfolding(crate::specs::NodeGrammar::node_line))]
+#[tactic(auto, unfolding(crate::specs::NodeGrammar::node_line, crate::specs::NodeGrammar::node_counted, crate::specs::NodeGrammar::node_words))]
 pub fn node_line(
     draft: &Draft,
     row: Row,
@@ -84,7 +48,16 @@ pub fn node_line(
         return Err(fault_at(row.number, first.column, Reason::Limit));
     }
     let number = scenario.nodes.len();
-    node_counted(draft, row, edge, NodeId(number as u16), rest)
+    let id = NodeId(number as u16);
+    let [name, addr] = rest else {
+        return Err(count_fault(row, rest, 2));
+    };
+    let name = new_name(draft, row, name)?;
+    let addr = node_addr_at(draft, row, addr)?;
+    Ok(Line::Node {
+        id,
+        node: Node { name, addr, edge },
+    })
 }
 
 #[tactic(auto, unfolding(crate::specs::NodeGrammar::link_between))]
@@ -103,34 +76,19 @@ fn link_between(row: Row, b: &Word, from: NodeId, to: NodeId, cost: u32) -> Resu
     })
 }
 
-#[tactic(auto, unfolding(crate::specs::NodeGrammar::link_words))]
-fn link_words(draft: &Draft, row: Row, a: &Word, b: &Word, cost: &Word) -> Result<Line, TextFault>
-    ensures { result ≡ link_words draft.now row (placed_word a.now) (placed_word b.now) (placed_word cost.now) }
-{
-    let from = node_at(draft, row, a)?;
-    let to = other_end_at(draft, row, from, b)?;
-    let cost = or_fault(number_to(cost.text, COST_LIMIT), row, cost, Reason::Number)?;
-    link_between(row, b, from, to, cost)
-}
-
-#[tactic(auto, unfolding(crate::specs::NodeGrammar::link_counted))]
-fn link_counted(draft: &Draft, row: Row, words: &[Word]) -> Result<Line, TextFault>
-    ensures { result ≡ link_counted draft.now row (map placed_word words.now) }
-{
-    match words {
-        [a, b, cost] => link_words(draft, row, a, b, cost),
-        [_, _, _, extra, ..] => Err(fault_at(row.number, extra.column, Reason::Count)),
-        _ => Err(fault_at(row.number, row.after, Reason::Count)),
-    }
-}
-
 /// The line of a link by its words.
-#[tactic(auto, unfolding(crate::specs::NodeGrammar::link_line))]
+#[tactic(auto, unfolding(crate::specs::NodeGrammar::link_line, crate::specs::NodeGrammar::link_counted, crate::specs::NodeGrammar::link_words))]
 pub fn link_line(draft: &Draft, row: Row, first: &Word, rest: &[Word]) -> Result<Line, TextFault>
     ensures { result ≡ link_line draft.now row (placed_word first.now) (map placed_word rest.now) }
 {
     if draft.scenario().links.len() >= LINK_LIMIT {
         return Err(fault_at(row.number, first.column, Reason::Limit));
     }
-    link_counted(draft, row, rest)
+    let [a, b, cost] = rest else {
+        return Err(count_fault(row, rest, 3));
+    };
+    let from = node_at(draft, row, a)?;
+    let to = other_end_at(draft, row, from, b)?;
+    let cost = or_fault(number_to(cost.text, COST_LIMIT), row, cost, Reason::Number)?;
+    link_between(row, b, from, to, cost)
 }

@@ -6,12 +6,13 @@ ghost use Rattle.line_words.specs.Answers.{Gives};
 ghost use Rattle.line_words.specs.Words.{placed_word};
 ghost use Rattle.scenario_lines.specs.ScenarioGrammar.{scenario_word, events_line, scenario_words, scenario_line};
 
+use crate::forms::meaning_of;
 use crate::node_lines::{link_line, node_line};
 use crate::scenario_draft::{Draft, Line, Setting};
-use crate::setting_lines::{setting_line, setting_of};
+use crate::setting_lines::setting_line;
 use crate::site_lines::{iface_line, site_line};
 use crate::vrf_lines::vrf_line;
-use line_words::{ReadFault, Reason, Row, TextFault, Word, fault_at};
+use line_words::{ReadFault, Reason, Row, TextFault, Word, fault_at, or_fault};
 use mv_base::core_walks::is_connected;
 use std::alloc::Global;
 
@@ -28,29 +29,26 @@ pub enum ScenarioWord {
     Events,
 }
 
+/// The first words, and what each begins.
+const WORDS: [(&[u8], ScenarioWord); 11] = [
+    (b"edge", ScenarioWord::Edge),
+    (b"core", ScenarioWord::Core),
+    (b"link", ScenarioWord::Link),
+    (b"vrf", ScenarioWord::Vrf),
+    (b"site", ScenarioWord::Site),
+    (b"iface", ScenarioWord::Iface),
+    (b"events", ScenarioWord::Events),
+    (b"life", ScenarioWord::Setting(Setting::Life)),
+    (b"delay", ScenarioWord::Setting(Setting::Delay)),
+    (b"labels", ScenarioWord::Setting(Setting::Labels)),
+    (b"as", ScenarioWord::Setting(Setting::System)),
+];
+
 #[tactic(auto, unfolding(crate::specs::ScenarioGrammar::scenario_word))]
 fn scenario_word(row: Row, first: &Word) -> Result<ScenarioWord, TextFault>
     ensures { result ≡ scenario_word row (placed_word first.now) }
 {
-    if first.text == b"edge".as_slice() {
-        Ok(ScenarioWord::Edge)
-    } else if first.text == b"core".as_slice() {
-        Ok(ScenarioWord::Core)
-    } else if first.text == b"link".as_slice() {
-        Ok(ScenarioWord::Link)
-    } else if first.text == b"vrf".as_slice() {
-        Ok(ScenarioWord::Vrf)
-    } else if first.text == b"site".as_slice() {
-        Ok(ScenarioWord::Site)
-    } else if first.text == b"iface".as_slice() {
-        Ok(ScenarioWord::Iface)
-    } else if first.text == b"events".as_slice() {
-        Ok(ScenarioWord::Events)
-    } else if let Some(setting) = setting_of(first.text) {
-        Ok(ScenarioWord::Setting(setting))
-    } else {
-        Err(fault_at(row.number, first.column, Reason::Word))
-    }
+    or_fault(meaning_of(first.text, &WORDS), row, first, Reason::Word)
 }
 
 /// Whether each node is reached from the first one.

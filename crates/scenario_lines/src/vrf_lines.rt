@@ -2,8 +2,9 @@
 ghost use Rattle.std.specs.Prelude.{◌≡◌, map};
 ghost use Rattle.line_words.specs.Answers.{Gives};
 ghost use Rattle.line_words.specs.Words.{placed_word};
-ghost use Rattle.scenario_lines.specs.VrfGrammar.{vrf_head, vrf_tail, vrf_rules, vrf_words, vrf_counted, vrf_line};
+ghost use Rattle.scenario_lines.specs.VrfGrammar.{vrf_head, vrf_tail, vrf_rules, vrf_line};
 
+use crate::forms::count_fault;
 use crate::lists::{is_overlap, is_vpn_taken};
 use crate::scenario_draft::{Draft, Line, edge_at, new_name, rd_at, vrf_number_at};
 use line_words::{ReadFault, Reason, Row, TextFault, Word, fault_at, rule_at, targets_at};
@@ -95,53 +96,8 @@ fn vrf_rules(
     })
 }
 
-#[tactic(auto, unfolding(crate::specs::VrfGrammar::vrf_words))]
-fn vrf_words(
-    alloc: Global,
-    draft: &Draft,
-    row: Row,
-    id: VrfId,
-    name: &Word,
-    edge: &Word,
-    number: &Word,
-    rd: &Word,
-    targets: &Word,
-    rule: &Word,
-) -> Result<Line, ReadFault>
-    ensures { Gives result (vrf_words draft.now row id
-        (placed_word name.now) (placed_word edge.now) (placed_word number.now)
-        (placed_word rd.now) (placed_word targets.now) (placed_word rule.now)) }
-{
-    let head = vrf_head(draft, row, name, edge, number)?;
-    let tail = vrf_tail(alloc, draft, row, head.edge, rd, targets, rule)?;
-    Ok(vrf_rules(draft, row, id, targets, head, tail)?)
-}
-
-#[tactic(auto, unfolding(crate::specs::VrfGrammar::vrf_counted))]
-fn vrf_counted(
-    alloc: Global,
-    draft: &Draft,
-    row: Row,
-    id: VrfId,
-    words: &[Word],
-) -> Result<Line, ReadFault>
-    ensures { Gives result (vrf_counted draft.now row id (map placed_word words.now)) }
-{
-    match words {
-        [name, edge, number, rd, targets, rule] => {
-            vrf_words(alloc, draft, row, id, name, edge, number, rd, targets, rule)
-        }
-        [_, _, _, _, _, _, extra, ..] => Err(ReadFault::Text(fault_at(
-            row.number,
-            extra.column,
-            Reason::Count,
-        ))),
-        _ => Err(ReadFault::Text(fault_at(row.number, row.after, Reason::Count))),
-    }
-}
-
 /// The line of a VRF by its words.
-#[tactic(auto, unfolding(crate::specs::VrfGrammar::vrf_line))]
+#[tactic(auto, unfolding(crate::specs::VrfGrammar::vrf_line, crate::specs::VrfGrammar::vrf_counted, crate::specs::VrfGrammar::vrf_words))]
 pub fn vrf_line(
     alloc: Global,
     draft: &Draft,
@@ -155,5 +111,11 @@ pub fn vrf_line(
     if number >= VRF_LIMIT {
         return Err(ReadFault::Text(fault_at(row.number, first.column, Reason::Limit)));
     }
-    vrf_counted(alloc, draft, row, VrfId(number as u16), rest)
+    let id = VrfId(number as u16);
+    let [name, edge, number, rd, targets, rule] = rest else {
+        return Err(ReadFault::Text(count_fault(row, rest, 6)));
+    };
+    let head = vrf_head(draft, row, name, edge, number)?;
+    let tail = vrf_tail(alloc, draft, row, head.edge, rd, targets, rule)?;
+    Ok(vrf_rules(draft, row, id, targets, head, tail)?)
 }

@@ -1,3 +1,4 @@
+mod TableLemmas
 pub mod RuleFacts
 pub mod NetworkFacts
 pub mod CustomerFacts

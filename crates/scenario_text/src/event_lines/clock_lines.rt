@@ -1,19 +1,24 @@
 //! The lines of the clock and of a node.
 ghost use Rattle.std.specs.Prelude.{◌≡◌, map};
 ghost use Rattle.line_words.specs.Words.{placed_word};
-ghost use Rattle.scenario_text.specs.event_lines.ClockGrammar.{tick_words, tick_line, node_word, node_event, node_words, node_line};
+ghost use Rattle.scenario_text.specs.event_lines.ClockGrammar.{tick_line, node_event, node_line};
 
-use line_words::{Reason, Row, TextFault, Word, fault_at, number_to, or_fault};
+use line_words::{Reason, Row, TextFault, Word, number_to, or_fault};
 use mv_base::NodeId;
 use scenario_defs::Event;
+use scenario_lines::count_fault;
 use scenario_lines::scenario_draft::{Draft, Line, node_at};
 
 const TICK_LIMIT: u32 = 1_000_000;
 
-#[tactic(auto, unfolding(crate::specs::event_lines::ClockGrammar::tick_words))]
-fn tick_words(row: Row, count: &Word) -> Result<Line, TextFault>
-    ensures { result ≡ tick_words row (placed_word count.now) }
+/// The line of ticks by the words after the first one.
+#[tactic(auto, unfolding(crate::specs::event_lines::ClockGrammar::tick_line, crate::specs::event_lines::ClockGrammar::tick_words))]
+pub fn tick_line(row: Row, words: &[Word]) -> Result<Line, TextFault>
+    ensures { result ≡ tick_line row (map placed_word words.now) }
 {
+    let [count] = words else {
+        return Err(count_fault(row, words, 1));
+    };
     let count = or_fault(
         number_to(count.text, TICK_LIMIT),
         row,
@@ -27,36 +32,11 @@ fn tick_words(row: Row, count: &Word) -> Result<Line, TextFault>
     })
 }
 
-/// The line of ticks by the words after the first one.
-#[tactic(auto, unfolding(crate::specs::event_lines::ClockGrammar::tick_line))]
-pub fn tick_line(row: Row, words: &[Word]) -> Result<Line, TextFault>
-    ensures { result ≡ tick_line row (map placed_word words.now) }
-{
-    match words {
-        [count] => tick_words(row, count),
-        [_, extra, ..] => Err(fault_at(row.number, extra.column, Reason::Count)),
-        _ => Err(fault_at(row.number, row.after, Reason::Count)),
-    }
-}
-
 /// The events of a node.
 #[derive(Clone, Copy)]
 pub enum NodeWord {
     Timers,
     Restart,
-}
-
-/// The event whose line begins with the text.
-pub fn node_word(text: &[u8]) -> Option<NodeWord>
-    ensures { result ≡ node_word text.now }
-{
-    if text == b"timers".as_slice() {
-        Some(NodeWord::Timers)
-    } else if text == b"restart".as_slice() {
-        Some(NodeWord::Restart)
-    } else {
-        None
-    }
 }
 
 fn node_event(word: NodeWord, node: NodeId) -> Event
@@ -68,24 +48,16 @@ fn node_event(word: NodeWord, node: NodeId) -> Event
     }
 }
 
-#[tactic(auto, unfolding(crate::specs::event_lines::ClockGrammar::node_words))]
-fn node_words(draft: &Draft, row: Row, word: NodeWord, node: &Word) -> Result<Line, TextFault>
-    ensures { result ≡ node_words draft.now row word (placed_word node.now) }
+/// The line of a node by the words after the first one.
+#[tactic(auto, unfolding(crate::specs::event_lines::ClockGrammar::node_line, crate::specs::event_lines::ClockGrammar::node_words))]
+pub fn node_line(draft: &Draft, row: Row, word: NodeWord, words: &[Word]) -> Result<Line, TextFault>
+    ensures { result ≡ node_line draft.now row word (map placed_word words.now) }
 {
+    let [node] = words else {
+        return Err(count_fault(row, words, 1));
+    };
     let node = node_at(draft, row, node)?;
     Ok(Line::Event {
         event: node_event(word, node),
     })
-}
-
-/// The line of a node by the words after the first one.
-#[tactic(auto, unfolding(crate::specs::event_lines::ClockGrammar::node_line))]
-pub fn node_line(draft: &Draft, row: Row, word: NodeWord, words: &[Word]) -> Result<Line, TextFault>
-    ensures { result ≡ node_line draft.now row word (map placed_word words.now) }
-{
-    match words {
-        [node] => node_words(draft, row, word, node),
-        [_, extra, ..] => Err(fault_at(row.number, extra.column, Reason::Count)),
-        _ => Err(fault_at(row.number, row.after, Reason::Count)),
-    }
 }

@@ -1,12 +1,13 @@
 //! The lines of sources that begin or cease to send.
 ghost use Rattle.std.specs.Prelude.{◌≡◌, map};
 ghost use Rattle.line_words.specs.Words.{placed_word};
-ghost use Rattle.scenario_text.specs.event_lines.FlowGrammar.{flow_word, flow_event, flow_words, flow_line};
+ghost use Rattle.scenario_text.specs.event_lines.FlowGrammar.{flow_event, flow_line};
 
 use crate::event_lines::rules::{family_fault, is_flow_of, unless_broken};
-use line_words::{Reason, Row, TextFault, Word, fault_at, group_at, source_at};
+use line_words::{Row, TextFault, Word, group_at, source_at};
 use mv_base::{Addr, IfaceId};
 use scenario_defs::{CustomerEvent, Event};
+use scenario_lines::count_fault;
 use scenario_lines::scenario_draft::{Draft, Line, iface_at};
 
 /// The events of a source.
@@ -14,19 +15,6 @@ use scenario_lines::scenario_draft::{Draft, Line, iface_at};
 pub enum FlowWord {
     Active,
     Idle,
-}
-
-/// The event whose line begins with the text.
-pub fn flow_word(text: &[u8]) -> Option<FlowWord>
-    ensures { result ≡ flow_word text.now }
-{
-    if text == b"active".as_slice() {
-        Some(FlowWord::Active)
-    } else if text == b"idle".as_slice() {
-        Some(FlowWord::Idle)
-    } else {
-        None
-    }
 }
 
 fn flow_event(word: FlowWord, iface: IfaceId, source: Addr, group: Addr) -> Event
@@ -46,33 +34,18 @@ fn flow_event(word: FlowWord, iface: IfaceId, source: Addr, group: Addr) -> Even
     }
 }
 
-#[tactic(auto, unfolding(crate::specs::event_lines::FlowGrammar::flow_words))]
-fn flow_words(
-    draft: &Draft,
-    row: Row,
-    word: FlowWord,
-    iface: &Word,
-    source: &Word,
-    group: &Word,
-) -> Result<Line, TextFault>
-    ensures { result ≡ flow_words draft.now row word (placed_word iface.now) (placed_word source.now) (placed_word group.now) }
+/// The line of a source by the words after the first one.
+#[tactic(auto, unfolding(crate::specs::event_lines::FlowGrammar::flow_line, crate::specs::event_lines::FlowGrammar::flow_words))]
+pub fn flow_line(draft: &Draft, row: Row, word: FlowWord, words: &[Word]) -> Result<Line, TextFault>
+    ensures { result ≡ flow_line draft.now row word (map placed_word words.now) }
 {
+    let [iface, source, group] = words else {
+        return Err(count_fault(row, words, 3));
+    };
     let iface = iface_at(draft, row, iface)?;
     let from = source_at(row, source)?;
     let to = group_at(row, group)?;
     let kept = is_flow_of(draft, iface, from, to);
     let event = flow_event(word, iface, from, to);
     unless_broken(family_fault(kept), row, group, Line::Event { event })
-}
-
-/// The line of a source by the words after the first one.
-#[tactic(auto, unfolding(crate::specs::event_lines::FlowGrammar::flow_line))]
-pub fn flow_line(draft: &Draft, row: Row, word: FlowWord, words: &[Word]) -> Result<Line, TextFault>
-    ensures { result ≡ flow_line draft.now row word (map placed_word words.now) }
-{
-    match words {
-        [iface, source, group] => flow_words(draft, row, word, iface, source, group),
-        [_, _, _, extra, ..] => Err(fault_at(row.number, extra.column, Reason::Count)),
-        _ => Err(fault_at(row.number, row.after, Reason::Count)),
-    }
 }

@@ -1,13 +1,14 @@
 //! The lines of joins and prunes.
 ghost use Rattle.std.specs.Prelude.{◌≡◌, map};
 ghost use Rattle.line_words.specs.Words.{placed_word};
-ghost use Rattle.scenario_text.specs.event_lines.JoinGrammar.{entry_word, entry_event, star_entry, source_entry, if_rpt, rpt_entry, entry_at};
+ghost use Rattle.scenario_text.specs.event_lines.JoinGrammar.{entry_event, star_entry, source_entry, if_rpt, rpt_entry, entry_at};
 ghost use Rattle.scenario_text.specs.event_lines.JoinGrammar.{at_iface, three_words, four_words, iface_entry, entry_line};
 
 use crate::event_lines::rules::{family_fault, is_entry_of, unless_broken};
 use line_words::{Reason, Row, TextFault, Word, fault_at, group_at, source_at};
 use mv_base::IfaceId;
 use scenario_defs::{CustomerEvent, Event, IfaceEntry, JoinEntry};
+use scenario_lines::count_fault;
 use scenario_lines::scenario_draft::{Draft, Line, iface_at};
 
 /// The events of an entry.
@@ -15,19 +16,6 @@ use scenario_lines::scenario_draft::{Draft, Line, iface_at};
 pub enum EntryWord {
     Join,
     Prune,
-}
-
-/// The event whose line begins with the text.
-pub fn entry_word(text: &[u8]) -> Option<EntryWord>
-    ensures { result ≡ entry_word text.now }
-{
-    if text == b"join".as_slice() {
-        Some(EntryWord::Join)
-    } else if text == b"prune".as_slice() {
-        Some(EntryWord::Prune)
-    } else {
-        None
-    }
 }
 
 fn entry_event(word: EntryWord, named: IfaceEntry) -> Event
@@ -141,8 +129,7 @@ fn iface_entry(draft: &Draft, row: Row, words: &[Word]) -> Result<IfaceEntry, Te
     match words {
         [iface, source, group] => three_words(draft, row, iface, source, group),
         [iface, source, group, last] => four_words(draft, row, iface, source, group, last),
-        [_, _, _, _, extra, ..] => Err(fault_at(row.number, extra.column, Reason::Count)),
-        _ => Err(fault_at(row.number, row.after, Reason::Count)),
+        _ => Err(count_fault(row, words, 4)),
     }
 }
 

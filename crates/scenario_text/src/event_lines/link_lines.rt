@@ -1,12 +1,13 @@
 //! The lines of links and of the copies on them.
 ghost use Rattle.std.specs.Prelude.{◌≡◌, map};
 ghost use Rattle.line_words.specs.Words.{placed_word};
-ghost use Rattle.scenario_text.specs.event_lines.LinkGrammar.{link_word, highest, link_event, link_words, link_line};
+ghost use Rattle.scenario_text.specs.event_lines.LinkGrammar.{highest, link_event, link_line};
 
 use crate::event_lines::rules::{link_fault, unless_broken};
-use line_words::{Reason, Row, TextFault, Word, fault_at, number_to, or_fault};
+use line_words::{Reason, Row, TextFault, Word, number_to, or_fault};
 use mv_base::NodeId;
 use scenario_defs::Event;
+use scenario_lines::count_fault;
 use scenario_lines::scenario_draft::{Draft, Line, node_at};
 
 /// The last place on a link that an event names.
@@ -20,21 +21,6 @@ pub enum LinkWord {
     Hop,
     Drop,
     Cost,
-}
-
-/// The event whose line begins with the text.
-pub fn link_word(text: &[u8]) -> Option<LinkWord>
-    ensures { result ≡ link_word text.now }
-{
-    if text == b"hop".as_slice() {
-        Some(LinkWord::Hop)
-    } else if text == b"drop".as_slice() {
-        Some(LinkWord::Drop)
-    } else if text == b"cost".as_slice() {
-        Some(LinkWord::Cost)
-    } else {
-        None
-    }
 }
 
 /// The highest number of its line.
@@ -69,17 +55,14 @@ fn link_event(word: LinkWord, from: NodeId, to: NodeId, number: u32) -> Event
     }
 }
 
-#[tactic(auto, unfolding(crate::specs::event_lines::LinkGrammar::link_words))]
-fn link_words(
-    draft: &Draft,
-    row: Row,
-    word: LinkWord,
-    a: &Word,
-    b: &Word,
-    number: &Word,
-) -> Result<Line, TextFault>
-    ensures { result ≡ link_words draft.now row word (placed_word a.now) (placed_word b.now) (placed_word number.now) }
+/// The line of a link by the words after the first one.
+#[tactic(auto, unfolding(crate::specs::event_lines::LinkGrammar::link_line, crate::specs::event_lines::LinkGrammar::link_words))]
+pub fn link_line(draft: &Draft, row: Row, word: LinkWord, words: &[Word]) -> Result<Line, TextFault>
+    ensures { result ≡ link_line draft.now row word (map placed_word words.now) }
 {
+    let [a, b, number] = words else {
+        return Err(count_fault(row, words, 3));
+    };
     let from = node_at(draft, row, a)?;
     let to = node_at(draft, row, b)?;
     let number = or_fault(
@@ -91,16 +74,4 @@ fn link_words(
     let broken = link_fault(draft.scenario().links.as_slice(), from, to);
     let event = link_event(word, from, to, number);
     unless_broken(broken, row, b, Line::Event { event })
-}
-
-/// The line of a link by the words after the first one.
-#[tactic(auto, unfolding(crate::specs::event_lines::LinkGrammar::link_line))]
-pub fn link_line(draft: &Draft, row: Row, word: LinkWord, words: &[Word]) -> Result<Line, TextFault>
-    ensures { result ≡ link_line draft.now row word (map placed_word words.now) }
-{
-    match words {
-        [a, b, number] => link_words(draft, row, word, a, b, number),
-        [_, _, _, extra, ..] => Err(fault_at(row.number, extra.column, Reason::Count)),
-        _ => Err(fault_at(row.number, row.after, Reason::Count)),
-    }
 }

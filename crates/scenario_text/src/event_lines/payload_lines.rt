@@ -2,14 +2,13 @@
 ghost use Rattle.std.specs.Prelude.{◌≡◌, map};
 ghost use Rattle.line_words.specs.Answers.{Gives};
 ghost use Rattle.line_words.specs.Words.{placed_word};
-ghost use Rattle.scenario_text.specs.event_lines.PayloadGrammar.{pim_words, pim_line, packet_words, packet_line, send_head, send_words, send_line};
+ghost use Rattle.scenario_text.specs.event_lines.PayloadGrammar.{pim_line, packet_line, send_head, send_line};
 
 use crate::event_lines::rules::{family_fault, unless_broken};
-use line_words::{
-    ReadFault, Reason, Row, TextFault, Word, fault_at, group_at, payload_at, same_family, source_at,
-};
+use line_words::{ReadFault, Row, TextFault, Word, group_at, payload_at, same_family, source_at};
 use mv_base::{Addr, SiteId};
 use scenario_defs::{CustomerEvent, Event};
+use scenario_lines::count_fault;
 use scenario_lines::scenario_draft::{Draft, Line, iface_at, site_at};
 use std::alloc::Global;
 
@@ -21,16 +20,14 @@ pub struct SendHead {
     pub group: Addr,
 }
 
-#[tactic(auto, unfolding(crate::specs::event_lines::PayloadGrammar::pim_words))]
-fn pim_words(
-    alloc: Global,
-    draft: &Draft,
-    row: Row,
-    iface: &Word,
-    octets: &Word,
-) -> Result<Line, ReadFault>
-    ensures { Gives result (pim_words draft.now row (placed_word iface.now) (placed_word octets.now)) }
+/// The line of a PIM message by the words after the first one.
+#[tactic(auto, unfolding(crate::specs::event_lines::PayloadGrammar::pim_line, crate::specs::event_lines::PayloadGrammar::pim_words))]
+pub fn pim_line(alloc: Global, draft: &Draft, row: Row, words: &[Word]) -> Result<Line, ReadFault>
+    ensures { Gives result (pim_line draft.now row (map placed_word words.now)) }
 {
+    let [iface, octets] = words else {
+        return Err(ReadFault::Text(count_fault(row, words, 2)));
+    };
     let iface = iface_at(draft, row, iface)?;
     let bytes = payload_at(alloc, row, octets)?;
     Ok(Line::Event {
@@ -38,41 +35,8 @@ fn pim_words(
     })
 }
 
-/// The line of a PIM message by the words after the first one.
-#[tactic(auto, unfolding(crate::specs::event_lines::PayloadGrammar::pim_line))]
-pub fn pim_line(alloc: Global, draft: &Draft, row: Row, words: &[Word]) -> Result<Line, ReadFault>
-    ensures { Gives result (pim_line draft.now row (map placed_word words.now)) }
-{
-    match words {
-        [iface, octets] => pim_words(alloc, draft, row, iface, octets),
-        [_, _, extra, ..] => Err(ReadFault::Text(fault_at(
-            row.number,
-            extra.column,
-            Reason::Count,
-        ))),
-        _ => Err(ReadFault::Text(fault_at(row.number, row.after, Reason::Count))),
-    }
-}
-
-#[tactic(auto, unfolding(crate::specs::event_lines::PayloadGrammar::packet_words))]
-fn packet_words(
-    alloc: Global,
-    draft: &Draft,
-    row: Row,
-    site: &Word,
-    octets: &Word,
-) -> Result<Line, ReadFault>
-    ensures { Gives result (packet_words draft.now row (placed_word site.now) (placed_word octets.now)) }
-{
-    let site = site_at(draft, row, site)?;
-    let bytes = payload_at(alloc, row, octets)?;
-    Ok(Line::Event {
-        event: Event::Packet { site, bytes },
-    })
-}
-
 /// The line of a packet by the words after the first one.
-#[tactic(auto, unfolding(crate::specs::event_lines::PayloadGrammar::packet_line))]
+#[tactic(auto, unfolding(crate::specs::event_lines::PayloadGrammar::packet_line, crate::specs::event_lines::PayloadGrammar::packet_words))]
 pub fn packet_line(
     alloc: Global,
     draft: &Draft,
@@ -81,15 +45,14 @@ pub fn packet_line(
 ) -> Result<Line, ReadFault>
     ensures { Gives result (packet_line draft.now row (map placed_word words.now)) }
 {
-    match words {
-        [site, octets] => packet_words(alloc, draft, row, site, octets),
-        [_, _, extra, ..] => Err(ReadFault::Text(fault_at(
-            row.number,
-            extra.column,
-            Reason::Count,
-        ))),
-        _ => Err(ReadFault::Text(fault_at(row.number, row.after, Reason::Count))),
-    }
+    let [site, octets] = words else {
+        return Err(ReadFault::Text(count_fault(row, words, 2)));
+    };
+    let site = site_at(draft, row, site)?;
+    let bytes = payload_at(alloc, row, octets)?;
+    Ok(Line::Event {
+        event: Event::Packet { site, bytes },
+    })
 }
 
 #[tactic(auto, unfolding(crate::specs::event_lines::PayloadGrammar::send_head))]
@@ -112,19 +75,14 @@ fn send_head(
     })
 }
 
-#[tactic(auto, unfolding(crate::specs::event_lines::PayloadGrammar::send_words))]
-fn send_words(
-    alloc: Global,
-    draft: &Draft,
-    row: Row,
-    site: &Word,
-    source: &Word,
-    group: &Word,
-    payload: &Word,
-) -> Result<Line, ReadFault>
-    ensures { Gives result (send_words draft.now row
-        (placed_word site.now) (placed_word source.now) (placed_word group.now) (placed_word payload.now)) }
+/// The line of a datagram by the words after the first one.
+#[tactic(auto, unfolding(crate::specs::event_lines::PayloadGrammar::send_line, crate::specs::event_lines::PayloadGrammar::send_words))]
+pub fn send_line(alloc: Global, draft: &Draft, row: Row, words: &[Word]) -> Result<Line, ReadFault>
+    ensures { Gives result (send_line draft.now row (map placed_word words.now)) }
 {
+    let [site, source, group, payload] = words else {
+        return Err(ReadFault::Text(count_fault(row, words, 4)));
+    };
     let head = send_head(draft, row, site, source, group)?;
     let payload = payload_at(alloc, row, payload)?;
     let kept = same_family(head.source, head.group);
@@ -135,22 +93,4 @@ fn send_words(
         payload,
     };
     Ok(unless_broken(family_fault(kept), row, group, Line::Event { event })?)
-}
-
-/// The line of a datagram by the words after the first one.
-#[tactic(auto, unfolding(crate::specs::event_lines::PayloadGrammar::send_line))]
-pub fn send_line(alloc: Global, draft: &Draft, row: Row, words: &[Word]) -> Result<Line, ReadFault>
-    ensures { Gives result (send_line draft.now row (map placed_word words.now)) }
-{
-    match words {
-        [site, source, group, payload] => {
-            send_words(alloc, draft, row, site, source, group, payload)
-        }
-        [_, _, _, _, extra, ..] => Err(ReadFault::Text(fault_at(
-            row.number,
-            extra.column,
-            Reason::Count,
-        ))),
-        _ => Err(ReadFault::Text(fault_at(row.number, row.after, Reason::Count))),
-    }
 }

@@ -1,13 +1,13 @@
 //! The lines of selections.
 ghost use Rattle.std.specs.Prelude.{◌≡◌, map};
 ghost use Rattle.line_words.specs.Words.{placed_word};
-ghost use Rattle.scenario_text.specs.event_lines.SelectGrammar.{select_word, select_event, any_source_at, any_group_at, pattern_at};
-ghost use Rattle.scenario_text.specs.event_lines.SelectGrammar.{select_words, select_line};
+ghost use Rattle.scenario_text.specs.event_lines.SelectGrammar.{select_event, any_source_at, any_group_at, pattern_at, select_line};
 
 use crate::event_lines::rules::{family_fault, is_of_family, unless_broken};
-use line_words::{Reason, Row, TextFault, Word, fault_at, group_at, source_at};
+use line_words::{Row, TextFault, Word, group_at, source_at};
 use mv_base::{Addr, Pattern, VrfId};
 use scenario_defs::{CustomerEvent, Event};
+use scenario_lines::count_fault;
 use scenario_lines::scenario_draft::{Draft, Line, vrf_at};
 
 /// The events of a selection.
@@ -15,19 +15,6 @@ use scenario_lines::scenario_draft::{Draft, Line, vrf_at};
 pub enum SelectWord {
     Select,
     Unselect,
-}
-
-/// The event whose line begins with the text.
-pub fn select_word(text: &[u8]) -> Option<SelectWord>
-    ensures { result ≡ select_word text.now }
-{
-    if text == b"select".as_slice() {
-        Some(SelectWord::Select)
-    } else if text == b"unselect".as_slice() {
-        Some(SelectWord::Unselect)
-    } else {
-        None
-    }
 }
 
 fn select_event(word: SelectWord, vrf: VrfId, pattern: Pattern) -> Event
@@ -72,26 +59,8 @@ fn pattern_at(row: Row, source: &Word, group: &Word) -> Result<Pattern, TextFaul
     Ok(Pattern { source, group })
 }
 
-#[tactic(auto, unfolding(crate::specs::event_lines::SelectGrammar::select_words))]
-fn select_words(
-    draft: &Draft,
-    row: Row,
-    word: SelectWord,
-    vrf: &Word,
-    source: &Word,
-    group: &Word,
-) -> Result<Line, TextFault>
-    ensures { result ≡ select_words draft.now row word (placed_word vrf.now) (placed_word source.now) (placed_word group.now) }
-{
-    let vrf = vrf_at(draft, row, vrf)?;
-    let pattern = pattern_at(row, source, group)?;
-    let kept = is_of_family(pattern);
-    let event = select_event(word, vrf, pattern);
-    unless_broken(family_fault(kept), row, group, Line::Event { event })
-}
-
 /// The line of a selection by the words after the first one.
-#[tactic(auto, unfolding(crate::specs::event_lines::SelectGrammar::select_line))]
+#[tactic(auto, unfolding(crate::specs::event_lines::SelectGrammar::select_line, crate::specs::event_lines::SelectGrammar::select_words))]
 pub fn select_line(
     draft: &Draft,
     row: Row,
@@ -100,9 +69,12 @@ pub fn select_line(
 ) -> Result<Line, TextFault>
     ensures { result ≡ select_line draft.now row word (map placed_word words.now) }
 {
-    match words {
-        [vrf, source, group] => select_words(draft, row, word, vrf, source, group),
-        [_, _, _, extra, ..] => Err(fault_at(row.number, extra.column, Reason::Count)),
-        _ => Err(fault_at(row.number, row.after, Reason::Count)),
-    }
+    let [vrf, source, group] = words else {
+        return Err(count_fault(row, words, 3));
+    };
+    let vrf = vrf_at(draft, row, vrf)?;
+    let pattern = pattern_at(row, source, group)?;
+    let kept = is_of_family(pattern);
+    let event = select_event(word, vrf, pattern);
+    unless_broken(family_fault(kept), row, group, Line::Event { event })
 }

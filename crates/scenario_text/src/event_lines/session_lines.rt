@@ -1,14 +1,15 @@
 //! The lines of sessions.
 ghost use Rattle.std.specs.Prelude.{◌≡◌, map};
 ghost use Rattle.line_words.specs.Words.{placed_word};
-ghost use Rattle.scenario_text.specs.event_lines.SessionGrammar.{session_word, session_event, kind_at, end_at, session_at, session_words};
-ghost use Rattle.scenario_text.specs.event_lines.SessionGrammar.{session_line, move_words, move_line};
+ghost use Rattle.scenario_text.specs.event_lines.SessionGrammar.{session_event, kind_at, end_at, session_at};
+ghost use Rattle.scenario_text.specs.event_lines.SessionGrammar.{session_line, move_line};
 
 use crate::event_lines::rules::{session_fault, unless_broken};
-use line_words::{Reason, Row, TextFault, Word, fault_at, number_to, or_fault};
+use line_words::{Reason, Row, TextFault, Word, number_to, or_fault};
 use mv_base::NodeId;
 use scenario_defs::{Event, Kind};
 use scenario_lines::scenario_draft::{Draft, Line, edge_at, node_at};
+use scenario_lines::{count_fault, meaning_of};
 
 /// The most octets that one event moves.
 const MOVE_LIMIT: u32 = 999_999_999;
@@ -29,21 +30,6 @@ pub struct Session {
     pub b: NodeId,
 }
 
-/// The event whose line begins with the text.
-pub fn session_word(text: &[u8]) -> Option<SessionWord>
-    ensures { result ≡ session_word text.now }
-{
-    if text == b"lose".as_slice() {
-        Some(SessionWord::Lose)
-    } else if text == b"notice".as_slice() {
-        Some(SessionWord::Notice)
-    } else if text == b"raise".as_slice() {
-        Some(SessionWord::Raise)
-    } else {
-        None
-    }
-}
-
 fn session_event(word: SessionWord, named: Session) -> Event
     ensures { result ≡ session_event word named }
 {
@@ -59,13 +45,8 @@ fn session_event(word: SessionWord, named: Session) -> Event
 fn kind_at(row: Row, word: &Word) -> Result<Kind, TextFault>
     ensures { result ≡ kind_at row (placed_word word.now) }
 {
-    if word.text == b"bgp".as_slice() {
-        Ok(Kind::Bgp)
-    } else if word.text == b"ldp".as_slice() {
-        Ok(Kind::Ldp)
-    } else {
-        Err(fault_at(row.number, word.column, Reason::Choice))
-    }
+    let kind = meaning_of(word.text, &[(b"bgp", Kind::Bgp), (b"ldp", Kind::Ldp)]);
+    or_fault(kind, row, word, Reason::Choice)
 }
 
 /// An end of a session: over BGP an edge, over LDP any node.
@@ -94,26 +75,8 @@ fn session_at(
     Ok(Session { kind, a, b })
 }
 
-#[tactic(auto, unfolding(crate::specs::event_lines::SessionGrammar::session_words))]
-fn session_words(
-    draft: &Draft,
-    row: Row,
-    word: SessionWord,
-    kind: &Word,
-    a: &Word,
-    b: &Word,
-) -> Result<Line, TextFault>
-    ensures { result ≡ session_words draft.now row word (placed_word kind.now) (placed_word a.now) (placed_word b.now) }
-{
-    let named = session_at(draft, row, kind, a, b)?;
-    let links = draft.scenario().links.as_slice();
-    let broken = session_fault(links, named.kind, named.a, named.b);
-    let event = session_event(word, named);
-    unless_broken(broken, row, b, Line::Event { event })
-}
-
 /// The line of a session that is lost, noticed to be lost or raised, by the words after the first one.
-#[tactic(auto, unfolding(crate::specs::event_lines::SessionGrammar::session_line))]
+#[tactic(auto, unfolding(crate::specs::event_lines::SessionGrammar::session_line, crate::specs::event_lines::SessionGrammar::session_words))]
 pub fn session_line(
     draft: &Draft,
     row: Row,
@@ -122,25 +85,24 @@ pub fn session_line(
 ) -> Result<Line, TextFault>
     ensures { result ≡ session_line draft.now row word (map placed_word words.now) }
 {
-    match words {
-        [kind, a, b] => session_words(draft, row, word, kind, a, b),
-        [_, _, _, extra, ..] => Err(fault_at(row.number, extra.column, Reason::Count)),
-        _ => Err(fault_at(row.number, row.after, Reason::Count)),
-    }
+    let [kind, a, b] = words else {
+        return Err(count_fault(row, words, 3));
+    };
+    let named = session_at(draft, row, kind, a, b)?;
+    let links = draft.scenario().links.as_slice();
+    let broken = session_fault(links, named.kind, named.a, named.b);
+    let event = session_event(word, named);
+    unless_broken(broken, row, b, Line::Event { event })
 }
 
-#[tactic(auto, unfolding(crate::specs::event_lines::SessionGrammar::move_words))]
-fn move_words(
-    draft: &Draft,
-    row: Row,
-    kind: &Word,
-    a: &Word,
-    b: &Word,
-    count: &Word,
-) -> Result<Line, TextFault>
-    ensures { result ≡ move_words draft.now row
-        (placed_word kind.now) (placed_word a.now) (placed_word b.now) (placed_word count.now) }
+/// The line of octets that move on a session, by the words after the first one.
+#[tactic(auto, unfolding(crate::specs::event_lines::SessionGrammar::move_line, crate::specs::event_lines::SessionGrammar::move_words))]
+pub fn move_line(draft: &Draft, row: Row, words: &[Word]) -> Result<Line, TextFault>
+    ensures { result ≡ move_line draft.now row (map placed_word words.now) }
 {
+    let [kind, a, b, count] = words else {
+        return Err(count_fault(row, words, 4));
+    };
     let named = session_at(draft, row, kind, a, b)?;
     let count = or_fault(
         number_to(count.text, MOVE_LIMIT),
@@ -157,16 +119,4 @@ fn move_words(
         count,
     };
     unless_broken(broken, row, b, Line::Event { event })
-}
-
-/// The line of octets that move on a session, by the words after the first one.
-#[tactic(auto, unfolding(crate::specs::event_lines::SessionGrammar::move_line))]
-pub fn move_line(draft: &Draft, row: Row, words: &[Word]) -> Result<Line, TextFault>
-    ensures { result ≡ move_line draft.now row (map placed_word words.now) }
-{
-    match words {
-        [kind, a, b, count] => move_words(draft, row, kind, a, b, count),
-        [_, _, _, _, extra, ..] => Err(fault_at(row.number, extra.column, Reason::Count)),
-        _ => Err(fault_at(row.number, row.after, Reason::Count)),
-    }
 }

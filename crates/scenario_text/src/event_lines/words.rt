@@ -1,14 +1,15 @@
 //! The first words of events.
 ghost use Rattle.std.specs.Prelude.{◌≡◌};
-ghost use Rattle.scenario_text.specs.event_lines.EventGrammar.{bare_word, bare_event, single_word, network_word, vrf_word, event_word};
+ghost use Rattle.scenario_text.specs.event_lines.EventGrammar.{bare_event, event_word};
 
-use crate::event_lines::clock_lines::{NodeWord, node_word};
-use crate::event_lines::flow_lines::{FlowWord, flow_word};
-use crate::event_lines::join_lines::{EntryWord, entry_word};
-use crate::event_lines::link_lines::{LinkWord, link_word};
-use crate::event_lines::select_lines::{SelectWord, select_word};
-use crate::event_lines::session_lines::{SessionWord, session_word};
+use crate::event_lines::clock_lines::NodeWord;
+use crate::event_lines::flow_lines::FlowWord;
+use crate::event_lines::join_lines::EntryWord;
+use crate::event_lines::link_lines::LinkWord;
+use crate::event_lines::select_lines::SelectWord;
+use crate::event_lines::session_lines::SessionWord;
 use scenario_defs::Event;
+use scenario_lines::meaning_of;
 
 /// The events whose line is one word.
 #[derive(Clone, Copy)]
@@ -36,21 +37,32 @@ pub enum EventWord {
     Bare(BareWord),
 }
 
-fn bare_word(text: &[u8]) -> Option<BareWord>
-    ensures { result ≡ bare_word text.now }
-{
-    if text == b"heal".as_slice() {
-        Some(BareWord::Heal)
-    } else if text == b"settle".as_slice() {
-        Some(BareWord::Settle)
-    } else if text == b"drain".as_slice() {
-        Some(BareWord::Drain)
-    } else if text == b"state".as_slice() {
-        Some(BareWord::State)
-    } else {
-        None
-    }
-}
+/// The first words, and what each begins.
+const WORDS: [(&[u8], EventWord); 23] = [
+    (b"tick", EventWord::Tick),
+    (b"move", EventWord::Move),
+    (b"pim", EventWord::Pim),
+    (b"packet", EventWord::Packet),
+    (b"send", EventWord::Send),
+    (b"timers", EventWord::Node(NodeWord::Timers)),
+    (b"restart", EventWord::Node(NodeWord::Restart)),
+    (b"lose", EventWord::Session(SessionWord::Lose)),
+    (b"notice", EventWord::Session(SessionWord::Notice)),
+    (b"raise", EventWord::Session(SessionWord::Raise)),
+    (b"hop", EventWord::Link(LinkWord::Hop)),
+    (b"drop", EventWord::Link(LinkWord::Drop)),
+    (b"cost", EventWord::Link(LinkWord::Cost)),
+    (b"join", EventWord::Entry(EntryWord::Join)),
+    (b"prune", EventWord::Entry(EntryWord::Prune)),
+    (b"active", EventWord::Flow(FlowWord::Active)),
+    (b"idle", EventWord::Flow(FlowWord::Idle)),
+    (b"select", EventWord::Select(SelectWord::Select)),
+    (b"unselect", EventWord::Select(SelectWord::Unselect)),
+    (b"heal", EventWord::Bare(BareWord::Heal)),
+    (b"settle", EventWord::Bare(BareWord::Settle)),
+    (b"drain", EventWord::Bare(BareWord::Drain)),
+    (b"state", EventWord::Bare(BareWord::State)),
+];
 
 pub fn bare_event(word: BareWord) -> Event
     ensures { result ≡ bare_event word }
@@ -63,66 +75,10 @@ pub fn bare_event(word: BareWord) -> Event
     }
 }
 
-fn single_word(text: &[u8]) -> Option<EventWord>
-    ensures { result ≡ single_word text.now }
-{
-    if text == b"tick".as_slice() {
-        Some(EventWord::Tick)
-    } else if text == b"move".as_slice() {
-        Some(EventWord::Move)
-    } else if text == b"pim".as_slice() {
-        Some(EventWord::Pim)
-    } else if text == b"packet".as_slice() {
-        Some(EventWord::Packet)
-    } else if text == b"send".as_slice() {
-        Some(EventWord::Send)
-    } else {
-        None
-    }
-}
-
-fn network_word(text: &[u8]) -> Option<EventWord>
-    ensures { result ≡ network_word text.now }
-{
-    if let Some(word) = node_word(text) {
-        Some(EventWord::Node(word))
-    } else if let Some(word) = session_word(text) {
-        Some(EventWord::Session(word))
-    } else if let Some(word) = link_word(text) {
-        Some(EventWord::Link(word))
-    } else {
-        None
-    }
-}
-
-fn vrf_word(text: &[u8]) -> Option<EventWord>
-    ensures { result ≡ vrf_word text.now }
-{
-    if let Some(word) = entry_word(text) {
-        Some(EventWord::Entry(word))
-    } else if let Some(word) = flow_word(text) {
-        Some(EventWord::Flow(word))
-    } else if let Some(word) = select_word(text) {
-        Some(EventWord::Select(word))
-    } else {
-        None
-    }
-}
-
 /// What a first word begins.
 #[tactic(auto, unfolding(crate::specs::event_lines::EventGrammar::event_word))]
 pub fn event_word(text: &[u8]) -> Option<EventWord>
     ensures { result ≡ event_word text.now }
 {
-    if let Some(kind) = single_word(text) {
-        Some(kind)
-    } else if let Some(kind) = network_word(text) {
-        Some(kind)
-    } else if let Some(kind) = vrf_word(text) {
-        Some(kind)
-    } else if let Some(word) = bare_word(text) {
-        Some(EventWord::Bare(word))
-    } else {
-        None
-    }
+    meaning_of(text, &WORDS)
 }

@@ -1,8 +1,7 @@
 -- The tree of a VRF keeps what the edge's data have of the VRF.
-use Rattle.std.proofs.Common.{◌≡◌, ap, subst, List, [], ◌∷◌, map, inl, inr}
+use Rattle.std.proofs.Common.{ap, subst, List, [], ◌∷◌, map, inl, inr}
 use Rattle.mv_base.specs.Lists.{Among}
 use Rattle.mv_base.specs.declared.ids.VrfId.{VrfId}
-use Rattle.mv_base.specs.core_walks.Core.{Core}
 use Rattle.edge_defs.specs.Place.{OwnVrf}
 use Rattle.edge_routes.specs.edge_home.Home.{place_of}
 use Rattle.edge_routing.specs.control_laws.Control.{AreTrees, OwnTree, control_of, trees_of}

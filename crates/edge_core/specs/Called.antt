@@ -1,5 +1,5 @@
 -- An edge in the midst of a call: its customers' and its peers' part and its streams are after it, and its label part is not.
-use Rattle.std.specs.Prelude.{◌≡◌, ℕ, length, Option, None, Result, Ok, Err, IfOk, option_map}
+use Rattle.std.specs.Prelude.{◌≡◌, ◌<◌, ◌^◌, ℕ, length, Option, None, Result, Ok, Err, IfOk, option_map}
 use Rattle.mv_base.specs.declared.memory.NoMemory.{NoMemory}
 use Rattle.mv_base.specs.core_walks.Core.{Core}
 use Rattle.mv_base.specs.core_walks.Topology.{Topology}
@@ -25,6 +25,12 @@ going parts = record { routing = parts.routing; labels = parts.labels; streams =
 -- an edge of these parts, which is spent where it answered such a fault
 abbrev pub seen : Parts → Option NodeFault → EdgeView
 seen parts spent = record (going parts) { spent = option_map cause spent }
+
+-- What a call asks of the parts of an edge that makes it: they are those of one that is not spent, where it stands in that core, at a clock.
+pub record IsReady (core : Topology) (now : ℕ) (parts : Parts) : Type 0 where
+  pub live : IsLive parts.routing parts.labels parts.streams
+  pub nodes : core.nodes ≡ length parts.routing.control.home.scenario.nodes
+  pub clock : now < 2 ^ 63
 
 -- The call was made of what the edge keeps and tells its peers, of its streams, and of when its ends came up; and the label part is to
 -- make its own call.

@@ -1,11 +1,9 @@
 //! The calls of an edge as values, as the layers above hand them on.
-ghost use Rattle.std.specs.Prelude.{◌≡◌, ◌<◌, ◌^◌, length};
 ghost use Rattle.edge_defs.specs.Steps.{Noticed, Raised};
-ghost use Rattle.edge_core.specs.Called.{going};
+ghost use Rattle.edge_core.specs.Called.{IsReady, going};
 ghost use Rattle.edge_core.specs.Calls.{Fits, MakesCall, call_of};
-ghost use Rattle.edge_core.specs.State.{IsLive};
 
-use crate::fault::EdgeFault;
+use crate::fault::{Answer, EdgeFault};
 use crate::parts::Parts;
 use core_paths::Core;
 use edge_routing::of_edge_control::ControlFault;
@@ -63,10 +61,8 @@ pub enum EdgeCall<'a> {
 
 impl Parts {
     /// The end of the session comes up.
-    fn raise(&mut self, kind: Kind, peer: NodeId, now: u64, core: &Core) -> Result<(), EdgeFault>
-        requires live { IsLive self.old.routing self.old.labels self.old.streams }
-        requires nodes { core.now.nodes ≡ length self.old.routing.control.home.scenario.nodes }
-        requires now { now < 2 ^ 63 }
+    fn raise(&mut self, kind: Kind, peer: NodeId, now: u64, core: &Core) -> Answer
+        requires ready { IsReady core.now now self.old }
         requires fits { Fits (going self.old) (Raised kind peer) }
         ensures { MakesCall core.now now (Raised kind peer) self.old self.new result }
     {
@@ -77,10 +73,8 @@ impl Parts {
     }
 
     /// The end of the session notices its loss.
-    fn lose(&mut self, kind: Kind, peer: NodeId, now: u64, core: &Core) -> Result<(), EdgeFault>
-        requires live { IsLive self.old.routing self.old.labels self.old.streams }
-        requires nodes { core.now.nodes ≡ length self.old.routing.control.home.scenario.nodes }
-        requires now { now < 2 ^ 63 }
+    fn lose(&mut self, kind: Kind, peer: NodeId, now: u64, core: &Core) -> Answer
+        requires ready { IsReady core.now now self.old }
         ensures { MakesCall core.now now (Noticed kind peer) self.old self.new result }
     {
         match kind {
@@ -90,15 +84,8 @@ impl Parts {
     }
 
     /// Makes the call.
-    pub(crate) fn call(
-        &mut self,
-        call: EdgeCall<'_>,
-        now: u64,
-        core: &Core,
-    ) -> Result<(), EdgeFault>
-        requires live { IsLive self.old.routing self.old.labels self.old.streams }
-        requires nodes { core.now.nodes ≡ length self.old.routing.control.home.scenario.nodes }
-        requires now { now < 2 ^ 63 }
+    pub(crate) fn call(&mut self, call: EdgeCall<'_>, now: u64, core: &Core) -> Answer
+        requires ready { IsReady core.now now self.old }
         requires fits { Fits (going self.old) (call_of call) }
         ensures { MakesCall core.now now (call_of call.entry) self.old self.new result }
     {
@@ -115,12 +102,24 @@ impl Parts {
                     iface,
                     source,
                     group,
-                } => self.note(iface, source, group, now, core),
+                } => match self
+                    .routing
+                    .note(self.alloc, iface, source, group, now, core)
+                {
+                    Ok(told) => self.settle(&OwnCall::None, Ok(told), now, core),
+                    Err(ControlFault::Full) => Err(EdgeFault::Full),
+                    Err(ControlFault::NoMemory) => Err(EdgeFault::NoMemory),
+                },
                 CustomerCall::Idle {
                     iface,
                     source,
                     group,
-                } => self.unnote(iface, source, group, now, core),
+                } => {
+                    let told = self
+                        .routing
+                        .unnote(self.alloc, iface, source, group, now, core);
+                    self.settle(&OwnCall::None, told, now, core)
+                }
                 CustomerCall::Select { vrf, pattern } => self.select(vrf, pattern, now),
                 CustomerCall::Unselect { vrf, pattern } => self.unselect(vrf, pattern),
             },

@@ -36,6 +36,9 @@ pub enum EdgeFault {
     NoMemory,
 }
 
+/// What a call of an edge answers that gives nothing back.
+pub type Answer = Result<(), EdgeFault>;
+
 /// It says what `Display` says: the faults of streams have no `Debug`.
 impl fmt::Debug for EdgeFault {
     fn fmt<W: fmt::Write>(&self, f: &mut fmt::Formatter<W>) -> Result<(), fmt::Error> {

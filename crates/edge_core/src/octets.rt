@@ -1,5 +1,5 @@
 //! Octets that come over sessions, and the messages that they spell (RFC 4271 section 4, RFC 5036 section 3.1).
-ghost use Rattle.std.specs.Prelude.{◌≡◌, ◌<◌, ◌^◌, [], map, true, length, All, OnOk, Err, None};
+ghost use Rattle.std.specs.Prelude.{◌≡◌, [], map, true, All, OnOk, Err, None};
 ghost use Rattle.scenario_defs.specs.declared.event.Kind.TheVariants as kinds;
 ghost use Rattle.network_defs.specs.session_defs.Message.{Bgp, Label};
 ghost use Rattle.network_defs.specs.session_defs.PeerSession.{fault_at};
@@ -7,12 +7,12 @@ ghost use Rattle.edge_defs.specs.Steps.{Label as LabelCall, Update};
 ghost use Rattle.edge_routing.specs.edge_streams.Kept.{session};
 ghost use Rattle.edge_routing.specs.edge_streams.Spelled.{SaysWritable, SaysWritableLabel};
 ghost use Rattle.edge_core.specs.Answers.{IsOneOf};
-ghost use Rattle.edge_core.specs.Called.{Settles, SettlesCall, thereafter, going, spent_after};
+ghost use Rattle.edge_core.specs.Called.{IsReady, Settles, SettlesCall, thereafter, going, spent_after};
 ghost use Rattle.edge_core.specs.State.{IsLive, is_up};
 ghost use Rattle.edge_core.specs.Taking.{AnswersOctets, IsSessionFault, taken_by};
 ghost use Rattle.edge_core.specs.declared.fault.EdgeFault.{EdgeFault as EdgeFaults};
 
-use crate::fault::EdgeFault;
+use crate::fault::{Answer, EdgeFault};
 use crate::parts::Parts;
 use bgp_messages::bgp_update::Message;
 use core_paths::Core;
@@ -23,16 +23,8 @@ use scenario_defs::Kind;
 
 impl Parts {
     /// Takes a message of the BGP peer.
-    fn take_update(
-        &mut self,
-        peer: NodeId,
-        message: Message,
-        now: u64,
-        core: &Core,
-    ) -> Result<(), EdgeFault>
-        requires live { IsLive self.old.routing self.old.labels self.old.streams }
-        requires nodes { core.now.nodes ≡ length self.old.routing.control.home.scenario.nodes }
-        requires now { now < 2 ^ 63 }
+    fn take_update(&mut self, peer: NodeId, message: Message, now: u64, core: &Core) -> Answer
+        requires ready { IsReady core.now now self.old }
         requires writable { SaysWritable message }
         ensures settles { SettlesCall core.now now (Update peer message) (going self.old) self.new result }
         ensures only { IsOneOf [] result }
@@ -44,16 +36,8 @@ impl Parts {
     }
 
     /// Takes a message of the LDP neighbour.
-    fn take_label(
-        &mut self,
-        peer: NodeId,
-        message: LabelMessage,
-        now: u64,
-        core: &Core,
-    ) -> Result<(), EdgeFault>
-        requires live { IsLive self.old.routing self.old.labels self.old.streams }
-        requires nodes { core.now.nodes ≡ length self.old.routing.control.home.scenario.nodes }
-        requires now { now < 2 ^ 63 }
+    fn take_label(&mut self, peer: NodeId, message: LabelMessage, now: u64, core: &Core) -> Answer
+        requires ready { IsReady core.now now self.old }
         requires writable { SaysWritableLabel message }
         ensures settles { SettlesCall core.now now (LabelCall peer message) (going self.old) self.new result }
         ensures only { IsOneOf [] result }
@@ -69,10 +53,8 @@ impl Parts {
         messages: Vec<Message>,
         now: u64,
         core: &Core,
-    ) -> Result<(), EdgeFault>
-        requires live { IsLive self.old.routing self.old.labels self.old.streams }
-        requires nodes { core.now.nodes ≡ length self.old.routing.control.home.scenario.nodes }
-        requires now { now < 2 ^ 63 }
+    ) -> Answer
+        requires ready { IsReady core.now now self.old }
         requires writable { All SaysWritable messages.items }
         ensures settles { Settles core.now (taken_by (going self.old) now peer (map (λ message. Bgp message) messages.items))
             (going self.old) self.new result }
@@ -93,10 +75,8 @@ impl Parts {
         messages: Vec<LabelMessage>,
         now: u64,
         core: &Core,
-    ) -> Result<(), EdgeFault>
-        requires live { IsLive self.old.routing self.old.labels self.old.streams }
-        requires nodes { core.now.nodes ≡ length self.old.routing.control.home.scenario.nodes }
-        requires now { now < 2 ^ 63 }
+    ) -> Answer
+        requires ready { IsReady core.now now self.old }
         requires writable { All SaysWritableLabel messages.items }
         ensures settles { Settles core.now (taken_by (going self.old) now peer (map (λ message. Label message) messages.items))
             (going self.old) self.new result }
@@ -111,7 +91,7 @@ impl Parts {
     }
 
     /// The first fault of the session's stream, if it has had one.
-    fn sound(&self, kind: Kind, peer: NodeId) -> Result<(), EdgeFault>
+    fn sound(&self, kind: Kind, peer: NodeId) -> Answer
         ensures sound { OnOk result (fault_at self.now.streams (session kind peer) ≡ None) }
         ensures fault { (fault : EdgeFaults) → result ≡ Err fault → IsSessionFault (session kind peer) (going self.now) fault }
     {
@@ -126,16 +106,8 @@ impl Parts {
     }
 
     /// Takes octets of the BGP session with the peer, which is up: the messages that are whole with them, those before its first fault too.
-    pub(crate) fn take_bgp(
-        &mut self,
-        peer: NodeId,
-        bytes: &[u8],
-        now: u64,
-        core: &Core,
-    ) -> Result<(), EdgeFault>
-        requires live { IsLive self.old.routing self.old.labels self.old.streams }
-        requires nodes { core.now.nodes ≡ length self.old.routing.control.home.scenario.nodes }
-        requires now { now < 2 ^ 63 }
+    pub(crate) fn take_bgp(&mut self, peer: NodeId, bytes: &[u8], now: u64, core: &Core) -> Answer
+        requires ready { IsReady core.now now self.old }
         requires up { is_up (going self.old) kinds.Bgp peer ≡ true }
         ensures answers { AnswersOctets core.now now (session kinds.Bgp peer) bytes.now (going self.old) (thereafter self.new result) result }
         ensures live { spent_after result ≡ None → IsLive self.new.routing self.new.labels self.new.streams }
@@ -150,16 +122,8 @@ impl Parts {
 
     /// Takes octets of the LDP session with the neighbour, which is up: the messages that are whole with them, those before its first
     /// fault too.
-    pub(crate) fn take_ldp(
-        &mut self,
-        peer: NodeId,
-        bytes: &[u8],
-        now: u64,
-        core: &Core,
-    ) -> Result<(), EdgeFault>
-        requires live { IsLive self.old.routing self.old.labels self.old.streams }
-        requires nodes { core.now.nodes ≡ length self.old.routing.control.home.scenario.nodes }
-        requires now { now < 2 ^ 63 }
+    pub(crate) fn take_ldp(&mut self, peer: NodeId, bytes: &[u8], now: u64, core: &Core) -> Answer
+        requires ready { IsReady core.now now self.old }
         requires up { is_up (going self.old) kinds.Ldp peer ≡ true }
         ensures answers { AnswersOctets core.now now (session kinds.Ldp peer) bytes.now (going self.old) (thereafter self.new result) result }
         ensures live { spent_after result ≡ None → IsLive self.new.routing self.new.labels self.new.streams }

@@ -1,15 +1,15 @@
 //! Sessions that come up or are lost, the timers, and other costs of links.
-ghost use Rattle.std.specs.Prelude.{◌≡◌, ◌<◌, ◌^◌, [], false, length, OnOk};
+ghost use Rattle.std.specs.Prelude.{◌≡◌, [], false, OnOk};
 ghost use Rattle.mv_base.specs.Lists.{Among};
 ghost use Rattle.scenario_defs.specs.declared.event.Kind.TheVariants as kinds;
 ghost use Rattle.edge_defs.specs.Steps.{Noticed, Raised, Rerouted, Timers};
 ghost use Rattle.edge_routes.specs.edge_home.Home.{peers_of};
 ghost use Rattle.mldp_node.specs.NodeData.{WaitsTowardRootsOf};
 ghost use Rattle.edge_core.specs.Answers.{IsOneOf};
-ghost use Rattle.edge_core.specs.Called.{SettlesCall, going};
-ghost use Rattle.edge_core.specs.State.{IsLive, is_up};
+ghost use Rattle.edge_core.specs.Called.{IsReady, SettlesCall, going};
+ghost use Rattle.edge_core.specs.State.{is_up};
 
-use crate::fault::EdgeFault;
+use crate::fault::Answer;
 use crate::parts::Parts;
 use core_paths::Core;
 use edge_routing::of_edge_labels::OwnCall;
@@ -18,10 +18,8 @@ use scenario_defs::Kind;
 
 impl Parts {
     /// The end of the BGP session with the peer comes up.
-    pub(crate) fn raise_bgp(&mut self, peer: NodeId, now: u64, core: &Core) -> Result<(), EdgeFault>
-        requires live { IsLive self.old.routing self.old.labels self.old.streams }
-        requires nodes { core.now.nodes ≡ length self.old.routing.control.home.scenario.nodes }
-        requires now { now < 2 ^ 63 }
+    pub(crate) fn raise_bgp(&mut self, peer: NodeId, now: u64, core: &Core) -> Answer
+        requires ready { IsReady core.now now self.old }
         requires peer { Among peer (peers_of self.old.routing.control.home) }
         requires down { is_up (going self.old) kinds.Bgp peer ≡ false }
         ensures settles { SettlesCall core.now now (Raised kinds.Bgp peer) (going self.old) self.new result }
@@ -34,10 +32,8 @@ impl Parts {
     }
 
     /// The end of the LDP session with the neighbour comes up.
-    pub(crate) fn raise_ldp(&mut self, peer: NodeId, now: u64, core: &Core) -> Result<(), EdgeFault>
-        requires live { IsLive self.old.routing self.old.labels self.old.streams }
-        requires nodes { core.now.nodes ≡ length self.old.routing.control.home.scenario.nodes }
-        requires now { now < 2 ^ 63 }
+    pub(crate) fn raise_ldp(&mut self, peer: NodeId, now: u64, core: &Core) -> Answer
+        requires ready { IsReady core.now now self.old }
         requires down { is_up (going self.old) kinds.Ldp peer ≡ false }
         ensures settles { SettlesCall core.now now (Raised kinds.Ldp peer) (going self.old) self.new result }
         ensures only { IsOneOf [] result }
@@ -48,10 +44,8 @@ impl Parts {
     }
 
     /// The end of the BGP session with the peer notices its loss.
-    pub(crate) fn lose_bgp(&mut self, peer: NodeId, now: u64, core: &Core) -> Result<(), EdgeFault>
-        requires live { IsLive self.old.routing self.old.labels self.old.streams }
-        requires nodes { core.now.nodes ≡ length self.old.routing.control.home.scenario.nodes }
-        requires now { now < 2 ^ 63 }
+    pub(crate) fn lose_bgp(&mut self, peer: NodeId, now: u64, core: &Core) -> Answer
+        requires ready { IsReady core.now now self.old }
         ensures settles { SettlesCall core.now now (Noticed kinds.Bgp peer) (going self.old) self.new result }
         ensures only { IsOneOf [] result }
     {
@@ -62,10 +56,8 @@ impl Parts {
     }
 
     /// The end of the LDP session with the neighbour notices its loss.
-    pub(crate) fn lose_ldp(&mut self, peer: NodeId, now: u64, core: &Core) -> Result<(), EdgeFault>
-        requires live { IsLive self.old.routing self.old.labels self.old.streams }
-        requires nodes { core.now.nodes ≡ length self.old.routing.control.home.scenario.nodes }
-        requires now { now < 2 ^ 63 }
+    pub(crate) fn lose_ldp(&mut self, peer: NodeId, now: u64, core: &Core) -> Answer
+        requires ready { IsReady core.now now self.old }
         ensures settles { SettlesCall core.now now (Noticed kinds.Ldp peer) (going self.old) self.new result }
         ensures only { IsOneOf [] result }
     {
@@ -75,10 +67,8 @@ impl Parts {
     }
 
     /// The timers run.
-    pub(crate) fn run_timers(&mut self, now: u64, core: &Core) -> Result<(), EdgeFault>
-        requires live { IsLive self.old.routing self.old.labels self.old.streams }
-        requires nodes { core.now.nodes ≡ length self.old.routing.control.home.scenario.nodes }
-        requires now { now < 2 ^ 63 }
+    pub(crate) fn run_timers(&mut self, now: u64, core: &Core) -> Answer
+        requires ready { IsReady core.now now self.old }
         ensures settles { SettlesCall core.now now Timers (going self.old) self.new result }
         ensures only { IsOneOf [] result }
     {
@@ -87,10 +77,8 @@ impl Parts {
     }
 
     /// Costs of links changed.
-    pub(crate) fn reroute(&mut self, now: u64, core: &Core) -> Result<(), EdgeFault>
-        requires live { IsLive self.old.routing self.old.labels self.old.streams }
-        requires nodes { core.now.nodes ≡ length self.old.routing.control.home.scenario.nodes }
-        requires now { now < 2 ^ 63 }
+    pub(crate) fn reroute(&mut self, now: u64, core: &Core) -> Answer
+        requires ready { IsReady core.now now self.old }
         ensures settles { SettlesCall core.now now Rerouted (going self.old) self.new result }
         ensures toward { OnOk result (WaitsTowardRootsOf core.now self.new.labels) }
         ensures only { IsOneOf [] result }

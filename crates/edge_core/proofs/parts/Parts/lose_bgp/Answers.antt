@@ -13,7 +13,7 @@ settle-requires-clause-called c =
       call = Noticed kinds.Bgp c.args.peer;
       old = going old;
       is = midway_raised c.args.core.now c.args.now owns.None (Noticed kinds.Bgp c.args.peer) old c.lose-told.new.self c.lose.new.self
-          c.lose-2.new.self c.lose-told.result c.lose-2.ensures c.requires.live c.requires.nodes refl tt c.lose.ensures c.lose-told.ensures.home
+          c.lose-2.new.self c.lose-told.result c.lose-2.ensures c.requires.ready.live c.requires.ready.nodes refl tt c.lose.ensures c.lose-told.ensures.home
           c.lose-told.ensures.stepped;
     }
 
@@ -22,5 +22,5 @@ returns-clause-settles c =
     let old = c.args.self.now in
     c.settle.ensures.answers (Noticed kinds.Bgp c.args.peer) (going old)
     (midway_raised c.args.core.now c.args.now owns.None (Noticed kinds.Bgp c.args.peer) old c.lose-told.new.self c.lose.new.self c.lose-2.new.self
-    c.lose-told.result c.lose-2.ensures c.requires.live c.requires.nodes refl tt c.lose.ensures c.lose-told.ensures.home
+    c.lose-told.result c.lose-2.ensures c.requires.ready.live c.requires.ready.nodes refl tt c.lose.ensures c.lose-told.ensures.home
     c.lose-told.ensures.stepped)

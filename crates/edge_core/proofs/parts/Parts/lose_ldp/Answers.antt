@@ -13,7 +13,7 @@ settle-requires-clause-called c =
       call = Noticed kinds.Ldp c.args.peer;
       old = going old;
       is = midway c.args.core.now c.args.now (owns.Notice c.args.peer) (Noticed kinds.Ldp c.args.peer) old c.step-told.new.self c.lose.new.self
-          c.step-told.result refl c.requires.live c.requires.nodes refl tt c.lose.ensures c.step-told.ensures.home
+          c.step-told.result refl c.requires.ready.live c.requires.ready.nodes refl tt c.lose.ensures c.step-told.ensures.home
           (step_as c.args.core.now c.args.now old.routing c.step-told.new.self (Noticed kinds.Ldp c.args.peer) c.step-told.result
           (λ place control. refl) (λ peer octets. refl) c.step-told.ensures.stepped);
     }
@@ -23,6 +23,6 @@ returns-clause-settles c =
     let old = c.args.self.now in
     c.settle.ensures.answers (Noticed kinds.Ldp c.args.peer) (going old)
     (midway c.args.core.now c.args.now (owns.Notice c.args.peer) (Noticed kinds.Ldp c.args.peer) old c.step-told.new.self c.lose.new.self
-    c.step-told.result refl c.requires.live c.requires.nodes refl tt c.lose.ensures c.step-told.ensures.home
+    c.step-told.result refl c.requires.ready.live c.requires.ready.nodes refl tt c.lose.ensures c.step-told.ensures.home
     (step_as c.args.core.now c.args.now old.routing c.step-told.new.self (Noticed kinds.Ldp c.args.peer) c.step-told.result (λ place control. refl)
     (λ peer octets. refl) c.step-told.ensures.stepped))

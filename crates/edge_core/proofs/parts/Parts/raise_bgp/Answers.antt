@@ -13,7 +13,7 @@ settle-requires-clause-called c =
       call = Raised kinds.Bgp c.args.peer;
       old = going old;
       is = midway_raised c.args.core.now c.args.now owns.None (Raised kinds.Bgp c.args.peer) old c.raise-told.new.self c.raise.new.self
-          c.raise-2.new.self c.raise-told.result c.in_ok-raise-2.ensures c.requires.live c.requires.nodes refl tt c.in_ok-raise.ensures.raised
+          c.raise-2.new.self c.raise-told.result c.in_ok-raise-2.ensures c.requires.ready.live c.requires.ready.nodes refl tt c.in_ok-raise.ensures.raised
           c.raise-told.ensures.home
           c.raise-told.ensures.stepped;
     }
@@ -23,5 +23,5 @@ returns-clause-settles c =
     let old = c.args.self.now in
     c.settle.ensures.answers (Raised kinds.Bgp c.args.peer) (going old)
     (midway_raised c.args.core.now c.args.now owns.None (Raised kinds.Bgp c.args.peer) old c.raise-told.new.self c.raise.new.self c.raise-2.new.self
-    c.raise-told.result c.in_ok-raise-2.ensures c.requires.live c.requires.nodes refl tt c.in_ok-raise.ensures.raised c.raise-told.ensures.home
+    c.raise-told.result c.in_ok-raise-2.ensures c.requires.ready.live c.requires.ready.nodes refl tt c.in_ok-raise.ensures.raised c.raise-told.ensures.home
     c.raise-told.ensures.stepped)

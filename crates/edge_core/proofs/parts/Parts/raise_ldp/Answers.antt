@@ -14,7 +14,7 @@ settle-requires-clause-called c =
       call = Raised kinds.Ldp c.args.peer;
       old = going old;
       is = midway c.args.core.now c.args.now (owns.Raise c.args.peer) (Raised kinds.Ldp c.args.peer) old c.step-told.new.self c.raise.new.self
-          c.step-told.result refl c.requires.live c.requires.nodes refl
+          c.step-told.result refl c.requires.ready.live c.requires.ready.nodes refl
           (λ unspent. is_down (maps.get c.args.self.now.labels.node.part.ends c.args.peer) c.requires.down) c.in_ok-raise.ensures.raised
           c.step-told.ensures.home
           (step_as c.args.core.now c.args.now old.routing c.step-told.new.self (Raised kinds.Ldp c.args.peer) c.step-told.result
@@ -26,7 +26,7 @@ returns-clause-settles c =
     let old = c.args.self.now in
     c.settle.ensures.answers (Raised kinds.Ldp c.args.peer) (going old)
     (midway c.args.core.now c.args.now (owns.Raise c.args.peer) (Raised kinds.Ldp c.args.peer) old c.step-told.new.self c.raise.new.self
-    c.step-told.result refl c.requires.live c.requires.nodes refl
+    c.step-told.result refl c.requires.ready.live c.requires.ready.nodes refl
     (λ unspent. is_down (maps.get c.args.self.now.labels.node.part.ends c.args.peer) c.requires.down) c.in_ok-raise.ensures.raised
     c.step-told.ensures.home
     (step_as c.args.core.now c.args.now old.routing c.step-told.new.self (Raised kinds.Ldp c.args.peer) c.step-told.result (λ place control. refl)

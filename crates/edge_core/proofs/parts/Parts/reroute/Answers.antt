@@ -11,8 +11,8 @@ settle-requires-clause-called c =
     record {
       call = Rerouted;
       old = going old;
-      is = midway c.args.core.now c.args.now owns.Reroute Rerouted old c.step-told.new.self old.streams c.step-told.result refl c.requires.live
-          c.requires.nodes refl tt refl c.step-told.ensures.home
+      is = midway c.args.core.now c.args.now owns.Reroute Rerouted old c.step-told.new.self old.streams c.step-told.result refl c.requires.ready.live
+          c.requires.ready.nodes refl tt refl c.step-told.ensures.home
           c.step-told.ensures.stepped;
     }
 
@@ -20,8 +20,8 @@ pub returns-clause-settles : goal.returns-clause-settles
 returns-clause-settles c =
     let old = c.args.self.now in
     c.settle.ensures.answers Rerouted (going old)
-    (midway c.args.core.now c.args.now owns.Reroute Rerouted old c.step-told.new.self old.streams c.step-told.result refl c.requires.live
-    c.requires.nodes refl tt refl c.step-told.ensures.home
+    (midway c.args.core.now c.args.now owns.Reroute Rerouted old c.step-told.new.self old.streams c.step-told.result refl c.requires.ready.live
+    c.requires.ready.nodes refl tt refl c.step-told.ensures.home
     c.step-told.ensures.stepped)
 
 pub returns-clause-toward : goal.returns-clause-toward

@@ -12,7 +12,7 @@ settle-requires-clause-called c =
       call = Timers;
       old = going old;
       is = midway c.args.core.now c.args.now owns.Timers Timers old c.run_timers-told.new.self old.streams c.run_timers-told.result refl
-          c.requires.live c.requires.nodes refl tt refl c.run_timers-told.ensures.home
+          c.requires.ready.live c.requires.ready.nodes refl tt refl c.run_timers-told.ensures.home
           c.run_timers-told.ensures.stepped;
     }
 
@@ -20,6 +20,6 @@ pub returns-clause-settles : goal.returns-clause-settles
 returns-clause-settles c =
     let old = c.args.self.now in
     c.settle.ensures.answers Timers (going old)
-    (midway c.args.core.now c.args.now owns.Timers Timers old c.run_timers-told.new.self old.streams c.run_timers-told.result refl c.requires.live
-    c.requires.nodes refl tt refl c.run_timers-told.ensures.home
+    (midway c.args.core.now c.args.now owns.Timers Timers old c.run_timers-told.new.self old.streams c.run_timers-told.result refl c.requires.ready.live
+    c.requires.ready.nodes refl tt refl c.run_timers-told.ensures.home
     c.run_timers-told.ensures.stepped)

@@ -12,21 +12,26 @@ drain_bgp-requires c =
     record {
       stream =
           fed_there (session kinds.Bgp c.args.peer) c.args.bytes.now old.streams c.feed_bgp.new.self
-          (up_there kinds.Bgp c.args.peer old c.requires.live c.requires.up) c.in_ok-feed_bgp.ensures.fed;
+          (up_there kinds.Bgp c.args.peer old c.requires.ready.live c.requires.up) c.in_ok-feed_bgp.ensures.fed;
     }
 
-pub take_updates-requires-clause-live : goal.take_updates-requires-clause-live
-take_updates-requires-clause-live c =
+pub take_updates-requires-clause-ready : goal.take_updates-requires-clause-ready
+take_updates-requires-clause-ready c =
     let old = c.args.self.now in
-    mid_live c.args.core.now c.args.now kinds.Bgp c.args.peer c.args.bytes.now old old c.feed_bgp.new.self c.drain_bgp.new.self c.requires.live
-    (up_there kinds.Bgp c.args.peer old c.requires.live c.requires.up)
-    c.in_ok-feed_bgp.ensures.fed c.in_ok-messages.ensures.rest
+    record {
+      live =
+          mid_live c.args.core.now c.args.now kinds.Bgp c.args.peer c.args.bytes.now old old c.feed_bgp.new.self c.drain_bgp.new.self
+          c.requires.ready.live (up_there kinds.Bgp c.args.peer old c.requires.ready.live c.requires.up)
+          c.in_ok-feed_bgp.ensures.fed c.in_ok-messages.ensures.rest;
+      nodes = c.requires.ready.nodes;
+      clock = c.requires.ready.clock;
+    }
 
 pub returns-in-Ok-clause-answers : goal.returns-in-Ok-clause-answers
 returns-in-Ok-clause-answers c =
     let old = c.args.self.now in
     octets_taken c.args.core.now c.args.now kinds.Bgp c.args.peer c.args.bytes.now old c.take_updates.new.self c.feed_bgp.new.self
-    c.drain_bgp.new.self c.requires.live (up_there kinds.Bgp c.args.peer old c.requires.live c.requires.up)
+    c.drain_bgp.new.self c.requires.ready.live (up_there kinds.Bgp c.args.peer old c.requires.ready.live c.requires.up)
     c.in_ok-feed_bgp.ensures.fed c.in_ok-messages.ensures.rest (map (λ message. Bgp message) c.in_ok-messages.messages.items)
     c.in_ok-messages.ensures.messages
     c.sound.result c.sound.ensures.sound c.sound.ensures.fault c.in-Ok.ensures.settles
@@ -35,7 +40,7 @@ pub returns-in-Err-clause-answers : goal.returns-in-Err-clause-answers
 returns-in-Err-clause-answers c =
     let old = c.args.self.now in
     octets_stopped c.args.core.now c.args.now kinds.Bgp c.args.peer c.args.bytes.now old c.take_updates.new.self c.feed_bgp.new.self
-    c.drain_bgp.new.self c.requires.live (up_there kinds.Bgp c.args.peer old c.requires.live c.requires.up)
+    c.drain_bgp.new.self c.requires.ready.live (up_there kinds.Bgp c.args.peer old c.requires.ready.live c.requires.up)
     c.in_ok-feed_bgp.ensures.fed c.in_ok-messages.ensures.rest (map (λ message. Bgp message) c.in_ok-messages.messages.items)
     c.in_ok-messages.ensures.messages
     c.in-Err.fault (c.in-Err.ensures.only c.in-Err.fault refl) c.in-Err.ensures.settles

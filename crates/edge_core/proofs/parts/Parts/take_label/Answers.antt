@@ -12,7 +12,7 @@ settle-requires-clause-called c =
       call = Label c.args.peer c.args.message;
       old = going old;
       is = midway c.args.core.now c.args.now (owns.Take c.args.peer c.args.message) (Label c.args.peer c.args.message) old c.step-told.new.self
-          old.streams c.step-told.result refl c.requires.live c.requires.nodes refl (label_spelled c.args.message c.requires.writable) refl
+          old.streams c.step-told.result refl c.requires.ready.live c.requires.ready.nodes refl (label_spelled c.args.message c.requires.writable) refl
           c.step-told.ensures.home
           (step_as c.args.core.now c.args.now old.routing c.step-told.new.self (Label c.args.peer c.args.message) c.step-told.result
           (λ place control. refl) (λ peer octets. refl) c.step-told.ensures.stepped);
@@ -23,6 +23,6 @@ returns-clause-settles c =
     let old = c.args.self.now in
     c.settle.ensures.answers (Label c.args.peer c.args.message) (going old)
     (midway c.args.core.now c.args.now (owns.Take c.args.peer c.args.message) (Label c.args.peer c.args.message) old c.step-told.new.self old.streams
-    c.step-told.result refl c.requires.live c.requires.nodes refl (label_spelled c.args.message c.requires.writable) refl c.step-told.ensures.home
+    c.step-told.result refl c.requires.ready.live c.requires.ready.nodes refl (label_spelled c.args.message c.requires.writable) refl c.step-told.ensures.home
     (step_as c.args.core.now c.args.now old.routing c.step-told.new.self (Label c.args.peer c.args.message) c.step-told.result (λ place control. refl)
     (λ peer octets. refl) c.step-told.ensures.stepped))

@@ -10,13 +10,15 @@ loop-message-init c =
     subst (λ (ms : List LabelMessage). AreLeft c.args.core.now c.args.now c.args.peer (map (λ message. Label message) c.args.messages.items)
     (map (λ message. Label message) ms) c.args.self.now c.args.self.now)
     (sym c.into_iter-message-iterator.ensures.into_iter_gives.0)
-    (all_left c.args.core.now c.args.now c.args.peer (map (λ message. Label message) c.args.messages.items) c.args.self.now c.requires.live)
+    (all_left c.args.core.now c.args.now c.args.peer (map (λ message. Label message) c.args.messages.items) c.args.self.now c.requires.ready.live)
 
-pub take_label-requires-clause-live : goal.take_label-requires-clause-live
-take_label-requires-clause-live c = c.loop-message.invariant.live
-
-pub take_label-requires-clause-nodes : goal.take_label-requires-clause-nodes
-take_label-requires-clause-nodes c = c.requires.nodes ∙ ap (λ (h : Home). length h.scenario.nodes) (sym c.loop-message.invariant.home)
+pub take_label-requires-clause-ready : goal.take_label-requires-clause-ready
+take_label-requires-clause-ready c =
+    record {
+      live = c.loop-message.invariant.live;
+      nodes = c.requires.ready.nodes ∙ ap (λ (h : Home). length h.scenario.nodes) (sym c.loop-message.invariant.home);
+      clock = c.requires.ready.clock;
+    }
 
 pub loop-message-preserved : goal.loop-message-preserved
 loop-message-preserved c =

@@ -12,21 +12,26 @@ drain_ldp-requires c =
     record {
       stream =
           fed_there (session kinds.Ldp c.args.peer) c.args.bytes.now old.streams c.feed_ldp.new.self
-          (up_there kinds.Ldp c.args.peer old c.requires.live c.requires.up) c.in_ok-feed_ldp.ensures.fed;
+          (up_there kinds.Ldp c.args.peer old c.requires.ready.live c.requires.up) c.in_ok-feed_ldp.ensures.fed;
     }
 
-pub take_labels-requires-clause-live : goal.take_labels-requires-clause-live
-take_labels-requires-clause-live c =
+pub take_labels-requires-clause-ready : goal.take_labels-requires-clause-ready
+take_labels-requires-clause-ready c =
     let old = c.args.self.now in
-    mid_live c.args.core.now c.args.now kinds.Ldp c.args.peer c.args.bytes.now old old c.feed_ldp.new.self c.drain_ldp.new.self c.requires.live
-    (up_there kinds.Ldp c.args.peer old c.requires.live c.requires.up)
-    c.in_ok-feed_ldp.ensures.fed c.in_ok-messages.ensures.rest
+    record {
+      live =
+          mid_live c.args.core.now c.args.now kinds.Ldp c.args.peer c.args.bytes.now old old c.feed_ldp.new.self c.drain_ldp.new.self
+          c.requires.ready.live (up_there kinds.Ldp c.args.peer old c.requires.ready.live c.requires.up)
+          c.in_ok-feed_ldp.ensures.fed c.in_ok-messages.ensures.rest;
+      nodes = c.requires.ready.nodes;
+      clock = c.requires.ready.clock;
+    }
 
 pub returns-in-Ok-clause-answers : goal.returns-in-Ok-clause-answers
 returns-in-Ok-clause-answers c =
     let old = c.args.self.now in
     octets_taken c.args.core.now c.args.now kinds.Ldp c.args.peer c.args.bytes.now old c.take_labels.new.self c.feed_ldp.new.self c.drain_ldp.new.self
-    c.requires.live (up_there kinds.Ldp c.args.peer old c.requires.live c.requires.up)
+    c.requires.ready.live (up_there kinds.Ldp c.args.peer old c.requires.ready.live c.requires.up)
     c.in_ok-feed_ldp.ensures.fed c.in_ok-messages.ensures.rest (map (λ message. Label message) c.in_ok-messages.messages.items)
     c.in_ok-messages.ensures.messages
     c.sound.result c.sound.ensures.sound c.sound.ensures.fault c.in-Ok.ensures.settles
@@ -35,7 +40,7 @@ pub returns-in-Err-clause-answers : goal.returns-in-Err-clause-answers
 returns-in-Err-clause-answers c =
     let old = c.args.self.now in
     octets_stopped c.args.core.now c.args.now kinds.Ldp c.args.peer c.args.bytes.now old c.take_labels.new.self c.feed_ldp.new.self
-    c.drain_ldp.new.self c.requires.live (up_there kinds.Ldp c.args.peer old c.requires.live c.requires.up)
+    c.drain_ldp.new.self c.requires.ready.live (up_there kinds.Ldp c.args.peer old c.requires.ready.live c.requires.up)
     c.in_ok-feed_ldp.ensures.fed c.in_ok-messages.ensures.rest (map (λ message. Label message) c.in_ok-messages.messages.items)
     c.in_ok-messages.ensures.messages
     c.in-Err.fault (c.in-Err.ensures.only c.in-Err.fault refl) c.in-Err.ensures.settles

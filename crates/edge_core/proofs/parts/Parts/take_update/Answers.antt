@@ -12,7 +12,7 @@ settle-requires-clause-called c =
       call = Update c.args.peer c.args.message;
       old = going old;
       is = midway c.args.core.now c.args.now owns.None (Update c.args.peer c.args.message) old c.take_update-told.new.self old.streams
-          c.take_update-told.result refl c.requires.live c.requires.nodes refl tt refl c.take_update-told.ensures.home
+          c.take_update-told.result refl c.requires.ready.live c.requires.ready.nodes refl tt refl c.take_update-told.ensures.home
           c.take_update-told.ensures.stepped;
     }
 
@@ -21,5 +21,5 @@ returns-clause-settles c =
     let old = c.args.self.now in
     c.settle.ensures.answers (Update c.args.peer c.args.message) (going old)
     (midway c.args.core.now c.args.now owns.None (Update c.args.peer c.args.message) old c.take_update-told.new.self old.streams
-    c.take_update-told.result refl c.requires.live c.requires.nodes refl tt refl c.take_update-told.ensures.home
+    c.take_update-told.result refl c.requires.ready.live c.requires.ready.nodes refl tt refl c.take_update-told.ensures.home
     c.take_update-told.ensures.stepped)

@@ -24,6 +24,9 @@ pub enum CoreFault {
     NoMemory,
 }
 
+/// What a call of a core node answers that gives nothing back.
+pub type Answer = Result<(), CoreFault>;
+
 /// It says what `Display` says: the faults of streams have no `Debug`.
 impl fmt::Debug for CoreFault {
     fn fmt<W: fmt::Write>(&self, f: &mut fmt::Formatter<W>) -> Result<(), fmt::Error> {

@@ -36,6 +36,9 @@ impl Model for ControlPlane {
     ghost view = { λ p. record { nodes = p.nodes.items; ways = p.ways; transit = p.transit; core = p.core; clock = p.clock } };
 }
 
+/// What an act at a node answers.
+pub type Answer = Result<(), NodeFault>;
+
 /// Why the plane goes no further, where a node is spent by the fault.
 pub(crate) fn halt_of(fault: EdgeFault) -> NodeFault
     requires { Among fault (EdgeFault.NoLabel ∷ EdgeFault.NoMemory ∷ []) }

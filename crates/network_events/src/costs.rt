@@ -11,10 +11,10 @@ ghost use Rattle.network_events.specs.Doing.{Does};
 ghost use Rattle.network_events.specs.Meeting.{IsGiven, IsReady, IsResting, Meets};
 ghost use Rattle.network_events.specs.Parts.{IsRepriced};
 
-use crate::halt::{Halt, answer_at, met};
+use crate::halt::{Answer, Halt, answer_at, met};
 use mv_base::NodeId;
 use network_acts::Network;
-use scenario_defs::{Lines, Refusal};
+use scenario_defs::Lines;
 
 /// Node n acts on the present costs.
 fn reroute_at(network: &mut Network, n: NodeId, lines: &mut Lines) -> Result<(), Halt>
@@ -69,7 +69,7 @@ pub(crate) fn cost(
     b: NodeId,
     cost: u32,
     lines: &mut Lines,
-) -> Result<Option<Refusal>, Halt>
+) -> Answer
     requires network { IsSome IsReady network.old }
     requires event { IsGiven network.old.scenario (events.Cost a b cost) }
     ensures { Meets (events.Cost a b cost) network.old network.new lines.old lines.new result }

@@ -12,7 +12,7 @@ ghost use Rattle.network_acts.specs.Instant.{Instant, IsSome, IsWorld};
 ghost use Rattle.network_events.specs.Customers.{HandsMessage, IsAtIface, IsForIface, verdict_at};
 ghost use Rattle.network_events.specs.Meeting.{IsGiven, IsReady, Meets};
 
-use crate::halt::Halt;
+use crate::halt::{Answer, Halt};
 use mldp_node::NodeFault;
 use mv_base::{Addr, IfaceId, NoMemory, NodeId};
 use mvpn_model::{fault_word, own_addr};
@@ -34,10 +34,7 @@ pub(crate) fn are_sessions_full(network: &Network) -> bool
 }
 
 /// What comes of a call at node n for which there may be no room, by what was answered.
-pub(crate) fn verdict_at(
-    n: NodeId,
-    answer: Result<Verdict, NodeFault>,
-) -> Result<Option<Refusal>, Halt>
+pub(crate) fn verdict_at(n: NodeId, answer: Result<Verdict, NodeFault>) -> Answer
     ensures { result ≡ verdict_at n answer }
 {
     match answer {
@@ -49,12 +46,7 @@ pub(crate) fn verdict_at(
 }
 
 /// A message comes to the interface that it is for.
-fn take(
-    network: &mut Network,
-    iface: IfaceId,
-    message: &JoinPrune,
-    lines: &mut Lines,
-) -> Result<Option<Refusal>, Halt>
+fn take(network: &mut Network, iface: IfaceId, message: &JoinPrune, lines: &mut Lines) -> Answer
     requires network { IsSome IsReady network.old }
     requires message { IsForIface network.old.scenario iface message.now }
     ensures { (event : Event) → HandsMessage network.old.scenario iface message.now event →
@@ -109,7 +101,7 @@ pub(crate) fn join(
     iface: IfaceId,
     entry: &JoinEntry,
     lines: &mut Lines,
-) -> Result<Option<Refusal>, Halt>
+) -> Answer
     requires network { IsSome IsReady network.old }
     requires event { IsGiven network.old.scenario (events.Customer (customers.Join iface entry.now)) }
     ensures { Meets (events.Customer (customers.Join iface entry.now)) network.old network.new lines.old lines.new result }
@@ -126,7 +118,7 @@ pub(crate) fn prune(
     iface: IfaceId,
     entry: &JoinEntry,
     lines: &mut Lines,
-) -> Result<Option<Refusal>, Halt>
+) -> Answer
     requires network { IsSome IsReady network.old }
     requires event { IsGiven network.old.scenario (events.Customer (customers.Prune iface entry.now)) }
     ensures { Meets (events.Customer (customers.Prune iface entry.now)) network.old network.new lines.old lines.new result }
@@ -143,7 +135,7 @@ fn take_read(
     iface: IfaceId,
     message: &JoinPrune,
     lines: &mut Lines,
-) -> Result<Option<Refusal>, Halt>
+) -> Answer
     requires network { IsSome IsReady network.old }
     requires message { IsAtIface network.old.scenario iface message.now }
     ensures { (event : Event) → HandsMessage network.old.scenario iface message.now event →
@@ -156,12 +148,7 @@ fn take_read(
 }
 
 /// Octets come to the interface.
-pub(crate) fn pim(
-    network: &mut Network,
-    iface: IfaceId,
-    octets: &[u8],
-    lines: &mut Lines,
-) -> Result<Option<Refusal>, Halt>
+pub(crate) fn pim(network: &mut Network, iface: IfaceId, octets: &[u8], lines: &mut Lines) -> Answer
     requires network { IsSome IsReady network.old }
     requires event { IsGiven network.old.scenario (events.Customer (customers.Pim iface octets.now)) }
     ensures { Meets (events.Customer (customers.Pim iface octets.now)) network.old network.new lines.old lines.new result }
@@ -183,7 +170,7 @@ pub(crate) fn active(
     source: Addr,
     group: Addr,
     lines: &mut Lines,
-) -> Result<Option<Refusal>, Halt>
+) -> Answer
     requires network { IsSome IsReady network.old }
     requires event { IsGiven network.old.scenario (events.Customer (customers.Active iface source group)) }
     ensures { Meets (events.Customer (customers.Active iface source group)) network.old network.new lines.old lines.new result }
@@ -216,7 +203,7 @@ pub(crate) fn idle(
     source: Addr,
     group: Addr,
     lines: &mut Lines,
-) -> Result<Option<Refusal>, Halt>
+) -> Answer
     requires network { IsSome IsReady network.old }
     requires event { IsGiven network.old.scenario (events.Customer (customers.Idle iface source group)) }
     ensures { Meets (events.Customer (customers.Idle iface source group)) network.old network.new lines.old lines.new result }

@@ -9,21 +9,17 @@ use crate::costs::cost;
 use crate::customers::{active, idle, join, pim, prune};
 use crate::datagrams::{drop_copy, hop, send, send_packet, state};
 use crate::draining::drain;
-use crate::halt::Halt;
+use crate::halt::Answer;
 use crate::nodes::{restart, tick, timers};
 use crate::selections::{select, unselect};
 use crate::sessions::{heal, lose, move_octets, notice, raise};
 use crate::settling::settle;
 use network_acts::Network;
 use network_defs::session_defs::Direction;
-use scenario_defs::{CustomerEvent, Event, Lines, Refusal};
+use scenario_defs::{CustomerEvent, Event, Lines};
 
 /// The network meets an event of a customer, where none is under way.
-fn meet_customer(
-    network: &mut Network,
-    event: &CustomerEvent,
-    lines: &mut Lines,
-) -> Result<Option<Refusal>, Halt>
+fn meet_customer(network: &mut Network, event: &CustomerEvent, lines: &mut Lines) -> Answer
     requires network { IsSome IsReady network.old }
     requires event { IsGiven network.old.scenario (events.Customer event.now) }
     ensures { Meets (events.Customer event.now) network.old network.new lines.old lines.new result }
@@ -48,11 +44,7 @@ fn meet_customer(
 }
 
 /// The network meets an event, where none is under way.
-pub(crate) fn meet(
-    network: &mut Network,
-    event: &Event,
-    lines: &mut Lines,
-) -> Result<Option<Refusal>, Halt>
+pub(crate) fn meet(network: &mut Network, event: &Event, lines: &mut Lines) -> Answer
     requires network { IsSome IsReady network.old }
     requires event { IsGiven network.old.scenario event.now }
     requires clock { network.old.plane.clock + ticks_of event.now < 2 ^ 63 }

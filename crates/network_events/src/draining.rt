@@ -8,10 +8,10 @@ ghost use Rattle.network_events.specs.Datagrams.{HasRound, Makes, MayDrain, land
 ghost use Rattle.network_events.specs.Meeting.{IsReady, Meets};
 
 use crate::datagrams::of_memory;
-use crate::halt::{Halt, met};
+use crate::halt::{Answer, met};
 use mv_base::{Link, NoMemory, NodeId, Seq};
 use network_acts::Network;
-use scenario_defs::{Lines, Refusal};
+use scenario_defs::Lines;
 use std::alloc::Global;
 
 /// The TTL of a copy is at most 255 and falls at each landing, so after so many rounds no copy is on a link.
@@ -98,7 +98,7 @@ fn rounds(network: &mut Network, lines: &mut Lines) -> Result<(), NoMemory>
 }
 
 /// All copies land, and those that they put.
-pub(crate) fn drain(network: &mut Network, lines: &mut Lines) -> Result<Option<Refusal>, Halt>
+pub(crate) fn drain(network: &mut Network, lines: &mut Lines) -> Answer
     requires network { IsSome IsReady network.old }
     ensures { Meets events.Drain network.old network.new lines.old lines.new result }
 {

@@ -16,6 +16,9 @@ pub enum Halt {
     NoMemory,
 }
 
+/// What comes of an event: it is done, it is refused for a reason, or the network goes no further.
+pub(crate) type Answer = Result<Option<Refusal>, Halt>;
+
 impl From<NoMemory> for Halt {
     fn from(_: NoMemory) -> Halt
         ensures { result ≡ Halt.NoMemory }
@@ -36,7 +39,7 @@ pub(crate) fn answer_at(n: NodeId, answer: Result<(), NodeFault>) -> Result<(), 
 }
 
 /// What an event that is not refused answers, by what its acts did.
-pub(crate) fn met(answer: Result<(), Halt>) -> Result<Option<Refusal>, Halt>
+pub(crate) fn met(answer: Result<(), Halt>) -> Answer
     ensures { result ≡ met answer }
 {
     match answer {

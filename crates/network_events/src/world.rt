@@ -8,13 +8,13 @@ ghost use Rattle.network_events.specs.Lending.{InEachRun, IsCore, IsEdge, IsPool
 ghost use Rattle.network_events.specs.Telling.{Appends, Tells};
 
 use crate::dispatch::meet;
-use crate::halt::Halt;
+use crate::halt::{Answer, Halt};
 use mldp_node::LdpNode;
 use mv_base::{NoMemory, NodeId};
 use network_acts::of_network_laws::core_laws::each_scenario_has_cores;
 use network_acts::of_run_laws::script_values::event_has_octets;
 use network_acts::{Edge, Network, Pool};
-use scenario_defs::{Event, Lines, Refusal, ReportLine, Scenario};
+use scenario_defs::{Event, Lines, ReportLine, Scenario};
 use std::alloc::Global;
 use std::marker::Model;
 use std::mem;
@@ -43,7 +43,7 @@ impl Model for World {
 }
 
 /// What an event came to: a refused one gives the line that says so.
-fn tell(line: u32, answer: Result<Option<Refusal>, Halt>, lines: &mut Lines) -> Result<(), Halt>
+fn tell(line: u32, answer: Answer, lines: &mut Lines) -> Result<(), Halt>
     ensures { Tells line answer lines.old lines.new result }
 {
     match answer {

@@ -1,9 +1,14 @@
-//! Octets of customers: Join/Prune messages (RFC 7761 section 4.9.5).
-ghost use Rattle.std.specs.Prelude.{◌≡◌, ◌⊎◌, true, None, Ok, Err, IfOk};
+//! Calls of customers: Join/Prune messages, and sources that are noted to send or no longer are.
+ghost use Rattle.std.specs.Prelude.{◌≡◌, ◌⊎◌, [], ◌∷◌, true, false, None, Ok, Err, IfOk};
+ghost use Rattle.bgp_messages.specs.bgp_update.Written.{afi_of};
+ghost use Rattle.bgp_values.specs.mvpn_nlri.Spelling.{IsGroup};
 ghost use Rattle.pim_joinprune.specs.Reading.{decoded};
-ghost use Rattle.edge_routing.specs.edge_control.Places.{is_own_iface};
+ghost use Rattle.edge_defs.specs.Steps.{Customer, Active, Idle};
+ghost use Rattle.edge_routing.specs.control_laws.Control.{control_of};
+ghost use Rattle.edge_routing.specs.edge_control.Places.{is_note_too_many, is_own_iface};
+ghost use Rattle.edge_core.specs.Answers.{IsOneOf, OnTaken};
 ghost use Rattle.edge_routing.specs.control_laws.group_laws.Groups.{HasGroups};
-ghost use Rattle.edge_core.specs.Called.{IsReady, thereafter, going, spent_after};
+ghost use Rattle.edge_core.specs.Called.{IsReady, SettlesCall, thereafter, going, spent_after};
 ghost use Rattle.edge_core.specs.Pim.{AnswersPim, IsPimFault, is_ours};
 ghost use Rattle.edge_core.specs.State.{IsLive};
 ghost use Rattle.edge_core.specs.declared.fault.EdgeFault.{EdgeFault as EdgeFaults};
@@ -14,7 +19,9 @@ use crate::fault::{Answer, EdgeFault};
 use crate::parts::Parts;
 use core_paths::Core;
 use edge_routes::edge_home::EdgeHome;
-use mv_base::IfaceId;
+use edge_routing::of_edge_control::ControlFault;
+use edge_routing::of_edge_labels::OwnCall;
+use mv_base::{Addr, IfaceId};
 use network_defs::of_mvpn_model::own_addr;
 use pim_joinprune::{DecodeFault, JoinPrune, decode};
 use std::alloc::Global;
@@ -56,5 +63,54 @@ impl Parts {
             message: &message,
         };
         self.call(EdgeCall::Customer(call), now, core)
+    }
+
+    /// Notes at the interface that the source sends to the group.
+    pub(crate) fn note(
+        &mut self,
+        iface: IfaceId,
+        source: Addr,
+        group: Addr,
+        now: u64,
+        core: &Core,
+    ) -> Answer
+        requires ready { IsReady core.now now self.old }
+        requires own { is_own_iface self.old.routing.control.home iface ≡ true }
+        requires group { IsGroup (afi_of source) group }
+        ensures settles { SettlesCall core.now now (Customer (Active iface source group)) (going self.old) self.new result }
+        ensures only { IsOneOf (EdgeFault.Full ∷ []) result }
+        ensures fits { OnTaken result (is_note_too_many (control_of self.old.routing.control) iface source group ≡ false) }
+        ensures full { result ≡ Err EdgeFault.Full →
+            (is_note_too_many (control_of self.old.routing.control) iface source group ≡ true) × (self.new ≡ self.old) }
+    {
+        match self
+            .routing
+            .note(self.alloc, iface, source, group, now, core)
+        {
+            Ok(told) => self.settle(&OwnCall::None, Ok(told), now, core),
+            Err(ControlFault::Full) => Err(EdgeFault::Full),
+            Err(ControlFault::NoMemory) => Err(EdgeFault::NoMemory),
+        }
+    }
+
+    /// The note is there no more.
+    pub(crate) fn unnote(
+        &mut self,
+        iface: IfaceId,
+        source: Addr,
+        group: Addr,
+        now: u64,
+        core: &Core,
+    ) -> Answer
+        requires ready { IsReady core.now now self.old }
+        requires own { is_own_iface self.old.routing.control.home iface ≡ true }
+        requires group { IsGroup (afi_of source) group }
+        ensures settles { SettlesCall core.now now (Customer (Idle iface source group)) (going self.old) self.new result }
+        ensures only { IsOneOf [] result }
+    {
+        let told = self
+            .routing
+            .unnote(self.alloc, iface, source, group, now, core);
+        self.settle(&OwnCall::None, told, now, core)
     }
 }

@@ -102,24 +102,12 @@ impl Parts {
                     iface,
                     source,
                     group,
-                } => match self
-                    .routing
-                    .note(self.alloc, iface, source, group, now, core)
-                {
-                    Ok(told) => self.settle(&OwnCall::None, Ok(told), now, core),
-                    Err(ControlFault::Full) => Err(EdgeFault::Full),
-                    Err(ControlFault::NoMemory) => Err(EdgeFault::NoMemory),
-                },
+                } => self.note(iface, source, group, now, core),
                 CustomerCall::Idle {
                     iface,
                     source,
                     group,
-                } => {
-                    let told = self
-                        .routing
-                        .unnote(self.alloc, iface, source, group, now, core);
-                    self.settle(&OwnCall::None, told, now, core)
-                }
+                } => self.unnote(iface, source, group, now, core),
                 CustomerCall::Select { vrf, pattern } => self.select(vrf, pattern, now),
                 CustomerCall::Unselect { vrf, pattern } => self.unselect(vrf, pattern),
             },

@@ -1,5 +1,5 @@
 use Rattle.std.proofs.Common.{◌∙◌, Ok, Err, refl, sym, ap, subst}
-use Rattle.edge_defs.specs.Steps.{Active, Customer, Idle, Pim, Rerouted, Timers}
+use Rattle.edge_defs.specs.Steps.{Customer, Pim, Rerouted, Timers}
 use Rattle.edge_routing.specs.edge_labels.declared.own_call.OwnCall.TheVariants as owns
 use Rattle.edge_core.specs.Called.{going}
 use Rattle.edge_core.specs.Calls.{Fits, MakesCall, call_of}
@@ -61,53 +61,36 @@ returns-in-Err-NoMemory c =
     (lacking_call c.args.core.now c.args.now c.in-Pim.iface c.in-Pim.message.now old
     (record old { routing = c.take_pim.new.self }) c.take_pim.ensures.home)
 
-pub settle-requires-in-Ok-note-clause-called : goal.settle-requires-in-Ok-note-clause-called
-settle-requires-in-Ok-note-clause-called c =
-    let old = c.args.self.now in
-    let call = Customer (Active c.in-Active.iface c.in-Active.source c.in-Active.group) in
-    record {
-      call = call;
-      old = going old;
-      is = midway c.args.core.now c.args.now owns.None call old c.note.new.self old.streams (Ok c.in-Ok-note.told) refl c.requires.ready.live
-          c.requires.ready.nodes refl tt refl c.note.ensures.home c.in-Ok-note.ensures.stepped;
-    }
+pub note-requires-clause-own : goal.note-requires-clause-own
+note-requires-clause-own c = (subst (λ (call : EdgeCall). Fits (going c.args.self.now) (call_of call)) (c.in-Customer.is ∙ ap (λ (own : CustomerCall). edges.Customer own) c.in-Active.is) c.requires.fits).0
 
-pub returns-in-Ok-note : goal.returns-in-Ok-note
-returns-in-Ok-note c =
-    let old = c.args.self.now in
-    let call = Customer (Active c.in-Active.iface c.in-Active.source c.in-Active.group) in
-    subst (λ (call : EdgeCall). MakesCall c.args.core.now c.args.now (call_of call) c.args.self.now c.settle-in-Ok-note.new.self
-    c.settle-in-Ok-note.result)
+pub note-requires-clause-group : goal.note-requires-clause-group
+note-requires-clause-group c = (subst (λ (call : EdgeCall). Fits (going c.args.self.now) (call_of call)) (c.in-Customer.is ∙ ap (λ (own : CustomerCall). edges.Customer own) c.in-Active.is) c.requires.fits).1
+
+pub returns-in-Active : goal.returns-in-Active
+returns-in-Active c =
+    subst (λ (call : EdgeCall). MakesCall c.args.core.now c.args.now (call_of call) c.args.self.now c.note.new.self c.note.result)
     (sym (c.in-Customer.is ∙ ap (λ (own : CustomerCall). edges.Customer own) c.in-Active.is))
-    (roomy_call c.args.core.now c.args.now call old c.settle-in-Ok-note.new.self c.settle-in-Ok-note.result c.in-Ok-note.ensures.fits
-    (c.settle-in-Ok-note.ensures.answers call (going old)
-    (midway c.args.core.now c.args.now owns.None call old c.note.new.self old.streams (Ok c.in-Ok-note.told) refl c.requires.ready.live
-    c.requires.ready.nodes refl tt refl c.note.ensures.home c.in-Ok-note.ensures.stepped))
-    c.settle-in-Ok-note.ensures.only tt)
+    (record {
+      settles = c.note.ensures.settles;
+      only = c.note.ensures.only;
+      fits = c.note.ensures.fits;
+      full = c.note.ensures.full;
+      toward = tt;
+    })
 
-pub settle-requires-in-Idle-clause-called : goal.settle-requires-in-Idle-clause-called
-settle-requires-in-Idle-clause-called c =
-    let old = c.args.self.now in
-    let call = Customer (Idle c.in-Idle.iface c.in-Idle.source c.in-Idle.group) in
-    record {
-      call = call;
-      old = going old;
-      is = midway c.args.core.now c.args.now owns.None call old c.unnote-told.new.self old.streams c.unnote-told.result refl c.requires.ready.live
-          c.requires.ready.nodes refl tt refl c.unnote-told.ensures.home c.unnote-told.ensures.stepped;
-    }
+pub unnote-requires-clause-own : goal.unnote-requires-clause-own
+unnote-requires-clause-own c = (subst (λ (call : EdgeCall). Fits (going c.args.self.now) (call_of call)) (c.in-Customer.is ∙ ap (λ (own : CustomerCall). edges.Customer own) c.in-Idle.is) c.requires.fits).0
+
+pub unnote-requires-clause-group : goal.unnote-requires-clause-group
+unnote-requires-clause-group c = (subst (λ (call : EdgeCall). Fits (going c.args.self.now) (call_of call)) (c.in-Customer.is ∙ ap (λ (own : CustomerCall). edges.Customer own) c.in-Idle.is) c.requires.fits).1
 
 pub returns-in-Idle : goal.returns-in-Idle
 returns-in-Idle c =
-    let old = c.args.self.now in
-    let call = Customer (Idle c.in-Idle.iface c.in-Idle.source c.in-Idle.group) in
-    subst (λ (call : EdgeCall). MakesCall c.args.core.now c.args.now (call_of call) c.args.self.now c.settle-in-Idle.new.self
-    c.settle-in-Idle.result)
+    subst (λ (call : EdgeCall). MakesCall c.args.core.now c.args.now (call_of call) c.args.self.now c.unnote.new.self c.unnote.result)
     (sym (c.in-Customer.is ∙ ap (λ (own : CustomerCall). edges.Customer own) c.in-Idle.is))
-    (plain_call c.args.core.now c.args.now call old c.settle-in-Idle.new.self c.settle-in-Idle.result (λ control. refl) refl
-    (c.settle-in-Idle.ensures.answers call (going old)
-    (midway c.args.core.now c.args.now owns.None call old c.unnote-told.new.self old.streams c.unnote-told.result refl c.requires.ready.live
-    c.requires.ready.nodes refl tt refl c.unnote-told.ensures.home c.unnote-told.ensures.stepped))
-    c.settle-in-Idle.ensures.only tt)
+    (plain_call c.args.core.now c.args.now _ c.args.self.now c.unnote.new.self c.unnote.result (λ control. refl) refl (c.unnote.ensures.settles)
+    c.unnote.ensures.only tt)
 
 pub select-requires-clause-own : goal.select-requires-clause-own
 select-requires-clause-own c = (subst (λ (call : EdgeCall). Fits (going c.args.self.now) (call_of call)) (c.in-Customer.is ∙ ap (λ (own : CustomerCall). edges.Customer own) c.in-Select.is) c.requires.fits).0

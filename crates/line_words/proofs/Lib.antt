@@ -1,3 +1,4 @@
+pub mod PlaceLemmas
 pub mod WordsLemmas
 pub mod ListFacts
 pub mod AddrLemmas

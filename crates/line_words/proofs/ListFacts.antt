@@ -8,6 +8,7 @@ use Rattle.std.proofs.lemmas.List.Elements.{All-nil, All-cons}
 use Rattle.std.proofs.lemmas.List.Kept.{AllPairs-cons}
 use Rattle.std.proofs.lemmas.List.Splits.{length-slice_split}
 use Rattle.mv_base.specs.Number.{cut_of, ◌>>?◌, only_if}
+use Rattle.line_words.proofs.PlaceLemmas.{not_below}
 use Rattle.line_words.proofs.WordsLemmas.{split_first, split_whole}
 use Rattle.line_words.specs.Forms.{each_of, are_distinct, list_of}
 
@@ -226,9 +227,6 @@ no_place p (x ∷ xs) h = by (p x) h (no_place p xs)
         → cond (not b) (1 + position_or_len p xs) 0 ≡ suc (length xs)
     by true e rest = absurd cc
     by false e rest = let same : position_or_len p xs ≡ length xs = rest e in omega arith
-
-not_below : (n : ℕ) → nat_lt n n ≡ false
-not_below n = grind (arith, nat_tests)
 
 -- has no first one
 pub none_first : {X : Type 0} (p : X → Bool) (xs : List X) → list_any p xs ≡ false → position p xs ≡ None

@@ -1,11 +1,12 @@
 -- Laws of the parts of a line, and of the lines of a text.
-use Rattle.std.proofs.Common.{◌≡◌, ℕ, ◌+◌, ◌<◌, ◌≤◌, ◌==◌, List, [], ◌∷◌, Bool, true, false, length, map, take, drop, get_or, refl, ap, ◌∙◌, arith, cond, suc, drop-cons, Bor, Option, Some, None, nat_lt, position}
+use Rattle.std.proofs.Common.{◌≡◌, ℕ, ◌+◌, ◌<◌, ◌≤◌, ◌==◌, List, [], ◌∷◌, Bool, true, false, length, take, drop, get_or, refl, ap, ◌∙◌, arith, cond, Option, Some, None, nat_lt, position}
 use Rattle.std.specs.List.{slice_split, onto_first, position_or_len, before_first, after_first, All}
 use Rattle.std.specs.Str.Lines.{lines, lines_of_parts, strip_carriage_return}
 use Rattle.std.proofs.lemmas.Bool.Decides.{nat_tests}
 use Rattle.std.proofs.lemmas.List.Quantifiers.{position-Some}
 use Rattle.std.proofs.lemmas.List.Sums.{position_or_len_is, fails_before_first}
 use Rattle.std.proofs.lemmas.List.Splits.{slice_split_first, slice_split_none, length-slice_split}
+use Rattle.line_words.specs.Words.{placed, with_part, words_from}
 
 -- the octets of the parts, and one more for each part
 abbrev pub total : List (List ℕ) → ℕ
@@ -24,17 +25,6 @@ total-cons false x parts n h = total-onto_first x parts n h
 pub total-slice_split : (p : ℕ → Bool) (xs : List ℕ) → total (slice_split p xs) ≡ length xs + 1
 total-slice_split p [] = refl
 total-slice_split p (x ∷ xs) = total-cons (p x) x (slice_split p xs) (length xs) (total-slice_split p xs) ∙ omega arith
-
--- The parts from a place on: the one there, and those after it.
-pub total-drop : (parts : List (Bor (List ℕ))) (i : ℕ) (d : Bor (List ℕ)) → i < length parts
-    → total (map (λ p. p.now) (drop i parts)) ≡ length (get_or parts i d).now + 1 + total (map (λ p. p.now) (drop (suc i) parts))
-total-drop parts i d h = ap (λ (l : List (Bor (List ℕ))). total (map (λ p. p.now) l)) (drop-cons parts i d h)
-
--- What is to come fits after what was.
-pub column_fits : (parts : List (Bor (List ℕ))) (i : ℕ) (d : Bor (List ℕ)) (column n : ℕ) → i < length parts
-    → column + total (map (λ p. p.now) (drop i parts)) ≡ 1 + total (map (λ p. p.now) parts) → total (map (λ p. p.now) parts) ≡ n + 1
-    → column + (length (get_or parts i d).now + 1) ≤ n + 2
-column_fits parts i d column n h e t = omega (arith, total-drop parts i d h, e, t)
 
 -- Parts after a line feed: the part before it is a line.
 lines-cons : (x : List ℕ) (parts : List (List ℕ)) → 0 < length parts → lines_of_parts (x ∷ parts) ≡ strip_carriage_return x ∷ lines_of_parts parts
@@ -79,8 +69,12 @@ pub lines-whole : (xs : List ℕ) → 0 < length xs → position (λ b. b == 10)
 lines-whole [] l h = absurd (omega arith)
 lines-whole (x ∷ more) l h = whole_line x more (slice_split (λ b. b == 10) (x ∷ more)) (split_whole (λ b. b == 10) (x ∷ more) h)
 
--- A part is shorter than what is to come.
-pub part_fits : (parts : List (Bor (List ℕ))) (i : ℕ) (d : Bor (List ℕ)) (column n : ℕ) → i < length parts → 1 ≤ column
-    → column + total (map (λ p. p.now) (drop i parts)) ≡ 1 + total (map (λ p. p.now) parts) → total (map (λ p. p.now) parts) ≡ n + 1
-    → length (get_or parts i d).now ≤ n
-part_fits parts i d column n h one e t = omega (arith, total-drop parts i d h, e, t)
+-- The words before the first space, and those after it.
+pub words-first : (octets : List ℕ) (i column : ℕ) → position (λ b. b == 32) octets ≡ Some i
+    → words_from column octets ≡ with_part column (take i octets) (words_from (column + (length (take i octets) + 1)) (drop (i + 1) octets))
+words-first octets i column h = ap (placed column) (split_first (λ b. b == 32) octets i h)
+
+-- Octets without a space are one word.
+pub words-whole : (octets : List ℕ) (column : ℕ) → position (λ b. b == 32) octets ≡ None
+    → words_from column octets ≡ with_part column octets (words_from (column + (length octets + 1)) [])
+words-whole octets column h = ap (placed column) (split_whole (λ b. b == 32) octets h)

@@ -12,13 +12,19 @@ pub record Placed : Type 0 where
 abbrev pub placed_word : Word → Placed
 placed_word w = record { column = w.column; text = w.text.now }
 
+-- a part at that column is a word before the others, unless it is empty
+abbrev pub with_part : ℕ → List ℕ → List Placed → List Placed
+with_part column part words = if length part == 0 then words else record { column = column; text = part } ∷ words
+
 -- of the parts from that column on, those that are not empty
 abbrev pub placed : ℕ → List (List ℕ) → List Placed
 placed column [] = []
-placed column (part ∷ parts) =
-    if length part == 0 then placed (column + (length part + 1)) parts else
-    record { column = column; text = part } ∷ placed (column + (length part + 1)) parts
+placed column (part ∷ parts) = with_part column part (placed (column + (length part + 1)) parts)
+
+-- the words of octets that begin at that column
+abbrev pub words_from : ℕ → List ℕ → List Placed
+words_from column octets = placed column (slice_split (λ b. b == 32) octets)
 
 -- the words of a line
 unfoldable pub words_of : List ℕ → List Placed
-words_of line = placed 1 (slice_split (λ b. b == 32) line)
+words_of line = words_from 1 line

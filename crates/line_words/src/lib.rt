@@ -24,4 +24,4 @@ pub use forms::{
 };
 pub use lines::{are_spaces, row_of, words_in};
 pub use lists::{prefixes_at, targets_at};
-pub use words::{Row, Word, split_line};
+pub use words::{Row, Word, place_of, split_line};

@@ -1,9 +1,9 @@
 //! The first line of a text, and the words of a line.
-ghost use Rattle.std.specs.Prelude.{◌≡◌, ◌+◌, ◌<◌, ◌==◌, ◌≤◌, ◌∷◌, length, map, position, IfOk};
-ghost use Rattle.std.specs.List.{slice_split};
+ghost use Rattle.std.specs.Prelude.{◌≡◌, ◌+◌, ◌<◌, ◌==◌, ◌≤◌, ◌∷◌, ℕ, length, map, position, IfOk};
 ghost use Rattle.std.specs.Str.Lines.{lines, strip_carriage_return};
-ghost use Rattle.line_words.specs.Words.{words_of, placed_word};
+ghost use Rattle.line_words.specs.Words.{placed_word, with_part, words_from, words_of};
 
+use memchr::memchr;
 use std::alloc::{AllocError, Global};
 
 /// A word, with the column that it begins at.
@@ -21,10 +21,11 @@ pub struct Row {
     pub after: u32,
 }
 
-fn line_feed(text: &[u8]) -> Option<usize>
-    ensures { result ≡ position (λ b. b == 10) text.now }
+/// The place of the first such octet, if there is one. It looks at several octets at a time.
+pub fn place_of(octet: u8, text: &[u8]) -> Option<usize>
+    ensures { result ≡ position (λ b. b == octet) text.now }
 {
-    text.iter().position(|b| *b == b'\n')
+    memchr(octet, text)
 }
 
 /// The first line of a text, and the text after it.
@@ -34,7 +35,7 @@ pub fn split_line(text: &[u8]) -> (&[u8], &[u8])
     ensures within { length result.0.now ≤ length text.now }
     ensures shorter { length result.1.now < length text.now }
 {
-    match line_feed(text) {
+    match place_of(b'\n', text) {
         Some(place) => (without_return(&text[..place]), &text[place + 1..]),
         None => (text, &[]),
     }
@@ -51,11 +52,18 @@ fn without_return(line: &[u8]) -> &[u8]
     &line[..line.len() - 1]
 }
 
-/// The parts between the spaces.
-fn parts_of(alloc: Global, octets: &[u8]) -> Result<Vec<&[u8]>, AllocError>
-    ensures { IfOk result (λ v. map (λ p. p.now) v.items ≡ slice_split (λ b. b == 32) octets.now) }
+/// The octets up to the first space, and those after it.
+fn split_space(octets: &[u8]) -> (&[u8], &[u8])
+    requires { 0 < length octets.now }
+    ensures words { (column : ℕ) → words_from column octets.now ≡
+        with_part column result.0.now (words_from (column + (length result.0.now + 1)) result.1.now) }
+    ensures within { length result.0.now + length result.1.now ≤ length octets.now }
+    ensures shorter { length result.1.now < length octets.now }
 {
-    octets.split(|b| *b == b' ').collect(alloc)
+    match place_of(b' ', octets) {
+        Some(place) => (&octets[..place], &octets[place + 1..]),
+        None => (octets, &[]),
+    }
 }
 
 /// The words of a line, with their columns.
@@ -64,14 +72,16 @@ pub(crate) fn words_of<'a>(alloc: Global, line: &'a [u8]) -> Result<Vec<Word<'a>
     requires { length line.now ≤ 4096 }
     ensures { IfOk result (λ v. map placed_word v.items ≡ words_of line.now) }
 {
-    let parts = parts_of(alloc, line)?;
     let mut words = Vec::new(alloc);
     let mut column = 1;
-    for part in &parts {
+    let mut rest = line;
+    'words: while !rest.is_empty() {
+        let (part, thereafter) = split_space(rest);
         if !part.is_empty() {
             words.push(Word { column, text: part })?;
         }
         column += part.len() as u32 + 1;
+        rest = thereafter;
     }
     Ok(words)
 }

@@ -1,17 +1,24 @@
 //! The lines of the text, one by one.
-ghost use Rattle.std.specs.Prelude.{◌≡◌, ◌++◌, ◌≤◌, OnOk, codes};
+ghost use Rattle.std.specs.Prelude.{◌≡◌, ◌++◌, ◌≤◌, OnOk, codes, decimal};
 ghost use Rattle.generator.specs.Made as made;
 
 use mv_base::{Bytes, NoMemory};
 use report_text::put_number;
 
-/// The number of a VPN and that of an edge.
-fn put_pair(out: &mut Bytes, vpn: u32, edge: u32) -> Result<(), NoMemory>
-    ensures { OnOk result (out.new ≡ out.old ++ made.pair vpn edge) }
+/// A text, and a number after it.
+fn put_then(out: &mut Bytes, text: &[u8], number: u32) -> Result<(), NoMemory>
+    ensures { OnOk result (out.new ≡ out.old ++ text.now ++ decimal number) }
 {
-    put_number(out, u64::from(vpn))?;
-    out.extend(b"_")?;
-    put_number(out, u64::from(edge))
+    out.extend(text)?;
+    put_number(out, u64::from(number))
+}
+
+/// A text, and the number of a VPN and that of an edge after it.
+fn put_then_pair(out: &mut Bytes, text: &[u8], vpn: u32, edge: u32) -> Result<(), NoMemory>
+    ensures { OnOk result (out.new ≡ out.old ++ text.now ++ made.pair vpn edge) }
+{
+    put_then(out, text, vpn)?;
+    put_then(out, b"_", edge)
 }
 
 /// The edge at whose site the source of the VPN's flow is.
@@ -25,31 +32,24 @@ fn source_edge(number: u32, vpn: u32) -> u32
 fn put_flow(out: &mut Bytes, number: u32, vpn: u32) -> Result<(), NoMemory>
     ensures { OnOk result (out.new ≡ out.old ++ made.flow number vpn) }
 {
-    out.extend(b"10.")?;
-    put_number(out, u64::from(source_edge(number, vpn)))?;
-    out.extend(b".")?;
-    put_number(out, u64::from(vpn))?;
-    out.extend(b".9 232.1.1.")?;
-    put_number(out, u64::from(vpn))
+    put_then(out, b"10.", source_edge(number, vpn))?;
+    put_then(out, b".", vpn)?;
+    put_then(out, b".9 232.1.1.", vpn)
 }
 
 pub(crate) fn put_edge(out: &mut Bytes, edge: u32) -> Result<(), NoMemory>
     ensures { OnOk result (out.new ≡ out.old ++ made.edge_line edge) }
 {
-    out.extend(b"edge E")?;
-    put_number(out, u64::from(edge))?;
-    out.extend(b" 192.0.2.")?;
-    put_number(out, u64::from(edge))?;
+    put_then(out, b"edge E", edge)?;
+    put_then(out, b" 192.0.2.", edge)?;
     out.extend(b"\n")
 }
 
 pub(crate) fn put_core(out: &mut Bytes, core: u32) -> Result<(), NoMemory>
     ensures { OnOk result (out.new ≡ out.old ++ made.core_line core) }
 {
-    out.extend(b"core C")?;
-    put_number(out, u64::from(core))?;
-    out.extend(b" 192.0.3.")?;
-    put_number(out, u64::from(core))?;
+    put_then(out, b"core C", core)?;
+    put_then(out, b" 192.0.3.", core)?;
     out.extend(b"\n")
 }
 
@@ -57,10 +57,8 @@ pub(crate) fn put_core(out: &mut Bytes, core: u32) -> Result<(), NoMemory>
 pub(crate) fn put_ring(out: &mut Bytes, core: u32) -> Result<(), NoMemory>
     ensures { OnOk result (out.new ≡ out.old ++ made.ring_line core) }
 {
-    out.extend(b"link C")?;
-    put_number(out, u64::from(core))?;
-    out.extend(b" C")?;
-    put_number(out, u64::from(core % 16 + 1))?;
+    put_then(out, b"link C", core)?;
+    put_then(out, b" C", core % 16 + 1)?;
     out.extend(b" 1\n")
 }
 
@@ -69,54 +67,39 @@ pub(crate) fn put_spur(out: &mut Bytes, edge: u32) -> Result<(), NoMemory>
     requires { 1 ≤ edge }
     ensures { OnOk result (out.new ≡ out.old ++ made.spur_line edge) }
 {
-    out.extend(b"link E")?;
-    put_number(out, u64::from(edge))?;
-    out.extend(b" C")?;
-    put_number(out, u64::from((edge - 1) % 16 + 1))?;
+    put_then(out, b"link E", edge)?;
+    put_then(out, b" C", (edge - 1) % 16 + 1)?;
     out.extend(b" 1\n")
 }
 
 fn put_vrf(out: &mut Bytes, edge: u32, vpn: u32) -> Result<(), NoMemory>
     ensures { OnOk result (out.new ≡ out.old ++ made.vrf_line edge vpn) }
 {
-    out.extend(b"vrf V")?;
-    put_pair(out, vpn, edge)?;
-    out.extend(b" E")?;
-    put_number(out, u64::from(edge))?;
-    out.extend(b" ")?;
-    put_number(out, u64::from(vpn))?;
-    out.extend(b" 65000:")?;
-    put_number(out, u64::from(vpn))?;
-    out.extend(b" 65000:")?;
-    put_number(out, u64::from(vpn))?;
+    put_then_pair(out, b"vrf V", vpn, edge)?;
+    put_then(out, b" E", edge)?;
+    put_then(out, b" ", vpn)?;
+    put_then(out, b" 65000:", vpn)?;
+    put_then(out, b" 65000:", vpn)?;
     out.extend(b" highest\n")
 }
 
 fn put_site(out: &mut Bytes, edge: u32, vpn: u32) -> Result<(), NoMemory>
     ensures { OnOk result (out.new ≡ out.old ++ made.site_line edge vpn) }
 {
-    out.extend(b"site S")?;
-    put_pair(out, vpn, edge)?;
-    out.extend(b" 10.")?;
-    put_number(out, u64::from(edge))?;
-    out.extend(b".")?;
-    put_number(out, u64::from(vpn))?;
+    put_then_pair(out, b"site S", vpn, edge)?;
+    put_then(out, b" 10.", edge)?;
+    put_then(out, b".", vpn)?;
     out.extend(b".0/24\n")
 }
 
 fn put_iface(out: &mut Bytes, edge: u32, vpn: u32) -> Result<(), NoMemory>
     ensures { OnOk result (out.new ≡ out.old ++ made.iface_line edge vpn) }
 {
-    out.extend(b"iface I")?;
-    put_pair(out, vpn, edge)?;
-    out.extend(b" V")?;
-    put_pair(out, vpn, edge)?;
-    out.extend(b" S")?;
-    put_pair(out, vpn, edge)?;
-    out.extend(b" 10.")?;
-    put_number(out, u64::from(edge))?;
-    out.extend(b".")?;
-    put_number(out, u64::from(vpn))?;
+    put_then_pair(out, b"iface I", vpn, edge)?;
+    put_then_pair(out, b" V", vpn, edge)?;
+    put_then_pair(out, b" S", vpn, edge)?;
+    put_then(out, b" 10.", edge)?;
+    put_then(out, b".", vpn)?;
     out.extend(b".1\n")
 }
 
@@ -133,8 +116,7 @@ pub(crate) fn put_attachment(out: &mut Bytes, edge: u32, vpn: u32) -> Result<(),
 fn put_join_line(out: &mut Bytes, number: u32, vpn: u32, edge: u32) -> Result<(), NoMemory>
     ensures { OnOk result (out.new ≡ out.old ++ codes "join I" ++ made.pair vpn edge ++ codes " " ++ made.flow number vpn ++ codes "\n") }
 {
-    out.extend(b"join I")?;
-    put_pair(out, vpn, edge)?;
+    put_then_pair(out, b"join I", vpn, edge)?;
     out.extend(b" ")?;
     put_flow(out, number, vpn)?;
     out.extend(b"\n")
@@ -162,8 +144,7 @@ pub(crate) fn put_send(
 ) -> Result<(), NoMemory>
     ensures { OnOk result (out.new ≡ out.old ++ made.send_line number payload.now vpn) }
 {
-    out.extend(b"send S")?;
-    put_pair(out, vpn, source_edge(number, vpn))?;
+    put_then_pair(out, b"send S", vpn, source_edge(number, vpn))?;
     out.extend(b" ")?;
     put_flow(out, number, vpn)?;
     out.extend(b" ")?;
@@ -175,8 +156,7 @@ fn put_select_line(out: &mut Bytes, number: u32, vpn: u32) -> Result<(), NoMemor
     ensures { OnOk result (out.new ≡ out.old
         ++ codes "select V" ++ made.pair vpn (made.source_edge number vpn) ++ codes " " ++ made.flow number vpn ++ codes "\n") }
 {
-    out.extend(b"select V")?;
-    put_pair(out, vpn, source_edge(number, vpn))?;
+    put_then_pair(out, b"select V", vpn, source_edge(number, vpn))?;
     out.extend(b" ")?;
     put_flow(out, number, vpn)?;
     out.extend(b"\n")

@@ -1,11 +1,11 @@
 //! The line `report` of a text.
-ghost use Rattle.std.specs.Prelude.{◌≡◌, ◌==◌, ◌≤◌, ◌+◌, false, length, position, IfOk, IfErr};
+ghost use Rattle.std.specs.Prelude.{◌≡◌, ◌≤◌, ◌+◌, false, length, IfOk, IfErr};
 ghost use Rattle.std.specs.List.{list_any};
 ghost use Rattle.std.specs.Str.Lines.{lines};
 ghost use Rattle.audit_text.specs.Texts.{is_ended, is_mark};
 ghost use Rattle.audit_text.specs.Cutting.{line_length, AreParts};
 
-use line_words::{TEXT_LIMIT, are_spaces, split_line};
+use line_words::{TEXT_LIMIT, are_spaces, place_of, split_line};
 
 /// The texts before and after a line `report`, and the number of that line.
 #[derive(Clone, Copy)]
@@ -36,17 +36,11 @@ fn is_mark(line: &[u8]) -> bool
     is_ended(rest)
 }
 
-fn line_feed(text: &[u8]) -> Option<usize>
-    ensures { result ≡ position (λ octet. octet == 10) text.now }
-{
-    text.iter().position(|octet| *octet == b'\n')
-}
-
 /// How many octets the first line of a text has, with the line feed after it.
 fn line_length(text: &[u8]) -> usize
     ensures { result ≡ line_length text.now }
 {
-    match line_feed(text) {
+    match place_of(b'\n', text) {
         Some(place) => place + 1,
         None => text.len(),
     }

@@ -1,20 +1,14 @@
 //! The line `probe` of a text.
-ghost use Rattle.std.specs.Prelude.{◌≡◌, ◌==◌, ◌<◌, ◌≤◌, length, position, IfErr, IfOk, None, Some};
+ghost use Rattle.std.specs.Prelude.{◌≡◌, ◌<◌, ◌≤◌, length, position, IfErr, IfOk, None, Some};
 ghost use Rattle.std.specs.Str.Lines.{lines};
 ghost use Rattle.probe_text.specs.Grammar.{first_word, is_probe_line, unspaced, up_to_space};
 
-use line_words::split_line;
-
-fn first_space(octets: &[u8]) -> Option<usize>
-    ensures { result ≡ position (λ octet. octet == 32) octets.now }
-{
-    octets.iter().position(|octet| *octet == b' ')
-}
+use line_words::{place_of, split_line};
 
 fn up_to_space(octets: &[u8]) -> &[u8]
     ensures { result.now ≡ up_to_space octets.now }
 {
-    match first_space(octets) {
+    match place_of(b' ', octets) {
         Some(place) => &octets[..place],
         None => octets,
     }

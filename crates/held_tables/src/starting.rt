@@ -4,7 +4,6 @@ ghost use Rattle.std.specs.List.{flat_map};
 ghost use Rattle.mv_base.specs.core_walks.Core.{Core};
 ghost use Rattle.scenario_defs.specs.Rules.{IsSitePrefix};
 ghost use Rattle.edge_defs.specs.Edge.{no_control};
-ghost use Rattle.edge_defs.specs.Originated.{unicast_routes};
 ghost use Rattle.edge_routes.specs.edge_home.Home.{as_own, place_of};
 ghost use Rattle.edge_routes.specs.Local.{IsAt};
 ghost use Rattle.edge_tables.specs.Tables.{EachPeer};
@@ -63,25 +62,7 @@ fn hold_inclusive(tables: &mut EdgeTables, home: &EdgeHome, own: &OwnVrf) -> Res
     tables.set(&key, &value)
 }
 
-/// Each peer is to have the unicast routes of the sites that are attached at the VRF.
-fn hold_sites(
-    tables: &mut EdgeTables,
-    alloc: Global,
-    home: &EdgeHome,
-    own: &OwnVrf,
-) -> Result<(), NoMemory>
-    requires { IsAt (home_place home.now) own.now.local }
-    ensures set { OnOk result (EachPeer (λ before thereafter.
-        thereafter ≡ with_routes (unicast_routes (home_place home.now) (as_own own.now)) before) tables.old tables.new) }
-    ensures partly { OnErr result (
-        EachPeer (HasFront (unicast_routes (home_place home.now) (as_own own.now))) tables.old tables.new) }
-{
-    let value = unicast_value(&own.local);
-    let routes = local_routes(alloc, home.scenario(), own.id)?;
-    hold_prefixes(tables, &own.local, &value, routes.as_slice())
-}
-
-/// Each peer is to have the first routes of the VRF.
+/// Each peer is to have the first routes of the VRF: its inclusive route, and the unicast routes of the sites that are attached at it.
 fn hold_vrf(
     tables: &mut EdgeTables,
     alloc: Global,
@@ -95,7 +76,9 @@ fn hold_vrf(
         EachPeer (HasFront (start_routes (home_place home.now) (as_own own.now))) tables.old tables.new) }
 {
     hold_inclusive(tables, home, own)?;
-    hold_sites(tables, alloc, home, own)
+    let value = unicast_value(&own.local);
+    let routes = local_routes(alloc, home.scenario(), own.id)?;
+    hold_prefixes(tables, &own.local, &value, routes.as_slice())
 }
 
 /// Each peer is to have the first routes of these VRFs.

@@ -146,7 +146,7 @@ impl Datagrams {
     {
         leaving::leave_at(self.number, outs, self.octets(), lines)?;
         leaving::tell_hops(node, ttl, self.number, branches, lines)?;
-        self.copies.forward_on_trees(node, ttl, now, branches)
+        self.copies.forward(node, ttl, now, branches)
     }
 
     /// The copy at that place of the way lands, counted from 1, where there is one: it leaves its link, and its datagram is the one

@@ -139,29 +139,9 @@ impl LinkCopies {
         Ok(())
     }
 
-    /// The node puts a copy of the datagram that is being handled on each branch, in order. Where memory ends, the first ones may
-    /// have been put.
+    /// The node puts a copy of the datagram that is being handled on each branch of its trees, in order. Where memory ends, the first
+    /// ones may have been put.
     pub fn forward(
-        &mut self,
-        from: NodeId,
-        ttl: u8,
-        now: u64,
-        branches: &[Branch],
-    ) -> Result<(), NoMemory>
-        ensures sent { OnOk result ((u n : NodeId) → kept_at self.new u n ≡
-            kept_at self.old u n ++ sent self.old.current from ttl now branches.now u n) }
-        ensures current { self.new.current ≡ self.old.current }
-        ensures buffers { KeepsBuffers self.old.buffers self.new.buffers }
-        ensures octets { KeepsOctets self.old self.new }
-    {
-        for branch in branches {
-            self.put_copy(from, ttl, now, *branch)?;
-        }
-        Ok(())
-    }
-
-    /// The same on branches of trees.
-    pub fn forward_on_trees(
         &mut self,
         from: NodeId,
         ttl: u8,

@@ -35,7 +35,7 @@ streams_after (Raised kind peer) streams = maps.insert streams (record { kind = 
 streams_after (Noticed kind peer) streams = maps.remove streams (record { kind = kind; peer = peer })
 streams_after other streams = streams
 
--- each edge that it is in the definitions becomes this one by the step, whichever way the core is told
+-- each edge that it is in the definitions becomes this one by the step, whichever core of these links it is given
 abbrev pub Makes : Topology → (Core → EdgeState → EdgeState) → EdgeView → EdgeView → Type 0
 Makes core step old new =
     (own : Core) → IsCoreOf core.nodes core.links own → (state : EdgeState) → IsIn state old → IsIn (step own state) new

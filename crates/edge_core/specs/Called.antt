@@ -26,13 +26,13 @@ going parts = record { routing = parts.routing; labels = parts.labels; streams =
 abbrev pub seen : Parts → Option NodeFault → EdgeView
 seen parts spent = record (going parts) { spent = option_map cause spent }
 
--- What a call asks of the parts of an edge that makes it: they are those of one that is not spent, where it stands in that core, at a clock.
+-- What a call asks of the parts that make it: the edge is not spent, the core has as many nodes as its scenario, and the clock is below 2^63.
 pub record IsReady (core : Topology) (now : ℕ) (parts : Parts) : Type 0 where
   pub live : IsLive parts.routing parts.labels parts.streams
   pub nodes : core.nodes ≡ length parts.routing.control.home.scenario.nodes
   pub clock : now < 2 ^ 63
 
--- The call was made of what the edge keeps and tells its peers, of its streams, and of when its ends came up; and the label part is to
+-- The call was made of what the edge keeps and sends its peers, of its streams, and of when its ends came up; and the label part is to
 -- make its own call.
 pub record IsMidway (core : Topology) (now : ℕ) (own : OwnCall) (call : Call) (old : EdgeView) (told : Result LeafCandidates NoMemory)
     (parts : Parts) : Type 0 where

@@ -12,14 +12,14 @@ ghost use Rattle.edge_core.specs.Taking.{AnswersOctets};
 
 use crate::edge::{Edge, spent_by};
 use crate::edge_call::EdgeCall;
-use crate::fault::{Answer, EdgeFault};
+use crate::fault::{EdgeAnswer, EdgeFault};
 use core_paths::Core;
 use mv_base::{Bytes, IfaceId, NodeId};
 use scenario_defs::Kind;
 
 impl Edge {
     /// Makes the call, which fits the edge.
-    pub fn call(&mut self, call: EdgeCall<'_>, now: u64, core: &Core) -> Answer
+    pub fn call(&mut self, call: EdgeCall<'_>, now: u64, core: &Core) -> EdgeAnswer
         requires nodes { core.now.nodes ≡ length (home_of self.old).scenario.nodes }
         requires now { now < 2 ^ 63 }
         requires fits { Fits self.old (call_of call) }
@@ -35,7 +35,7 @@ impl Edge {
 
     /// Octets come from the BGP peer, whose session is up (RFC 4271 section 4): the messages that are whole with them are taken, those
     /// before the first fault of the stream too.
-    pub fn take_bgp(&mut self, peer: NodeId, bytes: &[u8], now: u64, core: &Core) -> Answer
+    pub fn take_bgp(&mut self, peer: NodeId, bytes: &[u8], now: u64, core: &Core) -> EdgeAnswer
         requires nodes { core.now.nodes ≡ length (home_of self.old).scenario.nodes }
         requires now { now < 2 ^ 63 }
         requires up { self.old.spent ≡ None → is_up self.old kinds.Bgp peer ≡ true }
@@ -51,7 +51,7 @@ impl Edge {
 
     /// Octets come from the LDP neighbour, whose session is up (RFC 5036 section 3.1): the messages that are whole with them are taken,
     /// those before the first fault of the stream too.
-    pub fn take_ldp(&mut self, peer: NodeId, bytes: &[u8], now: u64, core: &Core) -> Answer
+    pub fn take_ldp(&mut self, peer: NodeId, bytes: &[u8], now: u64, core: &Core) -> EdgeAnswer
         requires nodes { core.now.nodes ≡ length (home_of self.old).scenario.nodes }
         requires now { now < 2 ^ 63 }
         requires up { self.old.spent ≡ None → is_up self.old kinds.Ldp peer ≡ true }
@@ -67,7 +67,7 @@ impl Edge {
 
     /// Octets of a PIM message come to the interface from a router of the customer (RFC 7761 sections 4.5 and 4.9.5). Those that are no
     /// Join/Prune message, or one for another router, or one by which there would be too many entries, change nothing.
-    pub fn take_pim(&mut self, iface: IfaceId, bytes: &[u8], now: u64, core: &Core) -> Answer
+    pub fn take_pim(&mut self, iface: IfaceId, bytes: &[u8], now: u64, core: &Core) -> EdgeAnswer
         requires nodes { core.now.nodes ≡ length (home_of self.old).scenario.nodes }
         requires own { is_own_iface (home_of self.old) iface ≡ true }
         requires now { now < 2 ^ 63 }

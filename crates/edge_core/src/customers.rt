@@ -15,7 +15,7 @@ ghost use Rattle.edge_core.specs.declared.fault.EdgeFault.{EdgeFault as EdgeFaul
 ghost use Rattle.edge_core.specs.declared.fault.EdgeFault.TheVariants as EdgeFault;
 
 use crate::edge_call::{CustomerCall, EdgeCall};
-use crate::fault::{Answer, EdgeFault};
+use crate::fault::{EdgeAnswer, EdgeFault};
 use crate::parts::Parts;
 use core_paths::Core;
 use edge_routes::edge_home::EdgeHome;
@@ -48,7 +48,13 @@ fn is_ours(home: &EdgeHome, iface: IfaceId, message: &JoinPrune) -> bool
 
 impl Parts {
     /// Takes the octets of a Join/Prune message at the interface.
-    pub(crate) fn take_pim(&mut self, iface: IfaceId, bytes: &[u8], now: u64, core: &Core) -> Answer
+    pub(crate) fn take_pim(
+        &mut self,
+        iface: IfaceId,
+        bytes: &[u8],
+        now: u64,
+        core: &Core,
+    ) -> EdgeAnswer
         requires ready { IsReady core.now now self.old }
         requires own { is_own_iface self.old.routing.control.home iface ≡ true }
         ensures answers { AnswersPim core.now now iface bytes.now (going self.old) (thereafter self.new result) result }
@@ -73,7 +79,7 @@ impl Parts {
         group: Addr,
         now: u64,
         core: &Core,
-    ) -> Answer
+    ) -> EdgeAnswer
         requires ready { IsReady core.now now self.old }
         requires own { is_own_iface self.old.routing.control.home iface ≡ true }
         requires group { IsGroup (afi_of source) group }
@@ -101,7 +107,7 @@ impl Parts {
         group: Addr,
         now: u64,
         core: &Core,
-    ) -> Answer
+    ) -> EdgeAnswer
         requires ready { IsReady core.now now self.old }
         requires own { is_own_iface self.old.routing.control.home iface ≡ true }
         requires group { IsGroup (afi_of source) group }

@@ -16,7 +16,7 @@ ghost use Rattle.edge_core.specs.Called.{spent_after};
 ghost use Rattle.edge_core.specs.State.{IsIn, IsLive, IsTreeIn, home_of};
 
 use crate::clocks::RaiseClocks;
-use crate::fault::{Answer, EdgeFault};
+use crate::fault::{EdgeAnswer, EdgeFault};
 use crate::parts::Parts;
 use edge_routes::edge_home::SharedScenario;
 use edge_routing::EdgeRouting;
@@ -54,7 +54,7 @@ impl Model for Edge {
 }
 
 /// Why an edge is spent after the answer, if it is.
-pub(crate) fn spent_by(answer: &Answer) -> Option<NodeFault>
+pub(crate) fn spent_by(answer: &EdgeAnswer) -> Option<NodeFault>
     ensures { option_map cause result ≡ spent_after answer.now }
 {
     match answer {

@@ -3,7 +3,7 @@ ghost use Rattle.edge_defs.specs.Steps.{Noticed, Raised};
 ghost use Rattle.edge_core.specs.Called.{IsReady, going};
 ghost use Rattle.edge_core.specs.Calls.{Fits, MakesCall, call_of};
 
-use crate::fault::{Answer, EdgeFault};
+use crate::fault::{EdgeAnswer, EdgeFault};
 use crate::parts::Parts;
 use core_paths::Core;
 use edge_routing::of_edge_control::ControlFault;
@@ -61,7 +61,7 @@ pub enum EdgeCall<'a> {
 
 impl Parts {
     /// The end of the session comes up.
-    fn raise(&mut self, kind: Kind, peer: NodeId, now: u64, core: &Core) -> Answer
+    fn raise(&mut self, kind: Kind, peer: NodeId, now: u64, core: &Core) -> EdgeAnswer
         requires ready { IsReady core.now now self.old }
         requires fits { Fits (going self.old) (Raised kind peer) }
         ensures { MakesCall core.now now (Raised kind peer) self.old self.new result }
@@ -73,7 +73,7 @@ impl Parts {
     }
 
     /// The end of the session notices its loss.
-    fn lose(&mut self, kind: Kind, peer: NodeId, now: u64, core: &Core) -> Answer
+    fn lose(&mut self, kind: Kind, peer: NodeId, now: u64, core: &Core) -> EdgeAnswer
         requires ready { IsReady core.now now self.old }
         ensures { MakesCall core.now now (Noticed kind peer) self.old self.new result }
     {
@@ -84,7 +84,7 @@ impl Parts {
     }
 
     /// Makes the call.
-    pub(crate) fn call(&mut self, call: EdgeCall<'_>, now: u64, core: &Core) -> Answer
+    pub(crate) fn call(&mut self, call: EdgeCall<'_>, now: u64, core: &Core) -> EdgeAnswer
         requires ready { IsReady core.now now self.old }
         requires fits { Fits (going self.old) (call_of call) }
         ensures { MakesCall core.now now (call_of call.entry) self.old self.new result }

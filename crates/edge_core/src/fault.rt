@@ -37,7 +37,7 @@ pub enum EdgeFault {
 }
 
 /// What a call of an edge answers that gives nothing back.
-pub type Answer = Result<(), EdgeFault>;
+pub type EdgeAnswer = Result<(), EdgeFault>;
 
 /// It says what `Display` says: the faults of streams have no `Debug`.
 impl fmt::Debug for EdgeFault {

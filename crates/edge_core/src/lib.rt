@@ -37,5 +37,5 @@ pub use edge_call::{CustomerCall, EdgeCall};
 pub use edge_routing::of_edge_streams as of_edge_streams;
 pub use edge_routing::of_edge_streams::SessionReason;
 pub use fate::{Branches, Fate};
-pub use fault::{Answer, EdgeFault};
+pub use fault::{EdgeAnswer, EdgeFault};
 pub use lists::{Fecs, RouteKeys};

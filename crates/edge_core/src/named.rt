@@ -7,7 +7,7 @@ ghost use Rattle.edge_core.specs.State.{home_of};
 
 use crate::edge::{Edge, spent_by};
 use crate::edge_call::{CustomerCall, EdgeCall};
-use crate::fault::{Answer, EdgeFault};
+use crate::fault::{EdgeAnswer, EdgeFault};
 use core_paths::Core;
 use mv_base::{Addr, IfaceId, NodeId, Pattern, VrfId};
 use scenario_defs::Kind;
@@ -21,7 +21,7 @@ impl Edge {
         group: Addr,
         now: u64,
         core: &Core,
-    ) -> Answer
+    ) -> EdgeAnswer
         requires nodes { core.now.nodes ≡ length (home_of self.old).scenario.nodes }
         requires now { now < 2 ^ 63 }
         requires fits { Fits self.old (Customer (Active iface source group)) }
@@ -43,7 +43,7 @@ impl Edge {
         group: Addr,
         now: u64,
         core: &Core,
-    ) -> Answer
+    ) -> EdgeAnswer
         requires nodes { core.now.nodes ≡ length (home_of self.old).scenario.nodes }
         requires now { now < 2 ^ 63 }
         requires fits { Fits self.old (Customer (Idle iface source group)) }
@@ -58,7 +58,7 @@ impl Edge {
     }
 
     /// Selects the pattern in the VRF, where it is not selected (RFC 6514 section 12.1).
-    pub fn select(&mut self, vrf: VrfId, pattern: Pattern, now: u64) -> Answer
+    pub fn select(&mut self, vrf: VrfId, pattern: Pattern, now: u64) -> EdgeAnswer
         requires now { now < 2 ^ 63 }
         requires fits { Fits self.old (Customer (Select vrf pattern)) }
         ensures { (core : Topology) → AnswersCall core now (Customer (Select vrf pattern)) self.old self.new result }
@@ -72,7 +72,7 @@ impl Edge {
     }
 
     /// The pattern is selected no more in the VRF.
-    pub fn unselect(&mut self, vrf: VrfId, pattern: Pattern) -> Answer
+    pub fn unselect(&mut self, vrf: VrfId, pattern: Pattern) -> EdgeAnswer
         requires fits { Fits self.old (Customer (Unselect vrf pattern)) }
         ensures { (core : Topology) (now : ℕ) → AnswersCall core now (Customer (Unselect vrf pattern)) self.old self.new result }
     {
@@ -85,7 +85,7 @@ impl Edge {
     }
 
     /// The end of the session comes up, and has a fresh stream. Over BGP the peer is sent all that the edge holds for it.
-    pub fn raised(&mut self, kind: Kind, peer: NodeId, now: u64, core: &Core) -> Answer
+    pub fn raised(&mut self, kind: Kind, peer: NodeId, now: u64, core: &Core) -> EdgeAnswer
         requires nodes { core.now.nodes ≡ length (home_of self.old).scenario.nodes }
         requires now { now < 2 ^ 63 }
         requires fits { Fits self.old (Raised kind peer) }
@@ -95,7 +95,7 @@ impl Edge {
     }
 
     /// The end of the session notices its loss: all that came over it is forgotten, and what waits for it is dropped.
-    pub fn noticed(&mut self, kind: Kind, peer: NodeId, now: u64, core: &Core) -> Answer
+    pub fn noticed(&mut self, kind: Kind, peer: NodeId, now: u64, core: &Core) -> EdgeAnswer
         requires nodes { core.now.nodes ≡ length (home_of self.old).scenario.nodes }
         requires now { now < 2 ^ 63 }
         ensures { AnswersCall core.now now (Noticed kind peer) self.old self.new result }
@@ -104,7 +104,7 @@ impl Edge {
     }
 
     /// The timers that are due at the clock run.
-    pub fn timers(&mut self, now: u64, core: &Core) -> Answer
+    pub fn timers(&mut self, now: u64, core: &Core) -> EdgeAnswer
         requires nodes { core.now.nodes ≡ length (home_of self.old).scenario.nodes }
         requires now { now < 2 ^ 63 }
         ensures { AnswersCall core.now now Timers self.old self.new result }
@@ -113,7 +113,7 @@ impl Edge {
     }
 
     /// Costs of links changed: the edge knows the core by them from now on, and each tree that waits for a label does so by them.
-    pub fn rerouted(&mut self, now: u64, core: &Core) -> Answer
+    pub fn rerouted(&mut self, now: u64, core: &Core) -> EdgeAnswer
         requires nodes { core.now.nodes ≡ length (home_of self.old).scenario.nodes }
         requires now { now < 2 ^ 63 }
         ensures { AnswersCall core.now now Rerouted self.old self.new result }

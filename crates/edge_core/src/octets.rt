@@ -12,7 +12,7 @@ ghost use Rattle.edge_core.specs.State.{IsLive, is_up};
 ghost use Rattle.edge_core.specs.Taking.{AnswersOctets, IsSessionFault, taken_by};
 ghost use Rattle.edge_core.specs.declared.fault.EdgeFault.{EdgeFault as EdgeFaults};
 
-use crate::fault::{Answer, EdgeFault};
+use crate::fault::{EdgeAnswer, EdgeFault};
 use crate::parts::Parts;
 use bgp_messages::bgp_update::Message;
 use core_paths::Core;
@@ -23,7 +23,7 @@ use scenario_defs::Kind;
 
 impl Parts {
     /// Takes a message of the BGP peer.
-    fn take_update(&mut self, peer: NodeId, message: Message, now: u64, core: &Core) -> Answer
+    fn take_update(&mut self, peer: NodeId, message: Message, now: u64, core: &Core) -> EdgeAnswer
         requires ready { IsReady core.now now self.old }
         requires writable { SaysWritable message }
         ensures settles { SettlesCall core.now now (Update peer message) (going self.old) self.new result }
@@ -36,7 +36,13 @@ impl Parts {
     }
 
     /// Takes a message of the LDP neighbour.
-    fn take_label(&mut self, peer: NodeId, message: LabelMessage, now: u64, core: &Core) -> Answer
+    fn take_label(
+        &mut self,
+        peer: NodeId,
+        message: LabelMessage,
+        now: u64,
+        core: &Core,
+    ) -> EdgeAnswer
         requires ready { IsReady core.now now self.old }
         requires writable { SaysWritableLabel message }
         ensures settles { SettlesCall core.now now (LabelCall peer message) (going self.old) self.new result }
@@ -53,7 +59,7 @@ impl Parts {
         messages: Vec<Message>,
         now: u64,
         core: &Core,
-    ) -> Answer
+    ) -> EdgeAnswer
         requires ready { IsReady core.now now self.old }
         requires writable { All SaysWritable messages.items }
         ensures settles { Settles core.now (taken_by (going self.old) now peer (map (λ message. Bgp message) messages.items))
@@ -75,7 +81,7 @@ impl Parts {
         messages: Vec<LabelMessage>,
         now: u64,
         core: &Core,
-    ) -> Answer
+    ) -> EdgeAnswer
         requires ready { IsReady core.now now self.old }
         requires writable { All SaysWritableLabel messages.items }
         ensures settles { Settles core.now (taken_by (going self.old) now peer (map (λ message. Label message) messages.items))
@@ -91,7 +97,7 @@ impl Parts {
     }
 
     /// The first fault of the session's stream, if it has had one.
-    fn sound(&self, kind: Kind, peer: NodeId) -> Answer
+    fn sound(&self, kind: Kind, peer: NodeId) -> EdgeAnswer
         ensures sound { OnOk result (fault_at self.now.streams (session kind peer) ≡ None) }
         ensures fault { (fault : EdgeFaults) → result ≡ Err fault → IsSessionFault (session kind peer) (going self.now) fault }
     {
@@ -106,7 +112,13 @@ impl Parts {
     }
 
     /// Takes octets of the BGP session with the peer, which is up: the messages that are whole with them, those before its first fault too.
-    pub(crate) fn take_bgp(&mut self, peer: NodeId, bytes: &[u8], now: u64, core: &Core) -> Answer
+    pub(crate) fn take_bgp(
+        &mut self,
+        peer: NodeId,
+        bytes: &[u8],
+        now: u64,
+        core: &Core,
+    ) -> EdgeAnswer
         requires ready { IsReady core.now now self.old }
         requires up { is_up (going self.old) kinds.Bgp peer ≡ true }
         ensures answers { AnswersOctets core.now now (session kinds.Bgp peer) bytes.now (going self.old) (thereafter self.new result) result }
@@ -122,7 +134,13 @@ impl Parts {
 
     /// Takes octets of the LDP session with the neighbour, which is up: the messages that are whole with them, those before its first
     /// fault too.
-    pub(crate) fn take_ldp(&mut self, peer: NodeId, bytes: &[u8], now: u64, core: &Core) -> Answer
+    pub(crate) fn take_ldp(
+        &mut self,
+        peer: NodeId,
+        bytes: &[u8],
+        now: u64,
+        core: &Core,
+    ) -> EdgeAnswer
         requires ready { IsReady core.now now self.old }
         requires up { is_up (going self.old) kinds.Ldp peer ≡ true }
         ensures answers { AnswersOctets core.now now (session kinds.Ldp peer) bytes.now (going self.old) (thereafter self.new result) result }

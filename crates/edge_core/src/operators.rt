@@ -12,14 +12,14 @@ ghost use Rattle.edge_core.specs.Called.{SettlesCall, going};
 ghost use Rattle.edge_core.specs.State.{IsLive};
 ghost use Rattle.edge_core.specs.declared.fault.EdgeFault.TheVariants as EdgeFault;
 
-use crate::fault::{Answer, EdgeFault};
+use crate::fault::{EdgeAnswer, EdgeFault};
 use crate::parts::Parts;
 use edge_routing::of_edge_control::ControlFault;
 use mv_base::{Pattern, VrfId};
 
 impl Parts {
     /// Selects the pattern in the VRF, where it is not selected.
-    pub(crate) fn select(&mut self, vrf: VrfId, pattern: Pattern, now: u64) -> Answer
+    pub(crate) fn select(&mut self, vrf: VrfId, pattern: Pattern, now: u64) -> EdgeAnswer
         requires live { IsLive self.old.routing self.old.labels self.old.streams }
         requires own { is_own_vrf self.old.routing.control.home vrf ≡ true }
         requires pattern { IsAnyOr (IsGroup (afi_by pattern.source pattern.group)) pattern.group }
@@ -39,7 +39,7 @@ impl Parts {
     }
 
     /// The pattern is selected no more in the VRF.
-    pub(crate) fn unselect(&mut self, vrf: VrfId, pattern: Pattern) -> Answer
+    pub(crate) fn unselect(&mut self, vrf: VrfId, pattern: Pattern) -> EdgeAnswer
         requires live { IsLive self.old.routing self.old.labels self.old.streams }
         requires own { is_own_vrf self.old.routing.control.home vrf ≡ true }
         requires pattern { IsAnyOr (IsGroup (afi_by pattern.source pattern.group)) pattern.group }

@@ -8,7 +8,7 @@ ghost use Rattle.edge_core.specs.Called.{IsCalled, IsMidway, SettlesCall};
 ghost use Rattle.edge_core.specs.View.{EdgeView};
 
 use crate::clocks::RaiseClocks;
-use crate::fault::{Answer, EdgeFault};
+use crate::fault::{EdgeAnswer, EdgeFault};
 use core_paths::Core;
 use edge_routing::of_edge_labels::{EdgeLabels, OwnCall};
 use edge_routing::of_edge_streams::EdgeStreams;
@@ -34,7 +34,7 @@ impl Parts {
         told: Result<LeafCandidates, NoMemory>,
         now: u64,
         core: &Core,
-    ) -> Answer
+    ) -> EdgeAnswer
         requires called { IsCalled core.now now own.now told self.old }
         requires now { now < 2 ^ 63 }
         ensures answers { (call : Call) (old : EdgeView) → IsMidway core.now now own.now call old told self.old →

@@ -9,7 +9,7 @@ ghost use Rattle.edge_core.specs.Answers.{IsOneOf};
 ghost use Rattle.edge_core.specs.Called.{IsReady, SettlesCall, going};
 ghost use Rattle.edge_core.specs.State.{is_up};
 
-use crate::fault::Answer;
+use crate::fault::EdgeAnswer;
 use crate::parts::Parts;
 use core_paths::Core;
 use edge_routing::of_edge_labels::OwnCall;
@@ -18,7 +18,7 @@ use scenario_defs::Kind;
 
 impl Parts {
     /// The end of the BGP session with the peer comes up.
-    pub(crate) fn raise_bgp(&mut self, peer: NodeId, now: u64, core: &Core) -> Answer
+    pub(crate) fn raise_bgp(&mut self, peer: NodeId, now: u64, core: &Core) -> EdgeAnswer
         requires ready { IsReady core.now now self.old }
         requires peer { Among peer (peers_of self.old.routing.control.home) }
         requires down { is_up (going self.old) kinds.Bgp peer ≡ false }
@@ -32,7 +32,7 @@ impl Parts {
     }
 
     /// The end of the LDP session with the neighbour comes up.
-    pub(crate) fn raise_ldp(&mut self, peer: NodeId, now: u64, core: &Core) -> Answer
+    pub(crate) fn raise_ldp(&mut self, peer: NodeId, now: u64, core: &Core) -> EdgeAnswer
         requires ready { IsReady core.now now self.old }
         requires down { is_up (going self.old) kinds.Ldp peer ≡ false }
         ensures settles { SettlesCall core.now now (Raised kinds.Ldp peer) (going self.old) self.new result }
@@ -44,7 +44,7 @@ impl Parts {
     }
 
     /// The end of the BGP session with the peer notices its loss.
-    pub(crate) fn lose_bgp(&mut self, peer: NodeId, now: u64, core: &Core) -> Answer
+    pub(crate) fn lose_bgp(&mut self, peer: NodeId, now: u64, core: &Core) -> EdgeAnswer
         requires ready { IsReady core.now now self.old }
         ensures settles { SettlesCall core.now now (Noticed kinds.Bgp peer) (going self.old) self.new result }
         ensures only { IsOneOf [] result }
@@ -56,7 +56,7 @@ impl Parts {
     }
 
     /// The end of the LDP session with the neighbour notices its loss.
-    pub(crate) fn lose_ldp(&mut self, peer: NodeId, now: u64, core: &Core) -> Answer
+    pub(crate) fn lose_ldp(&mut self, peer: NodeId, now: u64, core: &Core) -> EdgeAnswer
         requires ready { IsReady core.now now self.old }
         ensures settles { SettlesCall core.now now (Noticed kinds.Ldp peer) (going self.old) self.new result }
         ensures only { IsOneOf [] result }
@@ -67,7 +67,7 @@ impl Parts {
     }
 
     /// The timers run.
-    pub(crate) fn run_timers(&mut self, now: u64, core: &Core) -> Answer
+    pub(crate) fn run_timers(&mut self, now: u64, core: &Core) -> EdgeAnswer
         requires ready { IsReady core.now now self.old }
         ensures settles { SettlesCall core.now now Timers (going self.old) self.new result }
         ensures only { IsOneOf [] result }
@@ -77,7 +77,7 @@ impl Parts {
     }
 
     /// Costs of links changed.
-    pub(crate) fn reroute(&mut self, now: u64, core: &Core) -> Answer
+    pub(crate) fn reroute(&mut self, now: u64, core: &Core) -> EdgeAnswer
         requires ready { IsReady core.now now self.old }
         ensures settles { SettlesCall core.now now Rerouted (going self.old) self.new result }
         ensures toward { OnOk result (WaitsTowardRootsOf core.now self.new.labels) }

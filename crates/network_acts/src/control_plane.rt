@@ -11,4 +11,4 @@ mod start;
 pub use customers::Verdict;
 pub use net_sessions::session_ways::{Directions, directions_of, sessions_of};
 pub use network_nodes::{CustomerCall, Edge, Fate};
-pub use plane::{Answer, ControlPlane};
+pub use plane::{ActAnswer, ControlPlane};

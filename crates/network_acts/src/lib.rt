@@ -23,7 +23,7 @@ mod sessions;
 mod telling;
 
 pub use crate::control_plane::{
-    Answer, CustomerCall, Directions, Edge, Verdict, directions_of, sessions_of,
+    ActAnswer, CustomerCall, Directions, Edge, Verdict, directions_of, sessions_of,
 };
 pub use data_plane::datagram_acts::Pool;
 pub use network::Network;

@@ -6,7 +6,7 @@ ghost use Rattle.network_acts.specs.control_plane.Passing.{all_late};
 ghost use Rattle.network_acts.specs.Acting.{ActsAs, Passes, PassesAs};
 ghost use Rattle.network_acts.specs.Instant.{Any, Instant, IsSome, IsWorld, OfPlane};
 
-use crate::control_plane::Answer;
+use crate::control_plane::ActAnswer;
 use crate::network::Network;
 use mv_base::{NoMemory, NodeId};
 use network_nodes::NetworkNode;
@@ -25,7 +25,7 @@ impl Network {
     }
 
     /// The timers of node n run.
-    pub fn timers(&mut self, n: NodeId, lines: &mut Lines) -> Answer
+    pub fn timers(&mut self, n: NodeId, lines: &mut Lines) -> ActAnswer
         requires network { IsSome (OfPlane (IsCurrent n)) self.old }
         ensures { ActsAs (OfPlane (IsCurrent n)) same_moment (Timers n) n self.old self.new lines.old lines.new result }
     {
@@ -44,7 +44,7 @@ impl Network {
     }
 
     /// Node n acts on the present costs.
-    pub fn reroute(&mut self, n: NodeId, lines: &mut Lines) -> Answer
+    pub fn reroute(&mut self, n: NodeId, lines: &mut Lines) -> ActAnswer
         requires network { IsSome (OfPlane (IsWithin n)) self.old }
         ensures { ActsAs (OfPlane (IsWithin n)) (with_current n) (Reroute n) n self.old self.new lines.old lines.new result }
     {

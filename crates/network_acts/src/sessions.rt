@@ -8,7 +8,7 @@ ghost use Rattle.network_acts.specs.control_plane.Sessions.{IsDown, IsHalfUp, Is
 ghost use Rattle.network_acts.specs.Acting.{ActsAs, Passes};
 ghost use Rattle.network_acts.specs.Instant.{Instant, IsSome, IsWorld, OfPlane};
 
-use crate::control_plane::Answer;
+use crate::control_plane::ActAnswer;
 use crate::network::Network;
 use mv_base::NodeId;
 use network_defs::session_defs::Direction;
@@ -17,7 +17,7 @@ use scenario_defs::{Kind, Lines};
 impl Network {
     /// The first so many octets in transit over the direction, or all where there are fewer, go to the receiver, and the messages that are
     /// whole then are taken.
-    pub fn move_octets(&mut self, over: Direction, count: usize, lines: &mut Lines) -> Answer
+    pub fn move_octets(&mut self, over: Direction, count: usize, lines: &mut Lines) -> ActAnswer
         requires network { IsSome (OfPlane (IsMovable over)) self.old }
         ensures { ActsAs (OfPlane (IsMovable over)) same_moment (acts.Move over.kind over.from over.to count) over.to
             self.old self.new lines.old lines.new result }
@@ -43,7 +43,7 @@ impl Network {
     }
 
     /// The end of node a of its session with b notices the loss: what it holds back of the session's stream is forgotten.
-    pub fn notice(&mut self, kind: Kind, a: NodeId, b: NodeId, lines: &mut Lines) -> Answer
+    pub fn notice(&mut self, kind: Kind, a: NodeId, b: NodeId, lines: &mut Lines) -> ActAnswer
         requires network { IsSome (OfPlane (IsLost kind a b)) self.old }
         ensures { ActsAs (OfPlane (IsLost kind a b)) same_moment (acts.Notice kind a b) a self.old self.new lines.old lines.new result }
     {
@@ -53,7 +53,7 @@ impl Network {
     }
 
     /// The session of a and b is joined, with nothing in transit there, and the end of a comes up.
-    pub fn raise_first(&mut self, kind: Kind, a: NodeId, b: NodeId, lines: &mut Lines) -> Answer
+    pub fn raise_first(&mut self, kind: Kind, a: NodeId, b: NodeId, lines: &mut Lines) -> ActAnswer
         requires network { IsSome (OfPlane (IsDown kind a b)) self.old }
         ensures { ActsAs (OfPlane (IsDown kind a b)) (with_rising kind a b) (acts.RaiseFirst kind a b) a
             self.old self.new lines.old lines.new result }
@@ -65,7 +65,7 @@ impl Network {
     }
 
     /// The end of b of its session with a, which is joined, comes up too.
-    pub fn raise_second(&mut self, kind: Kind, a: NodeId, b: NodeId, lines: &mut Lines) -> Answer
+    pub fn raise_second(&mut self, kind: Kind, a: NodeId, b: NodeId, lines: &mut Lines) -> ActAnswer
         requires network { IsSome (OfPlane (IsHalfUp kind a b)) self.old }
         ensures { ActsAs (OfPlane (IsHalfUp kind a b)) none_rising (acts.RaiseSecond kind a b) b
             self.old self.new lines.old lines.new result }

@@ -1,4 +1,4 @@
-//! The state of a network is told.
+//! The state of a network is reported.
 ghost use Rattle.std.specs.Prelude.{◌≡◌, ◌<◌, IfOk, OnOk};
 ghost use Rattle.mvpn_model.specs.Sessions as models;
 ghost use Rattle.network_defs.specs.Acts.{Tell};

@@ -11,7 +11,7 @@ ghost use Rattle.network_events.specs.Doing.{Does};
 ghost use Rattle.network_events.specs.Meeting.{IsGiven, IsReady, IsResting, Meets};
 ghost use Rattle.network_events.specs.Parts.{IsRepriced};
 
-use crate::halt::{Answer, Halt, answer_at, met};
+use crate::halt::{EventAnswer, Halt, answer_at, met};
 use mv_base::NodeId;
 use network_acts::Network;
 use scenario_defs::Lines;
@@ -69,7 +69,7 @@ pub(crate) fn cost(
     b: NodeId,
     cost: u32,
     lines: &mut Lines,
-) -> Answer
+) -> EventAnswer
     requires network { IsSome IsReady network.old }
     requires event { IsGiven network.old.scenario (events.Cost a b cost) }
     ensures { Meets (events.Cost a b cost) network.old network.new lines.old lines.new result }

@@ -12,7 +12,7 @@ ghost use Rattle.network_acts.specs.Instant.{Instant, IsSome, IsWorld};
 ghost use Rattle.network_events.specs.Customers.{HandsMessage, IsAtIface, IsForIface, verdict_at};
 ghost use Rattle.network_events.specs.Meeting.{IsGiven, IsReady, Meets};
 
-use crate::halt::{Answer, Halt};
+use crate::halt::{EventAnswer, Halt};
 use mldp_node::NodeFault;
 use mv_base::{Addr, IfaceId, NoMemory, NodeId};
 use mvpn_model::{fault_word, own_addr};
@@ -34,7 +34,7 @@ pub(crate) fn are_sessions_full(network: &Network) -> bool
 }
 
 /// What comes of a call at node n for which there may be no room, by what was answered.
-pub(crate) fn verdict_at(n: NodeId, answer: Result<Verdict, NodeFault>) -> Answer
+pub(crate) fn verdict_at(n: NodeId, answer: Result<Verdict, NodeFault>) -> EventAnswer
     ensures { result ≡ verdict_at n answer }
 {
     match answer {
@@ -46,7 +46,12 @@ pub(crate) fn verdict_at(n: NodeId, answer: Result<Verdict, NodeFault>) -> Answe
 }
 
 /// A message comes to the interface that it is for.
-fn take(network: &mut Network, iface: IfaceId, message: &JoinPrune, lines: &mut Lines) -> Answer
+fn take(
+    network: &mut Network,
+    iface: IfaceId,
+    message: &JoinPrune,
+    lines: &mut Lines,
+) -> EventAnswer
     requires network { IsSome IsReady network.old }
     requires message { IsForIface network.old.scenario iface message.now }
     ensures { (event : Event) → HandsMessage network.old.scenario iface message.now event →
@@ -101,7 +106,7 @@ pub(crate) fn join(
     iface: IfaceId,
     entry: &JoinEntry,
     lines: &mut Lines,
-) -> Answer
+) -> EventAnswer
     requires network { IsSome IsReady network.old }
     requires event { IsGiven network.old.scenario (events.Customer (customers.Join iface entry.now)) }
     ensures { Meets (events.Customer (customers.Join iface entry.now)) network.old network.new lines.old lines.new result }
@@ -118,7 +123,7 @@ pub(crate) fn prune(
     iface: IfaceId,
     entry: &JoinEntry,
     lines: &mut Lines,
-) -> Answer
+) -> EventAnswer
     requires network { IsSome IsReady network.old }
     requires event { IsGiven network.old.scenario (events.Customer (customers.Prune iface entry.now)) }
     ensures { Meets (events.Customer (customers.Prune iface entry.now)) network.old network.new lines.old lines.new result }
@@ -135,7 +140,7 @@ fn take_read(
     iface: IfaceId,
     message: &JoinPrune,
     lines: &mut Lines,
-) -> Answer
+) -> EventAnswer
     requires network { IsSome IsReady network.old }
     requires message { IsAtIface network.old.scenario iface message.now }
     ensures { (event : Event) → HandsMessage network.old.scenario iface message.now event →
@@ -148,7 +153,12 @@ fn take_read(
 }
 
 /// Octets come to the interface.
-pub(crate) fn pim(network: &mut Network, iface: IfaceId, octets: &[u8], lines: &mut Lines) -> Answer
+pub(crate) fn pim(
+    network: &mut Network,
+    iface: IfaceId,
+    octets: &[u8],
+    lines: &mut Lines,
+) -> EventAnswer
     requires network { IsSome IsReady network.old }
     requires event { IsGiven network.old.scenario (events.Customer (customers.Pim iface octets.now)) }
     ensures { Meets (events.Customer (customers.Pim iface octets.now)) network.old network.new lines.old lines.new result }
@@ -170,7 +180,7 @@ pub(crate) fn active(
     source: Addr,
     group: Addr,
     lines: &mut Lines,
-) -> Answer
+) -> EventAnswer
     requires network { IsSome IsReady network.old }
     requires event { IsGiven network.old.scenario (events.Customer (customers.Active iface source group)) }
     ensures { Meets (events.Customer (customers.Active iface source group)) network.old network.new lines.old lines.new result }
@@ -203,7 +213,7 @@ pub(crate) fn idle(
     source: Addr,
     group: Addr,
     lines: &mut Lines,
-) -> Answer
+) -> EventAnswer
     requires network { IsSome IsReady network.old }
     requires event { IsGiven network.old.scenario (events.Customer (customers.Idle iface source group)) }
     ensures { Meets (events.Customer (customers.Idle iface source group)) network.old network.new lines.old lines.new result }

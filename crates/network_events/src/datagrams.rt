@@ -1,4 +1,4 @@
-//! Events of datagrams: sites send them, their copies hop over links or are dropped, and the state is told (RFC 6513 sections 9.1.1 and 12,
+//! Events of datagrams: sites send them, their copies hop over links or are dropped, and the state is reported (RFC 6513 sections 9.1.1 and 12,
 //! RFC 3032).
 ghost use Rattle.std.specs.Prelude.{◌≡◌, IfErr, IfOk};
 ghost use Rattle.mvpn_model.specs.Packets.{packet_word};
@@ -10,7 +10,7 @@ ghost use Rattle.network_acts.specs.Words.{AreLinked};
 ghost use Rattle.network_events.specs.Datagrams.{Fits, IsRefusedFor, Makes, of_memory};
 ghost use Rattle.network_events.specs.Meeting.{IsGiven, IsReady, Meets};
 
-use crate::halt::{Answer, Halt, met};
+use crate::halt::{EventAnswer, Halt, met};
 use crate::places::{edge_of_vrf, entered};
 use label_forwarding::{Datagram, PacketFault, read_packet};
 use mv_base::{Addr, NoMemory, NodeId, SiteId};
@@ -107,7 +107,7 @@ pub(crate) fn send(
     group: Addr,
     payload: &[u8],
     lines: &mut Lines,
-) -> Answer
+) -> EventAnswer
     requires network { IsSome IsReady network.old }
     requires event { IsGiven network.old.scenario (events.Send site source group payload.now) }
     ensures { Meets (events.Send site source group payload.now) network.old network.new lines.old lines.new result }
@@ -127,7 +127,7 @@ pub(crate) fn send_packet(
     site: SiteId,
     octets: &[u8],
     lines: &mut Lines,
-) -> Answer
+) -> EventAnswer
     requires network { IsSome IsReady network.old }
     requires event { IsGiven network.old.scenario (events.Packet site octets.now) }
     ensures { Meets (events.Packet site octets.now) network.old network.new lines.old lines.new result }
@@ -145,7 +145,7 @@ pub(crate) fn hop(
     to: NodeId,
     place: u32,
     lines: &mut Lines,
-) -> Answer
+) -> EventAnswer
     requires network { IsSome IsReady network.old }
     requires event { IsGiven network.old.scenario (events.Hop from to place) }
     ensures { Meets (events.Hop from to place) network.old network.new lines.old lines.new result }
@@ -163,7 +163,7 @@ pub(crate) fn drop_copy(
     to: NodeId,
     place: u32,
     lines: &mut Lines,
-) -> Answer
+) -> EventAnswer
     requires network { IsSome IsReady network.old }
     requires event { IsGiven network.old.scenario (events.DropCopy from to place) }
     ensures { Meets (events.DropCopy from to place) network.old network.new lines.old lines.new result }
@@ -175,8 +175,8 @@ pub(crate) fn drop_copy(
     Ok(None)
 }
 
-/// The state of the network is told.
-pub(crate) fn state(network: &mut Network, lines: &mut Lines) -> Answer
+/// The state of the network is reported.
+pub(crate) fn state(network: &mut Network, lines: &mut Lines) -> EventAnswer
     requires network { IsSome IsReady network.old }
     ensures { Meets events.State network.old network.new lines.old lines.new result }
 {

@@ -9,7 +9,7 @@ use crate::costs::cost;
 use crate::customers::{active, idle, join, pim, prune};
 use crate::datagrams::{drop_copy, hop, send, send_packet, state};
 use crate::draining::drain;
-use crate::halt::Answer;
+use crate::halt::EventAnswer;
 use crate::nodes::{restart, tick, timers};
 use crate::selections::{select, unselect};
 use crate::sessions::{heal, lose, move_octets, notice, raise};
@@ -19,7 +19,7 @@ use network_defs::session_defs::Direction;
 use scenario_defs::{CustomerEvent, Event, Lines};
 
 /// The network meets an event of a customer, where none is under way.
-fn meet_customer(network: &mut Network, event: &CustomerEvent, lines: &mut Lines) -> Answer
+fn meet_customer(network: &mut Network, event: &CustomerEvent, lines: &mut Lines) -> EventAnswer
     requires network { IsSome IsReady network.old }
     requires event { IsGiven network.old.scenario (events.Customer event.now) }
     ensures { Meets (events.Customer event.now) network.old network.new lines.old lines.new result }
@@ -44,7 +44,7 @@ fn meet_customer(network: &mut Network, event: &CustomerEvent, lines: &mut Lines
 }
 
 /// The network meets an event, where none is under way.
-pub(crate) fn meet(network: &mut Network, event: &Event, lines: &mut Lines) -> Answer
+pub(crate) fn meet(network: &mut Network, event: &Event, lines: &mut Lines) -> EventAnswer
     requires network { IsSome IsReady network.old }
     requires event { IsGiven network.old.scenario event.now }
     requires clock { network.old.plane.clock + ticks_of event.now < 2 ^ 63 }

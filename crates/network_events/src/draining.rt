@@ -8,7 +8,7 @@ ghost use Rattle.network_events.specs.Datagrams.{HasRound, Makes, MayDrain, land
 ghost use Rattle.network_events.specs.Meeting.{IsReady, Meets};
 
 use crate::datagrams::of_memory;
-use crate::halt::{Answer, met};
+use crate::halt::{EventAnswer, met};
 use mv_base::{Link, NoMemory, NodeId, Seq};
 use network_acts::Network;
 use scenario_defs::Lines;
@@ -98,7 +98,7 @@ fn rounds(network: &mut Network, lines: &mut Lines) -> Result<(), NoMemory>
 }
 
 /// All copies land, and those that they put.
-pub(crate) fn drain(network: &mut Network, lines: &mut Lines) -> Answer
+pub(crate) fn drain(network: &mut Network, lines: &mut Lines) -> EventAnswer
     requires network { IsSome IsReady network.old }
     ensures { Meets events.Drain network.old network.new lines.old lines.new result }
 {

@@ -17,7 +17,7 @@ pub enum Halt {
 }
 
 /// What comes of an event: it is done, it is refused for a reason, or the network goes no further.
-pub(crate) type Answer = Result<Option<Refusal>, Halt>;
+pub(crate) type EventAnswer = Result<Option<Refusal>, Halt>;
 
 impl From<NoMemory> for Halt {
     fn from(_: NoMemory) -> Halt
@@ -39,7 +39,7 @@ pub(crate) fn answer_at(n: NodeId, answer: Result<(), NodeFault>) -> Result<(), 
 }
 
 /// What an event that is not refused answers, by what its acts did.
-pub(crate) fn met(answer: Result<(), Halt>) -> Answer
+pub(crate) fn met(answer: Result<(), Halt>) -> EventAnswer
     ensures { result ≡ met answer }
 {
     match answer {

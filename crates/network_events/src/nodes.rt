@@ -8,13 +8,13 @@ ghost use Rattle.network_acts.specs.Words.{same_moment};
 ghost use Rattle.network_events.specs.Doing.{Does};
 ghost use Rattle.network_events.specs.Meeting.{IsGiven, IsReady, IsResting, Meets};
 
-use crate::halt::{Answer, Halt, answer_at, met};
+use crate::halt::{EventAnswer, Halt, answer_at, met};
 use mv_base::NodeId;
 use network_acts::Network;
 use scenario_defs::Lines;
 
 /// So many ticks pass.
-pub(crate) fn tick(network: &mut Network, count: u64, lines: &mut Lines) -> Answer
+pub(crate) fn tick(network: &mut Network, count: u64, lines: &mut Lines) -> EventAnswer
     requires network { IsSome IsReady network.old }
     requires event { IsGiven network.old.scenario (events.Tick count) }
     requires clock { network.old.plane.clock + count < 2 ^ 63 }
@@ -34,7 +34,7 @@ pub(crate) fn timers_at(network: &mut Network, n: NodeId, lines: &mut Lines) -> 
 }
 
 /// The timers of a node run.
-pub(crate) fn timers(network: &mut Network, node: NodeId, lines: &mut Lines) -> Answer
+pub(crate) fn timers(network: &mut Network, node: NodeId, lines: &mut Lines) -> EventAnswer
     requires network { IsSome IsReady network.old }
     requires event { IsGiven network.old.scenario (events.Timers node) }
     ensures { Meets (events.Timers node) network.old network.new lines.old lines.new result }
@@ -43,7 +43,7 @@ pub(crate) fn timers(network: &mut Network, node: NodeId, lines: &mut Lines) -> 
 }
 
 /// A node begins anew.
-pub(crate) fn restart(network: &mut Network, node: NodeId, lines: &mut Lines) -> Answer
+pub(crate) fn restart(network: &mut Network, node: NodeId, lines: &mut Lines) -> EventAnswer
     requires network { IsSome IsReady network.old }
     requires event { IsGiven network.old.scenario (events.Restart node) }
     ensures { Meets (events.Restart node) network.old network.new lines.old lines.new result }

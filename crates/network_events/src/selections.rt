@@ -7,7 +7,7 @@ ghost use Rattle.network_acts.specs.Instant.{IsSome};
 ghost use Rattle.network_events.specs.Meeting.{IsGiven, IsReady, Meets};
 
 use crate::customers::{are_sessions_full, verdict_at};
-use crate::halt::Answer;
+use crate::halt::EventAnswer;
 use crate::places::edge_of_vrf;
 use mv_base::{NodeId, Pattern, VrfId};
 use network_acts::{CustomerCall, Network};
@@ -20,7 +20,7 @@ fn select_at(
     vrf: VrfId,
     pattern: Pattern,
     lines: &mut Lines,
-) -> Answer
+) -> EventAnswer
     requires network { IsSome IsReady network.old }
     requires event { IsGiven network.old.scenario (events.Customer (customers.Select vrf pattern)) }
     requires edge { edge_of_vrf network.old.scenario vrf ≡ Some n }
@@ -44,7 +44,7 @@ pub(crate) fn select(
     vrf: VrfId,
     pattern: Pattern,
     lines: &mut Lines,
-) -> Answer
+) -> EventAnswer
     requires network { IsSome IsReady network.old }
     requires event { IsGiven network.old.scenario (events.Customer (customers.Select vrf pattern)) }
     ensures { Meets (events.Customer (customers.Select vrf pattern)) network.old network.new lines.old lines.new result }
@@ -62,7 +62,7 @@ fn unselect_at(
     vrf: VrfId,
     pattern: Pattern,
     lines: &mut Lines,
-) -> Answer
+) -> EventAnswer
     requires network { IsSome IsReady network.old }
     requires event { IsGiven network.old.scenario (events.Customer (customers.Unselect vrf pattern)) }
     requires edge { edge_of_vrf network.old.scenario vrf ≡ Some n }
@@ -86,7 +86,7 @@ pub(crate) fn unselect(
     vrf: VrfId,
     pattern: Pattern,
     lines: &mut Lines,
-) -> Answer
+) -> EventAnswer
     requires network { IsSome IsReady network.old }
     requires event { IsGiven network.old.scenario (events.Customer (customers.Unselect vrf pattern)) }
     ensures { Meets (events.Customer (customers.Unselect vrf pattern)) network.old network.new lines.old lines.new result }

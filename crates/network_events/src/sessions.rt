@@ -14,7 +14,7 @@ ghost use Rattle.network_events.specs.Doing.{Does};
 ghost use Rattle.network_events.specs.Meeting.{IsGiven, IsReady, IsResting, Meets};
 ghost use Rattle.network_events.specs.Parts.{IsRaisable};
 
-use crate::halt::{Answer, Halt, answer_at, met};
+use crate::halt::{EventAnswer, Halt, answer_at, met};
 use mv_base::NodeId;
 use mvpn_model::Session;
 use network_acts::{Network, sessions_of};
@@ -27,7 +27,7 @@ pub(crate) fn move_octets(
     over: Direction,
     count: u32,
     lines: &mut Lines,
-) -> Answer
+) -> EventAnswer
     requires network { IsSome IsReady network.old }
     requires event { IsGiven network.old.scenario (events.Move over.kind over.from over.to count) }
     ensures { Meets (events.Move over.kind over.from over.to count) network.old network.new lines.old lines.new result }
@@ -45,7 +45,7 @@ pub(crate) fn lose(
     a: NodeId,
     b: NodeId,
     lines: &mut Lines,
-) -> Answer
+) -> EventAnswer
     requires network { IsSome IsReady network.old }
     requires event { IsGiven network.old.scenario (events.Lose kind a b) }
     ensures { Meets (events.Lose kind a b) network.old network.new lines.old lines.new result }
@@ -64,7 +64,7 @@ pub(crate) fn notice(
     a: NodeId,
     b: NodeId,
     lines: &mut Lines,
-) -> Answer
+) -> EventAnswer
     requires network { IsSome IsReady network.old }
     requires event { IsGiven network.old.scenario (events.Notice kind a b) }
     ensures { Meets (events.Notice kind a b) network.old network.new lines.old lines.new result }
@@ -138,7 +138,7 @@ pub(crate) fn raise(
     a: NodeId,
     b: NodeId,
     lines: &mut Lines,
-) -> Answer
+) -> EventAnswer
     requires network { IsSome IsReady network.old }
     requires event { IsGiven network.old.scenario (events.Raise kind a b) }
     ensures { Meets (events.Raise kind a b) network.old network.new lines.old lines.new result }
@@ -216,7 +216,7 @@ fn heal_sessions(network: &mut Network, lines: &mut Lines) -> Result<(), Halt>
 }
 
 /// Each session that is not joined is raised, when its ends have noticed that.
-pub(crate) fn heal(network: &mut Network, lines: &mut Lines) -> Answer
+pub(crate) fn heal(network: &mut Network, lines: &mut Lines) -> EventAnswer
     requires network { IsSome IsReady network.old }
     requires event { IsGiven network.old.scenario events.Heal }
     ensures { Meets events.Heal network.old network.new lines.old lines.new result }

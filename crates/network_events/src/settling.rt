@@ -10,7 +10,7 @@ ghost use Rattle.network_acts.specs.Words.{same_moment};
 ghost use Rattle.network_events.specs.Doing.{Does};
 ghost use Rattle.network_events.specs.Meeting.{IsGiven, IsReady, IsResting, Meets};
 
-use crate::halt::{Answer, Halt, answer_at, met};
+use crate::halt::{EventAnswer, Halt, answer_at, met};
 use crate::nodes::timers_at;
 use mv_base::{NoMemory, NodeId};
 use network_acts::{Directions, Network, directions_of, sessions_of};
@@ -108,7 +108,7 @@ fn settle_nodes(network: &mut Network, lines: &mut Lines) -> Result<(), Halt>
 }
 
 /// The timers of all nodes run, and then the octets in transit are moved, as often as the network has nodes and three times more.
-pub(crate) fn settle(network: &mut Network, lines: &mut Lines) -> Answer
+pub(crate) fn settle(network: &mut Network, lines: &mut Lines) -> EventAnswer
     requires network { IsSome IsReady network.old }
     requires event { IsGiven network.old.scenario events.Settle }
     ensures { Meets events.Settle network.old network.new lines.old lines.new result }

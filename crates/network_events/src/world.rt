@@ -8,7 +8,7 @@ ghost use Rattle.network_events.specs.Lending.{InEachRun, IsCore, IsEdge, IsPool
 ghost use Rattle.network_events.specs.Telling.{Appends, Tells};
 
 use crate::dispatch::meet;
-use crate::halt::{Answer, Halt};
+use crate::halt::{EventAnswer, Halt};
 use mldp_node::LdpNode;
 use mv_base::{NoMemory, NodeId};
 use network_acts::of_network_laws::core_laws::each_scenario_has_cores;
@@ -43,7 +43,7 @@ impl Model for World {
 }
 
 /// What an event came to: a refused one gives the line that says so.
-fn tell(line: u32, answer: Answer, lines: &mut Lines) -> Result<(), Halt>
+fn tell(line: u32, answer: EventAnswer, lines: &mut Lines) -> Result<(), Halt>
     ensures { Tells line answer lines.old lines.new result }
 {
     match answer {

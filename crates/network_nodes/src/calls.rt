@@ -12,7 +12,7 @@ ghost use Rattle.network_nodes.specs.NodeView.{MayBePeer, count_around, data_in,
 
 use crate::node::{NetworkNode, told};
 use core_paths::Core;
-use edge_core::{Answer, Edge, EdgeCall};
+use edge_core::{Edge, EdgeAnswer, EdgeCall};
 use mv_base::NodeId;
 use scenario_defs::Kind;
 
@@ -24,7 +24,7 @@ fn take_at_edge(
     bytes: &[u8],
     now: u64,
     core: &Core,
-) -> Answer
+) -> EdgeAnswer
     requires nodes { core.now.nodes ≡ length (home_of edge.old).scenario.nodes }
     requires now { now < 2 ^ 63 }
     requires up { edge.old.spent ≡ None → is_up edge.old kind peer ≡ true }
@@ -39,7 +39,14 @@ fn take_at_edge(
 impl NetworkNode {
     /// Octets come over the session, whose end is up (RFC 4271 section 4, RFC 5036 section 3.1): the messages that are whole with them are
     /// taken, those before the first fault of the stream too.
-    pub fn take(&mut self, kind: Kind, from: NodeId, bytes: &[u8], now: u64, core: &Core) -> Answer
+    pub fn take(
+        &mut self,
+        kind: Kind,
+        from: NodeId,
+        bytes: &[u8],
+        now: u64,
+        core: &Core,
+    ) -> EdgeAnswer
         requires nodes { core.now.nodes ≡ count_around self.old }
         requires now { now < 2 ^ 63 }
         requires peer { MayBePeer self.old kind from }
@@ -52,8 +59,8 @@ impl NetworkNode {
         }
     }
 
-    /// The end of the session comes up, and has a fresh stream. Over BGP the peer is told all that the edge holds for it.
-    pub fn raised(&mut self, kind: Kind, peer: NodeId, now: u64, core: &Core) -> Answer
+    /// The end of the session comes up, and has a fresh stream. Over BGP the peer is sent all that the edge holds for it.
+    pub fn raised(&mut self, kind: Kind, peer: NodeId, now: u64, core: &Core) -> EdgeAnswer
         requires nodes { core.now.nodes ≡ count_around self.old }
         requires now { now < 2 ^ 63 }
         requires peer { MayBePeer self.old kind peer }
@@ -68,7 +75,7 @@ impl NetworkNode {
     }
 
     /// The end of the session notices its loss: all that came over it is forgotten, and what waits for it is dropped.
-    pub fn noticed(&mut self, kind: Kind, peer: NodeId, now: u64, core: &Core) -> Answer
+    pub fn noticed(&mut self, kind: Kind, peer: NodeId, now: u64, core: &Core) -> EdgeAnswer
         requires nodes { core.now.nodes ≡ count_around self.old }
         requires now { now < 2 ^ 63 }
         requires peer { MayBePeer self.old kind peer }
@@ -82,7 +89,7 @@ impl NetworkNode {
     }
 
     /// The timers that are due at the clock run.
-    pub fn timers(&mut self, now: u64, core: &Core) -> Answer
+    pub fn timers(&mut self, now: u64, core: &Core) -> EdgeAnswer
         requires nodes { core.now.nodes ≡ count_around self.old }
         requires now { now < 2 ^ 63 }
         ensures answers { Answers core.now now (after Timers) self.old self.new result }
@@ -95,7 +102,7 @@ impl NetworkNode {
     }
 
     /// Costs of links changed: the node knows the core by them from now on, and each tree that waits for a label does so by them.
-    pub fn rerouted(&mut self, now: u64, core: &Core) -> Answer
+    pub fn rerouted(&mut self, now: u64, core: &Core) -> EdgeAnswer
         requires nodes { core.now.nodes ≡ count_around self.old }
         requires now { now < 2 ^ 63 }
         ensures answers { Answers core.now now (after Rerouted) self.old self.new result }

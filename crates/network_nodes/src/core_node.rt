@@ -5,5 +5,5 @@ mod node;
 mod octets;
 mod parts;
 
-pub use fault::{Answer, CoreFault};
+pub use fault::{CoreAnswer, CoreFault};
 pub use node::CoreNode;

@@ -17,7 +17,7 @@ mod node;
 mod queries;
 mod sessions;
 
-pub use edge_core::{Answer, CustomerCall, Edge, EdgeCall, EdgeFault, Fate};
+pub use edge_core::{CustomerCall, Edge, EdgeAnswer, EdgeCall, EdgeFault, Fate};
 pub use node::NetworkNode;
 // The names `of_..`: words of lower crates that this crate's contracts are made of.
 pub use wire_laws as of_wire_laws;

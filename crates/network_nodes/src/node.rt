@@ -9,8 +9,8 @@ ghost use Rattle.wire_laws.specs.CoreNodes.{fresh_core};
 ghost use Rattle.network_nodes.specs.Answers.{told_as};
 ghost use Rattle.network_nodes.specs.NodeView.{IsNode, IsPlacedAt, first_node, labels_in, spent_in};
 
-use crate::core_node::{Answer as CoreAnswer, CoreFault, CoreNode};
-use edge_core::{Answer, Edge, EdgeFault, addrs_of};
+use crate::core_node::{CoreAnswer, CoreFault, CoreNode};
+use edge_core::{Edge, EdgeAnswer, EdgeFault, addrs_of};
 use mv_base::{NoMemory, NodeId};
 use scenario_defs::Scenario;
 use std::alloc::Global;
@@ -28,7 +28,7 @@ pub enum NetworkNode {
 }
 
 /// What a node answers where its core node answers so.
-pub(crate) fn told(answer: CoreAnswer) -> Answer
+pub(crate) fn told(answer: CoreAnswer) -> EdgeAnswer
     ensures { result ≡ told_as answer }
 {
     match answer {

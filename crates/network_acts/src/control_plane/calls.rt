@@ -5,7 +5,7 @@ ghost use Rattle.network_acts.specs.control_plane.Acted.{HandsOutAt, IsSomeMidwa
 ghost use Rattle.network_acts.specs.control_plane.Plane.{KeepsPlaces};
 
 use crate::control_plane::handing;
-use crate::control_plane::plane::{Answer, ControlPlane, halt_of};
+use crate::control_plane::plane::{ActAnswer, ControlPlane, halt_of};
 use mldp_node::NodeFault;
 use mv_base::{NoMemory, NodeId};
 use network_nodes::EdgeFault;
@@ -29,7 +29,7 @@ impl ControlPlane {
         n: NodeId,
         answer: Result<(), EdgeFault>,
         lines: &mut Lines,
-    ) -> Answer
+    ) -> ActAnswer
         requires midway { OnOk answer (IsSomeMidway n self.old) }
         requires spends { IsOneOf [] answer }
         ensures acts { Settles n answer self.old self.new lines.old lines.new result }

@@ -5,7 +5,7 @@ ghost use Rattle.network_acts.specs.control_plane.Acted.{HandsOutAt, IsSomeMidwa
 ghost use Rattle.network_acts.specs.control_plane.Moving.{SettlesTaken, line_of};
 ghost use Rattle.network_acts.specs.control_plane.Plane.{KeepsPlaces};
 
-use crate::control_plane::plane::{Answer, ControlPlane, halt_of};
+use crate::control_plane::plane::{ActAnswer, ControlPlane, halt_of};
 use mldp_node::NodeFault;
 use mv_base::{Bytes, NoMemory};
 use network_defs::session_defs::Direction;
@@ -40,7 +40,7 @@ impl ControlPlane {
         bytes: Bytes,
         answer: Result<(), EdgeFault>,
         lines: &mut Lines,
-    ) -> Answer
+    ) -> ActAnswer
         requires midway { OnOk answer (IsSomeMidway over.to self.old) }
         requires spends { IsOneOf [] answer }
         ensures acts { SettlesTaken over bytes answer self.old self.new lines.old lines.new result }

@@ -37,7 +37,7 @@ impl Model for ControlPlane {
 }
 
 /// What an act at a node answers.
-pub type Answer = Result<(), NodeFault>;
+pub type ActAnswer = Result<(), NodeFault>;
 
 /// Why the plane goes no further, where a node is spent by the fault.
 pub(crate) fn halt_of(fault: EdgeFault) -> NodeFault

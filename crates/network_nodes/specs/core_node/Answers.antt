@@ -22,7 +22,7 @@ spent_by faults.NoLabel = Some LacksLabel
 spent_by faults.NoMemory = Some LacksMemory
 spent_by other = None
 
--- the node became this one by the step, whichever way the core is told
+-- the node became this one by the step, whichever core of these links it is given
 abbrev pub Makes : Topology → (Core → CoreState → CoreState) → CoreView → CoreView → Type 0
 Makes core step old new = (own : Core) → IsCoreOf core.nodes core.links own → state_of new ≡ step own (state_of old)
 

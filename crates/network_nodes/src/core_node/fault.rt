@@ -25,7 +25,7 @@ pub enum CoreFault {
 }
 
 /// What a call of a core node answers that gives nothing back.
-pub type Answer = Result<(), CoreFault>;
+pub type CoreAnswer = Result<(), CoreFault>;
 
 /// It says what `Display` says: the faults of streams have no `Debug`.
 impl fmt::Debug for CoreFault {

@@ -13,7 +13,7 @@ ghost use Rattle.network_nodes.specs.core_node.Called.{spent_after};
 ghost use Rattle.network_nodes.specs.core_node.Taking.{AnswersOctets};
 ghost use Rattle.network_nodes.specs.core_node.View.{is_up, state_of};
 
-use crate::core_node::fault::{Answer, CoreFault};
+use crate::core_node::fault::{CoreAnswer, CoreFault};
 use crate::core_node::parts::Parts;
 use core_paths::Core;
 use edge_streams::EdgeStreams;
@@ -46,7 +46,7 @@ impl Model for CoreNode {
 }
 
 /// Why a node is spent after the answer, if it is.
-fn spent_by(answer: &Answer) -> Option<NodeFault>
+fn spent_by(answer: &CoreAnswer) -> Option<NodeFault>
     ensures { option_map cause result ≡ spent_after answer.now }
 {
     match answer {
@@ -86,7 +86,7 @@ impl CoreNode {
 
     /// Octets come from the neighbour, whose session is up (RFC 5036 section 3.1): the messages that are whole with them are taken, those
     /// before the first fault of the stream too.
-    pub fn take_ldp(&mut self, peer: NodeId, bytes: &[u8], now: u64, core: &Core) -> Answer
+    pub fn take_ldp(&mut self, peer: NodeId, bytes: &[u8], now: u64, core: &Core) -> CoreAnswer
         requires nodes { core.now.nodes ≡ length self.old.labels.place.addrs }
         requires now { now < 2 ^ 63 }
         requires up { self.old.labels.node.spent ≡ None → is_up self.old peer ≡ true }
@@ -101,7 +101,7 @@ impl CoreNode {
     }
 
     /// The end of the session with the neighbour comes up, and has a fresh stream.
-    pub fn raised(&mut self, peer: NodeId, now: u64, core: &Core) -> Answer
+    pub fn raised(&mut self, peer: NodeId, now: u64, core: &Core) -> CoreAnswer
         requires nodes { core.now.nodes ≡ length self.old.labels.place.addrs }
         requires down { self.old.labels.node.spent ≡ None → is_up self.old peer ≡ false }
         ensures answers { Answers core.now (step_of self.old now (Raised peer)) self.old self.new result }
@@ -117,7 +117,7 @@ impl CoreNode {
 
     /// The end of the session with the neighbour notices its loss: its labels are free at once, its branches are dropped, and so is what
     /// waits for the neighbour.
-    pub fn noticed(&mut self, peer: NodeId, now: u64, core: &Core) -> Answer
+    pub fn noticed(&mut self, peer: NodeId, now: u64, core: &Core) -> CoreAnswer
         requires nodes { core.now.nodes ≡ length self.old.labels.place.addrs }
         ensures answers { Answers core.now (step_of self.old now (Noticed peer)) self.old self.new result }
         ensures only { IsSpending result }
@@ -131,7 +131,7 @@ impl CoreNode {
     }
 
     /// The timers run: labels whose rest is over are free, and holds that are due are over.
-    pub fn timers(&mut self, now: u64, core: &Core) -> Answer
+    pub fn timers(&mut self, now: u64, core: &Core) -> CoreAnswer
         requires nodes { core.now.nodes ≡ length self.old.labels.place.addrs }
         ensures answers { Answers core.now (step_of self.old now Timers) self.old self.new result }
         ensures only { IsSpending result }
@@ -146,7 +146,7 @@ impl CoreNode {
 
     /// Costs of links changed, and with them the next hops towards roots: a tree whose next hop is another one moves to it, and each tree
     /// that waits for a label does so by the new ones.
-    pub fn rerouted(&mut self, now: u64, core: &Core) -> Answer
+    pub fn rerouted(&mut self, now: u64, core: &Core) -> CoreAnswer
         requires nodes { core.now.nodes ≡ length self.old.labels.place.addrs }
         ensures answers { Answers core.now (step_of self.old now Rerouted) self.old self.new result }
         ensures toward { OnOk result (WaitsTowardRootsOf core.now self.new.labels) }

@@ -11,7 +11,7 @@ ghost use Rattle.network_nodes.specs.core_node.Taking.{AnswersOctets, IsSessionF
 ghost use Rattle.network_nodes.specs.core_node.View.{IsLive, is_up};
 ghost use Rattle.network_nodes.specs.declared.core_node.fault.CoreFault.{CoreFault as CoreFaults};
 
-use crate::core_node::fault::{Answer, CoreFault};
+use crate::core_node::fault::{CoreAnswer, CoreFault};
 use crate::core_node::parts::{Parts, told};
 use core_paths::Core;
 use mldp::mldp_msgs::LabelMessage;
@@ -20,7 +20,13 @@ use scenario_defs::Kind;
 
 impl Parts {
     /// Takes a message of the neighbour.
-    fn take_label(&mut self, peer: NodeId, message: LabelMessage, now: u64, core: &Core) -> Answer
+    fn take_label(
+        &mut self,
+        peer: NodeId,
+        message: LabelMessage,
+        now: u64,
+        core: &Core,
+    ) -> CoreAnswer
         requires live { IsLive self.old.node self.old.streams }
         requires nodes { core.now.nodes ≡ length self.old.node.place.addrs }
         requires now { now < 2 ^ 63 }
@@ -40,7 +46,7 @@ impl Parts {
         messages: Vec<LabelMessage>,
         now: u64,
         core: &Core,
-    ) -> Answer
+    ) -> CoreAnswer
         requires live { IsLive self.old.node self.old.streams }
         requires nodes { core.now.nodes ≡ length self.old.node.place.addrs }
         requires now { now < 2 ^ 63 }
@@ -58,7 +64,7 @@ impl Parts {
     }
 
     /// The first fault of the session's stream, if it has had one.
-    fn sound(&self, peer: NodeId) -> Answer
+    fn sound(&self, peer: NodeId) -> CoreAnswer
         ensures sound { OnOk result (fault_at self.now.streams (ldp_with peer) ≡ None) }
         ensures fault { (fault : CoreFaults) → result ≡ Err fault → IsSessionFault peer (going self.now) fault }
     {
@@ -74,7 +80,13 @@ impl Parts {
 
     /// Takes octets of the session with the neighbour, which is up: the messages that are whole with them, those before its first fault
     /// too.
-    pub(crate) fn take_ldp(&mut self, peer: NodeId, bytes: &[u8], now: u64, core: &Core) -> Answer
+    pub(crate) fn take_ldp(
+        &mut self,
+        peer: NodeId,
+        bytes: &[u8],
+        now: u64,
+        core: &Core,
+    ) -> CoreAnswer
         requires live { IsLive self.old.node self.old.streams }
         requires nodes { core.now.nodes ≡ length self.old.node.place.addrs }
         requires now { now < 2 ^ 63 }

@@ -6,7 +6,7 @@ ghost use Rattle.network_nodes.specs.core_node.Answers.{IsSpending};
 ghost use Rattle.network_nodes.specs.core_node.Called.{SettlesCall, going, told_as};
 ghost use Rattle.network_nodes.specs.core_node.View.{IsLive, is_up};
 
-use crate::core_node::fault::{Answer, CoreFault};
+use crate::core_node::fault::{CoreAnswer, CoreFault};
 use core_paths::Core;
 use edge_streams::EdgeStreams;
 use mldp_node::{LdpNode, NodeFault};
@@ -22,7 +22,7 @@ pub(crate) struct Parts {
 }
 
 /// What a core node answers where its label part answers so.
-pub(crate) fn told(answer: Result<(), NodeFault>) -> Answer
+pub(crate) fn told(answer: Result<(), NodeFault>) -> CoreAnswer
     ensures value { result ≡ told_as answer }
     ensures only { IsSpending result }
 {
@@ -34,7 +34,7 @@ pub(crate) fn told(answer: Result<(), NodeFault>) -> Answer
 
 impl Parts {
     /// The end of the session with the neighbour comes up.
-    pub(crate) fn raise(&mut self, peer: NodeId, now: u64, core: &Core) -> Answer
+    pub(crate) fn raise(&mut self, peer: NodeId, now: u64, core: &Core) -> CoreAnswer
         requires live { IsLive self.old.node self.old.streams }
         requires nodes { core.now.nodes ≡ length self.old.node.place.addrs }
         requires down { is_up (going self.old) peer ≡ false }
@@ -48,7 +48,7 @@ impl Parts {
     }
 
     /// The end of the session with the neighbour notices its loss.
-    pub(crate) fn lose(&mut self, peer: NodeId, now: u64, core: &Core) -> Answer
+    pub(crate) fn lose(&mut self, peer: NodeId, now: u64, core: &Core) -> CoreAnswer
         requires live { IsLive self.old.node self.old.streams }
         requires nodes { core.now.nodes ≡ length self.old.node.place.addrs }
         ensures settles { SettlesCall core.now now (Noticed peer) (going self.old) self.new result }
@@ -60,7 +60,7 @@ impl Parts {
     }
 
     /// The timers run.
-    pub(crate) fn run_timers(&mut self, now: u64, core: &Core) -> Answer
+    pub(crate) fn run_timers(&mut self, now: u64, core: &Core) -> CoreAnswer
         requires live { IsLive self.old.node self.old.streams }
         requires nodes { core.now.nodes ≡ length self.old.node.place.addrs }
         ensures settles { SettlesCall core.now now Timers (going self.old) self.new result }
@@ -71,7 +71,7 @@ impl Parts {
     }
 
     /// Costs of links changed.
-    pub(crate) fn reroute(&mut self, now: u64, core: &Core) -> Answer
+    pub(crate) fn reroute(&mut self, now: u64, core: &Core) -> CoreAnswer
         requires live { IsLive self.old.node self.old.streams }
         requires nodes { core.now.nodes ≡ length self.old.node.place.addrs }
         ensures settles { SettlesCall core.now now Rerouted (going self.old) self.new result }

@@ -3,6 +3,7 @@ pub mod RefreshJoins
 pub mod RefreshTrees
 pub mod RefreshMade
 pub mod PeerTurns
+pub mod PeerLost
 pub mod PeerKinds
 pub mod PeerWithout
 pub mod PeerSound

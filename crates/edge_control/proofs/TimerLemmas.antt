@@ -33,10 +33,10 @@ use Rattle.edge_control.proofs.SoundLemmas.{sound_full, sound_between, wanted_co
 
 -- ---- the loop
 
-pub trees_more : (now : ℕ) (xs ys : List TreeData) (i : ℕ) (d new : TreeData) → length ys ≡ length xs → i < length xs
-    → ys ≡ map (all_run now) (take i xs) ++ drop i xs → d ≡ get_or ys i d
-    → new ≡ all_run now (get_or ys i d) → set ys i new ≡ map (all_run now) (take (i + 1) xs) ++ drop (i + 1) xs
-trees_more now xs ys i d new same low so read e = ap (set ys i) (e ∙ ap (all_run now) (sym read)) ∙ map_over_more (all_run now) xs ys i d low so read
+pub trees_more : (change : TreeData → TreeData) (xs ys : List TreeData) (i : ℕ) (d new : TreeData) → length ys ≡ length xs → i < length xs
+    → ys ≡ map change (take i xs) ++ drop i xs → d ≡ get_or ys i d
+    → new ≡ change (get_or ys i d) → set ys i new ≡ map change (take (i + 1) xs) ++ drop (i + 1) xs
+trees_more change xs ys i d new same low so read e = ap (set ys i) (e ∙ ap change (sym read)) ∙ map_over_more change xs ys i d low so read
 
 -- ---- the routes that were taken
 

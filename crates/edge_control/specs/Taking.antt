@@ -1,5 +1,5 @@
 -- What the tree of a VRF makes of a route of a peer that is there no more, and of one that is there anew.
-use Rattle.std.specs.Prelude.{◌≡◌, ℕ, false, zero, suc, List, [], ◌∷◌, map, Option, None, Some}
+use Rattle.std.specs.Prelude.{◌≡◌, ℕ, false, zero, suc, List, [], ◌∷◌, map, fold, Option, None, Some}
 use Rattle.std.specs.FinMap as maps
 use Rattle.std.specs.FinMap.{FinMap}
 use Rattle.std.specs.FinSet as sets
@@ -11,7 +11,8 @@ use Rattle.mv_base.specs.core_walks.Core.{Core}
 use Rattle.bgp_messages.specs.declared.bgp_attributes.key.Key.{Key}
 use Rattle.bgp_messages.specs.declared.bgp_attributes.key.Key.TheVariants.{Mcast, Unicast}
 use Rattle.umh_select.specs.Order as unicast_order
-use Rattle.umh_select.specs.Routes.{key_from}
+use Rattle.selective.specs.Leaves as leaves
+use Rattle.umh_select.specs.Routes.{key_from, without_peer}
 use Rattle.umh_select.specs.declared.key.RouteKey.{RouteKey}
 use Rattle.umh_select.specs.declared.route.Held.{Held}
 use Rattle.vrf_words.specs.declared.tree_defs.flow.ActiveRoute.{ActiveRoute}
@@ -20,7 +21,7 @@ use Rattle.vrf_words.specs.tree_defs.Trees.{TreeData}
 use Rattle.edge_defs.specs.Edge.{Taken, TakenRoute}
 use Rattle.edge_defs.specs.Imported.{FlowRoute}
 use Rattle.edge_defs.specs.Keys.{Value}
-use Rattle.edge_defs.specs.Place.{EdgePlace, OwnVrf, addr_of}
+use Rattle.edge_defs.specs.Place.{EdgePlace, OwnVrf, addr_of, vrfs_from}
 use Rattle.edge_routes.specs.edge_home.Home.{Home, place_of}
 use Rattle.edge_routes.specs.declared.edge_home.own_vrf.OwnVrf as homes
 use Rattle.edge_routes.specs.Judged.{value_of}
@@ -30,7 +31,7 @@ use Rattle.control_laws.specs.Peers.{active_of, joined_with, left_with, selectiv
 use Rattle.control_laws.specs.Peers.{told_active, told_join, told_selective, told_unicast}
 use Rattle.edge_tables.specs.taken_tables.Tables.{Tables}
 use Rattle.control_laws.specs.Control.{own_trees}
-use Rattle.control_laws.specs.Peers.{tree_change, tree_lost, tree_with, with_actives, with_joined, with_learned, with_selective}
+use Rattle.control_laws.specs.Peers.{tree_change, tree_lost, tree_with, tree_without, with_actives, with_joined, with_learned, with_selective}
 
 -- The VRF is one of the edge at the place, and the peer has that address there.
 pub record IsFrom (place : EdgePlace) (own : homes.OwnVrf) (peer : NodeId) (addr : Addr) : Type 0 where
@@ -114,6 +115,20 @@ table_of tables peer = elim (maps.get tables peer) [ None ↦ maps.empty | Some 
 
 abbrev pub losing : Home → Core → NodeId → Taken → OwnVrf → TreeData → TreeData
 losing home core peer taken own tree = tree_lost (place_of home core) own peer taken tree
+
+-- a route of the peer's table that is lost, unicast and selective routes aside, as the tree of a VRF of the edge takes it
+abbrev pub losing_row : Home → Core → NodeId → Key × TakenRoute → OwnVrf → TreeData → TreeData
+losing_row home core peer row own tree = tree_without (place_of home core) own peer tree row
+
+-- the trees of all VRFs of the edge after these routes are lost, one after another
+abbrev pub losing_rows : Home → Core → NodeId → List TreeData → List (Key × TakenRoute) → List TreeData
+losing_rows home core peer trees rows =
+    fold (λ (now : List TreeData) (row : Key × TakenRoute). turned_all (losing_row home core peer row) (vrfs_from home.me 0 home.scenario.vrfs) now)
+    trees rows
+
+-- the tree without what it lists by peer, its unicast and its selective routes
+abbrev pub without_lists : NodeId → TreeData → TreeData
+without_lists peer tree = with_learned (without_peer peer tree.vrf.routes.learned) (with_selective (leaves.without_peer peer tree.leaf.routes) tree)
 
 -- what the tree becomes where the peer's route of the key is lost, unicast and selective routes aside
 abbrev pub tree_losing : EdgePlace → OwnVrf → NodeId → Key → Option TakenRoute → TreeData → TreeData

@@ -1,14 +1,13 @@
 //! What the trees of all VRFs make of a peer that is lost: all that was taken from it is forgotten.
-ghost use Rattle.std.specs.Prelude.{◌≡◌, length, fold, Option};
+ghost use Rattle.std.specs.Prelude.{◌≡◌, ◌||◌, length, map, Option};
 ghost use Rattle.std.specs.FinMap as maps;
 ghost use Rattle.mv_base.specs.core_walks.Core.{Core};
 ghost use Rattle.mv_base.specs.declared.addr.Addr.{Addr};
 ghost use Rattle.edge_defs.specs.Edge.{TakenRoute};
 ghost use Rattle.edge_defs.specs.Place.{EdgePlace, vrfs_from};
-ghost use Rattle.edge_routes.specs.edge_home.Home.{as_own, place_of};
-ghost use Rattle.edge_routes.specs.Local.{IsAt};
-ghost use Rattle.control_laws.specs.Peers.{tree_lost, tree_without};
-ghost use Rattle.edge_control.specs.Taking.{IsFrom, Says, losing, table_of, tree_losing, turned_all};
+ghost use Rattle.edge_routes.specs.edge_home.Home.{as_own};
+ghost use Rattle.edge_routes.specs.route_order.Kept.{is_of_type};
+ghost use Rattle.edge_control.specs.Taking.{IsFrom, Says, losing, losing_row, losing_rows, table_of, tree_losing, turned_all, without_lists};
 
 use crate::each::own_at;
 use crate::peers::{leave, told_join};
@@ -16,9 +15,15 @@ use bgp_messages::bgp_attributes::Key;
 use bgp_values::mvpn_nlri::Route;
 use edge_routes::TakenValue;
 use edge_routes::edge_home::{EdgeHome, OwnVrf};
+use edge_routes::route_order::KeptKey;
 use edge_tables::taken_tables::{TableEntries, TakenEntry, TakenTables};
 use mv_base::NodeId;
 use vrf_trees::VrfTree;
+
+/// The types of Source Active A-D and of Source Tree Join routes (RFC 6514 sections 4.5 and 4.6).
+const SOURCE_ACTIVE: u8 = 5;
+
+const SOURCE_JOIN: u8 = 7;
 
 /// A route of the peer of that key is there no more: the tree forgets a Source Active route, and a Source Tree Join at its VRF.
 fn forget_row(tree: &mut VrfTree, own: &OwnVrf, peer: NodeId, key: &Key, value: Option<TakenValue>)
@@ -34,43 +39,91 @@ fn forget_row(tree: &mut VrfTree, own: &OwnVrf, peer: NodeId, key: &Key, value: 
     }
 }
 
-/// The same of a route of the peer's table.
-fn forget_entry(tree: &mut VrfTree, own: &OwnVrf, peer: NodeId, key: &Key, entry: &TakenEntry)
-    ensures { (place : EdgePlace) → IsAt place own.now.local →
-        tree.new ≡ tree_without place (as_own own.now) peer tree.old (key.now, entry.now) }
+/// The same of a route of the peer's table, in each tree.
+fn forget_entry(
+    home: &EdgeHome,
+    trees: &mut Vec<VrfTree>,
+    peer: NodeId,
+    key: &Key,
+    entry: &TakenEntry,
+)
+    requires { length trees.old.items ≡ length (vrfs_from home.now.me 0 home.now.scenario.vrfs) }
+    ensures long { length trees.new.items ≡ length trees.old.items }
+    ensures each { (core : Core) → trees.new.items
+        ≡ turned_all (losing_row home.now core peer (key.now, entry.now)) (vrfs_from home.now.me 0 home.now.scenario.vrfs) trees.old.items }
 {
-    forget_row(tree, own, peer, key, Some(entry.value()));
+    for place in 0..trees.len() {
+        let own = own_at(home, place);
+        forget_row(&mut trees[place], own, peer, key, Some(entry.value()));
+    }
+}
+
+/// Whether trees keep more of a route of the key than a list by peer: that of a Source Active route, or of a Source Tree Join.
+fn is_of_flow(key: &KeptKey) -> bool
+    ensures { result ≡ (is_of_type 5 key.now || is_of_type 7 key.now) }
+{
+    key.is_of_type(SOURCE_ACTIVE) || key.is_of_type(SOURCE_JOIN)
+}
+
+/// The same of a route whose key is as a table keeps it. Most routes are of no flow, and their keys are not read.
+fn forget_kept(
+    home: &EdgeHome,
+    trees: &mut Vec<VrfTree>,
+    peer: NodeId,
+    key: &KeptKey,
+    entry: &TakenEntry,
+)
+    requires { length trees.old.items ≡ length (vrfs_from home.now.me 0 home.now.scenario.vrfs) }
+    ensures long { length trees.new.items ≡ length trees.old.items }
+    ensures each { (core : Core) → trees.new.items
+        ≡ turned_all (losing_row home.now core peer (key.now, entry.now)) (vrfs_from home.now.me 0 home.now.scenario.vrfs) trees.old.items }
+{
+    if is_of_flow(key) {
+        forget_entry(home, trees, peer, &key.key(), entry);
+    }
 }
 
 /// The same of these routes of the peer, one after another.
-fn forget_entries(tree: &mut VrfTree, own: &OwnVrf, peer: NodeId, entries: TableEntries<'_>)
-    ensures { (place : EdgePlace) → IsAt place own.now.local →
-        tree.new ≡ fold (tree_without place (as_own own.now) peer) tree.old entries.entry }
+fn forget_entries(
+    home: &EdgeHome,
+    trees: &mut Vec<VrfTree>,
+    peer: NodeId,
+    entries: TableEntries<'_>,
+)
+    requires { length trees.old.items ≡ length (vrfs_from home.now.me 0 home.now.scenario.vrfs) }
+    ensures { (core : Core) → trees.new.items ≡ losing_rows home.now core peer trees.old.items entries.entry }
 {
     for (key, entry) in entries {
-        forget_entry(tree, own, peer, key.key(), entry);
+        forget_kept(home, trees, peer, key, entry);
     }
 }
 
 /// The same of all routes of the peer's table.
-fn forget_table(tree: &mut VrfTree, own: &OwnVrf, peer: NodeId, taken: &TakenTables)
-    ensures { (place : EdgePlace) → IsAt place own.now.local →
-        tree.new ≡ fold (tree_without place (as_own own.now) peer) tree.old (maps.entries (table_of taken.now peer)) }
+fn forget_table(home: &EdgeHome, trees: &mut Vec<VrfTree>, taken: &TakenTables, peer: NodeId)
+    requires { length trees.old.items ≡ length (vrfs_from home.now.me 0 home.now.scenario.vrfs) }
+    ensures { (core : Core) → trees.new.items ≡ losing_rows home.now core peer trees.old.items (maps.entries (table_of taken.now peer)) }
 {
     match taken.entries(peer) {
         None => {}
-        Some(entries) => forget_entries(tree, own, peer, entries),
+        Some(entries) => forget_entries(home, trees, peer, entries),
     }
 }
 
-/// The tree forgets all that it took from the peer. It takes no memory.
-fn forget_peer(tree: &mut VrfTree, own: &OwnVrf, peer: NodeId, taken: &TakenTables)
-    ensures { (place : EdgePlace) → IsAt place own.now.local →
-        tree.new ≡ tree_lost place (as_own own.now) peer (table_of taken.now peer) tree.old }
+/// The tree forgets the unicast and selective routes of the peer, which it lists by peer.
+fn forget_lists(tree: &mut VrfTree, peer: NodeId)
+    ensures { tree.new ≡ without_lists peer tree.old }
 {
-    forget_table(tree, own, peer, taken);
     tree.leaf_forget_peer(peer);
     tree.umh_forget_peer(peer);
+}
+
+/// Each tree does.
+fn forget_all_lists(trees: &mut Vec<VrfTree>, peer: NodeId)
+    ensures { trees.new.items ≡ map (without_lists peer) trees.old.items }
+{
+    for tree in trees.iter_mut() {
+        forget_lists(tree, peer);
+    }
 }
 
 /// Each tree forgets all that it took from the peer. It takes no memory.
@@ -80,8 +133,6 @@ pub(crate) fn lose_in(home: &EdgeHome, trees: &mut Vec<VrfTree>, taken: &TakenTa
         (losing home.now core peer (table_of taken.now peer))
         (vrfs_from home.now.me 0 home.now.scenario.vrfs) trees.old.items }
 {
-    for place in 0..trees.len() {
-        let own = own_at(home, place);
-        forget_peer(&mut trees[place], own, peer, taken);
-    }
+    forget_table(home, trees, taken, peer);
+    forget_all_lists(trees, peer);
 }

@@ -25,7 +25,7 @@ use vrf_trees::VrfTree;
 fn is_news(taken: &TakenTables, peer: NodeId, key: &TakenKey, value: &RouteValue) -> bool
     ensures { result ≡ is_news (handed value.now) (route_at taken.now peer key.now) }
 {
-    match taken.get(peer, key) {
+    match taken.get(peer, key.kept()) {
         None => true,
         Some(entry) => !same_value(&entry.value(), &value.lent()),
     }
@@ -45,7 +45,7 @@ fn drop_in(
         (dropping home.now core peer now key.now (route_at taken.now peer key.now))
         (vrfs_from home.now.me 0 home.now.scenario.vrfs) trees.old.items }
 {
-    match taken.get(peer, key) {
+    match taken.get(peer, key.kept()) {
         None => {}
         Some(entry) => {
             let addr = home.addr_of(peer);

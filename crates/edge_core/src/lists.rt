@@ -16,8 +16,8 @@ ghost use Rattle.edge_core.specs.Listed.{admitted_from, admitted_keys};
 ghost use Rattle.edge_core.specs.State.{data_of, home_of};
 
 use crate::edge::Edge;
-use edge_routes::route_order::TableKey;
-use edge_routes::{Shared, is_admitted};
+use edge_routes::is_admitted;
+use edge_routes::route_order::KeptKey;
 use edge_routing::of_edge_control::of_edge_tables::taken_tables::TableEntries;
 use edge_routing::of_edge_control::{EdgeControl, own_of_vrf};
 use label_forwarding::Fib;
@@ -31,7 +31,7 @@ use std::alloc::Global;
 pub type Fecs = Seq<Fec>;
 
 /// Keys of routes, each in memory once, with the table that has the route.
-pub type RouteKeys = Seq<Shared<TableKey>>;
+pub type RouteKeys = Seq<KeptKey>;
 
 /// Adds the keys of those of the routes that have a Route Target of the VRF.
 fn add_admitted(keys: &mut RouteKeys, vrf: &Vrf, routes: TableEntries<'_>) -> Result<(), NoMemory>
@@ -39,7 +39,7 @@ fn add_admitted(keys: &mut RouteKeys, vrf: &Vrf, routes: TableEntries<'_>) -> Re
 {
     for (key, entry) in routes {
         if is_admitted(vrf, entry.value().comms) {
-            keys.push(key.shared()?)?;
+            keys.push(key.share()?)?;
         }
     }
     Ok(())

@@ -1,3 +1,4 @@
 pub mod OrderLemmas
 pub mod ValueLemmas
 pub mod FrontLemmas
+pub mod KeptLemmas

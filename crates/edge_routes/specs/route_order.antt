@@ -1,3 +1,4 @@
 pub mod Values
 pub mod Compared
 pub mod Front
+pub mod Kept

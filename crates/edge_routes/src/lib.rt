@@ -4,8 +4,8 @@
 //! of a whole place reads only the edge's address and its autonomous system, so a clause holds at every place that has
 //! these (`IsAt` in `specs/Local.antt`). `route_order`: keys and values of routes as a table keeps them, in the order
 //! in which they are sent to a peer, those that an edge originates with no memory of their own, and the key of a route
-//! that was taken (`TakenKey`) once for all that have it. That a key or a value has a spelling is the type's invariant,
-//! so no table has to say it of its entries. `edge_home`: an edge of a scenario: the scenario, which is in
+//! that was taken by the numbers that spell it (`KeptKey`; `TakenKey` while it is taken). That a key or a value has a
+//! spelling is the type's invariant, so no table has to say it of its entries. `edge_home`: an edge of a scenario: the scenario, which is in
 //! memory once for all edges of a network, the edge's VRFs in order, the addresses of nodes and the other edges. It
 //! asks that the scenario meets its rules and that the node is an edge (`IsHome`), and says so wherever it lends the
 //! scenario. `Shared`: a value that several have, and that is in memory once; contracts see the value. Below it are

@@ -1,7 +1,9 @@
 //! Keys and values of routes as a table keeps them: in the order in which a peer is sent them. Those of routes that an edge originates
-//! have no memory of their own; the key of a route that was taken is in memory once for all that have it.
+//! have no memory of their own; the key of a route that was taken is kept by the numbers by which keys are compared first, which spell
+//! most keys of multicast routes whole (`kept_key.rt`). `specs/route_order/Kept.antt` says which key such numbers spell.
 
 mod front;
+mod kept_key;
 mod key;
 mod octets;
 mod routes;
@@ -9,6 +11,7 @@ mod taken_key;
 mod text;
 mod value;
 
+pub use kept_key::KeptKey;
 pub use key::TableKey;
 pub use octets::are_octets;
 pub use taken_key::TakenKey;

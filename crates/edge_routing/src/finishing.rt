@@ -11,7 +11,7 @@ use crate::edge_leaves::wanted_of;
 use crate::routing::{EdgeRouting, LeafCandidates};
 use core_paths::Core;
 use edge_control::{ControlChanges, EdgeControl};
-use edge_routes::route_order::TakenKey;
+use edge_routes::route_order::KeptKey;
 use mldp::mldp_fec::Fec;
 use mv_base::NoMemory;
 use std::alloc::Global;
@@ -48,7 +48,7 @@ impl EdgeRouting {
         &mut self,
         alloc: Global,
         tunnels: Vec<Fec>,
-        near: Option<TakenKey>,
+        near: Option<KeptKey>,
         now: u64,
         core: &Core,
     ) -> Result<LeafCandidates, NoMemory>

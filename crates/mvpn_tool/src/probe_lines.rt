@@ -28,7 +28,7 @@ fn put_import(out: &mut Bytes, scenario: &Scenario, import: &Import) -> Result<(
     out.extend(b"import ")?;
     put_vrf(out, scenario, import.vrf)?;
     out.extend(b" ")?;
-    put_key(out, import.key.lent().key())?;
+    put_key(out, &import.key.key())?;
     out.extend(b"\n")
 }
 

@@ -1,7 +1,6 @@
 //! The lines of a probe, and its report.
 use bgp_messages::bgp_attributes::StreamFault;
-use edge_routes::Shared;
-use edge_routes::route_order::TableKey;
+use edge_routes::route_order::KeptKey;
 use mldp::mldp_fec::Fec;
 use mv_base::{Addr, Bytes, IfaceId, Seq, VrfId};
 
@@ -24,7 +23,7 @@ pub type ProbeLines = Seq<ProbeLine>;
 #[derive(Drop)]
 pub struct Import {
     pub vrf: VrfId,
-    pub key: Shared<TableKey>,
+    pub key: KeptKey,
 }
 
 pub type Imports = Seq<Import>;

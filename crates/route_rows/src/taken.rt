@@ -42,7 +42,7 @@ fn value(alloc: Global, hop: u8) -> Result<Shared<RouteValue>, NoMemory> {
 
 /// The clock at which the route was learned.
 fn since(tables: &TakenTables, key: &TakenKey) -> Option<u64> {
-    match tables.get(NodeId(1), key) {
+    match tables.get(NodeId(1), key.kept()) {
         None => None,
         Some(entry) => Some(entry.since()),
     }

@@ -75,19 +75,19 @@ filled_tied (suc n) (x ∷ xs) [] h k = let tied = none_less (drop n xs) k in ab
 filled_tied (suc n) (x ∷ xs) (y ∷ ys) h k =
     then_tied (nat_cmp x y) (slice_cmp nat_cmp (filled n xs) (filled n ys)) (slice_cmp nat_cmp xs ys) h (λ e. filled_tied n xs ys e k)
 
-filled_len : (n : ℕ) (xs : List ℕ) → length (filled n xs) ≡ n
+pub filled_len : (n : ℕ) (xs : List ℕ) → length (filled n xs) ≡ n
 filled_len zero xs = refl
 filled_len (suc n) [] = ap suc (filled_len n [])
 filled_len (suc n) (x ∷ xs) = ap suc (filled_len n xs)
 
-filled_octets : (n : ℕ) (xs : List ℕ) → IsOctets xs → IsOctets (filled n xs)
+pub filled_octets : (n : ℕ) (xs : List ℕ) → IsOctets xs → IsOctets (filled n xs)
 filled_octets zero xs h i = omega arith
 filled_octets (suc n) [] h zero = omega arith
 filled_octets (suc n) [] h (suc i) = filled_octets n [] h i
 filled_octets (suc n) (x ∷ xs) h zero = h 0
 filled_octets (suc n) (x ∷ xs) h (suc i) = filled_octets n xs (λ j. h (suc j)) i
 
-drop_octets : (n : ℕ) (xs : List ℕ) → IsOctets xs → IsOctets (drop n xs)
+pub drop_octets : (n : ℕ) (xs : List ℕ) → IsOctets xs → IsOctets (drop n xs)
 drop_octets zero xs h = h
 drop_octets (suc n) [] h = h
 drop_octets (suc n) (x ∷ xs) h = drop_octets n xs (λ j. h (suc j))

@@ -1,5 +1,5 @@
 -- The numbers by which two keys are compared first.
-use Rattle.std.specs.Prelude.{◌≡◌, ℕ, ◌+◌, ◌*◌, List, [], ◌∷◌, drop, suc, take, zero}
+use Rattle.std.specs.Prelude.{◌≡◌, ℕ, ◌+◌, ◌*◌, ◌≤◌, List, [], ◌∷◌, drop, length, suc, take, zero}
 use Rattle.bgp_values.specs.mvpn_nlri.Spelling.{written}
 use Rattle.edge_defs.specs.bgp_messages.declared.bgp_attributes.key.Key.{Key}
 use Rattle.edge_defs.specs.bgp_messages.declared.bgp_attributes.key.Key.TheVariants.{Mcast, Unicast}
@@ -52,3 +52,8 @@ pub record IsFronted (key : Key) (first : List ℕ) : Type 0 where
   pub writable : IsWritableKey key
   pub octets : AreOctets key
   pub front : first ≡ front_of key
+
+-- The numbers spell all of the key: its route, of at most 24 octets. A unicast key has more than its numbers say.
+abbrev pub IsWhole : Key → Type 0
+IsWhole (Unicast rd prefix) = ⊥
+IsWhole (Mcast afi route) = length (written route) ≤ 24

@@ -1,5 +1,5 @@
 //! The numbers by which two keys are compared first. They tell most pairs of keys apart, without a look at the routes.
-ghost use Rattle.std.specs.Prelude.{◌≡◌, ◌≤◌, [], ◌∷◌, drop, length};
+ghost use Rattle.std.specs.Prelude.{◌≡◌, ◌≤◌, ◌↔◌, IsTrue, [], ◌∷◌, drop, length};
 ghost use Rattle.std.specs.Ordering.{nat_cmp};
 ghost use Rattle.std.specs.Cmp.Lexicographic.{slice_cmp};
 ghost use Rattle.mv_base.specs.Octets.{IsOctets};
@@ -7,7 +7,7 @@ ghost use Rattle.bgp_values.specs.mvpn_nlri.Spelling as routes;
 ghost use Rattle.edge_defs.specs.bgp_messages.declared.bgp_attributes.key.Key.TheVariants.{Mcast, Unicast};
 ghost use Rattle.edge_defs.specs.bgp_messages.bgp_update.Written.{IsVpn, IsVpnPrefix, IsWritableKey, afi_of};
 ghost use Rattle.edge_defs.specs.Keys.{afi_number};
-ghost use Rattle.edge_routes.specs.route_order.Front.{AreOctets, filled, front_of, number_of, numbers, prefix_text, spelled_after};
+ghost use Rattle.edge_routes.specs.route_order.Front.{AreOctets, IsWhole, filled, front_of, number_of, numbers, prefix_text, spelled_after};
 
 use crate::route_order::octets::are_octets;
 use crate::route_order::text::spelled;
@@ -98,27 +98,30 @@ fn front_of_prefix(rd: &Rd, prefix: &Prefix) -> [u64; 4]
     [family, u64::from(prefix.bits), distinguisher, first]
 }
 
-/// The numbers of a multicast key.
-fn front_of_route(afi: Afi, route: &Route) -> [u64; 4]
+/// The numbers of a multicast key, and whether they spell all of its route.
+fn front_of_route(afi: Afi, route: &Route) -> ([u64; 4], bool)
     requires { (own : Afi) × routes.Spells own route.now (routes.written route.now) }
-    ensures front { result ≡ front_of (Mcast afi route.now) }
+    ensures front { result.0 ≡ front_of (Mcast afi route.now) }
     ensures octets { IsOctets (routes.written route.now) }
+    ensures whole { IsTrue result.1 ↔ IsWhole (Mcast afi route.now) }
 {
     let (octets, len) = spelled(route);
     let text = &octets[..len];
     are_octets(text);
     let (first, second, third) = numbers_of(text);
-    [2 + u64::from(number(afi)), first, second, third]
+    let front = [2 + u64::from(number(afi)), first, second, third];
+    (front, text.len() <= 24)
 }
 
-/// What the key is compared by first.
-pub(crate) fn front_of(key: &Key) -> [u64; 4]
+/// What the key is compared by first, and whether that spells all of it.
+pub(crate) fn front_of(key: &Key) -> ([u64; 4], bool)
     requires { IsWritableKey key.now }
-    ensures front { result ≡ front_of key.now }
+    ensures front { result.0 ≡ front_of key.now }
     ensures octets { AreOctets key.now }
+    ensures whole { IsTrue result.1 ↔ IsWhole key.now }
 {
     match key {
-        Key::Unicast { rd, prefix } => front_of_prefix(rd, prefix),
+        Key::Unicast { rd, prefix } => (front_of_prefix(rd, prefix), false),
         Key::Mcast(afi, route) => front_of_route(*afi, route),
     }
 }

@@ -53,7 +53,15 @@ impl TableKey {
         requires { IsWritableKey key }
         ensures { result ≡ key }
     {
-        let front = front_of(&key);
+        let (front, _whole) = front_of(&key);
+        TableKey { key, front }
+    }
+
+    /// The key, with the numbers by which it is compared first.
+    pub(crate) fn fronted(key: Key, front: [u64; 4]) -> TableKey
+        requires { IsFronted key front }
+        ensures { result ≡ key }
+    {
         TableKey { key, front }
     }
 
@@ -156,7 +164,7 @@ fn compare_mcast(afi: Afi, own: &Route, other_afi: Afi, other: &Route) -> Orderi
 /// The order of keys that have spellings. A function of its own in the program too: most keys differ in their numbers, and a comparison
 /// of these alone is short enough to be a part of each search.
 #[inline(never)]
-fn compare_keys(own: &Key, other: &Key) -> Ordering
+pub(crate) fn compare_keys(own: &Key, other: &Key) -> Ordering
     requires own { IsWritableKey own.now }
     requires other { IsWritableKey other.now }
     ensures { result ≡ key_cmp own.now other.now }

@@ -1,5 +1,5 @@
 -- What is found in lists one after another, and what VRFs of an edge are given.
-use Rattle.std.proofs.Common.{◌≡◌, ℕ, ◌+◌, ◌<◌, List, [], ◌∷◌, ◌++◌, length, get_or, map, take, Option, None, Some, option_map, refl, sym, ap, ◌∙◌}
+use Rattle.std.proofs.Common.{◌≡◌, false, ℕ, ◌+◌, ◌<◌, List, [], ◌∷◌, ◌++◌, length, get_or, map, take, Option, None, Some, option_map, refl, sym, ap, ◌∙◌}
 use Rattle.std.proofs.lemmas.List.{map-append, take_more}
 use Rattle.std.specs.FinMap as maps
 use Rattle.mv_base.specs.declared.addr.Addr.{Addr}
@@ -9,9 +9,15 @@ use Rattle.bgp_messages.specs.declared.bgp_attributes.key.Key.{Key}
 use Rattle.bgp_messages.specs.declared.bgp_attributes.update.Change.TheVariants as updates
 use Rattle.bgp_messages.specs.bgp_update.Table.{unannounced}
 use Rattle.edge_defs.specs.Edge.{Taken, TakenRoute}
-use Rattle.edge_defs.specs.Imported.{found_in, imported_inclusive}
+use Rattle.edge_defs.specs.Imported.{found_in, imported_inclusive, inclusive_of, is_admitted, tunnel_by}
+use Rattle.mv_base.specs.Number.{◌>>?◌, only_if}
 use Rattle.edge_defs.specs.Keys.{Value}
 use Rattle.edge_defs.specs.Place.{OwnVrf, addr_of}
+use Rattle.bgp_messages.specs.declared.bgp_attributes.key.Key.TheVariants.{Mcast, Unicast}
+use Rattle.bgp_values.specs.declared.mvpn_nlri.route.Afi.TheVariants.{Ipv4, Ipv6}
+use Rattle.bgp_values.specs.declared.mvpn_nlri.route.Route.TheVariants as routes
+use Rattle.edge_control.specs.Places.{vrfs_of}
+use Rattle.edge_routes.specs.route_order.Kept.{is_of_type}
 use Rattle.edge_routes.specs.edge_home.Home.{AreOwn, Home, as_own}
 use Rattle.edge_routes.specs.declared.edge_home.own_vrf.OwnVrf as homes
 use Rattle.control_laws.proofs.Parts.{no_core}
@@ -39,6 +45,37 @@ found_one f x = by (f x)
 found_map : {A B C : Type 0} (f : B → Option C) (g : A → B) (xs : List A) → found_in (λ x. f (g x)) xs ≡ found_in f (map g xs)
 found_map f g [] = refl
 found_map f g (x ∷ xs) = ap (found_or (f (g x))) (found_map f g xs)
+
+none_found : {A B : Type 0} (f : A → Option B) → ((x : A) → f x ≡ None) → (xs : List A) → found_in f xs ≡ []
+none_found f none [] = refl
+none_found f none (x ∷ xs) = ap (λ (o : Option _). found_or o (found_in f xs)) (none x) ∙ none_found f none xs
+
+-- A key of another type is that of no inclusive route.
+not_inclusive : (key : Key) → is_of_type 1 key ≡ false → inclusive_of key ≡ None
+not_inclusive (Unicast rd prefix) other = refl
+not_inclusive (Mcast afi (routes.Intra rd originator)) other = absurd cc
+not_inclusive (Mcast Ipv4 (routes.Inter rd source_as)) other = refl
+not_inclusive (Mcast Ipv6 (routes.Inter rd source_as)) other = refl
+not_inclusive (Mcast Ipv4 (routes.Selective rd source group originator)) other = refl
+not_inclusive (Mcast Ipv6 (routes.Selective rd source group originator)) other = refl
+not_inclusive (Mcast Ipv4 (routes.Leaf leaf originator)) other = refl
+not_inclusive (Mcast Ipv6 (routes.Leaf leaf originator)) other = refl
+not_inclusive (Mcast Ipv4 (routes.Active rd source group)) other = refl
+not_inclusive (Mcast Ipv6 (routes.Active rd source group)) other = refl
+not_inclusive (Mcast Ipv4 (routes.SharedJoin rd source_as source group)) other = refl
+not_inclusive (Mcast Ipv6 (routes.SharedJoin rd source_as source group)) other = refl
+not_inclusive (Mcast Ipv4 (routes.SourceJoin rd source_as source group)) other = refl
+not_inclusive (Mcast Ipv6 (routes.SourceJoin rd source_as source group)) other = refl
+not_inclusive (Mcast Ipv4 (routes.Other kind octets)) other = refl
+not_inclusive (Mcast Ipv6 (routes.Other kind octets)) other = refl
+
+pub told_of_others : (home : Home) (peer : NodeId) (key : Key) (value : Value) → is_of_type 1 key ≡ false → told_by home peer key value ≡ []
+told_of_others home peer key value other =
+    none_found (λ (own : OwnVrf). imported_inclusive own.vrf (addr_of home.scenario peer) (key, route_of value))
+    (λ own. ap (λ (found : Option Addr). found >>? λ originator.
+    only_if (is_admitted own.vrf value.comms) value >>? λ own_value.
+    tunnel_by (addr_of home.scenario peer) originator own_value) (not_inclusive key other))
+    (vrfs_of home)
 
 -- one more of the VRFs
 pub told_more : (peer : Addr) (key : Key) (value : Value) (vrfs : List homes.OwnVrf) (n : ℕ) (own : homes.OwnVrf) → n < length vrfs

@@ -19,6 +19,7 @@ use bgp_messages::bgp_attributes::Key;
 use edge_control::of_edge_tables::taken_tables::{TableEntries, TakenEntry, is_tunnel};
 use edge_control::{EdgeControl, own_of_vrf};
 use edge_routes::edge_home::OwnVrf;
+use edge_routes::route_order::KeptKey;
 use edge_routes::{TakenValue, imported_inclusive, imported_selective};
 use mldp::mldp_fec::Fec;
 use mv_base::{Addr, NodeId, VrfId};
@@ -35,17 +36,18 @@ fn selective_tunnel(own: &OwnVrf, addr: Addr, key: &Key, value: &TakenValue) -> 
 }
 
 /// Whether the VRF imports the route of that key from the peer of that address, and it is one of the tunnel. Most routes are of other
-/// tunnels, and keys are not beside the table, so the tunnel is looked at first.
-fn is_route_of(own: &OwnVrf, addr: Addr, fec: &Fec, key: &Key, entry: &TakenEntry) -> bool
+/// tunnels, so the tunnel is looked at first.
+fn is_route_of(own: &OwnVrf, addr: Addr, fec: &Fec, key: &KeptKey, entry: &TakenEntry) -> bool
     ensures { (place : EdgePlace) (peer : NodeId) → addr_of place.scenario peer ≡ addr →
         result ≡ is_route_of place (as_own own.now) peer fec.now (key.now, entry.now) }
 {
     if !entry.has_tunnel(fec) {
         return false;
     }
+    let key = key.key();
     let value = entry.value();
-    is_tunnel(imported_inclusive(own.local.vrf(), addr, key, &value), fec)
-        || is_tunnel(selective_tunnel(own, addr, key, &value), fec)
+    is_tunnel(imported_inclusive(own.local.vrf(), addr, &key, &value), fec)
+        || is_tunnel(selective_tunnel(own, addr, &key, &value), fec)
 }
 
 /// Whether the VRF imports one of these routes of the peer of that address, and it is one of the tunnel.
@@ -54,7 +56,7 @@ fn has_route(own: &OwnVrf, addr: Addr, fec: &Fec, entries: TableEntries<'_>) -> 
         result ≡ list_any (is_route_of place (as_own own.now) peer fec.now) entries.entry }
 {
     for (key, entry) in entries {
-        if is_route_of(own, addr, fec, key.key(), entry) {
+        if is_route_of(own, addr, fec, key, entry) {
             return true;
         }
     }

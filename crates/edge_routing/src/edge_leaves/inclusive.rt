@@ -12,23 +12,22 @@ ghost use Rattle.vrf_words.specs.tree_laws.Imports.{imports_inclusive};
 ghost use Rattle.control_laws.specs.Control.{control_of};
 
 use crate::edge_datagrams::root_of;
-use bgp_messages::bgp_attributes::Key;
 use edge_control::EdgeControl;
 use edge_control::of_edge_tables::taken_tables::{TableEntries, TakenEntry};
 use edge_routes::edge_home::OwnVrf;
-use edge_routes::route_order::TakenKey;
+use edge_routes::route_order::KeptKey;
 use edge_routes::{inclusive_tunnel, is_admitted};
 use mldp::mldp_fec::Fec;
 use mv_base::route_targets::ExtComm;
 use mv_base::{Addr, NodeId};
 
-/// Whether the route of that key from the peer of that address is an inclusive one of the tunnel, for each VRF that admits it. The tunnel
-/// is looked at first, since keys are not beside the table.
-fn is_of_tunnel(addr: Addr, fec: &Fec, key: &Key, entry: &TakenEntry) -> bool
+/// Whether the route of that key from the peer of that address is an inclusive one of the tunnel, for each VRF that admits it. Most
+/// routes are of other tunnels, so the tunnel is looked at first.
+fn is_of_tunnel(addr: Addr, fec: &Fec, key: &KeptKey, entry: &TakenEntry) -> bool
     ensures { (vrf : Vrf) → is_tunnel fec.now (imported_inclusive vrf addr (key.now, entry.now))
         ≡ (result && is_admitted vrf entry.now.value.comms) }
 {
-    entry.has_tunnel(fec) && inclusive_tunnel(addr, key, &entry.value()).is_some()
+    entry.has_tunnel(fec) && inclusive_tunnel(addr, &key.key(), &entry.value()).is_some()
 }
 
 /// Whether one of the VRFs admits a route with these communities.
@@ -40,7 +39,7 @@ fn any_admits(vrfs: &[OwnVrf], comms: &[ExtComm]) -> bool
 
 /// Whether one of the VRFs imports the route of that key from the peer of that address, and it is an inclusive one of the tunnel. Most
 /// routes are not, so the VRFs are looked at last.
-fn is_route_of(vrfs: &[OwnVrf], addr: Addr, fec: &Fec, key: &Key, entry: &TakenEntry) -> bool
+fn is_route_of(vrfs: &[OwnVrf], addr: Addr, fec: &Fec, key: &KeptKey, entry: &TakenEntry) -> bool
     ensures { result ≡ list_any (λ own. is_tunnel fec.now (imported_inclusive (as_own own).vrf addr (key.now, entry.now))) vrfs.now }
 {
     if !is_of_tunnel(addr, fec, key, entry) {
@@ -55,7 +54,7 @@ fn has_route(vrfs: &[OwnVrf], addr: Addr, fec: &Fec, entries: TableEntries<'_>) 
         is_tunnel fec.now (imported_inclusive (as_own own).vrf addr entry)) vrfs.now) entries.entry }
 {
     for (key, entry) in entries {
-        if is_route_of(vrfs, addr, fec, key.key(), entry) {
+        if is_route_of(vrfs, addr, fec, key, entry) {
             return true;
         }
     }
@@ -68,7 +67,7 @@ fn is_at(
     vrfs: &[OwnVrf],
     edge: NodeId,
     fec: &Fec,
-    near: Option<&TakenKey>,
+    near: Option<&KeptKey>,
 ) -> bool
     ensures { (core : Core) → result ≡ true → list_any (λ own.
         imports_inclusive (place_of control.now.home core) (control_of control.now) (as_own own) edge fec.now) vrfs.now ≡ true }
@@ -78,7 +77,7 @@ fn is_at(
     };
     match control.taken().get(edge, key) {
         None => false,
-        Some(entry) => is_route_of(vrfs, control.home().addr_of(edge), fec, key.key(), entry),
+        Some(entry) => is_route_of(vrfs, control.home().addr_of(edge), fec, key, entry),
     }
 }
 
@@ -99,7 +98,7 @@ fn any_imports_near(
     vrfs: &[OwnVrf],
     edge: NodeId,
     fec: &Fec,
-    near: Option<&TakenKey>,
+    near: Option<&KeptKey>,
 ) -> bool
     ensures { (core : Core) → result
         ≡ list_any (λ own. imports_inclusive (place_of control.now.home core) (control_of control.now) (as_own own) edge fec.now) vrfs.now }
@@ -109,7 +108,7 @@ fn any_imports_near(
 
 /// Whether a VRF of the edge imports an inclusive route of the tunnel. Such a route is its root's, so no other peer is looked at. The route
 /// of that key is looked at first.
-pub(crate) fn is_inclusive(control: &EdgeControl, fec: &Fec, near: Option<&TakenKey>) -> bool
+pub(crate) fn is_inclusive(control: &EdgeControl, fec: &Fec, near: Option<&KeptKey>) -> bool
     ensures { (core : Core) → IsTrue result ↔ IsInclusive (place_of control.now.home core) (control_of control.now) fec.now }
 {
     match root_of(control.home().scenario(), fec) {

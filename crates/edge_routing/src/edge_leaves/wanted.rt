@@ -13,7 +13,7 @@ ghost use Rattle.control_laws.specs.Control.{AreTrees, control_of};
 use crate::edge_leaves::inclusive::is_inclusive;
 use edge_control::EdgeControl;
 use edge_control::of_vrf_trees::VrfTree;
-use edge_routes::route_order::TakenKey;
+use edge_routes::route_order::KeptKey;
 use mldp::mldp_fec::Fec;
 use mv_base::NoMemory;
 use std::alloc::Global;
@@ -27,7 +27,7 @@ fn is_wanted(trees: &[VrfTree], fec: &Fec) -> bool
 
 /// Whether the edge is to be a leaf of the tunnel: a VRF imports an inclusive route of it, or a flow of a VRF wants it (RFC 6514 sections
 /// 9.1.2 and 12.3).
-fn wants(control: &EdgeControl, fec: &Fec, near: Option<&TakenKey>) -> bool
+fn wants(control: &EdgeControl, fec: &Fec, near: Option<&KeptKey>) -> bool
     requires { AreTrees control.now }
     ensures { (core : Core) → result ≡ sets.contains (leaves (place_of control.now.home core) (control_of control.now)) fec.now }
 {
@@ -39,7 +39,7 @@ pub fn wanted_of(
     control: &EdgeControl,
     alloc: Global,
     fecs: &[Fec],
-    near: Option<&TakenKey>,
+    near: Option<&KeptKey>,
 ) -> Result<Vec<Fec>, NoMemory>
     requires { AreTrees control.now }
     ensures wanted { (core : Core) → IfOk result (λ found. (fec : Fec) → list_any (same_fec fec) fecs.now ≡ true →

@@ -15,9 +15,9 @@ ghost use Rattle.edge_routing.specs.edge_updates.Told.{listed, told_at, told_by,
 
 use bgp_messages::bgp_attributes::Key;
 use edge_control::EdgeControl;
-use edge_control::of_edge_tables::taken_tables::TableEntries;
+use edge_control::of_edge_tables::taken_tables::{TableEntries, TakenEntry};
 use edge_routes::edge_home::{EdgeHome, OwnVrf};
-use edge_routes::route_order::TakenKey;
+use edge_routes::route_order::{KeptKey, TakenKey};
 use edge_routes::{TakenValue, imported_inclusive};
 use mldp::mldp_fec::Fec;
 use mv_base::{Addr, NoMemory, NodeId};
@@ -78,7 +78,7 @@ pub(crate) fn append_at(
         ≡ fecs.old.items ++ told_at control.now.home peer key.now (route_at control.now.peers peer key.now)) }
 {
     let home = control.home();
-    match control.taken().get(peer, key) {
+    match control.taken().get(peer, key.kept()) {
         None => Ok(()),
         Some(entry) => append_of_route(fecs, home, peer, key.key(), &entry.value()),
     }
@@ -102,6 +102,27 @@ pub(crate) fn append_by(
     }
 }
 
+/// The type of Intra-AS I-PMSI A-D routes (RFC 6514 section 4.1), which are the inclusive ones.
+const INCLUSIVE: u8 = 1;
+
+/// Appends those of a route of the peer's table. Most routes are no inclusive ones, and their keys are not read.
+fn append_of_entry(
+    fecs: &mut Vec<Fec>,
+    home: &EdgeHome,
+    peer: NodeId,
+    key: &KeptKey,
+    entry: &TakenEntry,
+) -> Result<(), NoMemory>
+    requires { peer.0 < length home.now.scenario.nodes }
+    ensures { OnOk result (fecs.new.items ≡ fecs.old.items ++ told_by home.now peer key.now entry.now.value) }
+{
+    if key.is_of_type(INCLUSIVE) {
+        append_of_route(fecs, home, peer, &key.key(), &entry.value())
+    } else {
+        Ok(())
+    }
+}
+
 /// Appends those of all these routes of the peer.
 fn append_of_entries(
     fecs: &mut Vec<Fec>,
@@ -113,7 +134,7 @@ fn append_of_entries(
     ensures { OnOk result (fecs.new.items ≡ fecs.old.items ++ told_by_all home.now peer entries.entry) }
 {
     for (key, entry) in entries {
-        append_of_route(fecs, home, peer, key.key(), &entry.value())?;
+        append_of_entry(fecs, home, peer, key, entry)?;
     }
     Ok(())
 }

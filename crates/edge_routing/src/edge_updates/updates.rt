@@ -20,7 +20,7 @@ use bgp_messages::bgp_attributes::{Advert, Key, Message, Update};
 use edge_control::EdgeControl;
 use edge_control::of_edge_tables::taken_tables::RouteValue;
 use edge_routes::Shared;
-use edge_routes::route_order::TakenKey;
+use edge_routes::route_order::{KeptKey, TakenKey};
 use mldp::mldp_fec::Fec;
 use mv_base::{NoMemory, NodeId};
 use std::alloc::Global;
@@ -30,7 +30,7 @@ use std::alloc::Global;
 #[derive(Drop)]
 pub struct TunnelChanges {
     pub tunnels: Vec<Fec>,
-    pub near: Option<TakenKey>,
+    pub near: Option<KeptKey>,
 }
 
 /// The peer withdraws the route of the key. The tunnels that may go are appended.
@@ -101,7 +101,7 @@ fn announce(
     peer: NodeId,
     advert: Advert,
     now: u64,
-) -> Result<TakenKey, NoMemory>
+) -> Result<KeptKey, NoMemory>
     requires { IsWritableKey advert.key }
     ensures taken { OnOk result (AreTaken now peer (Reach advert ∷ []) control.old control.new fecs.old.items fecs.new.items) }
     ensures home { control.new.home ≡ control.old.home }
@@ -122,10 +122,10 @@ fn announce(
     };
     let value = Shared::of(alloc, value)?;
     if enter(control, fecs, peer, &own, &value, now)? {
-        return Ok(own);
+        return Ok(own.into_kept());
     }
     announce_again(control, fecs, peer, &own, &value, now)?;
-    Ok(own)
+    Ok(own.into_kept())
 }
 
 /// The peer withdraws the routes of the keys, one after another.
@@ -154,7 +154,7 @@ fn announce_all(
     peer: NodeId,
     adverts: Vec<Advert>,
     now: u64,
-) -> Result<Option<TakenKey>, NoMemory>
+) -> Result<Option<KeptKey>, NoMemory>
     requires { AllByRecursion IsWritableAdvert adverts.items }
     ensures taken { OnOk result (
         AreTaken now peer (announced adverts.items) control.old control.new fecs.old.items fecs.new.items) }

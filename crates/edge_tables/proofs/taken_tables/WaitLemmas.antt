@@ -1,6 +1,6 @@
 -- Tables of which it is noted from when on a delay may be over.
-use Rattle.std.proofs.Common.{◌≡◌, ℕ, ◌≤◌, ◌&&◌, ◌||◌, Bool, true, false, cond, not, min, nat_le, ◌+◌, List, [], ◌∷◌, Option, None, Some, arith, fold, refl, subst, sym, ap, ◌∙◌}
-use Rattle.std.proofs.lemmas.Bool.{leb-false, lt-leb}
+use Rattle.std.proofs.Common.{◌≡◌, ℕ, ◌==◌, ◌≢◌, inl, inr, ◌&&◌, ◌||◌, Bool, true, false, cond, not, nat_le, ◌+◌, List, [], ◌∷◌, Option, None, Some, arith, fold, refl, subst, sym, ap, ◌∙◌}
+use Rattle.std.proofs.lemmas.Bool.{leb-false, lt-leb, ne_eqb}
 use Rattle.std.specs.Prelude.{is_some}
 use Rattle.std.specs.Option.{option_map}
 use Rattle.std.specs.Ordering.{eq_by_cmp}
@@ -14,10 +14,31 @@ use Rattle.bgp_messages.specs.declared.bgp_attributes.key.Key.TheVariants.{Mcast
 use Rattle.edge_defs.specs.Edge.{Taken, TakenRoute}
 use Rattle.edge_defs.specs.Imported.{ImportedSelective, SelectiveRoute, is_admitted, selective_of, tunnel_by}
 use Rattle.edge_defs.specs.Keys.{key_cmp}
+use Rattle.bgp_messages.specs.bgp_update.Written.{IsWritableKey}
+use Rattle.bgp_values.specs.mvpn_nlri.Spelling.{IsOther}
 use Rattle.edge_defs.proofs.KeyLemmas.{key_exact, key_total}
+use Rattle.edge_routes.specs.route_order.Kept.{is_of_type}
 use Rattle.edge_routes.specs.Local.{Local}
 use Rattle.edge_tables.specs.taken_tables.Running.{IsFrom, IsNoted, awaits, earlier, earliest_with, imports, is_any_over, is_delayed, run_at, table_run}
 use Rattle.edge_tables.proofs.taken_tables.MapLemmas.{get_each, no_some, one_key, one_some}
+
+-- ---- which routes have a delay
+
+-- The type of a route that RFC 6514 does not define is not 3.
+other_is : (kind : ℕ) → IsOther kind → (kind == 3) ≡ false
+other_is kind (inl none) = ap (λ (n : ℕ). n == 3) none
+other_is kind (inr more) = let apart : kind ≢ 3 = λ e. omega (arith, more, e) in ne_eqb kind 3 apart
+
+pub delayed_is : (key : Key) → IsWritableKey key → is_of_type 3 key ≡ is_delayed key
+delayed_is (Unicast rd prefix) spelled = refl
+delayed_is (Mcast afi (routes.Intra rd originator)) spelled = refl
+delayed_is (Mcast afi (routes.Inter rd source_as)) spelled = refl
+delayed_is (Mcast afi (routes.Selective rd source group originator)) spelled = refl
+delayed_is (Mcast afi (routes.Leaf leaf originator)) spelled = refl
+delayed_is (Mcast afi (routes.Active rd source group)) spelled = refl
+delayed_is (Mcast afi (routes.SharedJoin rd source_as source group)) spelled = refl
+delayed_is (Mcast afi (routes.SourceJoin rd source_as source group)) spelled = refl
+delayed_is (Mcast afi (routes.Other kind octets)) spelled = other_is kind spelled.route.0
 
 -- ---- what is noted
 

@@ -123,7 +123,9 @@ impl TakenEntry {
         self.value.lent().lent()
     }
 
-    /// Whether the tunnel of the route is that one, and such a one as edges use.
+    /// Whether the tunnel of the route is that one, and such a one as edges use. Most routes of a table have another mark, so a search
+    /// looks at little more than that of each.
+    #[inline(always)]
     pub fn has_tunnel(&self, fec: &Fec) -> bool
         ensures { result ≡ is_tunnel fec.now (lsp_of self.now.value.pmsi) }
     {

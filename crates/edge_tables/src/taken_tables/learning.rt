@@ -46,5 +46,5 @@ pub(crate) fn enter(
     ensures unchanged { OnErr result (table.new ≡ table.old) }
 {
     spelled(key);
-    table.enter(key, TakenEntry::of(value.share()?, now))
+    table.enter(key.kept(), TakenEntry::of(value.share()?, now))
 }

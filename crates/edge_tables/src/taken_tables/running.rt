@@ -9,26 +9,26 @@ ghost use Rattle.edge_tables.specs.taken_tables.Slots.{taken_in};
 use crate::rib_sync::Inbox;
 use crate::taken_tables::entry::TakenEntry;
 use bgp_messages::bgp_attributes::Key;
-use bgp_values::mvpn_nlri::Route;
-use edge_routes::route_order::TakenKey;
+use edge_routes::route_order::KeptKey;
 use edge_routes::{LocalVrf, imported_selective};
 use mv_base::Addr;
 
 /// The routes that were taken from a peer.
-pub(crate) type TakenRoutes = Inbox<TakenKey, TakenEntry>;
+pub(crate) type TakenRoutes = Inbox<KeptKey, TakenEntry>;
 
 /// Whether the VRF imports the selective route from the peer of that address.
-fn is_importer(own: &LocalVrf, peer: Addr, key: &TakenKey, entry: &TakenEntry) -> bool
+fn is_importer(own: &LocalVrf, peer: Addr, key: &Key, entry: &TakenEntry) -> bool
     ensures { result ≡ is_some (imported_selective own.now.vrf peer (key.now, entry.now)) }
 {
-    imported_selective(own.vrf(), peer, key.key(), &entry.value()).is_some()
+    imported_selective(own.vrf(), peer, key, &entry.value()).is_some()
 }
 
 /// Whether one of the VRFs does.
-fn imports(vrfs: &[LocalVrf], peer: Addr, key: &TakenKey, entry: &TakenEntry) -> bool
+fn imports(vrfs: &[LocalVrf], peer: Addr, key: &KeptKey, entry: &TakenEntry) -> bool
     ensures { result ≡ imports vrfs.now peer (key.now, entry.now) }
 {
-    vrfs.iter().any(|own| is_importer(own, peer, key, entry))
+    let key = key.key();
+    vrfs.iter().any(|own| is_importer(own, peer, &key, entry))
 }
 
 /// Whether a delay from that moment on is over at the clock.
@@ -38,26 +38,26 @@ fn is_over(since: u64, delay: u64, now: u64) -> bool
     since <= now && now - since >= delay
 }
 
+/// The type of S-PMSI A-D routes (RFC 6514 section 4.3).
+const SELECTIVE: u8 = 3;
+
 /// Whether a route of the key may have a delay: an S-PMSI A-D route alone.
-fn is_delayed(key: &Key) -> bool
+fn is_delayed(key: &KeptKey) -> bool
     ensures { result ≡ is_delayed key.now }
 {
-    matches!(key, Key::Mcast(_, Route::Selective { .. }))
+    key.is_spelled();
+    key.is_of_type(SELECTIVE)
 }
 
 /// Whether the delay of the route may still be run.
-fn awaits(key: &TakenKey, entry: &TakenEntry) -> bool
+fn awaits(key: &KeptKey, entry: &TakenEntry) -> bool
     ensures { result ≡ awaits key.now entry.now }
 {
-    is_delayed(key.key()) && !entry.was_run()
+    is_delayed(key) && !entry.was_run()
 }
 
 /// The earliest clock at which a route was learned whose delay may still be run, with this route among the others.
-pub(crate) fn earliest_with(
-    earliest: Option<u64>,
-    key: &TakenKey,
-    entry: &TakenEntry,
-) -> Option<u64>
+pub(crate) fn earliest_with(earliest: Option<u64>, key: &KeptKey, entry: &TakenEntry) -> Option<u64>
     ensures { result ≡ earliest_with earliest (key.now, entry.now) }
 {
     if !awaits(key, entry) {
@@ -94,7 +94,7 @@ pub(crate) fn is_any_over(earliest: Option<u64>, delay: u64, now: u64) -> bool
 /// first.
 fn is_due(
     entry: &TakenEntry,
-    key: &TakenKey,
+    key: &KeptKey,
     vrfs: &[LocalVrf],
     peer: Addr,
     delay: u64,
@@ -109,7 +109,7 @@ fn is_due(
 /// Runs the delay of a route that one of the VRFs imports, where it is due.
 fn run_entry(
     entry: &mut TakenEntry,
-    key: &TakenKey,
+    key: &KeptKey,
     vrfs: &[LocalVrf],
     peer: Addr,
     delay: u64,
@@ -132,7 +132,7 @@ pub(crate) fn run_routes(
     ensures { taken_in routes.new ≡ table_run vrfs.now delay now peer (taken_in routes.old) }
 {
     routes.retain(
-        |key: &TakenKey, entry: &mut TakenEntry| -> bool
+        |key: &KeptKey, entry: &mut TakenEntry| -> bool
             ensures { (result ≡ true) × (entry.new ≡ run_at vrfs.entry.now delay now peer key.now entry.old) }
         {
             run_entry(entry, key, vrfs, peer, delay, now);

@@ -47,6 +47,6 @@ pub(crate) fn forget_from(slots: &mut Slots, peer: NodeId, key: &TakenKey)
 {
     match slots.get_mut(&peer.0) {
         None => {}
-        Some(table) => table.remove(key),
+        Some(table) => table.remove(key.kept()),
     }
 }

@@ -11,7 +11,7 @@ use crate::taken_tables::running::{
     TakenRoutes, earliest_of, earliest_with, is_any_over, run_routes,
 };
 use edge_routes::LocalVrf;
-use edge_routes::route_order::TakenKey;
+use edge_routes::route_order::KeptKey;
 use mv_base::{Addr, NoMemory, NodeId};
 use scenario_defs::Node;
 use std::alloc::Global;
@@ -48,14 +48,14 @@ impl TakenTable {
     }
 
     /// The route of the key.
-    pub(crate) fn get(&self, key: &TakenKey) -> Option<&TakenEntry>
+    pub(crate) fn get(&self, key: &KeptKey) -> Option<&TakenEntry>
         ensures { option_copied result ≡ maps.get (taken_in self.now) key.now }
     {
         self.routes.get(key)
     }
 
     /// The routes, in the order of their keys.
-    pub(crate) fn iter(&self) -> Entries<'_, TakenKey, TakenEntry>
+    pub(crate) fn iter(&self) -> Entries<'_, KeptKey, TakenEntry>
         ensures { result ≡ maps.entries (taken_in self.now) }
     {
         self.routes.iter()
@@ -63,7 +63,7 @@ impl TakenTable {
 
     /// Puts the route of the key, where there is none, and answers whether that is so.
     #[tactic(auto, using(edge_defs::proofs::KeyLemmas::key_exact))]
-    pub(crate) fn enter(&mut self, key: &TakenKey, entry: TakenEntry) -> Result<bool, NoMemory>
+    pub(crate) fn enter(&mut self, key: &KeptKey, entry: TakenEntry) -> Result<bool, NoMemory>
         ensures fresh { IfOk result (λ fresh. fresh ≡ not (is_some (maps.get (taken_in self.old) key.now))) }
         ensures entered { IfOk result (λ fresh. fresh ≡ true → taken_in self.new ≡ maps.insert (taken_in self.old) key.now entry) }
         ensures stays { IfOk result (λ fresh. fresh ≡ false → self.new ≡ self.old) }
@@ -78,7 +78,7 @@ impl TakenTable {
 
     /// Takes out the route of the key. It takes no memory.
     #[tactic(auto, using(edge_defs::proofs::KeyLemmas::key_exact))]
-    pub(crate) fn remove(&mut self, key: &TakenKey)
+    pub(crate) fn remove(&mut self, key: &KeptKey)
         ensures { taken_in self.new ≡ maps.remove (taken_in self.old) key.now }
     {
         self.routes.remove(key);

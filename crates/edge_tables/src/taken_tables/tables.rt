@@ -15,7 +15,7 @@ use crate::rib_sync::Entries;
 use crate::taken_tables::entry::{RouteValue, TakenEntry};
 use crate::taken_tables::slots::{Slots, enter_from, forget_from};
 use crate::taken_tables::table::{TakenTable, run_node};
-use edge_routes::route_order::TakenKey;
+use edge_routes::route_order::{KeptKey, TakenKey};
 use edge_routes::{LocalVrf, Shared};
 use mv_base::{NoMemory, NodeId};
 use scenario_defs::Node;
@@ -24,7 +24,7 @@ use std::collections::BTreeMap;
 use std::marker::Model;
 
 /// The routes of one peer, in the order of their keys.
-pub type TableEntries<'a> = Entries<'a, TakenKey, TakenEntry>;
+pub type TableEntries<'a> = Entries<'a, KeptKey, TakenEntry>;
 
 /// The peers whose session is up here, each with the routes that were taken from it. Each key has a spelling. Nothing is taken
 /// from another peer.
@@ -107,7 +107,7 @@ impl TakenTables {
     }
 
     /// The route of the key that was taken from the peer.
-    pub fn get(&self, peer: NodeId, key: &TakenKey) -> Option<&TakenEntry>
+    pub fn get(&self, peer: NodeId, key: &KeptKey) -> Option<&TakenEntry>
         ensures route { option_copied result ≡ route_at self.now peer key.now }
         ensures spelled { AreSpelled self.now }
     {

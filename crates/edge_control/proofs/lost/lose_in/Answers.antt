@@ -1,31 +1,10 @@
-use Rattle.std.proofs.Common.{◌<◌, length, refl, ap, ◌∙◌, arith}
-use Rattle.std.proofs.lemmas.List.{length-set}
-use Rattle.edge_defs.specs.Place.{vrfs_from}
-use Rattle.edge_routes.specs.edge_home.Home.{as_own, place_of}
-use Rattle.edge_control.specs.Taking.{losing, table_of}
-use Rattle.edge_control.proofs.PeerTurns.{turned_end, turned_more}
+use Rattle.std.proofs.Common.{ap, map, ◌∙◌}
+use Rattle.edge_control.specs.Taking.{table_of, without_lists}
+use Rattle.edge_control.proofs.PeerLost.{lost_is}
 use Rattle.edge_control.proofs.lost.lose_in.Goals as goal
-
-pub loop-place-init : goal.loop-place-init
-loop-place-init c = record { long = refl; each = λ core. refl }
-
-pub loop-place-preserved : goal.loop-place-preserved
-loop-place-preserved c =
-    let lt : c.loop-place.place < length c.args.trees.now.items = omega arith in
-    record {
-      long = length-set c.loop-place.trees.items c.loop-place.place c.forget_peer.new.tree ∙ c.loop-place.invariant.long;
-      each = λ core.
-          turned_more (losing c.args.home.now core c.args.peer (table_of c.args.taken.now c.args.peer)) c.loop-place.place
-          (vrfs_from c.args.home.now.me 0 c.args.home.now.scenario.vrfs) c.args.trees.now.items c.loop-place.trees.items
-          (as_own c.own_at-own.result.now) c.index_mut.result.now c.forget_peer.new.tree lt c.own_at-own.ensures.own
-          (c.loop-place.invariant.each core)
-          (c.forget_peer.ensures (place_of c.args.home.now core) (c.own_at-own.ensures.at core)
-          ∙ ap (losing c.args.home.now core c.args.peer (table_of c.args.taken.now c.args.peer) (as_own c.own_at-own.result.now))
-          c.index_mut.ensures.value);
-    }
 
 pub returns : goal.returns
 returns c = λ core.
-    c.loop-place.invariant.each core
-    ∙ turned_end (losing c.args.home.now core c.args.peer (table_of c.args.taken.now c.args.peer)) c.loop-place.place
-    (vrfs_from c.args.home.now.me 0 c.args.home.now.scenario.vrfs) c.args.trees.now.items (omega arith) c.requires
+    c.forget_all_lists.ensures
+    ∙ ap (map (without_lists c.args.peer)) (c.forget_table.ensures core)
+    ∙ lost_is c.args.home.now core c.args.peer (table_of c.args.taken.now c.args.peer) c.args.trees.now.items c.requires

@@ -20,8 +20,7 @@ returns-in-Some-get c = λ core passes.
     let test : Addr → Key × TakenRoute → OwnVrf → Bool = λ a entry own. is_tunnel c.args.fec.now (imported_inclusive (as_own own).vrf a entry) in
     let all = addr_of c.args.control.now.home.scenario c.args.edge in
     let entry = c.in-Some-get.entry.now in
-    let own =
-    (λ i. list_any (test (sym addr i) (sym c.key.ensures.key i, entry)) c.args.vrfs.now) ∙ sym c.is_route_of.ensures ∙ passes in
+    let own = (λ i. list_any (test (sym addr i) (c.in-Some.key.now, entry)) c.args.vrfs.now) ∙ sym c.is_route_of.ensures ∙ passes in
     sym (any_swap (test all) (maps.entries (taken_from (control_of c.args.control.now) c.args.edge)) c.args.vrfs.now)
     ∙ one_passes c.args.control.now c.taken.result.now c.taken.ensures c.args.edge (λ entry. list_any (test all entry) c.args.vrfs.now)
     c.in-Some.key.now entry c.in-Some-get.ensures.route own

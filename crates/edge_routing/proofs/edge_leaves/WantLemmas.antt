@@ -1,5 +1,5 @@
 -- What the trees of an edge want, and the inclusive routes that its VRFs import, are of what the edge is to be a leaf.
-use Rattle.std.proofs.Common.{◌≡◌, ◌↔◌, ℕ, ◌+◌, ◌<◌, ◌⊎◌, inl, inr, ◌||◌, Bool, true, false, cond, List, [], ◌∷◌, ◌++◌, map, take, get_or, length, sym, ap, ◌∙◌, append-nil}
+use Rattle.std.proofs.Common.{◌≡◌, ◌↔◌, ℕ, ◌+◌, ◌<◌, ◌⊎◌, inl, inr, ◌||◌, Bool, true, false, cond, List, [], ◌∷◌, ◌++◌, map, take, get_or, length, refl, sym, ap, ◌∙◌, append-nil}
 use Rattle.std.specs.List.{AllByRecursion, filter, list_any}
 use Rattle.std.specs.FinSet as sets
 use Rattle.std.proofs.lemmas.Bool.{or_cases, or_left, or_right}
@@ -65,12 +65,18 @@ module _ (kept : Kept) (trees : AreTrees kept) (core : Core) where
         let law = leaves_are place (control_of kept) kept.trees fec are_trees_of in
         either (inclusive || wanted) (sets.contains (leaves place (control_of kept)) fec) (λ h. law.1 (back h)) (λ h. told (law.0 h))
 
--- one of which a VRF imports an inclusive route
-pub leaf_inclusive : (kept : Kept) → AreTrees kept → (core : Core) (fec : Fec) (inclusive : Bool) → inclusive ≡ true
-    → (inclusive ≡ true) ↔ IsInclusive (place_of kept.home core) (control_of kept) fec
-    → inclusive ≡ sets.contains (leaves (place_of kept.home core) (control_of kept)) fec
-leaf_inclusive kept trees core fec inclusive h is =
-    h ∙ sym ((leaves_are (place_of kept.home core) (control_of kept) kept.trees fec (are_trees_of kept trees core)).1 (inl (is.0 h)))
+pub or_none : (inclusive wanted : Bool) → wanted ≡ false → inclusive ≡ (inclusive || wanted)
+or_none true wanted none = refl
+or_none false wanted none = sym none
+
+-- one that a flow of a VRF wants
+pub leaf_wanted : (kept : Kept) → AreTrees kept → (core : Core) (fec : Fec) (wanted : Bool) → wanted ≡ true
+    → wanted ≡ list_any (λ (tree : TreeData). sets.contains tree.wants fec) kept.trees
+    → wanted ≡ sets.contains (leaves (place_of kept.home core) (control_of kept)) fec
+leaf_wanted kept trees core fec wanted h any =
+    let found = any_among (λ (tree : TreeData). sets.contains tree.wants fec) kept.trees (sym any ∙ h) in
+    let wants : IsWantedIn kept.trees fec = record { tree = found.0; among = found.1; wants = found.2 } in
+    h ∙ sym ((leaves_are (place_of kept.home core) (control_of kept) kept.trees fec (are_trees_of kept trees core)).1 (inr wants))
 
 -- ---- those that are wanted
 

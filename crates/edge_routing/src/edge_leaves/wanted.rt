@@ -26,12 +26,13 @@ fn is_wanted(trees: &[VrfTree], fec: &Fec) -> bool
 }
 
 /// Whether the edge is to be a leaf of the tunnel: a VRF imports an inclusive route of it, or a flow of a VRF wants it (RFC 6514 sections
-/// 9.1.2 and 12.3).
+/// 9.1.2 and 12.3). Flows are looked at first: that is one look-up at each VRF, where a search for an inclusive route goes through the
+/// table of its root.
 fn wants(control: &EdgeControl, fec: &Fec, near: Option<&KeptKey>) -> bool
     requires { AreTrees control.now }
     ensures { (core : Core) → result ≡ sets.contains (leaves (place_of control.now.home core) (control_of control.now)) fec.now }
 {
-    is_inclusive(control, fec, near) || is_wanted(control.trees(), fec)
+    is_wanted(control.trees(), fec) || is_inclusive(control, fec, near)
 }
 
 /// Those of the tunnels of which the edge is to be a leaf, in their order. A route of that key is looked at first for each.

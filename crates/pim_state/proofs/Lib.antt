@@ -2,3 +2,4 @@ pub mod MapLemmas
 pub mod ChangesLemmas
 pub mod PlanLemmas
 pub mod IndexLemmas
+pub mod EndLemmas

@@ -2,3 +2,4 @@ pub mod Codes
 pub mod Plan
 pub mod Changes
 pub mod Index
+pub mod Ends

@@ -13,6 +13,7 @@ ghost use Rattle.pim_state.specs.Plan.{is_at};
 
 use crate::arrival::Arrival;
 use crate::changes::{Changes, count_after, count_kept};
+use crate::ends::{soonest, soonest_with};
 use crate::index::{EntryIndex, key_of, list_all, listed, unlist_ended, unlist_gone};
 use indexmap::IndexMap;
 use mv_base::{Addr, IfaceId, NoMemory};
@@ -69,6 +70,8 @@ pub struct Downstream {
     alloc: Global,
     entries: IndexMap<IfaceEntry, Expiry>,
     index: EntryIndex,
+    /// No entry ends before.
+    next: Expiry,
 }
 
 impl Model for Downstream {
@@ -77,6 +80,7 @@ impl Model for Downstream {
     ghost use Rattle.indexmap.specs.IndexMap.{IsUnique};
     ghost use Rattle.pim_defs.specs.Entries.{Entries};
     ghost use Rattle.pim_state.specs.Codes.{entries_code};
+    ghost use Rattle.pim_state.specs.Ends.{IsBound};
     ghost use Rattle.pim_state.specs.Index.{IsExact};
     ghost use Rattle.pim_state.specs.Plan.{is_at};
 
@@ -86,7 +90,8 @@ impl Model for Downstream {
 
     ghost view = { λ d. from_entries d.entries.entries };
 
-    ghost invariant = { λ d. IsUnique is_at d.entries × (length d.entries.entries ≤ 1024) × IsExact d.entries d.index };
+    ghost invariant = { λ d. IsUnique is_at d.entries × (length d.entries.entries ≤ 1024) × IsExact d.entries d.index
+        × IsBound d.next (from_entries d.entries.entries) };
 }
 
 impl Downstream {
@@ -98,6 +103,7 @@ impl Downstream {
             alloc,
             entries: IndexMap::new(alloc),
             index: IndexMap::new(alloc),
+            next: Expiry::Never,
         }
     }
 
@@ -127,6 +133,7 @@ impl Downstream {
             }
         }
         unlist_gone(&mut self.index, &self.entries, &changes);
+        self.next = soonest_with(self.next, &changes);
         Ok(())
     }
 
@@ -160,6 +167,13 @@ impl Downstream {
         u32::try_from(count_after(&self.entries, &changes)).map_err(|_| NoMemory)
     }
 
+    /// Whether it is known, without a look at the entries, that none of them has ended at the clock.
+    pub fn none_ends(&self, now: u64) -> bool
+        ensures { result ≡ true → kept_at self.now now ≡ self.now }
+    {
+        self.next.is_after(now)
+    }
+
     /// Removes the entries that have ended at the clock. It takes no memory.
     pub fn timers(&mut self, now: u64)
         ensures kept { self.new ≡ kept_at self.old now }
@@ -171,6 +185,7 @@ impl Downstream {
                 ensures { (result ≡ is_after expiry.old now) × (expiry.new ≡ expiry.old) }
             { expiry.is_after(now) },
         );
+        self.next = soonest(self.entries.values().as_slice());
     }
 
     /// Whether the interface asks for (S,G) at the clock, where S is known to send to G or not.

@@ -4,6 +4,7 @@
 //! `arrival.rt` has what a message joins and prunes, and the plan of what becomes of each entry that it may change;
 //! `changes.rt` counts the planned changes, and `take` makes them, with the memory first, so that a message is taken
 //! whole or not at all.
+//! `ends.rt` has from when on an entry may end, so that a step of the clock before that looks at none of them.
 //! `index.rt` lists each entry by what it is looked for by: joins (S,G) by source and group, joins (*,G) by the group,
 //! prunes (S,G,rpt) by the group alone (`entry_set.rt` has one such list). `specs/Plan.antt`, `Changes.antt` and
 //! `Index.antt` say the same in words, and `Codes` what the model's value is in the code. A message is looked up and not
@@ -15,6 +16,7 @@
 mod arrival;
 mod changes;
 mod downstream;
+mod ends;
 mod entry_set;
 mod index;
 

@@ -212,6 +212,9 @@ impl State {
         ensures sound { IsSound self.new }
         ensures kept { vrf_of self.new ≡ record (vrf_of self.old) { entries = kept_at self.old.entries now } }
     {
+        if self.entries.none_ends(now) {
+            return;
+        }
         mark_ended(&mut self.flows, self.entries.expiries(), now);
         self.entries.timers(now);
     }

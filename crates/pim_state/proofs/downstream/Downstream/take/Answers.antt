@@ -1,7 +1,7 @@
-use Rattle.std.proofs.Common.{rules, ◌≡◌, ◌≤◌, ◌||◌, ◌&&◌, not, is_some, Bool, Option, length, arith, sym, ap, ◌∙◌, List}
+use Rattle.std.proofs.Common.{rules, fold, subst, ◌≡◌, ◌≤◌, ◌||◌, ◌&&◌, not, is_some, Bool, Option, length, arith, sym, ap, ◌∙◌, List}
 use Rattle.std.specs.List.{list_any}
 use Rattle.std.specs.FinMap.{from_entries, len}
-use Rattle.std.specs.Map.{keys_of, lookup}
+use Rattle.std.specs.Map.{keys_of, lookup, values_of}
 use Rattle.indexmap.specs.IndexMap.{get}
 use Rattle.scenario_defs.specs.declared.event.IfaceEntry.{IfaceEntry}
 use Rattle.pim_defs.specs.declared.expiry.Expiry.{Expiry}
@@ -9,6 +9,8 @@ use Rattle.pim_defs.specs.Entries.{Entries, entry_cmp}
 use Rattle.pim_state.specs.Changes.{changed_by, then_at}
 use Rattle.pim_state.specs.Index.{is_kept, is_listed}
 use Rattle.pim_state.specs.Plan.{is_at}
+use Rattle.pim_state.specs.Ends.{IsBound, sooner_where}
+use Rattle.pim_state.proofs.EndLemmas.{changed_bound}
 use Rattle.pim_state.proofs.ChangesLemmas.{made-changes}
 use Rattle.pim_state.proofs.IndexLemmas.{changed-keys, then-exact}
 use Rattle.pim_state.proofs.MapLemmas.{length-map}
@@ -42,6 +44,10 @@ invariant_of-self-2 c =
           (c.in_ok-list_all.ensures.each at ∙ ap (λ (b : Bool). b || is_kept changes at) own)
           (changed-keys changes at)
           ∙ ap (λ (o : Option Expiry). is_some o) (sym (made at))))),
+      subst (λ (m : Entries). IsBound c.soonest_with-self-inside.result m) (sym all)
+          (subst (λ (next : Expiry). IsBound next (changed_by (from_entries c.self.inside.entries.entries) changes)) (sym (c.soonest_with-self-inside.ensures
+          ∙ ap (λ (next : Expiry). fold sooner_where next (values_of changes)) c.loop-at.invariant.next))
+          (changed_bound changes c.self.inside.next (from_entries c.self.inside.entries.entries) c.self.invariant.3)),
     )
 
 pub returns-clause-taken : goal.returns-clause-taken

@@ -13,4 +13,5 @@ invariant-loop-at l = record {
   room : count_by is_some (values_of l.at-iterator) ≤ spare l.self-inside.entries;
   unique : IsUnique is_at l.self-inside.entries;
   index : l.self-inside.index ≡ l.initial.self-inside.index;
+  next : l.self-inside.next ≡ l.initial.self-inside.next;
 }

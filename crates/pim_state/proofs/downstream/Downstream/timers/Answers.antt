@@ -1,4 +1,4 @@
-use Rattle.std.proofs.Common.{rules, ◌≡◌, ◌≤◌, length, List, Option, arith, ap, is_some, not, refl, sym, ◌∙◌}
+use Rattle.std.proofs.Common.{rules, fold, ◌≡◌, ◌≤◌, length, List, Option, arith, ap, is_some, not, refl, sym, ◌∙◌}
 use Rattle.std.specs.Map.{lookup}
 use Rattle.std.specs.FinMap.{from_entries, len}
 use Rattle.std.proofs.lemmas.List.Filters.{length-filter_both}
@@ -8,6 +8,9 @@ use Rattle.pim_defs.specs.declared.expiry.Expiry.{Expiry}
 use Rattle.pim_defs.specs.Expiry.{is_after}
 use Rattle.pim_defs.specs.Entries.{entry_cmp, Entries, kept_at}
 use Rattle.pim_state.specs.Plan.{is_at}
+use Rattle.pim_defs.specs.declared.expiry.Expiry.TheVariants.{Never}
+use Rattle.pim_state.specs.Ends.{sooner}
+use Rattle.pim_state.proofs.EndLemmas.{soonest_bound}
 use Rattle.pim_state.proofs.MapLemmas.{left-kept, left_at, length-map, lookup-left}
 use Rattle.pim_state.proofs.downstream.Downstream.timers.Goals as goal
 
@@ -52,4 +55,6 @@ invariant_of-self c =
           c.unlist_ended.ensures at
           ∙ ap (λ (o : Option Expiry). is_some o) (sym (ap (λ (es : List (IfaceEntry × Expiry)). lookup (is_at at) es) left
           ∙ lookup-left c.args.now at c.self.inside.entries.entries c.self.invariant.0)),
+      soonest_bound c.soonest-self-inside.result c.retain.new.self.entries
+          (c.soonest-self-inside.ensures ∙ ap (fold sooner Never) (c.as_slice.ensures ∙ c.values.ensures.rest)),
     )

@@ -9,5 +9,6 @@ pub use Rattle.network_acts.specs.control_plane.Queries.{IsCoreThere, IsEdgeOf, 
 pub use Rattle.network_acts.specs.control_plane.Sessions.{IsDown, IsHalfUp, IsLost, none_rising, with_rising}
 pub use Rattle.network_acts.specs.declared.control_plane.customers.Verdict.{Verdict}
 pub use Rattle.network_acts.specs.declared.control_plane.customers.Verdict.TheVariants.{Full as VerdictFull, Made as VerdictMade}
+pub use Rattle.network_nodes.specs.Edges.{customer_call}
 pub use Rattle.data_plane.specs.link_copies.CopiesData.{CopiesData, IsShared, KeptCopy, is_way, kept_at}
 pub use Rattle.data_plane.specs.datagram_acts.Stored.{AreLinked, Buffers, Held, IsLive, Stores, held, with_datagram}

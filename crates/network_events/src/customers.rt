@@ -1,40 +1,43 @@
-//! Events of customers at an interface: Join/Prune messages come there, and sources are noted (RFC 7761 section 4.5, RFC 6514 section 14).
-ghost use Rattle.std.specs.Prelude.{◌≡◌, IfOk};
+//! Events of customers: Join/Prune messages come to an interface, sources are noted there, and patterns are selected at a VRF for selective
+//! tunnels (RFC 7761 section 4.5, RFC 6514 sections 12.1 and 14, RFC 6625).
+ghost use Rattle.std.specs.Prelude.{◌≡◌, ◌<◌, length, option_map, None, IfOk};
 ghost use Rattle.mv_base.specs.Address.{addr_octets};
 ghost use Rattle.mv_base.specs.Octets.{IsOctets};
 ghost use Rattle.pim_joinprune.specs.Spelling.{IsJoinPrune};
-ghost use Rattle.pim_defs.specs.Single as single;
+ghost use Rattle.pim_joinprune.specs.declared.message.JoinPrune.{JoinPrune as JoinPrunes};
 ghost use Rattle.scenario_defs.specs.declared.event.Event.{Event};
 ghost use Rattle.scenario_defs.specs.declared.event.CustomerEvent.TheVariants as customers;
 ghost use Rattle.scenario_defs.specs.declared.event.Event.TheVariants as events;
-ghost use Rattle.network_defs.specs.Refusals.{are_sessions_full};
+ghost use Rattle.network_defs.specs.Refusals.{are_sessions_full, is_selected};
 ghost use Rattle.network_acts.specs.Instant.{Instant, IsSome, IsWorld};
-ghost use Rattle.network_events.specs.Customers.{HandsMessage, IsAtIface, IsForIface, verdict_at};
+ghost use Rattle.network_acts.specs.Words.{customer_call};
+ghost use Rattle.network_events.specs.Customers.{AnswersOf, Asks, HandsMessage, HasOctets, IsAtIface, IsMakeable, IsWritten};
+ghost use Rattle.network_events.specs.Customers.{edge_at, is_amiss, plain_call, verdict_at};
 ghost use Rattle.network_events.specs.Meeting.{IsGiven, IsReady, Meets};
 
 use crate::halt::{EventAnswer, Halt};
+use crate::places::edge_of_vrf;
 use mldp_node::NodeFault;
-use mv_base::{Addr, IfaceId, NoMemory, NodeId};
+use mv_base::{Addr, IfaceId, NoMemory, NodeId, Pattern, VrfId};
 use mvpn_model::{fault_word, own_addr};
 use network_acts::of_edge_routes::route_order::are_octets;
 use network_acts::{CustomerCall, Network, Verdict};
-use pim_defs::{join_of, prune_of};
 use pim_joinprune::{DecodeFault, JoinPrune, decode, round_trip};
-use scenario_defs::{JoinEntry, Lines, Refusal, edge_of};
+use scenario_defs::{CustomerEvent, Lines, Refusal, Scenario, edge_of};
 use std::alloc::Global;
 
 /// So many octets in transit are too many for an event of a customer.
 const OCTET_LIMIT: u64 = 268_435_456;
 
 /// Whether so many octets are in transit that no event of a customer is taken.
-pub(crate) fn are_sessions_full(network: &Network) -> bool
+fn are_sessions_full(network: &Network) -> bool
     ensures { (at : Instant) → IsWorld at network.now → result ≡ are_sessions_full at.world }
 {
     network.total() >= OCTET_LIMIT
 }
 
 /// What comes of a call at node n for which there may be no room, by what was answered.
-pub(crate) fn verdict_at(n: NodeId, answer: Result<Verdict, NodeFault>) -> EventAnswer
+fn verdict_at(n: NodeId, answer: Result<Verdict, NodeFault>) -> EventAnswer
     ensures { result ≡ verdict_at n answer }
 {
     match answer {
@@ -45,91 +48,69 @@ pub(crate) fn verdict_at(n: NodeId, answer: Result<Verdict, NodeFault>) -> Event
     }
 }
 
-/// A message comes to the interface that it is for.
-fn take(
-    network: &mut Network,
-    iface: IfaceId,
-    message: &JoinPrune,
-    lines: &mut Lines,
-) -> EventAnswer
+/// The edge at which the customer calls, where the scenario has it.
+fn edge_for(scenario: &Scenario, call: CustomerCall<'_>) -> Option<NodeId>
+    ensures { result ≡ edge_at scenario.now (customer_call call.entry) }
+{
+    match call {
+        CustomerCall::Pim { iface, .. }
+        | CustomerCall::Active { iface, .. }
+        | CustomerCall::Idle { iface, .. } => edge_of(scenario, iface),
+        CustomerCall::Select { vrf, .. } | CustomerCall::Unselect { vrf, .. } => edge_of_vrf(
+            scenario, vrf,
+        ),
+    }
+}
+
+/// The call is made at its edge, unless too many octets are in transit.
+fn make(network: &mut Network, call: CustomerCall<'_>, lines: &mut Lines) -> EventAnswer
     requires network { IsSome IsReady network.old }
-    requires message { IsForIface network.old.scenario iface message.now }
-    ensures { (event : Event) → HandsMessage network.old.scenario iface message.now event →
+    requires call { IsMakeable (customer_call call) network.old }
+    ensures { (event : Event) → Asks event (customer_call call.entry) network.old →
         Meets event network.old network.new lines.old lines.new result }
 {
     if are_sessions_full(network) {
         return Ok(Some(Refusal::Full));
     }
-    let call = CustomerCall::Pim { iface, message };
-    match edge_of(network.scenario(), iface) {
+    match edge_for(network.scenario(), call) {
         Some(n) => verdict_at(n, network.call(n, call, lines)),
         None => unreachable!(),
     }
 }
 
-/// The message, as it is read of the octets that the customer router behind the interface writes.
-fn read_back(alloc: Global, message: &JoinPrune) -> Result<JoinPrune, NoMemory>
-    requires { IsJoinPrune message.now }
-    ensures { IfOk result (λ read. read ≡ message.now) }
+/// The message that was written, as it is read of the octets that the customer router behind the interface writes.
+fn read_back(alloc: Global, written: Result<JoinPrune, NoMemory>) -> Result<JoinPrune, NoMemory>
+    requires { IfOk written IsJoinPrune }
+    ensures { (message : JoinPrunes) → IfOk written (λ own. own ≡ message) → IfOk result (λ read. read ≡ message) }
 {
-    match round_trip(alloc, message) {
+    let message = written?;
+    match round_trip(alloc, &message) {
         Ok(read) => Ok(read),
         Err(_) => Err(NoMemory),
     }
 }
 
-/// The message that joins the entry, for that neighbour, as it is read of the octets that are written for it.
-fn joining(alloc: Global, neighbour: Addr, entry: &JoinEntry) -> Result<JoinPrune, NoMemory>
-    requires { IsJoinPrune (single.join_of neighbour entry.now) }
-    ensures { IfOk result (λ message. message ≡ single.join_of neighbour entry.now) }
-{
-    match join_of(alloc, neighbour, entry) {
-        Ok(message) => read_back(alloc, &message),
-        Err(NoMemory) => Err(NoMemory),
-    }
-}
-
-/// The message that prunes the entry, for that neighbour, as it is read of the octets that are written for it.
-fn pruning(alloc: Global, neighbour: Addr, entry: &JoinEntry) -> Result<JoinPrune, NoMemory>
-    requires { IsJoinPrune (single.prune_of neighbour entry.now) }
-    ensures { IfOk result (λ message. message ≡ single.prune_of neighbour entry.now) }
-{
-    match prune_of(alloc, neighbour, entry) {
-        Ok(message) => read_back(alloc, &message),
-        Err(NoMemory) => Err(NoMemory),
-    }
-}
-
-/// A message that joins the entry comes to the interface, for its own address.
-pub(crate) fn join(
+/// A message that was written for the interface comes there.
+pub(crate) fn take_written(
     network: &mut Network,
     iface: IfaceId,
-    entry: &JoinEntry,
+    written: Result<JoinPrune, NoMemory>,
     lines: &mut Lines,
 ) -> EventAnswer
     requires network { IsSome IsReady network.old }
-    requires event { IsGiven network.old.scenario (events.Customer (customers.Join iface entry.now)) }
-    ensures { Meets (events.Customer (customers.Join iface entry.now)) network.old network.new lines.old lines.new result }
+    requires written { (event : Event) × (message : JoinPrunes) × IsWritten network.old.scenario iface written message event }
+    ensures { (event : Event) (message : JoinPrunes) → IsWritten network.old.scenario iface written message event →
+        Meets event network.old network.new lines.old lines.new result }
 {
-    match joining(lines.alloc(), own_addr(network.scenario(), iface), entry) {
-        Ok(message) => take(network, iface, &message, lines),
-        Err(NoMemory) => Err(Halt::NoMemory),
-    }
-}
-
-/// A message that prunes the entry comes to the interface, for its own address.
-pub(crate) fn prune(
-    network: &mut Network,
-    iface: IfaceId,
-    entry: &JoinEntry,
-    lines: &mut Lines,
-) -> EventAnswer
-    requires network { IsSome IsReady network.old }
-    requires event { IsGiven network.old.scenario (events.Customer (customers.Prune iface entry.now)) }
-    ensures { Meets (events.Customer (customers.Prune iface entry.now)) network.old network.new lines.old lines.new result }
-{
-    match pruning(lines.alloc(), own_addr(network.scenario(), iface), entry) {
-        Ok(message) => take(network, iface, &message, lines),
+    match read_back(lines.alloc(), written) {
+        Ok(message) => make(
+            network,
+            CustomerCall::Pim {
+                iface,
+                message: &message,
+            },
+            lines,
+        ),
         Err(NoMemory) => Err(Halt::NoMemory),
     }
 }
@@ -149,7 +130,7 @@ fn take_read(
     if !message.neighbour.same(own_addr(network.scenario(), iface)) {
         return Ok(Some(Refusal::Ours));
     }
-    take(network, iface, message, lines)
+    make(network, CustomerCall::Pim { iface, message }, lines)
 }
 
 /// Octets come to the interface.
@@ -173,63 +154,90 @@ pub(crate) fn pim(
     }
 }
 
-/// A source is noted at the edge of the interface.
-pub(crate) fn active(
-    network: &mut Network,
-    iface: IfaceId,
-    source: Addr,
-    group: Addr,
-    lines: &mut Lines,
-) -> EventAnswer
-    requires network { IsSome IsReady network.old }
-    requires event { IsGiven network.old.scenario (events.Customer (customers.Active iface source group)) }
-    ensures { Meets (events.Customer (customers.Active iface source group)) network.old network.new lines.old lines.new result }
+/// Whether the pattern is selected at the VRF.
+fn is_selected(network: &Network, vrf: VrfId, pattern: Pattern) -> bool
+    requires network { IsSome IsReady network.now }
+    requires within { vrf.0 < length network.now.scenario.vrfs }
+    ensures { AnswersOf network.now (λ world. is_selected world vrf pattern) result }
 {
-    if are_sessions_full(network) {
-        return Ok(Some(Refusal::Full));
-    }
-    let call = CustomerCall::Active {
-        iface,
-        source,
-        group,
-    };
-    match edge_of(network.scenario(), iface) {
-        Some(n) => verdict_at(n, network.call(n, call, lines)),
+    match edge_of_vrf(network.scenario(), vrf) {
+        Some(n) => network.is_selected(n, vrf, pattern),
         None => unreachable!(),
     }
 }
 
+/// Whether the event selects what is selected already, or ends a selection that is not there.
+fn is_amiss(network: &Network, event: &CustomerEvent) -> bool
+    requires network { IsSome IsReady network.now }
+    requires event { IsGiven network.now.scenario (events.Customer event.now) }
+    ensures { AnswersOf network.now (λ world. is_amiss world event.now) result }
+{
+    match event {
+        CustomerEvent::Select { vrf, pattern } => is_selected(network, *vrf, *pattern),
+        CustomerEvent::Unselect { vrf, pattern } => !is_selected(network, *vrf, *pattern),
+        _ => false,
+    }
+}
+
 /// Shows that the address is of octets.
-pub(crate) fn has_octets(addr: Addr)
+fn has_octets(addr: Addr)
     ensures { IsOctets (addr_octets addr) }
 {
     are_octets(addr.octets());
 }
 
-/// A source is noted no more at the edge of the interface.
-pub(crate) fn idle(
-    network: &mut Network,
-    iface: IfaceId,
-    source: Addr,
-    group: Addr,
-    lines: &mut Lines,
-) -> EventAnswer
-    requires network { IsSome IsReady network.old }
-    requires event { IsGiven network.old.scenario (events.Customer (customers.Idle iface source group)) }
-    ensures { Meets (events.Customer (customers.Idle iface source group)) network.old network.new lines.old lines.new result }
+/// What an event that hands no message calls for.
+fn call_of(event: &CustomerEvent) -> Option<CustomerCall<'_>>
+    ensures call { option_map customer_call result ≡ plain_call event.now }
+    ensures octets { HasOctets event.now }
 {
-    if are_sessions_full(network) {
-        return Ok(Some(Refusal::Full));
+    match event {
+        CustomerEvent::Active {
+            iface,
+            source,
+            group,
+        } => Some(CustomerCall::Active {
+            iface: *iface,
+            source: *source,
+            group: *group,
+        }),
+        CustomerEvent::Idle {
+            iface,
+            source,
+            group,
+        } => {
+            has_octets(*source);
+            has_octets(*group);
+            Some(CustomerCall::Idle {
+                iface: *iface,
+                source: *source,
+                group: *group,
+            })
+        }
+        CustomerEvent::Select { vrf, pattern } => Some(CustomerCall::Select {
+            vrf: *vrf,
+            pattern: *pattern,
+        }),
+        CustomerEvent::Unselect { vrf, pattern } => Some(CustomerCall::Unselect {
+            vrf: *vrf,
+            pattern: *pattern,
+        }),
+        _ => None,
     }
-    has_octets(source);
-    has_octets(group);
-    let call = CustomerCall::Idle {
-        iface,
-        source,
-        group,
-    };
-    match edge_of(network.scenario(), iface) {
-        Some(n) => verdict_at(n, network.call(n, call, lines)),
+}
+
+/// A source is noted, or a pattern is selected, or that ends: what the event calls for is made, unless it is amiss.
+pub(crate) fn ask(network: &mut Network, event: &CustomerEvent, lines: &mut Lines) -> EventAnswer
+    requires network { IsSome IsReady network.old }
+    requires event { IsGiven network.old.scenario (events.Customer event.now) }
+    requires plain { plain_call event.now ≡ None → ⊥ }
+    ensures { Meets (events.Customer event.now) network.old network.new lines.old lines.new result }
+{
+    if is_amiss(network, event) {
+        return Ok(Some(Refusal::State));
+    }
+    match call_of(event) {
+        Some(call) => make(network, call, lines),
         None => unreachable!(),
     }
 }

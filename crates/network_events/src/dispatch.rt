@@ -6,40 +6,39 @@ ghost use Rattle.scenario_defs.specs.declared.event.Event.TheVariants as events;
 ghost use Rattle.network_events.specs.Meeting.{IsGiven, IsReady, Meets};
 
 use crate::costs::cost;
-use crate::customers::{active, idle, join, pim, prune};
+use crate::customers::{ask, pim, take_written};
 use crate::datagrams::{drop_copy, hop, send, send_packet, state};
 use crate::draining::drain;
 use crate::halt::EventAnswer;
 use crate::nodes::{restart, tick, timers};
-use crate::selections::{select, unselect};
 use crate::sessions::{heal, lose, move_octets, notice, raise};
 use crate::settling::settle;
+use mvpn_model::own_addr;
 use network_acts::Network;
 use network_defs::session_defs::Direction;
+use pim_defs::{join_of, prune_of};
 use scenario_defs::{CustomerEvent, Event, Lines};
 
-/// The network meets an event of a customer, where none is under way.
+/// The network meets an event of a customer, where none is under way. Messages that join or prune are for the interface's own address.
 fn meet_customer(network: &mut Network, event: &CustomerEvent, lines: &mut Lines) -> EventAnswer
     requires network { IsSome IsReady network.old }
     requires event { IsGiven network.old.scenario (events.Customer event.now) }
     ensures { Meets (events.Customer event.now) network.old network.new lines.old lines.new result }
 {
     match event {
-        CustomerEvent::Join { iface, entry } => join(network, *iface, entry, lines),
-        CustomerEvent::Prune { iface, entry } => prune(network, *iface, entry, lines),
+        CustomerEvent::Join { iface, entry } => {
+            let written = join_of(lines.alloc(), own_addr(network.scenario(), *iface), entry);
+            take_written(network, *iface, written, lines)
+        }
+        CustomerEvent::Prune { iface, entry } => {
+            let written = prune_of(lines.alloc(), own_addr(network.scenario(), *iface), entry);
+            take_written(network, *iface, written, lines)
+        }
         CustomerEvent::Pim { iface, bytes } => pim(network, *iface, bytes.as_slice(), lines),
-        CustomerEvent::Active {
-            iface,
-            source,
-            group,
-        } => active(network, *iface, *source, *group, lines),
-        CustomerEvent::Idle {
-            iface,
-            source,
-            group,
-        } => idle(network, *iface, *source, *group, lines),
-        CustomerEvent::Select { vrf, pattern } => select(network, *vrf, *pattern, lines),
-        CustomerEvent::Unselect { vrf, pattern } => unselect(network, *vrf, *pattern, lines),
+        CustomerEvent::Active { .. }
+        | CustomerEvent::Idle { .. }
+        | CustomerEvent::Select { .. }
+        | CustomerEvent::Unselect { .. } => ask(network, event, lines),
     }
 }
 

@@ -4,10 +4,10 @@
 //! of acts: in a loop over acts what was done so far is the prefix of the row. `World` (`world.rt`) goes through a
 //! script: `of`, `step`, `close`, and the parts that it lends (its edges, core nodes and buffers); `After` says which
 //! network is after the first events, `Lending` what the lent parts are in each run. `dispatch.rt` takes an event by
-//! its kind, and there is a file for sessions and `heal`, for `settle`, for nodes and time, costs, Join/Prune messages
-//! and notes (RFC 7761 section 4.5, RFC 6514 section 14), selections (RFC 6514 section 12.1), datagrams (RFC 6513
-//! sections 9.1.1 and 12, RFC 3032) and `drain`; `packets.rt` has the octets of a `send` (RFC 791, RFC 8200),
-//! `places.rt` the edge of a VRF and the VRFs at which a datagram enters, `halt.rt` why a network goes no further.
+//! its kind, and there is a file for sessions and `heal`, for `settle`, for nodes and time, costs, customers (Join/Prune
+//! messages, notes and selections: RFC 7761 section 4.5, RFC 6514 sections 12.1 and 14), datagrams (RFC 6513 sections
+//! 9.1.1 and 12, RFC 3032) and `drain`; `places.rt` has the edge of a VRF and the VRFs at which a datagram enters,
+//! `halt.rt` why a network goes no further.
 //! Below it are `network_acts` and `once_laws`; above it `mvpn_tool` replays a script event by event.
 #![tactic(auto)]
 
@@ -19,7 +19,6 @@ mod draining;
 mod halt;
 mod nodes;
 mod places;
-mod selections;
 mod sessions;
 mod settling;
 mod world;

@@ -28,7 +28,8 @@ use Rattle.mvpn_tool.specs.declared.stop.Stop.{Stop}
 use Rattle.mvpn_tool.specs.declared.stop.Stop.TheVariants as stops
 use Rattle.mvpn_tool.specs.Input.{IsInput, IsReadUpTo, Taken}
 use Rattle.mvpn_tool.specs.AuditOutcome.{AuditEnds, AuditTakes, AuditsFaulty, Judged, OfFault, OfVerdict, VerdictEnds}
-use Rattle.mvpn_tool.specs.Runs.{AuditRun, Ending}
+use Rattle.mvpn_tool.specs.Endings.{Ending}
+use Rattle.mvpn_tool.specs.Runs.{AuditRun}
 
 -- ---- what was read
 

@@ -17,7 +17,8 @@ use Rattle.mvpn_tool.specs.declared.command.Output.{Output}
 use Rattle.mvpn_tool.specs.Outcome.{EndsHalted, EndsWell}
 use Rattle.mvpn_tool.specs.declared.command.Command.{Command}
 use Rattle.mvpn_tool.specs.declared.command.Command.TheVariants as commands
-use Rattle.mvpn_tool.specs.Runs.{Ending, MakeRun, ReplayRun, Runs, SweepRun, UsageRun}
+use Rattle.mvpn_tool.specs.Endings.{Ending}
+use Rattle.mvpn_tool.specs.Runs.{MakeRun, ReplayRun, Runs, SweepRun, UsageRun}
 use Rattle.mvpn_tool.specs.Report.{AllRun, OneHalts}
 
 pub usage_runs : (e : Ending) (named : Option Command) → None ≡ named → UsageRun e → Runs named e

@@ -9,5 +9,6 @@ pub mod Known
 pub mod Sweep
 pub mod AuditOutcome
 pub mod Commands
+pub mod Endings
 pub mod Runs
 pub mod HopLines

@@ -6,8 +6,8 @@ use Rattle.scenario_defs.specs.declared.event.Script.{Script}
 use Rattle.line_words.specs.declared.fault.TextFault.{TextFault}
 use Rattle.scenario_text.specs.Grammar.{script_of}
 use Rattle.generator.specs.Made.{made}
-use Rattle.network_events.specs.WorldView.{WorldView}
 use Rattle.mvpn_tool.specs.Commands.{usage_line}
+use Rattle.mvpn_tool.specs.Endings.{Ending}
 use Rattle.mvpn_tool.specs.Input.{Taken}
 use Rattle.mvpn_tool.specs.Report.{AllRun, OneHalts}
 use Rattle.mvpn_tool.specs.Outcome.{EndsFaulty, EndsEarly, EndsHalted, EndsWellSome}
@@ -31,20 +31,6 @@ use Rattle.ingress_text.specs.Telling.{is_refused, Tells as TellsCopies}
 use Rattle.probe_text.specs.Grammar.{probe_of}
 use Rattle.mvpn_tool.specs.HopLines.{HasFault as HasHopsFault, IsFile, TellsHops, within_limit}
 use Rattle.mvpn_tool.specs.ProbeLines.{HasPeerFault, IsSound, TellsProbe}
-
--- A call and its end: the status and the world that it answers; what the source had left before it and has left after it, and what
--- the sink had written, where they say that; and how often each of them has failed, before and after.
-pub record Ending : Type 0 where
-  pub status : ℕ
-  pub world : Option WorldView
-  pub left : Option (List ℕ)
-  pub rest : Option (List ℕ)
-  pub old : Option (List ℕ)
-  pub new : Option (List ℕ)
-  pub source_before : ℕ
-  pub source_now : ℕ
-  pub sink_before : ℕ
-  pub sink_now : ℕ
 
 -- the source, and the sink, failed in this call
 abbrev pub SourceFailed : Ending → Type 0

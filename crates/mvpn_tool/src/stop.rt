@@ -1,4 +1,7 @@
 //! Why a replay ends early.
+ghost use Rattle.std.specs.Prelude.{◌≡◌};
+ghost use Rattle.mvpn_tool.specs.declared.stop.Stop.TheVariants as stops;
+
 use mv_base::NoMemory;
 use mv_io::{SinkFailed, SourceFailed};
 use std::alloc::{AllocError, AllocFailed};
@@ -19,9 +22,6 @@ pub enum Stop {
 }
 
 impl From<SourceFailed> for Stop {
-    ghost use Rattle.std.specs.Prelude.{◌≡◌};
-    ghost use Rattle.mvpn_tool.specs.declared.stop.Stop.TheVariants as stops;
-
     ghost from_gives = { λ _ e. e ≡ stops.Source };
 
     fn from(_: SourceFailed) -> Self {
@@ -30,9 +30,6 @@ impl From<SourceFailed> for Stop {
 }
 
 impl From<SinkFailed> for Stop {
-    ghost use Rattle.std.specs.Prelude.{◌≡◌};
-    ghost use Rattle.mvpn_tool.specs.declared.stop.Stop.TheVariants as stops;
-
     ghost from_gives = { λ _ e. e ≡ stops.Sink };
 
     fn from(_: SinkFailed) -> Self {
@@ -41,9 +38,6 @@ impl From<SinkFailed> for Stop {
 }
 
 impl From<NoMemory> for Stop {
-    ghost use Rattle.std.specs.Prelude.{◌≡◌};
-    ghost use Rattle.mvpn_tool.specs.declared.stop.Stop.TheVariants as stops;
-
     ghost from_gives = { λ _ e. e ≡ stops.Memory };
 
     fn from(_: NoMemory) -> Self {
@@ -52,9 +46,6 @@ impl From<NoMemory> for Stop {
 }
 
 impl From<AllocError> for Stop {
-    ghost use Rattle.std.specs.Prelude.{◌≡◌};
-    ghost use Rattle.mvpn_tool.specs.declared.stop.Stop.TheVariants as stops;
-
     ghost from_gives = { λ _ e. e ≡ stops.Memory };
 
     fn from(_: AllocError) -> Self {
@@ -63,9 +54,6 @@ impl From<AllocError> for Stop {
 }
 
 impl<T: Drop> From<AllocFailed<T>> for Stop {
-    ghost use Rattle.std.specs.Prelude.{◌≡◌};
-    ghost use Rattle.mvpn_tool.specs.declared.stop.Stop.TheVariants as stops;
-
     ghost from_gives = { λ _ e. e ≡ stops.Memory };
 
     fn from(_: AllocFailed<T>) -> Self {

@@ -1,6 +1,7 @@
 //! The top call: a command, from octets to octets.
 ghost use Rattle.std.specs.Prelude.{◌≡◌, ℕ, Option, List, None, map, string_bytes};
 ghost use Rattle.mvpn_tool.specs.Commands.{command_of};
+ghost use Rattle.mvpn_tool.specs.Endings.{ending, ending_alone};
 ghost use Rattle.mvpn_tool.specs.TellOutcome.{tell_status};
 ghost use Rattle.mvpn_tool.specs.Runs.{Runs, UsageRun, ReplayRun, DecodeRun, MakeRun, SweepRun, AuditRun, HopsRun, IngressRun, ProbeRun};
 
@@ -58,18 +59,7 @@ fn told(answer: Result<bool, Stop>) -> End
 }
 
 fn run_usage<K: Sink>(sink: &mut K) -> End
-    ensures { (left : Option (List ℕ)) (faults : ℕ) → UsageRun (record {
-      status = result.status;
-      world = result.world;
-      left = left;
-      rest = left;
-      old = K.written sink.old;
-      new = K.written sink.new;
-      source_before = faults;
-      source_now = faults;
-      sink_before = K.faults sink.old;
-      sink_now = K.faults sink.new;
-    }) }
+    ensures { (left : Option (List ℕ)) (faults : ℕ) → UsageRun (ending_alone left faults K.written K.faults result sink.old sink.new) }
 {
     match write_all(sink, USAGE) {
         Ok(()) => ended(2),
@@ -78,18 +68,7 @@ fn run_usage<K: Sink>(sink: &mut K) -> End
 }
 
 fn run_make<K: Sink>(alloc: Global, number: u32, sink: &mut K) -> End
-    ensures { (left : Option (List ℕ)) (faults : ℕ) → MakeRun number (record {
-      status = result.status;
-      world = result.world;
-      left = left;
-      rest = left;
-      old = K.written sink.old;
-      new = K.written sink.new;
-      source_before = faults;
-      source_now = faults;
-      sink_before = K.faults sink.old;
-      sink_now = K.faults sink.new;
-    }) }
+    ensures { (left : Option (List ℕ)) (faults : ℕ) → MakeRun number (ending_alone left faults K.written K.faults result sink.old sink.new) }
 {
     match make(alloc, number, sink) {
         Ok(()) => ended(0),
@@ -99,18 +78,7 @@ fn run_make<K: Sink>(alloc: Global, number: u32, sink: &mut K) -> End
 }
 
 fn run_sweep<K: Sink>(alloc: Global, number: u32, sink: &mut K) -> End
-    ensures { (left : Option (List ℕ)) (faults : ℕ) → SweepRun number (record {
-      status = result.status;
-      world = result.world;
-      left = left;
-      rest = left;
-      old = K.written sink.old;
-      new = K.written sink.new;
-      source_before = faults;
-      source_now = faults;
-      sink_before = K.faults sink.old;
-      sink_now = K.faults sink.new;
-    }) }
+    ensures { (left : Option (List ℕ)) (faults : ℕ) → SweepRun number (ending_alone left faults K.written K.faults result sink.old sink.new) }
 {
     match sweep(alloc, number, sink) {
         Ok(world) => End {
@@ -128,18 +96,7 @@ fn run_replay<S: Source, K: Sink>(
     source: &mut S,
     sink: &mut K,
 ) -> End
-    ensures { ReplayRun output (record {
-      status = result.status;
-      world = result.world;
-      left = S.left source.old;
-      rest = S.left source.new;
-      old = K.written sink.old;
-      new = K.written sink.new;
-      source_before = S.faults source.old;
-      source_now = S.faults source.new;
-      sink_before = K.faults sink.old;
-      sink_now = K.faults sink.new;
-    }) }
+    ensures { ReplayRun output (ending S.left S.faults K.written K.faults result source.old source.new sink.old sink.new) }
 {
     one_run_or_one_halt();
     match replay(alloc, output, source, sink) {
@@ -161,35 +118,13 @@ fn run_decode<S: Source, K: Sink>(
     source: &mut S,
     sink: &mut K,
 ) -> End
-    ensures { DecodeRun format (record {
-      status = result.status;
-      world = result.world;
-      left = S.left source.old;
-      rest = S.left source.new;
-      old = K.written sink.old;
-      new = K.written sink.new;
-      source_before = S.faults source.old;
-      source_now = S.faults source.new;
-      sink_before = K.faults sink.old;
-      sink_now = K.faults sink.new;
-    }) }
+    ensures { DecodeRun format (ending S.left S.faults K.written K.faults result source.old source.new sink.old sink.new) }
 {
     told(decode(alloc, format, source, sink))
 }
 
 fn run_audit<S: Source, K: Sink>(alloc: Global, source: &mut S, sink: &mut K) -> End
-    ensures { AuditRun (record {
-      status = result.status;
-      world = result.world;
-      left = S.left source.old;
-      rest = S.left source.new;
-      old = K.written sink.old;
-      new = K.written sink.new;
-      source_before = S.faults source.old;
-      source_now = S.faults source.new;
-      sink_before = K.faults sink.old;
-      sink_now = K.faults sink.new;
-    }) }
+    ensures { AuditRun (ending S.left S.faults K.written K.faults result source.old source.new sink.old sink.new) }
 {
     match judge(alloc, source, sink) {
         Ok(Verdict::Yes) => ended(0),
@@ -203,70 +138,26 @@ fn run_audit<S: Source, K: Sink>(alloc: Global, source: &mut S, sink: &mut K) ->
 }
 
 fn run_hops<S: Source, K: Sink>(alloc: Global, source: &mut S, sink: &mut K) -> End
-    ensures { HopsRun (record {
-      status = result.status;
-      world = result.world;
-      left = S.left source.old;
-      rest = S.left source.new;
-      old = K.written sink.old;
-      new = K.written sink.new;
-      source_before = S.faults source.old;
-      source_now = S.faults source.new;
-      sink_before = K.faults sink.old;
-      sink_now = K.faults sink.new;
-    }) }
+    ensures { HopsRun (ending S.left S.faults K.written K.faults result source.old source.new sink.old sink.new) }
 {
     told(hops(alloc, source, sink))
 }
 
 fn run_ingress<S: Source, K: Sink>(alloc: Global, source: &mut S, sink: &mut K) -> End
-    ensures { IngressRun (record {
-      status = result.status;
-      world = result.world;
-      left = S.left source.old;
-      rest = S.left source.new;
-      old = K.written sink.old;
-      new = K.written sink.new;
-      source_before = S.faults source.old;
-      source_now = S.faults source.new;
-      sink_before = K.faults sink.old;
-      sink_now = K.faults sink.new;
-    }) }
+    ensures { IngressRun (ending S.left S.faults K.written K.faults result source.old source.new sink.old sink.new) }
 {
     told(ingress(alloc, source, sink))
 }
 
 fn run_probe<S: Source, K: Sink>(alloc: Global, source: &mut S, sink: &mut K) -> End
-    ensures { ProbeRun (record {
-      status = result.status;
-      world = result.world;
-      left = S.left source.old;
-      rest = S.left source.new;
-      old = K.written sink.old;
-      new = K.written sink.new;
-      source_before = S.faults source.old;
-      source_now = S.faults source.new;
-      sink_before = K.faults sink.old;
-      sink_now = K.faults sink.new;
-    }) }
+    ensures { ProbeRun (ending S.left S.faults K.written K.faults result source.old source.new sink.old sink.new) }
 {
     told(probe(alloc, source, sink))
 }
 
 /// Runs the command that the words name. What is true of each status then, command by command, is `Runs`.
 pub fn run<S: Source, K: Sink>(alloc: Global, words: &[String], source: &mut S, sink: &mut K) -> End
-    ensures { Runs (command_of (map string_bytes words.now)) (record {
-      status = result.status;
-      world = result.world;
-      left = S.left source.old;
-      rest = S.left source.new;
-      old = K.written sink.old;
-      new = K.written sink.new;
-      source_before = S.faults source.old;
-      source_now = S.faults source.new;
-      sink_before = K.faults sink.old;
-      sink_now = K.faults sink.new;
-    }) }
+    ensures { Runs (command_of (map string_bytes words.now)) (ending S.left S.faults K.written K.faults result source.old source.new sink.old sink.new) }
 {
     match command_of(words) {
         None => run_usage(sink),

@@ -2,4 +2,5 @@ pub mod MarkLemmas
 pub mod RouteLemmas
 pub mod PlanLemmas
 pub mod TableLemmas
+pub mod KnownLemmas
 pub mod RefreshLemmas

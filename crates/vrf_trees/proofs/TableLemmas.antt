@@ -26,7 +26,7 @@ use Rattle.vrf_trees.specs.Wants.{has_fec, is_fec, is_in, tunnels_in}
 pub fec_ties : (a b : Fec) → is_fec a b ≡ eq_by_cmp fec_cmp a b
 fec_ties = tied fec_cmp is_fec fec_cmp_total fec_cmp_exact fec_equal fec_itself
 
-fec_turned : (a b : Fec) → is_fec a b ≡ is_fec b a
+pub fec_turned : (a b : Fec) → is_fec a b ≡ is_fec b a
 fec_turned a b = fec_ties a b ∙ ((eq_by_cmp_equiv fec_cmp_total).symm a b ∙ sym (fec_ties b a))
 
 -- One tunnel more of a list is put to others.

@@ -38,6 +38,11 @@ is_in fec fecs = list_any (is_fec fec) fecs
 abbrev pub has_fec : Fec → Wants → Bool
 has_fec fec own = is_in fec own.fecs
 
+-- whether what the flow wants is not stale, and the tunnel is one that it wants of the edge
+abbrev pub is_known : NodeId → Fec → Option Wants → Bool
+is_known edge fec None = false
+is_known edge fec (Some own) = not own.stale && (own.edge.0 == edge.0 && has_fec fec own)
+
 -- the tunnels of all flows
 abbrev pub tunnels_in : List (Flow × Wants) → List Fec
 tunnels_in entries = flat_map (λ (e : Flow × Wants). e.1.fecs) entries

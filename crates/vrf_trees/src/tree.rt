@@ -15,6 +15,7 @@ ghost use Rattle.umh_select.specs.Routes.{AreCosts, AreOfCore, held_of, key_from
 ghost use Rattle.vrf_words.specs.declared.tree_defs.flow.Flow.{Flow};
 ghost use Rattle.vrf_words.specs.tree_defs.Flows.{chosen_for, flow_of, gained, is_from, is_noted, lost, outgoing, upstream_of};
 ghost use Rattle.vrf_words.specs.tree_defs.Trees.{wanted_by};
+ghost use Rattle.vrf_words.specs.tree_laws.Imports.{has_learned};
 ghost use Rattle.vrf_flows.specs.State.{active_by, flow_by_addrs, note_at};
 ghost use Rattle.vrf_trees.specs.Changes.{AreJoins, AreNew};
 ghost use Rattle.vrf_trees.specs.Joined.{is_joined, join_by};
@@ -25,7 +26,7 @@ use crate::joins::TakenJoins;
 use crate::refresh::refresh;
 use crate::routes::{forget, forget_peer, learn, run_routes};
 use crate::table::WantTable;
-use crate::wants::is_wanted;
+use crate::wants::{is_known, is_wanted};
 use core_paths::Core;
 use mldp::mldp_fec::Fec;
 use mv_base::{Addr, IfaceId, NoMemory, NodeId, Pattern, Prefix, Rd, Rule, SiteId};
@@ -478,6 +479,14 @@ impl VrfTree {
         ensures { result ≡ sets.contains self.now.wants fec.now }
     {
         is_wanted(&self.wants, fec)
+    }
+
+    /// Whether it is known, by one look-up, that the tree has learned a selective route of the tunnel from the edge: the flow wants the
+    /// tunnel, and no route that may touch the flow came or went since the last refresh.
+    pub fn is_known(&self, flow: &Flow, edge: NodeId, fec: &Fec) -> bool
+        ensures { result ≡ true → has_learned self.now edge fec.now ≡ true }
+    {
+        is_known(&self.wants, flow, edge, fec)
     }
 
     // ---- datagrams

@@ -1,12 +1,12 @@
 //! The selective tunnels that flows want of other edges, kept flow by flow.
-ghost use Rattle.std.specs.Prelude.{◌≡◌, true, IfOk};
+ghost use Rattle.std.specs.Prelude.{◌≡◌, true, Some, IfOk};
 ghost use Rattle.std.specs.List.{list_any};
 ghost use Rattle.indexmap.specs.IndexMap.{get, IsUnique};
 ghost use Rattle.selective_defs.specs.Selective.{matches};
 ghost use Rattle.vrf_words.specs.declared.tree_defs.flow.Flow.{Flow};
 ghost use Rattle.vrf_words.specs.tree_defs.Keys.{same_flow};
 ghost use Rattle.vrf_flows.specs.Stale.{is_listed, passes};
-ghost use Rattle.vrf_trees.specs.Wants.{has_fec, is_fec, is_in, is_news, mark, marked, touches, tunnels_in, wants_of};
+ghost use Rattle.vrf_trees.specs.Wants.{has_fec, is_fec, is_in, is_known, is_news, mark, marked, touches, tunnels_in, wants_of};
 
 use crate::table::WantTable;
 use indexmap::IndexMap;
@@ -109,6 +109,25 @@ fn is_in(fec: &Fec, fecs: &[Fec]) -> bool
     ensures { result ≡ is_in fec.now fecs.now }
 {
     fecs.iter().any(|own| fec == own)
+}
+
+impl Wants {
+    /// Whether this is not stale, and the tunnel is one that is wanted of the edge.
+    fn has(&self, edge: NodeId, fec: &Fec) -> bool
+        ensures { result ≡ is_known edge fec.now (Some self.now) }
+    {
+        !self.stale && self.edge.0 == edge.0 && is_in(fec, self.fecs.as_slice())
+    }
+}
+
+/// Whether what the flow wants is not stale, and the tunnel is one that it wants of the edge. It is one look-up.
+pub(crate) fn is_known(wants: &WantTable, flow: &Flow, edge: NodeId, fec: &Fec) -> bool
+    ensures { result ≡ is_known edge fec.now (get same_flow wants.now flow.now) }
+{
+    match wants.held().get(flow) {
+        None => false,
+        Some(own) => own.has(edge, fec),
+    }
 }
 
 /// Whether some flow wants the tunnel.

@@ -25,7 +25,7 @@ use Rattle.edge_words.proofs.Known.{addr_at}
 use Rattle.vrf_words.specs.tree_laws.Imports.{imports}
 use Rattle.vrf_words.proofs.tree_laws.Leaving.{no_outs, outs_are}
 use Rattle.control_laws.specs.Control.{Kept, control_of}
-use Rattle.control_laws.specs.Peers.{as_wanted}
+use Rattle.control_laws.specs.Peers.{IsTreeBetween, as_wanted}
 use Rattle.control_laws.proofs.Between.{between_at}
 use Rattle.edge_control.specs.Places.{vrfs_of}
 use Rattle.edge_control.specs.Sound.{IsSound}
@@ -141,11 +141,14 @@ module _ (kept : Kept) (sound : IsSound kept) (walks : Core) (now : ℕ) (fec : 
     abbrev all : List IfaceId
     all = outgoing tree.vrf (walks.cost kept.home.me) now flow (origins.Edge root)
 
+    -- the tree is that of the VRF
+    pub tree_there : IsTreeBetween place (control_of kept) own tree
+    tree_there =
+        between_at kept (sound_between kept sound) walks (record { own = own; tree = tree }) (it_there kept sound number own tree own_at tree_at)
+
     leave_is : leaves_at own ≡ cond imported all []
     leave_is =
-        outs_are place now (control_of kept) own fec flow (as_wanted tree)
-        (between_at kept (sound_between kept sound) walks (record { own = own; tree = tree })
-        (it_there kept sound number own tree own_at tree_at)) root
+        outs_are place now (control_of kept) own fec flow (as_wanted tree) tree_there root
         sound.home.rules sound.peers within rooted (are_whole kept sound octets walks own)
 
     pub leave_empty : (outs : List IfaceId) → outs ≡ all → outs ≡ [] → outs ≡ leaves_at own

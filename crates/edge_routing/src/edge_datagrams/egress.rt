@@ -8,7 +8,7 @@ ghost use Rattle.edge_routes.specs.edge_home.Home.{as_own, place_of};
 ghost use Rattle.control_laws.specs.Control.{control_of};
 ghost use Rattle.edge_control.specs.Places.{vrfs_of};
 
-use crate::edge_datagrams::imported::imports_at;
+use crate::edge_datagrams::imported::imports_to;
 use crate::edge_datagrams::nodes::{are_of_octets, root_of};
 use core_paths::Core;
 use edge_control::EdgeControl;
@@ -52,7 +52,7 @@ fn outs_at(
     let tree = &control.trees()[place];
     let from = Origin::Edge(root);
     let outs = tree.outgoing(alloc, flow.source, flow.group, from, now, home.me(), core)?;
-    if outs.is_empty() || imports_at(control, own, root, fec) {
+    if outs.is_empty() || imports_to(control, own, tree, &flow, root, fec) {
         Ok(outs)
     } else {
         Ok(Seq::new(alloc))

@@ -13,16 +13,19 @@ ghost use Rattle.edge_routes.specs.edge_home.Home.{as_own, place_of};
 ghost use Rattle.edge_routes.specs.Judged.{value_of};
 ghost use Rattle.vrf_words.specs.tree_laws.Imports.{imports};
 ghost use Rattle.control_laws.specs.Control.{control_of};
+ghost use Rattle.control_laws.specs.Peers.{IsTreeBetween};
 ghost use Rattle.edge_control.specs.Places.{is_own_vrf};
 
 use bgp_messages::bgp_attributes::Key;
 use edge_control::of_edge_tables::taken_tables::{TableEntries, TakenEntry, is_tunnel};
+use edge_control::of_vrf_trees::VrfTree;
 use edge_control::{EdgeControl, own_of_vrf};
 use edge_routes::edge_home::OwnVrf;
 use edge_routes::route_order::KeptKey;
 use edge_routes::{TakenValue, imported_inclusive, imported_selective};
 use mldp::mldp_fec::Fec;
 use mv_base::{Addr, NodeId, VrfId};
+use vrf_words::tree_defs::Flow;
 
 /// The tunnel of the selective route of that key and value, where the VRF imports it from the peer of that address.
 fn selective_tunnel(own: &OwnVrf, addr: Addr, key: &Key, value: &TakenValue) -> Option<Fec>
@@ -64,7 +67,7 @@ fn has_route(own: &OwnVrf, addr: Addr, fec: &Fec, entries: TableEntries<'_>) -> 
 }
 
 /// Whether the VRF imports a route of the tunnel from the edge.
-pub(crate) fn imports_at(control: &EdgeControl, own: &OwnVrf, edge: NodeId, fec: &Fec) -> bool
+fn imports_at(control: &EdgeControl, own: &OwnVrf, edge: NodeId, fec: &Fec) -> bool
     ensures { (core : Core) →
         result ≡ imports (place_of control.now.home core) (control_of control.now) (as_own own.now) edge fec.now }
 {
@@ -72,6 +75,23 @@ pub(crate) fn imports_at(control: &EdgeControl, own: &OwnVrf, edge: NodeId, fec:
         None => false,
         Some(entries) => has_route(own, control.home().addr_of(edge), fec, entries),
     }
+}
+
+/// The same of the VRF of the tree, where the flow is looked up first: where it is known to want the tunnel, the tree learned a selective
+/// route of it, and the table of the edge is not searched.
+pub(crate) fn imports_to(
+    control: &EdgeControl,
+    own: &OwnVrf,
+    tree: &VrfTree,
+    flow: &Flow,
+    edge: NodeId,
+    fec: &Fec,
+) -> bool
+    ensures { (core : Core) →
+        IsTreeBetween (place_of control.now.home core) (control_of control.now) (as_own own.now) tree.now →
+        result ≡ imports (place_of control.now.home core) (control_of control.now) (as_own own.now) edge fec.now }
+{
+    tree.is_known(flow, edge, fec) || imports_at(control, own, edge, fec)
 }
 
 /// Whether the VRF of that number imports a route of the tunnel from the edge (RFC 6514 sections 9.1.2 and 12.3).

@@ -1,4 +1,5 @@
 pub mod Local
+pub mod KeptPmsi
 pub mod Judged
 pub mod route_order
 pub mod edge_home

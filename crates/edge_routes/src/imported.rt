@@ -26,10 +26,9 @@ ghost use Rattle.edge_defs.specs.Place.{EdgePlace};
 ghost use Rattle.edge_routes.specs.Judged.{inclusive_tunnel, as_flow, as_join, as_route, as_selective, value_of};
 ghost use Rattle.edge_routes.specs.Local.{IsAt, as_import};
 
-use crate::{Import, LocalVrf, import_target, own_import, tunnel_by};
+use crate::{Import, KeptPmsi, LocalVrf, import_target, own_import, tunnel_by};
 use bgp_values::mvpn_nlri::{Afi, Route};
 use bgp_values::of_mldp::mldp_fec::Fec;
-use bgp_values::pmsi_attr::Pmsi;
 use edge_defs::of_bgp_messages::bgp_attributes::Key;
 use mv_base::route_targets::{ExtComm, Target, source_as, vrf_import};
 use mv_base::{Addr, Pattern, Rd};
@@ -40,7 +39,7 @@ use scenario_defs::Vrf;
 pub struct TakenValue<'a> {
     pub next_hop: Addr,
     pub comms: &'a [ExtComm],
-    pub pmsi: &'a Option<Pmsi>,
+    pub pmsi: &'a KeptPmsi,
 }
 
 /// What a unicast route says for a Source Tree Join: its VRF Route Import and its Source AS.

@@ -15,6 +15,7 @@
 
 pub mod edge_home;
 mod imported;
+mod kept_pmsi;
 mod local;
 mod originated;
 pub mod route_order;
@@ -25,10 +26,11 @@ pub use imported::{
     FlowRoute, ImportedSelective, JoinBy, SelectiveRoute, TakenValue, imported_active,
     imported_inclusive, imported_join, imported_selective, inclusive_tunnel, is_admitted, join_by,
 };
+pub use kept_pmsi::KeptPmsi;
 pub use local::LocalVrf;
 pub use originated::{
     Import, RemoteUpstream, active_key, afi_of, import_target, inclusive_key, join_route,
     own_import, plain_value, selective_key, tunnel_value, unicast_key, unicast_value,
 };
 pub use shared::Shared;
-pub use tunnel::{lsp, lsp_of, tunnel_by, tunnel_number};
+pub use tunnel::{lsp, tunnel_by, tunnel_number};

@@ -2,6 +2,7 @@
 //! learned.
 
 mod entry;
+mod kept_comms;
 mod laws;
 mod learning;
 mod running;

@@ -32,12 +32,7 @@ fn key(alloc: Global) -> Result<TakenKey, NoMemory> {
 fn value(alloc: Global, hop: u8) -> Result<Shared<RouteValue>, NoMemory> {
     let mut comms = Seq::new(alloc);
     comms.push(ExtComm([1, 2, 0xc0, 0, 2, 1, 0, 1]))?;
-    let value = RouteValue {
-        next_hop: Addr::V4([192, 0, 2, hop]),
-        comms,
-        pmsi: None,
-    };
-    Shared::of(alloc, value)
+    RouteValue::shared(alloc, Addr::V4([192, 0, 2, hop]), comms, None)
 }
 
 /// The clock at which the route was learned.

@@ -115,12 +115,7 @@ fn announce(
     } = advert;
     let alloc = *fecs.allocator();
     let own = TakenKey::of(alloc, key)?;
-    let value = RouteValue {
-        next_hop,
-        comms,
-        pmsi,
-    };
-    let value = Shared::of(alloc, value)?;
+    let value = RouteValue::shared(alloc, next_hop, comms, pmsi)?;
     if enter(control, fecs, peer, &own, &value, now)? {
         return Ok(own.into_kept());
     }

@@ -1,28 +1,48 @@
 //! What is kept of a route that was taken.
-ghost use Rattle.std.specs.Prelude.{◌≡◌, ◌||◌, ◌↔◌, IsTrue, false};
+ghost use Rattle.std.specs.Prelude.{◌≡◌, ◌||◌, ◌↔◌, IsTrue, IfOk, false};
 ghost use Rattle.edge_defs.specs.Datagrams.{is_tunnel};
 ghost use Rattle.edge_defs.specs.Imported.{lsp_of};
 ghost use Rattle.edge_defs.specs.Keys.{same_value};
 ghost use Rattle.edge_routes.specs.Judged.{value_of};
+ghost use Rattle.edge_routes.specs.route_order.Values.{as_value};
 ghost use Rattle.edge_tables.specs.taken_tables.Routes.{handed, mark_in, mark_of};
 
+use crate::taken_tables::kept_comms::KeptComms;
 use bgp_messages::bgp_attributes::Comms;
-use bgp_values::pmsi_attr::{Pmsi, Tunnel};
+use bgp_values::pmsi_attr::Pmsi;
 use edge_routes::route_order::{same_attribute, same_comms, same_hop};
-use edge_routes::{Shared, TakenValue, lsp_of};
+use edge_routes::{KeptPmsi, Shared, TakenValue};
 use mldp::mldp_fec::Fec;
-use mv_base::Addr;
+use mv_base::{Addr, NoMemory};
+use std::alloc::Global;
 use std::marker::Model;
 
 /// What a route says besides its key: next hop, extended communities in order, and tunnel.
 #[derive(Drop)]
 pub struct RouteValue {
-    pub next_hop: Addr,
-    pub comms: Comms,
-    pub pmsi: Option<Pmsi>,
+    next_hop: Addr,
+    comms: KeptComms,
+    pmsi: KeptPmsi,
 }
 
 impl RouteValue {
+    /// The value of these parts, which several may have.
+    pub fn shared(
+        alloc: Global,
+        next_hop: Addr,
+        comms: Comms,
+        pmsi: Option<Pmsi>,
+    ) -> Result<Shared<RouteValue>, NoMemory>
+        ensures { IfOk result (λ value. handed value ≡ as_value next_hop comms pmsi) }
+    {
+        let value = RouteValue {
+            next_hop,
+            comms: KeptComms::of(comms),
+            pmsi: KeptPmsi::of(alloc, pmsi)?,
+        };
+        Shared::of(alloc, value)
+    }
+
     /// The same, lent.
     pub fn lent(&self) -> TakenValue<'_>
         ensures { value_of result ≡ handed self.now }
@@ -42,19 +62,13 @@ fn mark_of(fec: &Fec) -> Option<u8>
     fec.opaque.octets().last().copied()
 }
 
-/// That of a tunnel, where it is one of mLDP.
-fn mark_in(pmsi: &Option<Pmsi>) -> Option<u8>
+/// That of a tunnel, where it is such a one as edges use.
+fn mark_in(pmsi: &KeptPmsi) -> Option<u8>
     ensures { result ≡ mark_in pmsi.now }
 {
-    match pmsi {
-        Some(
-            Pmsi {
-                leaf_info: _,
-                tunnel: Tunnel::Mldp(fec),
-                label: _,
-            },
-        ) => mark_of(fec),
-        _ => None,
+    match pmsi.lsp() {
+        None => None,
+        Some(fec) => mark_of(&fec),
     }
 }
 
@@ -132,7 +146,7 @@ impl TakenEntry {
         if !same_mark(self.mark, mark_of(fec)) {
             return false;
         }
-        is_tunnel(lsp_of(self.value().pmsi), fec)
+        is_tunnel(self.value().pmsi.lsp(), fec)
     }
 
     /// The clock at which the route was learned.
@@ -167,5 +181,5 @@ pub fn same_value(own: &TakenValue, other: &TakenValue) -> bool
     if !same_comms(own.comms, other.comms) {
         return false;
     }
-    same_attribute(own.pmsi, other.pmsi)
+    same_attribute(&own.pmsi.whole(), &other.pmsi.whole())
 }

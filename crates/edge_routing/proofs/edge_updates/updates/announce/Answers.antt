@@ -1,8 +1,8 @@
 use Rattle.std.proofs.Common.{[], ◌∷◌, subst}
 use Rattle.bgp_messages.specs.declared.bgp_attributes.key.Key.{Key}
 use Rattle.bgp_messages.specs.declared.bgp_attributes.update.Change.TheVariants.{Reach}
-use Rattle.edge_control.specs.edge_tables.declared.taken_tables.entry.RouteValue.{RouteValue}
-use Rattle.edge_control.specs.edge_tables.taken_tables.Routes.{handed}
+use Rattle.edge_defs.specs.Keys.{Value}
+use Rattle.edge_routes.specs.route_order.Values.{as_value}
 use Rattle.edge_control.specs.edge_tables.taken_tables.Tables.{reach}
 use Rattle.edge_routing.specs.edge_updates.Changed.{AreTaken}
 use Rattle.edge_routing.proofs.edge_updates.TakenLemmas.{taken_then}
@@ -11,9 +11,9 @@ use Rattle.edge_routing.proofs.edge_updates.updates.announce.Goals as goal
 pub returns-then-branch-clause-taken : goal.returns-then-branch-clause-taken
 returns-then-branch-clause-taken c =
     subst (λ (key : Key). AreTaken c.args.now c.args.peer
-    (reach key (handed (record { next_hop = c.args.advert.next_hop; comms = c.args.advert.comms; pmsi = c.args.advert.pmsi })) ∷ [])
+    (reach key (as_value c.args.advert.next_hop c.args.advert.comms c.args.advert.pmsi) ∷ [])
     c.args.control.now c.enter.new.control c.args.fecs.now.items c.enter.new.fecs.items) c.in_ok-own.ensures
-    (subst (λ (value : RouteValue). AreTaken c.args.now c.args.peer (reach c.in_ok-own.own (handed value) ∷ []) c.args.control.now
+    (subst (λ (value : Value). AreTaken c.args.now c.args.peer (reach c.in_ok-own.own value ∷ []) c.args.control.now
     c.enter.new.control c.args.fecs.now.items c.enter.new.fecs.items) c.in_ok-value.ensures
     (c.in_ok-enter.ensures.taken c.if-branch.true))
 
@@ -22,8 +22,8 @@ returns-clause-taken c =
     taken_then c.args.now c.args.peer [] (Reach c.args.advert ∷ []) c.args.control.now c.enter.new.control c.announce_again.new.control
     c.args.fecs.now.items c.enter.new.fecs.items c.announce_again.new.fecs.items (c.in_ok-enter.ensures.stays c.if-branch.false)
     (subst (λ (key : Key). AreTaken c.args.now c.args.peer
-    (reach key (handed (record { next_hop = c.args.advert.next_hop; comms = c.args.advert.comms; pmsi = c.args.advert.pmsi })) ∷ [])
+    (reach key (as_value c.args.advert.next_hop c.args.advert.comms c.args.advert.pmsi) ∷ [])
     c.enter.new.control c.announce_again.new.control c.enter.new.fecs.items c.announce_again.new.fecs.items) c.in_ok-own.ensures
-    (subst (λ (value : RouteValue). AreTaken c.args.now c.args.peer (reach c.in_ok-own.own (handed value) ∷ []) c.enter.new.control
+    (subst (λ (value : Value). AreTaken c.args.now c.args.peer (reach c.in_ok-own.own value ∷ []) c.enter.new.control
     c.announce_again.new.control c.enter.new.fecs.items c.announce_again.new.fecs.items) c.in_ok-value.ensures
     c.in_ok-announce_again.ensures.taken))

@@ -8,7 +8,8 @@
 //! spelling is the type's invariant, so no table has to say it of its entries. `edge_home`: an edge of a scenario: the scenario, which is in
 //! memory once for all edges of a network, the edge's VRFs in order, the addresses of nodes and the other edges. It
 //! asks that the scenario meets its rules and that the node is an edge (`IsHome`), and says so wherever it lends the
-//! scenario. `Shared`: a value that several have, and that is in memory once; contracts see the value. Below it are
+//! scenario. `KeptPmsi`: the PMSI Tunnel attribute of a route that was taken, in few octets where its tunnel is such a one as edges use.
+//! `Shared`: a value that several have, and that is in memory once; contracts see the value. Below it are
 //! `edge_defs` and `bgp_values`; above it `edge_tables`, `control_laws`, `edge_control` and `held_tables` keep such
 //! routes.
 #![tactic(auto)]

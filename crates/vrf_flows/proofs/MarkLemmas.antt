@@ -1,10 +1,19 @@
 -- The interface of each entry has a mark.
 use Rattle.std.proofs.Common.{inl, inr, ◌≡◌, ◌<◌, ◌%◌, ℕ, ◌==◌, ◌||◌, Bool, true, false, List, [], ◌∷◌, length, replicate, set, get_or, refl, sym, ap, subst, ◌∙◌, arith}
+use Rattle.std.specs.List.{list_any}
 use Rattle.std.proofs.lemmas.Bool.{both_ways, cases_eq, eqb-true}
 use Rattle.std.proofs.lemmas.List.{get_or-set_same, get_or-set_other, length-set}
 use Rattle.mv_base.specs.declared.ids.IfaceId.{IfaceId}
 use Rattle.scenario_defs.specs.declared.event.IfaceEntry.{IfaceEntry}
-use Rattle.vrf_flows.specs.Sight.{is_among, is_named, mark_named, marks_of}
+use Rattle.vrf_flows.specs.Sight.{is_marked, mark_named, marks_of}
+
+-- whether one of the entries is of the interface
+abbrev pub is_named : List IfaceEntry → IfaceId → Bool
+is_named listed iface = list_any (λ (own : IfaceEntry). own.iface.0 == iface.0) listed
+
+-- the same, of two lists of entries
+abbrev pub is_among : List IfaceEntry → List IfaceEntry → IfaceId → Bool
+is_among joined shared iface = is_named joined iface || is_named shared iface
 
 -- ---- a mark stays
 
@@ -64,13 +73,10 @@ among_marks joined shared iface h = by (is_named joined iface) refl h
     by false s found = named_marked shared first iface sized found
 
 -- so an interface without a mark has none of the entries
-pub unmarked : (marks : List Bool) (joined shared : List IfaceEntry) (iface : IfaceId) (at : ℕ) → marks ≡ marks_of joined shared → at ≡ iface.0
-    → get_or marks (at % 256) false ≡ false → get_or marks (at % 256) false ≡ is_among joined shared iface
-unmarked marks joined shared iface at m e out = out ∙ by (is_among joined shared iface) refl
+pub unmarked : (joined shared : List IfaceEntry) (iface : IfaceId) → is_marked (marks_of joined shared) iface ≡ false
+    → is_among joined shared iface ≡ false
+unmarked joined shared iface out = by (is_among joined shared iface) refl
   where
-    here : get_or marks (at % 256) false ≡ get_or (marks_of joined shared) (iface.0 % 256) false
-    here = λ i. get_or (m i) (e i % 256) false
-
-    by : (b : Bool) → is_among joined shared iface ≡ b → false ≡ is_among joined shared iface
-    by true s = absurd (both_ways _ out (here ∙ among_marks joined shared iface s))
-    by false s = sym s
+    by : (b : Bool) → is_among joined shared iface ≡ b → is_among joined shared iface ≡ false
+    by true s = absurd (both_ways _ out (among_marks joined shared iface s))
+    by false s = s

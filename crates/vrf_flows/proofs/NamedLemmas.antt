@@ -15,7 +15,8 @@ use Rattle.pim_state.specs.Plan.{is_at}
 use Rattle.pim_state.proofs.MapLemmas.{at-equal, not_both}
 use Rattle.vrf_words.specs.declared.tree_defs.flow.Flow.{Flow}
 use Rattle.vrf_words.specs.declared.tree_defs.flow.SiteIface.{SiteIface}
-use Rattle.vrf_flows.specs.Sight.{asking_among, asking_of, is_among, is_named}
+use Rattle.vrf_flows.specs.Sight.{asking_marked, asking_of, is_marked, marks_of}
+use Rattle.vrf_flows.proofs.MarkLemmas.{is_among, is_named, unmarked}
 
 -- ---- the interface of an entry is named
 
@@ -64,32 +65,35 @@ silent entries joined shared iface active clock flow own all n =
     (unlisted entries shared iface (Star flow.group) all both.1 i)
     (expiry_at entries iface (Rpt flow.source flow.group))
 
-among_all : (joined shared : List IfaceEntry) (ifaces : List SiteIface) (entries : Entries) (active : Bool) (clock : ℕ) (flow : Flow)
+marked_all : (joined shared : List IfaceEntry) (ifaces : List SiteIface) (entries : Entries) (active : Bool) (clock : ℕ) (flow : Flow)
     → HasOwn entries joined (Source flow.source flow.group) → HasOwn entries shared (Star flow.group)
-    → asking_among joined shared ifaces entries active clock flow ≡ asking_of ifaces entries active clock flow
-among_all joined shared [] entries active clock flow own all = refl
-among_all joined shared (first ∷ ifaces) entries active clock flow own all =
-    by (is_among joined shared first.iface) refl (among_all joined shared ifaces entries active clock flow own all)
+    → asking_marked (marks_of joined shared) ifaces entries active clock flow ≡ asking_of ifaces entries active clock flow
+marked_all joined shared [] entries active clock flow own all = refl
+marked_all joined shared (first ∷ ifaces) entries active clock flow own all =
+    by (is_marked (marks_of joined shared) first.iface) refl (marked_all joined shared ifaces entries active clock flow own all)
   where
     asking : Bool
     asking = asks entries first.iface flow.source flow.group active clock
 
-    by : (b : Bool) → is_among joined shared first.iface ≡ b
-        → asking_among joined shared ifaces entries active clock flow ≡ asking_of ifaces entries active clock flow
-        → cond (b && asking) (first ∷ asking_among joined shared ifaces entries active clock flow)
-        (asking_among joined shared ifaces entries active clock flow)
+    by : (b : Bool) → is_marked (marks_of joined shared) first.iface ≡ b
+        → asking_marked (marks_of joined shared) ifaces entries active clock flow ≡ asking_of ifaces entries active clock flow
+        → cond (is_marked (marks_of joined shared) first.iface && asking)
+        (first ∷ asking_marked (marks_of joined shared) ifaces entries active clock flow)
+        (asking_marked (marks_of joined shared) ifaces entries active clock flow)
         ≡ cond asking (first ∷ asking_of ifaces entries active clock flow) (asking_of ifaces entries active clock flow)
-    by true n rest = ap (λ (l : List SiteIface). cond asking (first ∷ l) l) rest
+    by true n rest = λ i. cond (n i && asking) (first ∷ rest i) (rest i)
     by false n rest =
-        rest ∙ sym (ap (λ (b : Bool). cond b (first ∷ asking_of ifaces entries active clock flow) (asking_of ifaces entries active clock flow))
-        (silent entries joined shared first.iface active clock flow own all n))
+        (λ i. cond (n i && asking) (first ∷ rest i) (rest i))
+        ∙ sym (ap (λ (b : Bool). cond b (first ∷ asking_of ifaces entries active clock flow) (asking_of ifaces entries active clock flow))
+        (silent entries joined shared first.iface active clock flow own all (unmarked joined shared first.iface n)))
 
--- so those that are named and ask are all that ask
-pub among_asking : (joined shared : List IfaceEntry) (ifaces : List SiteIface) (entries : Entries) (active : Bool) (clock : ℕ) (flow : Flow)
+-- so those that have a mark and ask are all that ask
+pub marked_asking : (joined shared : List IfaceEntry) (ifaces : List SiteIface) (entries : Entries) (active : Bool) (clock : ℕ) (flow : Flow)
     → HasOwn entries joined (Source flow.source flow.group) → HasOwn entries shared (Star flow.group)
-    → (result : Result (List SiteIface) NoMemory)
-    → IfOk result (λ found. found ≡ asking_among joined shared ifaces entries active clock flow)
+    → (marks : List Bool) → marks ≡ marks_of joined shared → (result : Result (List SiteIface) NoMemory)
+    → IfOk result (λ found. found ≡ asking_marked marks ifaces entries active clock flow)
     → IfOk result (λ found. found ≡ asking_of ifaces entries active clock flow)
-among_asking joined shared ifaces entries active clock flow own all (Ok found) h =
-    h ∙ among_all joined shared ifaces entries active clock flow own all
-among_asking joined shared ifaces entries active clock flow own all (Err fault) h = tt
+marked_asking joined shared ifaces entries active clock flow own all marks m (Ok found) h =
+    h ∙ (ap (λ (l : List Bool). asking_marked l ifaces entries active clock flow) m
+    ∙ marked_all joined shared ifaces entries active clock flow own all)
+marked_asking joined shared ifaces entries active clock flow own all marks m (Err fault) h = tt

@@ -1,5 +1,5 @@
 -- What flows are recomputed from.
-use Rattle.std.specs.Prelude.{ℕ, ◌||◌, ◌&&◌, ◌==◌, ◌%◌, is_some, Bool, true, false, List, [], ◌∷◌, replicate, slice_set, None, Some}
+use Rattle.std.specs.Prelude.{ℕ, ◌||◌, ◌&&◌, ◌%◌, is_some, Bool, true, false, List, [], ◌∷◌, get_or, replicate, slice_set, None, Some}
 use Rattle.std.specs.List.{list_any, filter}
 use Rattle.mv_base.specs.declared.ids.IfaceId.{IfaceId}
 use Rattle.mv_base.specs.declared.ids.NodeId.{NodeId}
@@ -21,14 +21,6 @@ asking_of ifaces entries active clock flow =
 
 -- ---- the interfaces that may ask for a flow, by the entries
 
--- whether one of the entries is of the interface
-abbrev pub is_named : List IfaceEntry → IfaceId → Bool
-is_named listed iface = list_any (λ (own : IfaceEntry). own.iface.0 == iface.0) listed
-
--- the same, of two lists of entries
-abbrev pub is_among : List IfaceEntry → List IfaceEntry → IfaceId → Bool
-is_among joined shared iface = is_named joined iface || is_named shared iface
-
 -- the marks, and one for the interface of each of these entries, by the remainder of its number
 abbrev pub mark_named : List Bool → List IfaceEntry → List Bool
 mark_named marks [] = marks
@@ -37,10 +29,14 @@ mark_named marks (own ∷ more) = mark_named (slice_set marks (own.iface.0 % 256
 abbrev pub marks_of : List IfaceEntry → List IfaceEntry → List Bool
 marks_of joined shared = mark_named (mark_named (replicate 256 false) joined) shared
 
--- those of the interfaces that have one of these entries and ask for the flow
-abbrev pub asking_among : List IfaceEntry → List IfaceEntry → List SiteIface → Entries → Bool → ℕ → Flow → List SiteIface
-asking_among joined shared ifaces entries active clock flow =
-    filter (λ (own : SiteIface). is_among joined shared own.iface && asks entries own.iface flow.source flow.group active clock) ifaces
+-- whether the interface has a mark
+abbrev pub is_marked : List Bool → IfaceId → Bool
+is_marked marks iface = get_or marks (iface.0 % 256) false
+
+-- those of the interfaces that have a mark and ask for the flow
+abbrev pub asking_marked : List Bool → List SiteIface → Entries → Bool → ℕ → Flow → List SiteIface
+asking_marked marks ifaces entries active clock flow =
+    filter (λ (own : SiteIface). is_marked marks own.iface && asks entries own.iface flow.source flow.group active clock) ifaces
 
 -- ---- flows
 

@@ -3,8 +3,7 @@ ghost use Rattle.std.specs.Prelude.{◌≡◌, ◌<◌, ℕ, IfOk};
 ghost use Rattle.mv_base.specs.declared.ids.NodeId.{NodeId};
 ghost use Rattle.umh_select.specs.Routes.{AreCosts, AreOfCore};
 ghost use Rattle.vrf_words.specs.tree_defs.Flows.{chosen_for};
-ghost use Rattle.vrf_flows.specs.Sight.{asking_among, asking_of, is_among, is_named, is_joined, is_needed, is_sent, flow_by, seen};
-ghost use Rattle.vrf_flows.specs.Sight.{mark_named, marks_of};
+ghost use Rattle.vrf_flows.specs.Sight.{asking_marked, asking_of, flow_by, is_joined, is_marked, is_needed, is_sent, mark_named, marks_of, seen};
 
 use crate::held::Kept;
 use core_paths::Core;
@@ -28,16 +27,6 @@ pub(crate) struct Sight<'a> {
     pub core: &'a Core,
 }
 
-/// Up to so many entries are looked for an interface among before its own are looked up.
-const FEW: usize = 16;
-
-/// Whether one of the entries is of the interface.
-fn is_named(listed: &[IfaceEntry], iface: IfaceId) -> bool
-    ensures { result ≡ is_named listed.now iface }
-{
-    listed.iter().any(|own| own.iface.0 == iface.0)
-}
-
 /// How many marks there are: one for each remainder of the numbers of interfaces.
 const MARKS: usize = 256;
 
@@ -59,43 +48,28 @@ fn marks_of(joined: &[IfaceEntry], shared: &[IfaceEntry]) -> [bool; MARKS]
     mark_named(mark_named([false; MARKS], joined), shared)
 }
 
-/// Whether an entry of the interface is among those that may join the flow, or among those that may join its group.
-fn is_among(joined: &[IfaceEntry], shared: &[IfaceEntry], iface: IfaceId) -> bool
-    ensures { result ≡ is_among joined.now shared.now iface }
+/// Whether the interface has a mark. Most of those without an entry have none.
+fn is_marked(marks: &[bool; MARKS], iface: IfaceId) -> bool
+    ensures { result ≡ is_marked marks.now iface }
 {
-    is_named(joined, iface) || is_named(shared, iface)
+    marks[usize::from(iface.0) % MARKS]
 }
 
-/// The same by these marks, of which most interfaces have none.
-fn is_marked(
-    marks: &[bool; MARKS],
-    joined: &[IfaceEntry],
-    shared: &[IfaceEntry],
-    iface: IfaceId,
-) -> bool
-    requires { marks.now ≡ marks_of joined.now shared.now }
-    ensures { result ≡ is_among joined.now shared.now iface }
-{
-    marks[usize::from(iface.0) % MARKS] && is_among(joined, shared, iface)
-}
-
-/// Those of the interfaces that have one of these entries and ask for the flow, in their order.
-fn asking_among(
+/// Those of the interfaces that have a mark and ask for the flow, in their order.
+fn asking_marked(
     alloc: Global,
     sight: &Sight<'_>,
     flow: Flow,
     active: bool,
-    joined: &[IfaceEntry],
-    shared: &[IfaceEntry],
+    marks: &[bool; MARKS],
 ) -> Result<Seq<SiteIface>, NoMemory>
     ensures { IfOk result (λ found.
-        found ≡ asking_among joined.now shared.now sight.now.ifaces.now sight.now.entries.now active sight.now.clock flow) }
+        found ≡ asking_marked marks.now sight.now.ifaces.now sight.now.entries.now active sight.now.clock flow) }
 {
-    let marks = marks_of(joined, shared);
     let mut found = Seq::new(alloc);
     let ifaces = sight.ifaces;
     for own in ifaces {
-        if is_marked(&marks, joined, shared, own.iface)
+        if is_marked(marks, own.iface)
             && sight
                 .entries
                 .asks(own.iface, flow.source, flow.group, active, sight.clock)
@@ -106,29 +80,7 @@ fn asking_among(
     Ok(found)
 }
 
-/// Those of the interfaces that ask for the flow, in their order, each looked up among the entries.
-fn asking_each(
-    alloc: Global,
-    sight: &Sight<'_>,
-    flow: Flow,
-    active: bool,
-) -> Result<Seq<SiteIface>, NoMemory>
-    ensures { IfOk result (λ found. found ≡ asking_of sight.now.ifaces.now sight.now.entries.now active sight.now.clock flow) }
-{
-    let mut found = Seq::new(alloc);
-    let ifaces = sight.ifaces;
-    for own in ifaces {
-        if sight
-            .entries
-            .asks(own.iface, flow.source, flow.group, active, sight.clock)
-        {
-            found.push(*own)?;
-        }
-    }
-    Ok(found)
-}
-
-/// Those of the interfaces that ask for the flow, in their order. Most flows are joined by few entries.
+/// Those of the interfaces that ask for the flow, in their order. Only those with a mark are looked up among the entries.
 fn asking(
     alloc: Global,
     sight: &Sight<'_>,
@@ -142,11 +94,7 @@ fn asking(
         group: flow.group,
     });
     let shared = sight.entries.listed(&JoinEntry::Star { group: flow.group });
-    if joined.len() + shared.len() > FEW {
-        asking_each(alloc, sight, flow, active)
-    } else {
-        asking_among(alloc, sight, flow, active, joined, shared)
-    }
+    asking_marked(alloc, sight, flow, active, &marks_of(joined, shared))
 }
 
 /// Whether one of the interfaces has an entry that joins the flow itself.

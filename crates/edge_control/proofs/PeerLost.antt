@@ -1,6 +1,6 @@
 -- What the trees of all VRFs make of a peer that is lost: route by route, and VRF by VRF.
-use Rattle.std.proofs.Common.{◌≡◌, ℕ, List, [], ◌∷◌, length, map, fold, refl, sym, ap, ◌∙◌, suc, arith}
-use Rattle.std.specs.Prelude.{◌||◌, Bool, false, true}
+use Rattle.std.proofs.Common.{◌≡◌, List, [], ◌∷◌, length, map, fold, refl, sym, ap, ◌∙◌, arith}
+use Rattle.std.specs.Prelude.{◌||◌, false}
 use Rattle.mv_base.specs.core_walks.Core.{Core}
 use Rattle.mv_base.specs.declared.ids.NodeId.{NodeId}
 use Rattle.bgp_values.specs.declared.mvpn_nlri.route.Route.TheVariants as routes
@@ -10,6 +10,7 @@ use Rattle.vrf_words.specs.tree_defs.Trees.{TreeData}
 use Rattle.edge_defs.specs.Edge.{Taken, TakenRoute}
 use Rattle.edge_defs.specs.Place.{EdgePlace, OwnVrf, vrfs_from}
 use Rattle.edge_routes.specs.edge_home.Home.{Home}
+use Rattle.edge_routes.specs.declared.route_order.route_type.RouteType.TheVariants as types
 use Rattle.edge_routes.specs.route_order.Kept.{is_of_type}
 use Rattle.std.specs.FinMap as maps
 use Rattle.control_laws.specs.Peers.{tree_without}
@@ -47,9 +48,9 @@ turned_rows change owns (row ∷ rows) trees long =
     turned_rows change owns rows (turned_all (change row) owns trees) (all_length (change row) owns trees long)
     ∙ turned_twice (λ own tree. fold (λ (now : TreeData) (next : _). change next own now) tree rows) (change row) owns trees
 
--- A route of a key that is of no flow leaves the tree as it is.
+-- The tree keeps no routes of the key one by one, and is left as it is.
 pub rest_is : (place : EdgePlace) (own : OwnVrf) (peer : NodeId) (key : Key) (taken : TakenRoute) (tree : TreeData)
-    → (is_of_type 5 key || is_of_type 7 key) ≡ false → tree_without place own peer tree (key, taken) ≡ tree
+    → (is_of_type types.Active key || is_of_type types.SourceJoin key) ≡ false → tree_without place own peer tree (key, taken) ≡ tree
 rest_is place own peer (Unicast rd prefix) taken tree other = refl
 rest_is place own peer (Mcast afi (routes.Active rd source group)) taken tree other = absurd cc
 rest_is place own peer (Mcast afi (routes.SourceJoin rd source_as source group)) taken tree other = absurd cc

@@ -6,6 +6,7 @@ ghost use Rattle.mv_base.specs.declared.addr.Addr.{Addr};
 ghost use Rattle.edge_defs.specs.Edge.{TakenRoute};
 ghost use Rattle.edge_defs.specs.Place.{EdgePlace, vrfs_from};
 ghost use Rattle.edge_routes.specs.edge_home.Home.{as_own};
+ghost use Rattle.edge_routes.specs.declared.route_order.route_type.RouteType.TheVariants as RouteType;
 ghost use Rattle.edge_routes.specs.route_order.Kept.{is_of_type};
 ghost use Rattle.edge_control.specs.Taking.{IsFrom, Says, losing, losing_row, losing_rows, table_of, tree_losing, turned_all, without_lists};
 
@@ -15,15 +16,10 @@ use bgp_messages::bgp_attributes::Key;
 use bgp_values::mvpn_nlri::Route;
 use edge_routes::TakenValue;
 use edge_routes::edge_home::{EdgeHome, OwnVrf};
-use edge_routes::route_order::KeptKey;
+use edge_routes::route_order::{KeptKey, RouteType};
 use edge_tables::taken_tables::{TableEntries, TakenEntry, TakenTables};
 use mv_base::NodeId;
 use vrf_trees::VrfTree;
-
-/// The types of Source Active A-D and of Source Tree Join routes (RFC 6514 sections 4.5 and 4.6).
-const SOURCE_ACTIVE: u8 = 5;
-
-const SOURCE_JOIN: u8 = 7;
 
 /// A route of the peer of that key is there no more: the tree forgets a Source Active route, and a Source Tree Join at its VRF.
 fn forget_row(tree: &mut VrfTree, own: &OwnVrf, peer: NodeId, key: &Key, value: Option<TakenValue>)
@@ -39,34 +35,15 @@ fn forget_row(tree: &mut VrfTree, own: &OwnVrf, peer: NodeId, key: &Key, value: 
     }
 }
 
-/// The same of a route of the peer's table, in each tree.
-fn forget_entry(
-    home: &EdgeHome,
-    trees: &mut Vec<VrfTree>,
-    peer: NodeId,
-    key: &Key,
-    entry: &TakenEntry,
-)
-    requires { length trees.old.items ≡ length (vrfs_from home.now.me 0 home.now.scenario.vrfs) }
-    ensures long { length trees.new.items ≡ length trees.old.items }
-    ensures each { (core : Core) → trees.new.items
-        ≡ turned_all (losing_row home.now core peer (key.now, entry.now)) (vrfs_from home.now.me 0 home.now.scenario.vrfs) trees.old.items }
-{
-    for place in 0..trees.len() {
-        let own = own_at(home, place);
-        forget_row(&mut trees[place], own, peer, key, Some(entry.value()));
-    }
-}
-
-/// Whether trees keep more of a route of the key than a list by peer: that of a Source Active route, or of a Source Tree Join.
+/// Whether a tree keeps routes of such a key one by one: those of Source Active routes and of Source Tree Joins, which it keeps by flow.
 fn is_of_flow(key: &KeptKey) -> bool
-    ensures { result ≡ (is_of_type 5 key.now || is_of_type 7 key.now) }
+    ensures { result ≡ (is_of_type RouteType.Active key.now || is_of_type RouteType.SourceJoin key.now) }
 {
-    key.is_of_type(SOURCE_ACTIVE) || key.is_of_type(SOURCE_JOIN)
+    key.is_of_type(RouteType::Active) || key.is_of_type(RouteType::SourceJoin)
 }
 
-/// The same of a route whose key is as a table keeps it. Most routes are of no flow, and their keys are not read.
-fn forget_kept(
+/// The same of a route of the peer's table, in each tree. Of most routes no tree keeps anything one by one, and their keys are not read.
+fn forget_entry(
     home: &EdgeHome,
     trees: &mut Vec<VrfTree>,
     peer: NodeId,
@@ -78,8 +55,13 @@ fn forget_kept(
     ensures each { (core : Core) → trees.new.items
         ≡ turned_all (losing_row home.now core peer (key.now, entry.now)) (vrfs_from home.now.me 0 home.now.scenario.vrfs) trees.old.items }
 {
-    if is_of_flow(key) {
-        forget_entry(home, trees, peer, &key.key(), entry);
+    if !is_of_flow(key) {
+        return;
+    }
+    let lost = key.key();
+    for place in 0..trees.len() {
+        let own = own_at(home, place);
+        forget_row(&mut trees[place], own, peer, &lost, Some(entry.value()));
     }
 }
 
@@ -94,7 +76,7 @@ fn forget_entries(
     ensures { (core : Core) → trees.new.items ≡ losing_rows home.now core peer trees.old.items entries.entry }
 {
     for (key, entry) in entries {
-        forget_kept(home, trees, peer, key, entry);
+        forget_entry(home, trees, peer, key, entry);
     }
 }
 

@@ -1,3 +1,3 @@
 pub mod Inclusive
-pub mod Told
+pub mod Tunnels
 pub mod Changed

@@ -22,7 +22,8 @@ use Rattle.edge_defs.specs.bgp_messages.declared.bgp_attributes.key.Key.TheVaria
 use Rattle.edge_defs.specs.bgp_messages.bgp_update.Written.{IsWritableKey, afi_of}
 use Rattle.edge_defs.specs.Keys.{afi_number}
 use Rattle.edge_routes.specs.route_order.Front.{AreOctets, IsFronted, IsWhole, filled, front_of, number_of, numbers, spelled_after}
-use Rattle.edge_routes.specs.route_order.Kept.{is_of_type, key_by, octets_by, read_route}
+use Rattle.edge_routes.specs.declared.route_order.route_type.RouteType.{RouteType}
+use Rattle.edge_routes.specs.route_order.Kept.{code_of, is_of_type, key_by, octets_by, read_route}
 use Rattle.edge_routes.proofs.route_order.FrontLemmas.{drop_octets, filled_len, filled_octets}
 
 -- ---- eight octets and their number
@@ -112,13 +113,13 @@ unicast_below : (addr : Addr) → 2 < afi_number (afi_of addr) → ⊥
 unicast_below (V4 octets) more = absurd (omega (arith, more))
 unicast_below (V6 octets) more = absurd (omega (arith, more))
 
-pub type_is : (key : Key) (front : List ℕ) (number : ℕ) → IsFronted key front → 2 < slice_index front 0
-    → nat_eq (slice_index front 1 / 72057594037927936) number ≡ is_of_type number key
-type_is (Unicast rd prefix) front number fronted more =
+pub type_is : (key : Key) (front : List ℕ) (own : RouteType) → IsFronted key front → 2 < slice_index front 0
+    → nat_eq (slice_index front 1 / 72057594037927936) (code_of own) ≡ is_of_type own key
+type_is (Unicast rd prefix) front own fronted more =
     absurd (unicast_below prefix.addr (subst (λ (f : List ℕ). 2 < slice_index f 0) fronted.front more))
-type_is (Mcast afi route) front number fronted more =
-    ap (λ (f : List ℕ). nat_eq (slice_index f 1 / 72057594037927936) number) fronted.front
-    ∙ ap (λ (n : ℕ). nat_eq n number) (first_is_kind route fronted.octets)
+type_is (Mcast afi route) front own fronted more =
+    ap (λ (f : List ℕ). nat_eq (slice_index f 1 / 72057594037927936) (code_of own)) fronted.front
+    ∙ ap (λ (n : ℕ). nat_eq n (code_of own)) (first_is_kind route fronted.octets)
 
 -- Keys that are compared by the same numbers have the same ones.
 pub tied_are_one : (front other : List ℕ) (order : Ordering) → order ≡ slice_cmp nat_cmp front other → is_eq order ≡ true → front ≡ other

@@ -10,6 +10,8 @@ use Rattle.bgp_values.specs.mvpn_nlri.Reading.{route_at}
 use Rattle.bgp_values.specs.mvpn_nlri.Spelling.{kind}
 use Rattle.edge_defs.specs.bgp_messages.declared.bgp_attributes.key.Key.{Key}
 use Rattle.edge_defs.specs.bgp_messages.declared.bgp_attributes.key.Key.TheVariants.{Mcast, Unicast}
+use Rattle.edge_routes.specs.declared.route_order.route_type.RouteType.{RouteType}
+use Rattle.edge_routes.specs.declared.route_order.route_type.RouteType.TheVariants as types
 
 -- the octets that the numbers of a multicast key spell
 abbrev pub octets_by : List ℕ → List ℕ
@@ -33,7 +35,17 @@ abbrev pub kept_key : List ℕ → Option Key → Key
 kept_key front None = key_by front
 kept_key front (Some key) = key
 
--- whether the key is that of a route of this type (RFC 6514 section 4)
-abbrev pub is_of_type : ℕ → Key → Bool
-is_of_type number (Unicast rd prefix) = false
-is_of_type number (Mcast afi route) = kind route == number
+-- the type as the first octet of a route (RFC 6514 section 4)
+abbrev pub code_of : RouteType → ℕ
+code_of types.Intra = 1
+code_of types.Inter = 2
+code_of types.Selective = 3
+code_of types.Leaf = 4
+code_of types.Active = 5
+code_of types.SharedJoin = 6
+code_of types.SourceJoin = 7
+
+-- whether the key is that of a route of this type
+abbrev pub is_of_type : RouteType → Key → Bool
+is_of_type own (Unicast rd prefix) = false
+is_of_type own (Mcast afi route) = kind route == code_of own

@@ -16,6 +16,16 @@ use edge_defs::of_bgp_messages::bgp_attributes::Key;
 use mv_base::{Addr, Prefix, Rd};
 use std::cmp::Ordering;
 
+/// How many octets of a route the numbers of its key spell.
+pub(crate) const SPELLED_LEN: usize = 24;
+
+/// What a key is compared by first.
+pub(crate) struct Front {
+    pub(crate) numbers: [u64; 4],
+    /// Whether the numbers spell all of the key.
+    pub(crate) is_whole: bool,
+}
+
 /// The AFI as a number.
 pub(crate) fn number(afi: Afi) -> u8
     ensures { result ≡ afi_number afi }
@@ -98,30 +108,35 @@ fn front_of_prefix(rd: &Rd, prefix: &Prefix) -> [u64; 4]
     [family, u64::from(prefix.bits), distinguisher, first]
 }
 
-/// The numbers of a multicast key, and whether they spell all of its route.
-fn front_of_route(afi: Afi, route: &Route) -> ([u64; 4], bool)
+/// The front of a multicast key.
+fn front_of_route(afi: Afi, route: &Route) -> Front
     requires { (own : Afi) × routes.Spells own route.now (routes.written route.now) }
-    ensures front { result.0 ≡ front_of (Mcast afi route.now) }
+    ensures front { result.numbers ≡ front_of (Mcast afi route.now) }
     ensures octets { IsOctets (routes.written route.now) }
-    ensures whole { IsTrue result.1 ↔ IsWhole (Mcast afi route.now) }
+    ensures whole { IsTrue result.is_whole ↔ IsWhole (Mcast afi route.now) }
 {
     let (octets, len) = spelled(route);
     let text = &octets[..len];
     are_octets(text);
     let (first, second, third) = numbers_of(text);
-    let front = [2 + u64::from(number(afi)), first, second, third];
-    (front, text.len() <= 24)
+    Front {
+        numbers: [2 + u64::from(number(afi)), first, second, third],
+        is_whole: text.len() <= SPELLED_LEN,
+    }
 }
 
-/// What the key is compared by first, and whether that spells all of it.
-pub(crate) fn front_of(key: &Key) -> ([u64; 4], bool)
+/// The front of the key.
+pub(crate) fn front_of(key: &Key) -> Front
     requires { IsWritableKey key.now }
-    ensures front { result.0 ≡ front_of key.now }
+    ensures front { result.numbers ≡ front_of key.now }
     ensures octets { AreOctets key.now }
-    ensures whole { IsTrue result.1 ↔ IsWhole key.now }
+    ensures whole { IsTrue result.is_whole ↔ IsWhole key.now }
 {
     match key {
-        Key::Unicast { rd, prefix } => (front_of_prefix(rd, prefix), false),
+        Key::Unicast { rd, prefix } => Front {
+            numbers: front_of_prefix(rd, prefix),
+            is_whole: false,
+        },
         Key::Mcast(afi, route) => front_of_route(*afi, route),
     }
 }

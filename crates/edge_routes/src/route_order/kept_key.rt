@@ -7,8 +7,9 @@ ghost use Rattle.edge_defs.specs.Keys.{key_cmp};
 ghost use Rattle.edge_defs.proofs.KeyLemmas.{key_total};
 ghost use Rattle.edge_routes.specs.route_order.Kept.{afi_by, is_of_type, kept_key, key_by, octets_by};
 
-use crate::route_order::front::{compare_fronts, front_of};
+use crate::route_order::front::{Front, SPELLED_LEN, compare_fronts, front_of};
 use crate::route_order::key::{TableKey, compare_keys};
+use crate::route_order::route_type::RouteType;
 use crate::shared::Shared;
 use bgp_values::mvpn_nlri::{Afi, Route, decode};
 use edge_defs::of_bgp_messages::bgp_attributes::Key;
@@ -22,7 +23,7 @@ use std::marker::Model;
 #[derive(Drop)]
 pub struct KeptKey {
     front: [u64; 4],
-    whole: Option<Shared<TableKey>>,
+    beside: Option<Shared<TableKey>>,
 }
 
 impl Model for KeptKey {
@@ -33,16 +34,16 @@ impl Model for KeptKey {
     ghost use Rattle.edge_routes.specs.route_order.Front.{IsFronted};
     ghost use Rattle.edge_routes.specs.route_order.Kept.{kept_key};
 
-    ghost view = { λ k. kept_key k.front k.whole };
+    ghost view = { λ k. kept_key k.front k.beside };
 
-    ghost invariant = { λ k. IsFronted (kept_key k.front k.whole) k.front };
+    ghost invariant = { λ k. IsFronted (kept_key k.front k.beside) k.front };
 }
 
 /// The octets that the numbers of a multicast key spell.
-fn octets_by(front: &[u64; 4]) -> [u8; 24]
+fn octets_by(front: &[u64; 4]) -> [u8; SPELLED_LEN]
     ensures { result ≡ octets_by front.now }
 {
-    let mut octets = [0; 24];
+    let mut octets = [0; SPELLED_LEN];
     let (front_octets, rest) = octets.split_at_mut(8);
     let (middle, back) = rest.split_at_mut(8);
     front_octets.copy_from_slice(&front[1].to_be_bytes());
@@ -75,10 +76,10 @@ fn key_by(front: &[u64; 4]) -> Key
 }
 
 /// The key that is kept so.
-fn kept_key(front: &[u64; 4], whole: &Option<Shared<TableKey>>) -> Key
-    ensures { result ≡ kept_key front.now whole.now }
+fn kept_key(front: &[u64; 4], beside: &Option<Shared<TableKey>>) -> Key
+    ensures { result ≡ kept_key front.now beside.now }
 {
-    match whole {
+    match beside {
         None => key_by(front),
         Some(key) => *key.lent().key(),
     }
@@ -107,14 +108,17 @@ impl KeptKey {
         requires { IsWritableKey key.now }
         ensures { IfOk result (λ kept. kept ≡ key.now) }
     {
-        let (front, is_whole) = front_of(key);
+        let Front { numbers, is_whole } = front_of(key);
         if is_whole {
-            return Ok(KeptKey { front, whole: None });
+            return Ok(KeptKey {
+                front: numbers,
+                beside: None,
+            });
         }
-        let whole = Shared::of(alloc, TableKey::fronted(*key, front))?;
+        let own = Shared::of(alloc, TableKey::fronted(*key, numbers))?;
         Ok(KeptKey {
-            front,
-            whole: Some(whole),
+            front: numbers,
+            beside: Some(own),
         })
     }
 
@@ -122,13 +126,13 @@ impl KeptKey {
     pub fn share(&self) -> Result<KeptKey, NoMemory>
         ensures { IfOk result (λ kept. kept ≡ self.now) }
     {
-        let whole = match &self.whole {
+        let beside = match &self.beside {
             None => None,
             Some(key) => Some(key.share()?),
         };
         Ok(KeptKey {
             front: self.front,
-            whole,
+            beside,
         })
     }
 
@@ -137,22 +141,22 @@ impl KeptKey {
         ensures key { result ≡ self.now }
         ensures writable { IsWritableKey self.now }
     {
-        kept_key(&self.front, &self.whole)
+        kept_key(&self.front, &self.beside)
     }
 
     /// Shows that the key has a spelling. It does nothing.
-    pub fn is_spelled(&self)
+    pub fn show_spelled(&self)
         ensures { IsWritableKey self.now }
     {
         let _ = &self.front;
     }
 
-    /// Whether the key is that of a route of this type (RFC 6514 section 4), without a look at more than its first octet.
+    /// Whether the key is that of a route of this type, without a look at more than its first octet.
     #[inline(always)]
-    pub fn is_of_type(&self, kind: u8) -> bool
-        ensures { result ≡ is_of_type kind self.now }
+    pub fn is_of_type(&self, own: RouteType) -> bool
+        ensures { result ≡ is_of_type own self.now }
     {
-        self.front[0] > 2 && self.front[1] >> 56 == u64::from(kind)
+        self.front[0] > 2 && self.front[1] >> 56 == u64::from(own.code())
     }
 }
 
@@ -194,7 +198,7 @@ impl Ord for KeptKey {
     fn cmp(&self, other: &KeptKey) -> Ordering {
         let order = compare_fronts(&self.front, &other.front);
         if order.is_eq() {
-            compare_tied(&self.front, &self.whole, &other.whole)
+            compare_tied(&self.front, &self.beside, &other.beside)
         } else {
             order
         }

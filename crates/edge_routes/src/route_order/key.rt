@@ -15,7 +15,9 @@ ghost use Rattle.edge_defs.proofs.KeyLemmas.{key_total};
 ghost use Rattle.edge_routes.specs.route_order.Front.{IsFronted};
 ghost use Rattle.bgp_values.specs.declared.mvpn_nlri.route.Afi.{Afi};
 
-use crate::route_order::front::{compare_fronts, front_of, number, prefix_number, prefix_octets};
+use crate::route_order::front::{
+    Front, compare_fronts, front_of, number, prefix_number, prefix_octets,
+};
 use crate::route_order::routes::compare_alike;
 use crate::route_order::text::spelled;
 use bgp_values::mvpn_nlri::{Afi, Route};
@@ -53,8 +55,14 @@ impl TableKey {
         requires { IsWritableKey key }
         ensures { result ≡ key }
     {
-        let (front, _whole) = front_of(&key);
-        TableKey { key, front }
+        let Front {
+            numbers,
+            is_whole: _,
+        } = front_of(&key);
+        TableKey {
+            key,
+            front: numbers,
+        }
     }
 
     /// The key, with the numbers by which it is compared first.

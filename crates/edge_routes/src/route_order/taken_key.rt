@@ -56,7 +56,7 @@ impl TakenKey {
         ensures key { result.now ≡ self.now }
         ensures writable { IsWritableKey self.now }
     {
-        self.kept.is_spelled();
+        self.kept.show_spelled();
         &self.key
     }
 }

@@ -17,11 +17,12 @@ use Rattle.bgp_messages.specs.declared.bgp_attributes.key.Key.TheVariants.{Mcast
 use Rattle.bgp_values.specs.declared.mvpn_nlri.route.Afi.TheVariants.{Ipv4, Ipv6}
 use Rattle.bgp_values.specs.declared.mvpn_nlri.route.Route.TheVariants as routes
 use Rattle.edge_control.specs.Places.{vrfs_of}
+use Rattle.edge_routes.specs.declared.route_order.route_type.RouteType.TheVariants as types
 use Rattle.edge_routes.specs.route_order.Kept.{is_of_type}
 use Rattle.edge_routes.specs.edge_home.Home.{AreOwn, Home, as_own}
 use Rattle.edge_routes.specs.declared.edge_home.own_vrf.OwnVrf as homes
 use Rattle.control_laws.proofs.Parts.{no_core}
-use Rattle.edge_routing.specs.edge_updates.Told.{listed, route_of, told_by, told_from, told_to}
+use Rattle.edge_routing.specs.edge_updates.Tunnels.{listed, route_of, tunnels_by, tunnels_from, tunnels_to}
 
 abbrev found_or : {B : Type 0} → Option B → List B → List B
 found_or o rest = elim o [ None ↦ rest | Some found ↦ found ∷ rest ]
@@ -51,7 +52,7 @@ none_found f none [] = refl
 none_found f none (x ∷ xs) = ap (λ (o : Option _). found_or o (found_in f xs)) (none x) ∙ none_found f none xs
 
 -- A key of another type is that of no inclusive route.
-not_inclusive : (key : Key) → is_of_type 1 key ≡ false → inclusive_of key ≡ None
+not_inclusive : (key : Key) → is_of_type types.Intra key ≡ false → inclusive_of key ≡ None
 not_inclusive (Unicast rd prefix) other = refl
 not_inclusive (Mcast afi (routes.Intra rd originator)) other = absurd cc
 not_inclusive (Mcast Ipv4 (routes.Inter rd source_as)) other = refl
@@ -69,8 +70,9 @@ not_inclusive (Mcast Ipv6 (routes.SourceJoin rd source_as source group)) other =
 not_inclusive (Mcast Ipv4 (routes.Other kind octets)) other = refl
 not_inclusive (Mcast Ipv6 (routes.Other kind octets)) other = refl
 
-pub told_of_others : (home : Home) (peer : NodeId) (key : Key) (value : Value) → is_of_type 1 key ≡ false → told_by home peer key value ≡ []
-told_of_others home peer key value other =
+pub tunnels_of_others : (home : Home) (peer : NodeId) (key : Key) (value : Value) → is_of_type types.Intra key ≡ false
+    → tunnels_by home peer key value ≡ []
+tunnels_of_others home peer key value other =
     none_found (λ (own : OwnVrf). imported_inclusive own.vrf (addr_of home.scenario peer) (key, route_of value))
     (λ own. ap (λ (found : Option Addr). found >>? λ originator.
     only_if (is_admitted own.vrf value.comms) value >>? λ own_value.
@@ -78,20 +80,20 @@ told_of_others home peer key value other =
     (vrfs_of home)
 
 -- one more of the VRFs
-pub told_more : (peer : Addr) (key : Key) (value : Value) (vrfs : List homes.OwnVrf) (n : ℕ) (own : homes.OwnVrf) → n < length vrfs
+pub tunnels_more : (peer : Addr) (key : Key) (value : Value) (vrfs : List homes.OwnVrf) (n : ℕ) (own : homes.OwnVrf) → n < length vrfs
     → own ≡ get_or vrfs n own
-    → told_to peer key value (take (n + 1) vrfs) ≡ told_to peer key value (take n vrfs)
+    → tunnels_to peer key value (take (n + 1) vrfs) ≡ tunnels_to peer key value (take n vrfs)
     ++ listed (imported_inclusive own.local.vrf peer (key, route_of value))
-told_more peer key value vrfs n own lt is =
+tunnels_more peer key value vrfs n own lt is =
     let find : homes.OwnVrf → Option Fec = λ own. imported_inclusive own.local.vrf peer (key, route_of value) in
     ap (found_in find) (take_more vrfs n own lt) ∙ found_append find (take n vrfs) (get_or vrfs n own ∷ [])
     ∙ ap (λ (x : homes.OwnVrf). found_in find (take n vrfs) ++ found_in find (x ∷ [])) (sym is)
     ∙ ap (λ xs. found_in find (take n vrfs) ++ xs) (found_one find own)
 
 -- all VRFs of the edge
-pub told_all : (home : Home) (peer : NodeId) (key : Key) (value : Value) (vrfs : List homes.OwnVrf) → AreOwn home vrfs
-    → told_to (addr_of home.scenario peer) key value vrfs ≡ told_by home peer key value
-told_all home peer key value vrfs are =
+pub tunnels_all : (home : Home) (peer : NodeId) (key : Key) (value : Value) (vrfs : List homes.OwnVrf) → AreOwn home vrfs
+    → tunnels_to (addr_of home.scenario peer) key value vrfs ≡ tunnels_by home peer key value
+tunnels_all home peer key value vrfs are =
     let find : OwnVrf → Option Fec = λ own. imported_inclusive own.vrf (addr_of home.scenario peer) (key, route_of value) in
     found_map find as_own vrfs ∙ ap (found_in find) (are.vrfs no_core)
 
@@ -105,11 +107,11 @@ unannounced_more keys n key lt is =
 -- ---- whether routes are taken from the peer
 
 pub from_none : (home : Home) (o : Option Taken) (peer : NodeId) (key : Key) (value : Value)
-    → None ≡ option_map (λ (taken : Taken). maps.entries taken) o → told_from home o peer key value ≡ []
+    → None ≡ option_map (λ (taken : Taken). maps.entries taken) o → tunnels_from home o peer key value ≡ []
 from_none home None peer key value e = refl
 from_none home (Some taken) peer key value e = absurd cc
 
 pub from_some : (home : Home) (o : Option Taken) (peer : NodeId) (key : Key) (value : Value) (all : List (Key × TakenRoute))
-    → Some all ≡ option_map (λ (taken : Taken). maps.entries taken) o → told_from home o peer key value ≡ told_by home peer key value
+    → Some all ≡ option_map (λ (taken : Taken). maps.entries taken) o → tunnels_from home o peer key value ≡ tunnels_by home peer key value
 from_some home None peer key value all e = absurd cc
 from_some home (Some taken) peer key value all e = refl

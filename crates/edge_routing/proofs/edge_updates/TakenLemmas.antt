@@ -38,7 +38,7 @@ use Rattle.control_laws.proofs.PeersTold.{Changes, Here}
 use Rattle.edge_control.specs.Sound.{wants_of}
 use Rattle.edge_routing.specs.edge_updates.Changed.{AreListed, AreTaken, changed_by}
 use Rattle.edge_routing.specs.edge_updates.Inclusive.{AreTunnels, IsInclusiveFrom}
-use Rattle.edge_routing.specs.edge_updates.Told.{route_of, told_at, told_by, told_by_all, told_from}
+use Rattle.edge_routing.specs.edge_updates.Tunnels.{route_of, tunnels_at, tunnels_by, tunnels_by_all, tunnels_from}
 use Rattle.edge_routing.proofs.edge_updates.TunnelLemmas.{IsUntold, unlisted, untold_stays}
 
 -- ---- what is listed
@@ -47,36 +47,36 @@ module _ (home : Home) (core : Core) (peer : NodeId) where
   abbrev by_route : Key → TakenRoute → OwnVrf → Option Fec
   by_route key taken own = imported_inclusive own.vrf (addr_of home.scenario peer) (key, route_of taken.value)
 
-  told_listed : (key : Key) (taken : TakenRoute) (fec : Fec) (own : OwnVrf) → Among own (own_vrfs (place_of home core))
-      → imported_inclusive own.vrf (addr_of home.scenario peer) (key, taken) ≡ Some fec → Among fec (told_by home peer key taken.value)
-  told_listed key taken fec own a is = among_found (by_route key taken) own fec (own_vrfs (place_of home core)) a is
+  is_listed : (key : Key) (taken : TakenRoute) (fec : Fec) (own : OwnVrf) → Among own (own_vrfs (place_of home core))
+      → imported_inclusive own.vrf (addr_of home.scenario peer) (key, taken) ≡ Some fec → Among fec (tunnels_by home peer key taken.value)
+  is_listed key taken fec own a is = among_found (by_route key taken) own fec (own_vrfs (place_of home core)) a is
 
   -- What is not listed is imported by no VRF.
-  pub untold : (key : Key) (route : Option TakenRoute) (fec : Fec) → list_any (same_fec fec) (told_at home peer key route) ≡ false
+  pub untold : (key : Key) (route : Option TakenRoute) (fec : Fec) → list_any (same_fec fec) (tunnels_at home peer key route) ≡ false
       → IsUntold (place_of home core) fec peer key route
   untold key None fec none own a is = absurd (let bad : None ≡ Some fec = is in cc)
   untold key (Some taken) fec none own a is =
-      not_both (list_any (same_fec fec) (told_by home peer key taken.value))
-      (any_from (same_fec fec) fec (told_by home peer key taken.value) (told_listed key taken fec own a is) (same_fec_itself fec)) none
+      not_both (list_any (same_fec fec) (tunnels_by home peer key taken.value))
+      (any_from (same_fec fec) fec (tunnels_by home peer key taken.value) (is_listed key taken fec own a is) (same_fec_itself fec)) none
 
   module _ (control : Control) (fec : Fec) where
     abbrev entries : List (Key × TakenRoute)
     entries = maps.entries (taken_from control peer)
 
     abbrev by_entry : Key × TakenRoute → List Fec
-    by_entry entry = told_by home peer entry.0 entry.1.value
+    by_entry entry = tunnels_by home peer entry.0 entry.1.value
 
-    from_listed : IsInclusiveFrom (place_of home core) control peer fec → list_any (same_fec fec) (told_by_all home peer entries) ≡ true
+    from_listed : IsInclusiveFrom (place_of home core) control peer fec → list_any (same_fec fec) (tunnels_by_all home peer entries) ≡ true
     from_listed is =
-        any_from (same_fec fec) fec (told_by_all home peer entries)
+        any_from (same_fec fec) fec (tunnels_by_all home peer entries)
         (among_flat_map by_entry (is.key, is.route) fec entries (get_entry key_exact (taken_from control peer) is.key is.route is.taken)
-        (told_listed is.key is.route fec is.own is.of_edge is.imported)) (same_fec_itself fec)
+        (is_listed is.key is.route fec is.own is.of_edge is.imported)) (same_fec_itself fec)
 
-    listed_from : list_any (same_fec fec) (told_by_all home peer entries) ≡ true → IsInclusiveFrom (place_of home core) control peer fec
+    listed_from : list_any (same_fec fec) (tunnels_by_all home peer entries) ≡ true → IsInclusiveFrom (place_of home core) control peer fec
     listed_from h =
-        let found = any_among (same_fec fec) (told_by_all home peer entries) h in
+        let found = any_among (same_fec fec) (tunnels_by_all home peer entries) h in
         let entry =
-        flat_map_among by_entry fec entries (subst (λ (x : Fec). Among x (told_by_all home peer entries))
+        flat_map_among by_entry fec entries (subst (λ (x : Fec). Among x (tunnels_by_all home peer entries))
         (sym (same_fec_equal fec found.0 found.2)) found.1) in
         let own = found_among (by_route entry.0.0 entry.0.1) fec (own_vrfs (place_of home core)) entry.2 in
         record {
@@ -89,7 +89,7 @@ module _ (home : Home) (core : Core) (peer : NodeId) where
         }
 
     -- The tunnels of all routes of the peer are those of inclusive routes from it.
-    pub all_listed : IsInclusiveFrom (place_of home core) control peer fec ↔ (list_any (same_fec fec) (told_by_all home peer entries) ≡ true)
+    pub all_listed : IsInclusiveFrom (place_of home core) control peer fec ↔ (list_any (same_fec fec) (tunnels_by_all home peer entries) ≡ true)
     all_listed = (from_listed, listed_from)
 
 -- ---- one change
@@ -136,30 +136,30 @@ withdrawn_route now peer key old =
 -- after an announcement at a key at which there was none, it is that of the value, where routes are taken from the peer
 announced : (home : Home) (now : ℕ) (peer : NodeId) (key : Key) (value : Value) (old : Control) (o : Option Taken) → maps.get old.peers peer ≡ o
     → route_at old.peers peer key ≡ None
-    → told_at home peer key (tables_of (thereafter now peer (reach key value) old o) peer key) ≡ told_from home o peer key value
-announced home now peer key value old None e fresh = ap (told_at home peer key) (route_is old peer key ∙ fresh)
+    → tunnels_at home peer key (tables_of (thereafter now peer (reach key value) old o) peer key) ≡ tunnels_from home o peer key value
+announced home now peer key value old None e fresh = ap (tunnels_at home peer key) (route_is old peer key ∙ fresh)
 announced home now peer key value old (Some taken) e fresh =
     let none : maps.get taken key ≡ None = sym (ap (λ (o : Option Taken). o >>? λ (t : Taken). maps.get t key) e) ∙ fresh in
-    ap (told_at home peer key)
+    ap (tunnels_at home peer key)
     ((changed old peer taken e now (reach key value)).is ∙ ap (λ (route : Option TakenRoute). Some (learned now value route)) none)
 
 pub announced_told : (home : Home) (now : ℕ) (peer : NodeId) (key : Key) (value : Value) (old : Control) → route_at old.peers peer key ≡ None
-    → told_at home peer key (route_at (changed_by now peer (reach key value ∷ []) old).peers peer key)
-    ≡ told_from home (maps.get old.peers peer) peer key value
+    → tunnels_at home peer key (route_at (changed_by now peer (reach key value ∷ []) old).peers peer key)
+    ≡ tunnels_from home (maps.get old.peers peer) peer key value
 announced_told home now peer key value old fresh =
-    ap (told_at home peer key) (sym (route_is (changed_by now peer (reach key value ∷ []) old) peer key))
+    ap (tunnels_at home peer key) (sym (route_is (changed_by now peer (reach key value ∷ []) old) peer key))
     ∙ announced home now peer key value old (maps.get old.peers peer) refl fresh
 
 module _ (now : ℕ) (peer : NodeId) (change : Change) (home : Home) where
   -- the tunnels by the route at the key of the change
-  abbrev told_of : Tables → List Fec
-  told_of tables = told_at home peer (key_of change) (route_at tables peer (key_of change))
+  abbrev tunnels_of : Tables → List Fec
+  tunnels_of tables = tunnels_at home peer (key_of change) (route_at tables peer (key_of change))
 
   listed_change : (core : Core) (old new : Control) (before : List Fec) → new ≡ changed_by now peer (change ∷ []) old
-      → AreListed (place_of home core) old before new ((before ++ told_of old.peers) ++ told_of new.peers)
+      → AreListed (place_of home core) old before new ((before ++ tunnels_of old.peers) ++ tunnels_of new.peers)
   listed_change core old new before is fec none =
-      let outer = unlisted fec (before ++ told_of old.peers) (told_of new.peers) none in
-      let inner = unlisted fec before (told_of old.peers) outer.0 in
+      let outer = unlisted fec (before ++ tunnels_of old.peers) (tunnels_of new.peers) none in
+      let inner = unlisted fec before (tunnels_of old.peers) outer.0 in
       let first = route_at old.peers peer (key_of change) in
       let next = route_at new.peers peer (key_of change) in
       let changes =
@@ -174,7 +174,7 @@ module _ (now : ℕ) (peer : NodeId) (change : Change) (home : Home) where
 -- A change is taken, where the tunnels of the old route and of the new one are listed.
 pub change_taken : (now : ℕ) (peer : NodeId) (change : Change) (old new : Kept) (before after : List Fec) → new.home ≡ old.home
     → wants_of new.trees ≡ wants_of old.trees → control_of new ≡ changed_by now peer (change ∷ []) (control_of old)
-    → after ≡ (before ++ told_of now peer change old.home old.peers) ++ told_of now peer change old.home new.peers
+    → after ≡ (before ++ tunnels_of now peer change old.home old.peers) ++ tunnels_of now peer change old.home new.peers
     → AreTaken now peer (change ∷ []) old new before after
 change_taken now peer change old new before after home wants control is = record {
   home = home;
@@ -188,52 +188,52 @@ change_taken now peer change old new before after home wants control is = record
 -- A withdrawal is taken, where those of the old route are.
 pub withdrawal_taken : (now : ℕ) (peer : NodeId) (key : Key) (old new : Kept) (before after : List Fec) → new.home ≡ old.home
     → wants_of new.trees ≡ wants_of old.trees → control_of new ≡ changed_by now peer (updates.Unreach key ∷ []) (control_of old)
-    → after ≡ before ++ told_at old.home peer key (route_at old.peers peer key) → AreTaken now peer (updates.Unreach key ∷ []) old new before after
+    → after ≡ before ++ tunnels_at old.home peer key (route_at old.peers peer key) → AreTaken now peer (updates.Unreach key ∷ []) old new before after
 withdrawal_taken now peer key old new before after home wants control is =
     let gone : route_at new.peers peer key ≡ None =
     ap (λ (c : Control). route_at c.peers peer key) control ∙ withdrawn_route now peer key (control_of old) in
-    let first = before ++ told_at old.home peer key (route_at old.peers peer key) in
+    let first = before ++ tunnels_at old.home peer key (route_at old.peers peer key) in
     change_taken now peer (updates.Unreach key) old new before after home wants control
-    (is ∙ sym (append-nil first) ∙ ap (λ (route : Option TakenRoute). first ++ told_at old.home peer key route) (sym gone))
+    (is ∙ sym (append-nil first) ∙ ap (λ (route : Option TakenRoute). first ++ tunnels_at old.home peer key route) (sym gone))
 
 -- An announcement at a key at which there was no route is taken, where those of its value are.
 pub announcement_taken : (now : ℕ) (peer : NodeId) (key : Key) (value : Value) (old new : Kept) (before after : List Fec) → new.home ≡ old.home
     → wants_of new.trees ≡ wants_of old.trees → control_of new ≡ changed_by now peer (reach key value ∷ []) (control_of old)
-    → route_at old.peers peer key ≡ None → after ≡ before ++ told_from old.home (maps.get old.peers peer) peer key value
+    → route_at old.peers peer key ≡ None → after ≡ before ++ tunnels_from old.home (maps.get old.peers peer) peer key value
     → AreTaken now peer (reach key value ∷ []) old new before after
 announcement_taken now peer key value old new before after home wants control fresh is =
-    let next = told_from old.home (maps.get old.peers peer) peer key value in
-    let come : told_at old.home peer key (route_at new.peers peer key) ≡ next =
-    ap (λ (c : Control). told_at old.home peer key (route_at c.peers peer key)) control
+    let next = tunnels_from old.home (maps.get old.peers peer) peer key value in
+    let come : tunnels_at old.home peer key (route_at new.peers peer key) ≡ next =
+    ap (λ (c : Control). tunnels_at old.home peer key (route_at c.peers peer key)) control
     ∙ announced_told old.home now peer key value (control_of old) fresh in
     change_taken now peer (reach key value) old new before after home wants control
     (is
     ∙ ap (λ (fecs : List Fec). fecs ++ next) (sym (append-nil before)
-    ∙ ap (λ (route : Option TakenRoute). before ++ told_at old.home peer key route) (sym fresh))
-    ∙ ap (λ (fecs : List Fec). (before ++ told_at old.home peer key (route_at old.peers peer key)) ++ fecs) (sym come))
+    ∙ ap (λ (route : Option TakenRoute). before ++ tunnels_at old.home peer key route) (sym fresh))
+    ∙ ap (λ (fecs : List Fec). (before ++ tunnels_at old.home peer key (route_at old.peers peer key)) ++ fecs) (sym come))
 
 -- whether routes are taken from the peer stays as it is
 from_changed : (home : Home) (peer : NodeId) (key : Key) (value : Value) (change : Taken → Taken) (tables : Tables) (o : Option Taken)
     → maps.get tables peer ≡ o
-    → told_from home (maps.get (elim o as (λ x. Tables) [ None ↦ tables | Some taken ↦ maps.insert tables peer (change taken) ]) peer) peer key value
-    ≡ told_from home o peer key value
-from_changed home peer key value change tables None e = ap (λ (o : Option Taken). told_from home o peer key value) e
+    → tunnels_from home (maps.get (elim o as (λ x. Tables) [ None ↦ tables | Some taken ↦ maps.insert tables peer (change taken) ]) peer) peer key value
+    ≡ tunnels_from home o peer key value
+from_changed home peer key value change tables None e = ap (λ (o : Option Taken). tunnels_from home o peer key value) e
 from_changed home peer key value change tables (Some taken) e =
-    ap (λ (o : Option Taken). told_from home o peer key value)
+    ap (λ (o : Option Taken). tunnels_from home o peer key value)
     (maps.get-insert node_cmp_total tables peer (change taken) peer
     ∙ ap (λ b. cond b (Some (change taken)) (maps.get tables peer)) (itself_by node_cmp node_cmp_total peer))
 
 -- The same where they are listed afterwards.
 pub entered_taken : (now : ℕ) (peer : NodeId) (key : Key) (value : Value) (old new : Kept) (before after : List Fec) → new.home ≡ old.home
     → wants_of new.trees ≡ wants_of old.trees → control_of new ≡ changed_by now peer (reach key value ∷ []) (control_of old)
-    → route_at old.peers peer key ≡ None → after ≡ before ++ told_from new.home (maps.get new.peers peer) peer key value
+    → route_at old.peers peer key ≡ None → after ≡ before ++ tunnels_from new.home (maps.get new.peers peer) peer key value
     → AreTaken now peer (reach key value ∷ []) old new before after
 entered_taken now peer key value old new before after home wants control fresh is =
     announcement_taken now peer key value old new before after home wants control fresh
     (is
     ∙ ap (λ (fecs : List Fec). before ++ fecs)
-    (ap (λ (h : Home). told_from h (maps.get new.peers peer) peer key value) home
-    ∙ ap (λ (c : Control). told_from old.home (maps.get c.peers peer) peer key value) control
+    (ap (λ (h : Home). tunnels_from h (maps.get new.peers peer) peer key value) home
+    ∙ ap (λ (c : Control). tunnels_from old.home (maps.get c.peers peer) peer key value) control
     ∙ from_changed old.home peer key value (λ taken. taken_change now taken (reach key value)) old.peers (maps.get old.peers peer) refl))
 
 -- ---- rows of changes

@@ -11,23 +11,23 @@ ghost use Rattle.edge_control.specs.edge_tables.taken_tables.Tables.{route_at};
 ghost use Rattle.control_laws.specs.Control.{control_of};
 ghost use Rattle.edge_control.specs.Taking.{table_of};
 ghost use Rattle.edge_routing.specs.edge_updates.Inclusive.{IsInclusiveFrom};
-ghost use Rattle.edge_routing.specs.edge_updates.Told.{listed, told_at, told_by, told_by_all, told_from, told_to};
+ghost use Rattle.edge_routing.specs.edge_updates.Tunnels.{listed, tunnels_at, tunnels_by, tunnels_by_all, tunnels_from, tunnels_to};
 
 use bgp_messages::bgp_attributes::Key;
 use edge_control::EdgeControl;
 use edge_control::of_edge_tables::taken_tables::{TableEntries, TakenEntry};
 use edge_routes::edge_home::{EdgeHome, OwnVrf};
-use edge_routes::route_order::{KeptKey, TakenKey};
+use edge_routes::route_order::{KeptKey, RouteType, TakenKey};
 use edge_routes::{TakenValue, imported_inclusive};
 use mldp::mldp_fec::Fec;
 use mv_base::{Addr, NoMemory, NodeId};
 use std::alloc::Global;
 
 /// Appends the tunnel, where there is one.
-fn append(fecs: &mut Vec<Fec>, told: Option<Fec>) -> Result<(), NoMemory>
-    ensures { OnOk result (fecs.new.items ≡ fecs.old.items ++ listed told) }
+fn append(fecs: &mut Vec<Fec>, tunnel: Option<Fec>) -> Result<(), NoMemory>
+    ensures { OnOk result (fecs.new.items ≡ fecs.old.items ++ listed tunnel) }
 {
-    match told {
+    match tunnel {
         None => Ok(()),
         Some(fec) => {
             fecs.push(fec)?;
@@ -44,7 +44,7 @@ fn append_imported(
     key: &Key,
     value: &TakenValue,
 ) -> Result<(), NoMemory>
-    ensures { OnOk result (fecs.new.items ≡ fecs.old.items ++ told_to peer key.now (value_of value.now) vrfs.now) }
+    ensures { OnOk result (fecs.new.items ≡ fecs.old.items ++ tunnels_to peer key.now (value_of value.now) vrfs.now) }
 {
     for own in vrfs {
         append(fecs, imported_inclusive(own.local.vrf(), peer, key, value))?;
@@ -61,7 +61,7 @@ fn append_of_route(
     value: &TakenValue,
 ) -> Result<(), NoMemory>
     requires { peer.0 < length home.now.scenario.nodes }
-    ensures { OnOk result (fecs.new.items ≡ fecs.old.items ++ told_by home.now peer key.now (value_of value.now)) }
+    ensures { OnOk result (fecs.new.items ≡ fecs.old.items ++ tunnels_by home.now peer key.now (value_of value.now)) }
 {
     let addr = home.addr_of(peer);
     append_imported(fecs, home.vrfs(), addr, key, value)
@@ -75,7 +75,7 @@ pub(crate) fn append_at(
     key: &TakenKey,
 ) -> Result<(), NoMemory>
     ensures { OnOk result (fecs.new.items
-        ≡ fecs.old.items ++ told_at control.now.home peer key.now (route_at control.now.peers peer key.now)) }
+        ≡ fecs.old.items ++ tunnels_at control.now.home peer key.now (route_at control.now.peers peer key.now)) }
 {
     let home = control.home();
     match control.taken().get(peer, key.kept()) {
@@ -93,7 +93,7 @@ pub(crate) fn append_by(
     value: &TakenValue,
 ) -> Result<(), NoMemory>
     ensures { OnOk result (fecs.new.items ≡ fecs.old.items
-        ++ told_from control.now.home (maps.get control.now.peers peer) peer key.now (value_of value.now)) }
+        ++ tunnels_from control.now.home (maps.get control.now.peers peer) peer key.now (value_of value.now)) }
 {
     let home = control.home();
     match control.taken().entries(peer) {
@@ -102,10 +102,8 @@ pub(crate) fn append_by(
     }
 }
 
-/// The type of Intra-AS I-PMSI A-D routes (RFC 6514 section 4.1), which are the inclusive ones.
-const INCLUSIVE: u8 = 1;
-
-/// Appends those of a route of the peer's table. Most routes are no inclusive ones, and their keys are not read.
+/// Appends those of a route of the peer's table. Most routes are no inclusive ones, which are Intra-AS I-PMSI A-D routes, and their keys are
+/// not read.
 fn append_of_entry(
     fecs: &mut Vec<Fec>,
     home: &EdgeHome,
@@ -114,9 +112,9 @@ fn append_of_entry(
     entry: &TakenEntry,
 ) -> Result<(), NoMemory>
     requires { peer.0 < length home.now.scenario.nodes }
-    ensures { OnOk result (fecs.new.items ≡ fecs.old.items ++ told_by home.now peer key.now entry.now.value) }
+    ensures { OnOk result (fecs.new.items ≡ fecs.old.items ++ tunnels_by home.now peer key.now entry.now.value) }
 {
-    if key.is_of_type(INCLUSIVE) {
+    if key.is_of_type(RouteType::Intra) {
         append_of_route(fecs, home, peer, &key.key(), &entry.value())
     } else {
         Ok(())
@@ -131,7 +129,7 @@ fn append_of_entries(
     entries: TableEntries<'_>,
 ) -> Result<(), NoMemory>
     requires { peer.0 < length home.now.scenario.nodes }
-    ensures { OnOk result (fecs.new.items ≡ fecs.old.items ++ told_by_all home.now peer entries.entry) }
+    ensures { OnOk result (fecs.new.items ≡ fecs.old.items ++ tunnels_by_all home.now peer entries.entry) }
 {
     for (key, entry) in entries {
         append_of_entry(fecs, home, peer, key, entry)?;
@@ -142,7 +140,7 @@ fn append_of_entries(
 /// Appends those of all routes that were taken from the peer.
 fn append_of_table(fecs: &mut Vec<Fec>, control: &EdgeControl, peer: NodeId) -> Result<(), NoMemory>
     ensures { OnOk result (fecs.new.items
-        ≡ fecs.old.items ++ told_by_all control.now.home peer (maps.entries (table_of control.now.peers peer))) }
+        ≡ fecs.old.items ++ tunnels_by_all control.now.home peer (maps.entries (table_of control.now.peers peer))) }
 {
     let home = control.home();
     match control.taken().entries(peer) {

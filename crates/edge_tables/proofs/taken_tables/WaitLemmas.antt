@@ -17,6 +17,7 @@ use Rattle.edge_defs.specs.Keys.{key_cmp}
 use Rattle.bgp_messages.specs.bgp_update.Written.{IsWritableKey}
 use Rattle.bgp_values.specs.mvpn_nlri.Spelling.{IsOther}
 use Rattle.edge_defs.proofs.KeyLemmas.{key_exact, key_total}
+use Rattle.edge_routes.specs.declared.route_order.route_type.RouteType.TheVariants as types
 use Rattle.edge_routes.specs.route_order.Kept.{is_of_type}
 use Rattle.edge_routes.specs.Local.{Local}
 use Rattle.edge_tables.specs.taken_tables.Running.{IsFrom, IsNoted, awaits, earlier, earliest_with, imports, is_any_over, is_delayed, run_at, table_run}
@@ -29,7 +30,7 @@ other_is : (kind : ℕ) → IsOther kind → (kind == 3) ≡ false
 other_is kind (inl none) = ap (λ (n : ℕ). n == 3) none
 other_is kind (inr more) = let apart : kind ≢ 3 = λ e. omega (arith, more, e) in ne_eqb kind 3 apart
 
-pub delayed_is : (key : Key) → IsWritableKey key → is_of_type 3 key ≡ is_delayed key
+pub delayed_is : (key : Key) → IsWritableKey key → is_of_type types.Selective key ≡ is_delayed key
 delayed_is (Unicast rd prefix) spelled = refl
 delayed_is (Mcast afi (routes.Intra rd originator)) spelled = refl
 delayed_is (Mcast afi (routes.Inter rd source_as)) spelled = refl

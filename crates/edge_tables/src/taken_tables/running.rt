@@ -9,7 +9,7 @@ ghost use Rattle.edge_tables.specs.taken_tables.Slots.{taken_in};
 use crate::rib_sync::Inbox;
 use crate::taken_tables::entry::TakenEntry;
 use bgp_messages::bgp_attributes::Key;
-use edge_routes::route_order::KeptKey;
+use edge_routes::route_order::{KeptKey, RouteType};
 use edge_routes::{LocalVrf, imported_selective};
 use mv_base::Addr;
 
@@ -38,15 +38,12 @@ fn is_over(since: u64, delay: u64, now: u64) -> bool
     since <= now && now - since >= delay
 }
 
-/// The type of S-PMSI A-D routes (RFC 6514 section 4.3).
-const SELECTIVE: u8 = 3;
-
 /// Whether a route of the key may have a delay: an S-PMSI A-D route alone.
 fn is_delayed(key: &KeptKey) -> bool
     ensures { result ≡ is_delayed key.now }
 {
-    key.is_spelled();
-    key.is_of_type(SELECTIVE)
+    key.show_spelled();
+    key.is_of_type(RouteType::Selective)
 }
 
 /// Whether the delay of the route may still be run.

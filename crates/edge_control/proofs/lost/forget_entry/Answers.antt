@@ -1,11 +1,20 @@
 use Rattle.std.proofs.Common.{◌<◌, length, Some, refl, sym, ap, ◌∙◌, arith}
 use Rattle.std.proofs.lemmas.List.{length-set}
+use Rattle.bgp_messages.specs.declared.bgp_attributes.key.Key.{Key}
 use Rattle.edge_defs.specs.Place.{addr_of, vrfs_from}
 use Rattle.edge_routes.specs.edge_home.Home.{as_own, place_of}
-use Rattle.edge_control.specs.Taking.{losing_row}
+use Rattle.edge_control.specs.Taking.{losing_row, tree_losing}
 use Rattle.edge_control.proofs.PeerKinds.{losing_is}
+use Rattle.edge_control.proofs.PeerLost.{rest_is, turned_same}
 use Rattle.edge_control.proofs.PeerTurns.{turned_end, turned_more}
 use Rattle.edge_control.proofs.lost.forget_entry.Goals as goal
+
+pub returns-then-not-is_of_flow-clause-each : goal.returns-then-not-is_of_flow-clause-each
+returns-then-not-is_of_flow-clause-each c = λ core.
+    sym (turned_same (losing_row c.args.home.now core c.args.peer (c.args.key.now, c.args.entry.now))
+    (λ own tree. rest_is (place_of c.args.home.now core) own c.args.peer c.args.key.now c.args.entry.now tree
+    (sym c.is_of_flow.ensures ∙ c.if-not-is_of_flow.true))
+    (vrfs_from c.args.home.now.me 0 c.args.home.now.scenario.vrfs) c.args.trees.now.items c.requires)
 
 pub loop-place-init : goal.loop-place-init
 loop-place-init c = record { long = refl; each = λ core. refl }
@@ -24,6 +33,7 @@ loop-place-preserved c =
           (c.loop-place.invariant.each core)
           (c.forget_row.ensures place (addr_of place.scenario c.args.peer) (Some c.args.entry.now)
           (record { of_edge = c.own_at-own.ensures.at core; address = refl }) (sym c.value.ensures)
+          ∙ ap (λ (key : Key). tree_losing place own c.args.peer key (Some c.args.entry.now) c.index_mut.result.now) c.key-lost.ensures.key
           ∙ losing_is place own c.args.peer c.args.key.now c.args.entry.now c.index_mut.result.now
           ∙ ap (losing_row c.args.home.now core c.args.peer (c.args.key.now, c.args.entry.now) own) c.index_mut.ensures.value);
     }

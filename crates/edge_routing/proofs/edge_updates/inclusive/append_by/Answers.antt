@@ -4,7 +4,7 @@ use Rattle.std.specs.FinMap as maps
 use Rattle.edge_defs.specs.Edge.{Taken}
 use Rattle.edge_routes.specs.Judged.{value_of}
 use Rattle.edge_routes.specs.edge_home.Home.{Home}
-use Rattle.edge_routing.specs.edge_updates.Told.{told_by}
+use Rattle.edge_routing.specs.edge_updates.Tunnels.{tunnels_by}
 use Rattle.edge_control.specs.edge_tables.taken_tables.Tables.{Tables}
 use Rattle.edge_routing.proofs.edge_updates.ListLemmas.{from_none, from_some}
 use Rattle.edge_routing.proofs.edge_updates.inclusive.append_by.Goals as goal
@@ -24,7 +24,7 @@ returns-in-Some c =
     c.taken.ensures c.in-Some.ensures.entries in
     on_ok_weaker c.append_of_route.result (λ e.
     e
-    ∙ ap (λ (home : Home). c.args.fecs.now.items ++ told_by home c.args.peer c.args.key.now (value_of c.args.value.now)) c.home-home.ensures.home
+    ∙ ap (λ (home : Home). c.args.fecs.now.items ++ tunnels_by home c.args.peer c.args.key.now (value_of c.args.value.now)) c.home-home.ensures.home
     ∙ ap (λ fecs. c.args.fecs.now.items ++ fecs) (sym (from_some c.args.control.now.home (maps.get c.args.control.now.peers c.args.peer) c.args.peer
     c.args.key.now (value_of c.args.value.now) c.in-Some.field-0 some)))
     c.append_of_route.ensures

@@ -1,8 +1,8 @@
 use Rattle.std.proofs.Common.{◌≡◌, ◌<◌, ◌++◌, length, refl, ap, sym, ◌∙◌, append_assoc, take, arith}
 use Rattle.edge_defs.specs.Imported.{imported_inclusive}
 use Rattle.edge_routes.specs.Judged.{value_of}
-use Rattle.edge_routing.specs.edge_updates.Told.{listed, route_of, told_to}
-use Rattle.edge_routing.proofs.edge_updates.ListLemmas.{told_more}
+use Rattle.edge_routing.specs.edge_updates.Tunnels.{listed, route_of, tunnels_to}
+use Rattle.edge_routing.proofs.edge_updates.ListLemmas.{tunnels_more}
 use Rattle.edge_routing.proofs.edge_updates.inclusive.append_imported.Goals as goal
 
 pub loop-own-preserved : goal.loop-own-preserved
@@ -15,8 +15,8 @@ loop-own-preserved c =
     ∙ ap (λ vrf. imported_inclusive vrf c.args.peer (c.args.key.now, route_of value)) c.vrf.ensures.vrf in
     c.in_ok-append.ensures
     ∙ ap (λ fecs. fecs ++ listed c.imported_inclusive.result) c.loop-own.invariant
-    ∙ append_assoc c.args.fecs.now.items (told_to c.args.peer c.args.key.now value (take c.loop-own.own-index c.args.vrfs.now))
+    ∙ append_assoc c.args.fecs.now.items (tunnels_to c.args.peer c.args.key.now value (take c.loop-own.own-index c.args.vrfs.now))
     (listed c.imported_inclusive.result)
     ∙ ap (λ fecs. c.args.fecs.now.items ++ fecs)
-    (ap (λ one. told_to c.args.peer c.args.key.now value (take c.loop-own.own-index c.args.vrfs.now) ++ listed one) told
-    ∙ sym (told_more c.args.peer c.args.key.now value c.args.vrfs.now c.loop-own.own-index own lt c.own-item.is))
+    (ap (λ one. tunnels_to c.args.peer c.args.key.now value (take c.loop-own.own-index c.args.vrfs.now) ++ listed one) told
+    ∙ sym (tunnels_more c.args.peer c.args.key.now value c.args.vrfs.now c.loop-own.own-index own lt c.own-item.is))

@@ -3,7 +3,7 @@ use Rattle.std.proofs.lemmas.Result.{on_ok_weaker}
 use Rattle.edge_routes.specs.edge_home.Home.{Home}
 use Rattle.edge_control.specs.edge_tables.taken_tables.Routes.{handed}
 use Rattle.edge_control.specs.edge_tables.taken_tables.Tables.{reach, route_at}
-use Rattle.edge_routing.specs.edge_updates.Told.{told_at}
+use Rattle.edge_routing.specs.edge_updates.Tunnels.{tunnels_at}
 use Rattle.edge_routing.proofs.edge_updates.TakenLemmas.{change_taken}
 use Rattle.edge_routing.proofs.edge_updates.updates.announce_again.Goals as goal
 
@@ -13,8 +13,8 @@ returns-clause-taken c =
     let new = c.announce.new.self in
     let before = c.args.fecs.now.items in
     let key = c.args.key.now in
-    let first = told_at old.home c.args.peer key (route_at old.peers c.args.peer key) in
-    let next : Home → _ = λ home. told_at home c.args.peer key (route_at new.peers c.args.peer key) in
+    let first = tunnels_at old.home c.args.peer key (route_at old.peers c.args.peer key) in
+    let next : Home → _ = λ home. tunnels_at home c.args.peer key (route_at new.peers c.args.peer key) in
     on_ok_weaker c.append_at-2.result (λ e.
     change_taken c.args.now c.args.peer (reach key (handed c.args.value.now)) old new before c.append_at-2.new.fecs.items c.announce.ensures.home
     c.announce.ensures.wants

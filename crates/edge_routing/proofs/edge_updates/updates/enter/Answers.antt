@@ -6,7 +6,7 @@ use Rattle.edge_defs.specs.Keys.{Value}
 use Rattle.edge_routes.specs.Judged.{value_of}
 use Rattle.edge_control.specs.edge_tables.taken_tables.Routes.{handed}
 use Rattle.edge_control.specs.edge_tables.taken_tables.Tables.{route_at}
-use Rattle.edge_routing.specs.edge_updates.Told.{told_from}
+use Rattle.edge_routing.specs.edge_updates.Tunnels.{tunnels_from}
 use Rattle.edge_routing.proofs.edge_updates.TakenLemmas.{entered_taken, none_there, stays_taken}
 use Rattle.edge_routing.proofs.edge_updates.updates.enter.Goals as goal
 
@@ -19,7 +19,7 @@ pub returns-clause-taken : goal.returns-clause-taken
 returns-clause-taken c = λ yes.
     let before = c.args.fecs.now.items in
     let next : Key → Value → List Fec =
-    λ key value. told_from c.enter.new.self.home (maps.get c.enter.new.self.peers c.args.peer) c.args.peer key value in
+    λ key value. tunnels_from c.enter.new.self.home (maps.get c.enter.new.self.peers c.args.peer) c.args.peer key value in
     let none : route_at c.args.control.now.peers c.args.peer c.args.key.now ≡ None =
     none_there (route_at c.args.control.now.peers c.args.peer c.args.key.now) (sym c.in_ok-enter.ensures.fresh ∙ c.if-not-branch.false) in
     entered_taken c.args.now c.args.peer c.args.key.now (handed c.args.value.now) c.args.control.now c.enter.new.self before

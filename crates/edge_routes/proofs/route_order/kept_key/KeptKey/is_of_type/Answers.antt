@@ -8,5 +8,5 @@ use Rattle.edge_routes.proofs.route_order.kept_key.KeptKey.is_of_type.Goals as g
 pub returns-then-self-gt2 : goal.returns-then-self-gt2
 returns-then-self-gt2 c =
     let fronted = subst (λ (key : Key). IsFronted key c.self.inside.front) c.self.view_is c.self.invariant in
-    ap (λ (number : ℕ). nat_eq (slice_index c.self.inside.front 1 / 72057594037927936) number) c.from.ensures
-    ∙ type_is c.args.self.now c.self.inside.front c.args.kind fronted c.if-self-gt2.true
+    ap (λ (number : ℕ). nat_eq (slice_index c.self.inside.front 1 / 72057594037927936) number) (c.from.ensures ∙ c.code.ensures)
+    ∙ type_is c.args.self.now c.self.inside.front c.args.own fronted c.if-self-gt2.true

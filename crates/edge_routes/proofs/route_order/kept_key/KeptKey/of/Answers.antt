@@ -6,17 +6,17 @@ use Rattle.edge_routes.proofs.route_order.KeptLemmas.{whole_back}
 use Rattle.edge_routes.proofs.route_order.kept_key.KeptKey.of.Goals as goal
 
 -- the numbers spell the key
-back : (c : goal.Then-is_whole) → key_by c.front_of-is_whole.result.0 ≡ c.args.key.now
+back : (c : goal.Then-is_whole) → key_by c.front_of-is_whole.result.numbers ≡ c.args.key.now
 back c =
-    let told = c.front_of-is_whole.ensures in
-    ap key_by told.front ∙ whole_back c.args.key.now c.requires told.octets (told.whole.0 c.if-is_whole.true)
+    let is = c.front_of-is_whole.ensures in
+    ap key_by is.front ∙ whole_back c.args.key.now c.requires is.octets (is.whole.0 c.if-is_whole.true)
 
 pub invariant_of-result : goal.invariant_of-result
 invariant_of-result c =
-    let told = c.front_of-is_whole.ensures in
-    let fronted : IsFronted c.args.key.now c.front_of-is_whole.result.0 =
-    record { writable = c.requires; octets = told.octets; front = told.front } in
-    subst (λ (key : Key). IsFronted key c.front_of-is_whole.result.0) (sym (back c)) fronted
+    let is = c.front_of-is_whole.ensures in
+    let fronted : IsFronted c.args.key.now c.front_of-is_whole.result.numbers =
+    record { writable = c.requires; octets = is.octets; front = is.front } in
+    subst (λ (key : Key). IsFronted key c.front_of-is_whole.result.numbers) (sym (back c)) fronted
 
 pub returns-then-is_whole : goal.returns-then-is_whole
 returns-then-is_whole c = back c

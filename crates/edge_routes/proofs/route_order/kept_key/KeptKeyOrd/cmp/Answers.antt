@@ -11,7 +11,7 @@ pub returns-then-is_eq : goal.returns-then-is_eq
 returns-then-is_eq c =
     let one = tied_are_one c.self.inside.front c.other.inside.front c.compare_fronts-order.result c.compare_fronts-order.ensures
     (sym c.is_eq.ensures ∙ c.if-is_eq.true) in
-    let other = ap (λ (front : List ℕ). kept_key front c.other.inside.whole) one ∙ c.other.view_is in
+    let other = ap (λ (front : List ℕ). kept_key front c.other.inside.beside) one ∙ c.other.view_is in
     c.compare_tied.ensures ∙ (λ i. key_cmp (c.self.view_is i) (other i))
 
 pub returns-else-is_eq : goal.returns-else-is_eq

@@ -23,24 +23,24 @@ abbrev pub route_of : Value → TakenRoute
 route_of value = record { value = value; since = 0; run = false }
 
 -- the tunnel of the route of that key and value, for each of the VRFs that import it from the peer of that address
-abbrev pub told_to : Addr → Key → Value → List homes.OwnVrf → List Fec
-told_to peer key value vrfs = found_in (λ (own : homes.OwnVrf). imported_inclusive own.local.vrf peer (key, route_of value)) vrfs
+abbrev pub tunnels_to : Addr → Key → Value → List homes.OwnVrf → List Fec
+tunnels_to peer key value vrfs = found_in (λ (own : homes.OwnVrf). imported_inclusive own.local.vrf peer (key, route_of value)) vrfs
 
 -- and for each VRF of the edge
-abbrev pub told_by : Home → NodeId → Key → Value → List Fec
-told_by home peer key value =
+abbrev pub tunnels_by : Home → NodeId → Key → Value → List Fec
+tunnels_by home peer key value =
     found_in (λ (own : OwnVrf). imported_inclusive own.vrf (addr_of home.scenario peer) (key, route_of value)) (vrfs_of home)
 
 -- where there is a route at the key
-abbrev pub told_at : Home → NodeId → Key → Option TakenRoute → List Fec
-told_at home peer key None = []
-told_at home peer key (Some taken) = told_by home peer key taken.value
+abbrev pub tunnels_at : Home → NodeId → Key → Option TakenRoute → List Fec
+tunnels_at home peer key None = []
+tunnels_at home peer key (Some taken) = tunnels_by home peer key taken.value
 
 -- by all of these routes
-abbrev pub told_by_all : Home → NodeId → List (Key × TakenRoute) → List Fec
-told_by_all home peer entries = flat_map (λ (entry : Key × TakenRoute). told_by home peer entry.0 entry.1.value) entries
+abbrev pub tunnels_by_all : Home → NodeId → List (Key × TakenRoute) → List Fec
+tunnels_by_all home peer entries = flat_map (λ (entry : Key × TakenRoute). tunnels_by home peer entry.0 entry.1.value) entries
 
 -- and where routes are taken from the peer
-abbrev pub told_from : Home → Option Taken → NodeId → Key → Value → List Fec
-told_from home None peer key value = []
-told_from home (Some taken) peer key value = told_by home peer key value
+abbrev pub tunnels_from : Home → Option Taken → NodeId → Key → Value → List Fec
+tunnels_from home None peer key value = []
+tunnels_from home (Some taken) peer key value = tunnels_by home peer key value

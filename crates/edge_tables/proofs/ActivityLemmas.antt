@@ -37,9 +37,9 @@ module _ {A : Type 0} (P : A → Type 0) where
 
 -- ---- what is known
 
-pub told_all : (activity : Activity) (slots : List Slot) → (activity ≡ Put) ⊎ (activity ≡ Silent) → HasActivity activity slots → All IsPutAt slots
-told_all activity slots (inl is) known = subst (λ (r : Activity). HasActivity r slots) is known
-told_all activity slots (inr is) known = (subst (λ (r : Activity). HasActivity r slots) is known).0
+pub sent_all : (activity : Activity) (slots : List Slot) → (activity ≡ Put) ⊎ (activity ≡ Silent) → HasActivity activity slots → All IsPutAt slots
+sent_all activity slots (inl is) known = subst (λ (r : Activity). HasActivity r slots) is known
+sent_all activity slots (inr is) known = (subst (λ (r : Activity). HasActivity r slots) is known).0
 
 pub silent_all : (activity : Activity) (slots : List Slot) → activity ≡ Silent → HasActivity activity slots → All IsSilentAt slots
 silent_all activity slots is known = (subst (λ (r : Activity). HasActivity r slots) is known).1
@@ -60,11 +60,11 @@ each_same Is P is slots tables view all =
 put_already : (table : PeerTable) → IsPut table → table ≡ put_after table
 put_already table is =
     λ i. record table {
-      told = sym is.told i;
+      told = sym is.sent i;
       waiting = sym (ap (λ list. table.waiting ++ texts list) is.none ∙ append-nil table.waiting) i;
     }
 
--- where the peers were told all, nothing is to be put
+-- where the peers were sent all, nothing is to be put
 pub all_put : (slots : List Slot) (tables : Tables) → tables_of slots ≡ tables → All IsPutAt slots
     → EachPeer (λ (old new : PeerTable). new ≡ put_after old) tables tables
 all_put slots tables view all =

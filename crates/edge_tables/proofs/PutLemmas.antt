@@ -52,21 +52,21 @@ all_put list old out left way none =
 
 -- ---- table by table
 
-told_after : (rib : RibOut key_cmp Value) (b : Bool) (out : List ℕ) → rib.up ≡ b
-    → let new : PeerTable = record { up = rib.up; set = rib.set; told = if b then rib.set else rib.told; waiting = out } in
-    of_rib (if b then record rib { told = rib.set } else rib) out ≡ new
-told_after rib true out e = refl
-told_after rib false out e = refl
+sent_after : (rib : RibOut key_cmp Value) (b : Bool) (out : List ℕ) → rib.up ≡ b
+    → let new : PeerTable = record { up = rib.up; set = rib.set; told = if b then rib.set else rib.sent; waiting = out } in
+    of_rib (if b then record rib { sent = rib.set } else rib) out ≡ new
+sent_after rib true out e = refl
+sent_after rib false out e = refl
 
 pub put_part : (rib after : RibOut key_cmp Value) (waiting out : List ℕ) (list : List (Change Key Value)) → list ≡ ribs.pending same_value rib
     → after ≡ flushed rib
     → IsFront list waiting out → IsPutPart (of_rib rib waiting) (of_rib after out)
-put_part rib after waiting out list is told front =
+put_part rib after waiting out list is sent front =
     inr (
       out,
       subst (λ (l : List (Change Key Value)). IsFront l waiting out) is front,
-      ap (λ (r : RibOut key_cmp Value). of_rib r out) told
-          ∙ told_after rib rib.up out refl,
+      ap (λ (r : RibOut key_cmp Value). of_rib r out) sent
+          ∙ sent_after rib rib.up out refl,
     )
 
 pub part_of_all : (old new : PeerTable) → new ≡ put_after old → IsPutPart old new

@@ -12,7 +12,7 @@ use Rattle.edge_tables.specs.declared.tables.Activity.TheVariants.{Unknown, Put,
 
 -- what is kept, by the table and the octets
 abbrev pub of_rib : RibOut key_cmp Value → List ℕ → PeerTable
-of_rib rib waiting = record { up = rib.up; set = rib.set; told = rib.told; waiting = waiting }
+of_rib rib waiting = record { up = rib.up; set = rib.set; told = rib.sent; waiting = waiting }
 
 abbrev pub peer_table : Slot → PeerTable
 peer_table slot = of_rib (rib_out key_cmp slot.table) slot.waiting
@@ -28,10 +28,10 @@ tables_of slots = from_entries (map (λ slot. (slot.peer, peer_table slot)) slot
 abbrev pub Becomes : (PeerTable → PeerTable → Type 0) → Slot → Slot → Type 0
 Becomes Is old new = (new.peer ≡ old.peer) × Is (peer_table old) (peer_table new)
 
--- the peer was told all that it is to have
+-- the peer was sent all that it is to have
 pub record IsPut (table : PeerTable) : Type 0 where
   pub none : pending table ≡ []
-  pub told : (if table.up then table.set else table.told) ≡ table.told
+  pub sent : (if table.up then table.set else table.told) ≡ table.told
 
 abbrev pub IsPutAt : Slot → Type 0
 IsPutAt slot = IsPut (peer_table slot)

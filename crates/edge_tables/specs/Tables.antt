@@ -1,4 +1,4 @@
--- What an edge has told each of its peers and is to tell it (RFC 4271 sections 3.2 and 9.1.3).
+-- What an edge has sent each of its peers and is to send it (RFC 4271 sections 3.2 and 9.1.3).
 use Rattle.std.specs.Prelude.{◌≡◌, ◌≢◌, ◌++◌, ◌⊎◌, ⊤, ℕ, Bool, true, false, List, [], take, is_some, refl}
 use Rattle.std.specs.Prelude.{Option, None, Some, if◌then◌else◌}
 use Rattle.std.specs.List.{flat_map}
@@ -28,7 +28,7 @@ use Rattle.edge_defs.specs.Place.{EdgePlace}
 
 -- ---- tables
 
--- what is kept towards a peer: whether the end of the session is up, the routes that the peer is to have, those that it was told, and
+-- what is kept towards a peer: whether the end of the session is up, the routes that the peer is to have, those that it was sent, and
 -- the octets that wait for it
 pub record PeerTable : Type 0 where
   pub up : Bool
@@ -50,14 +50,14 @@ with_route key value table = record table { set = insert table.set key value }
 abbrev pub without_route : Key → PeerTable → PeerTable
 without_route key table = record table { set = remove table.set key }
 
--- the end is up, with nothing told; and it is down, with nothing told and nothing waiting
+-- the end is up, with nothing sent; and it is down, with nothing sent and nothing waiting
 abbrev pub raised : PeerTable → PeerTable
 raised table = record table { up = true; told = empty }
 
 abbrev pub downed : PeerTable → PeerTable
 downed table = record table { up = false; told = empty; waiting = [] }
 
--- the changes that the peer is still to be told: none while the end is down
+-- the changes that the peer is still to be sent: none while the end is down
 abbrev pub pending : PeerTable → List (Change Key Value)
 pending table = if table.up then changes same_value table.told table.set else []
 
@@ -65,7 +65,7 @@ pending table = if table.up then changes same_value table.told table.set else []
 abbrev pub texts : List (Change Key Value) → List ℕ
 texts list = flat_map (λ change. written (as_update change)) list
 
--- once the peer is told them
+-- once the peer is sent them
 abbrev pub put_after : PeerTable → PeerTable
 put_after table = record table {
   told = if table.up then table.set else table.told;
@@ -76,7 +76,7 @@ put_after table = record table {
 abbrev pub IsFront : List (Change Key Value) → List ℕ → List ℕ → Type 0
 IsFront list old new = (count : ℕ) × (new ≡ old ++ texts (take count list))
 
--- nothing was put, or what was pending is told, with the messages of some first ones of these changes
+-- nothing was put, or what was pending is sent, with the messages of some first ones of these changes
 abbrev pub IsPutPart : PeerTable → PeerTable → Type 0
 IsPutPart old new =
     (new ≡ old) ⊎ ((octets : List ℕ) × IsFront (pending old) old.waiting octets × (new ≡ record (put_after old) { waiting = octets }))
@@ -99,7 +99,7 @@ abbrev pub AtPeer : NodeId → (PeerTable → PeerTable → Type 0) → Tables �
 AtPeer peer Is old new =
     Both Is (get old peer) (get new peer) × ((other : NodeId) → other ≢ peer → get new other ≡ get old other)
 
--- ---- what is told of a peer
+-- ---- what is sent of a peer
 
 abbrev pub up_of : Option PeerTable → Bool
 up_of None = false
@@ -121,7 +121,7 @@ advert_of key value = record { key = key; next_hop = value.next_hop; comms = val
 
 -- ---- by the data of the edge
 
--- The table is what the edge holds by the new data, and what was told is that by the old data; while the end is down nothing is.
+-- The table is what the edge holds by the new data, and what was sent is that by the old data; while the end is down nothing is.
 pub record IsBetween (place : EdgePlace) (old new : Control) (peer : NodeId) (table : PeerTable) : Type 0 where
   pub up : table.up ≡ is_some (get new.peers peer)
   pub set : table.set ≡ held_for place new peer

@@ -6,8 +6,8 @@ ghost use Rattle.edge_defs.specs.Held.{put_to, told};
 ghost use Rattle.edge_defs.specs.Place.{EdgePlace};
 ghost use Rattle.edge_tables.specs.Tables.{IsBetween, PeerTable, put_after, texts};
 
-/// Where a peer's table is what the edge holds for it by its new data, and the peer was told what it was to have by the old
-/// data, a put appends the changes that the edge puts between both, and the peer was told what it is to have by the new data.
+/// Where a peer's table is what the edge holds for it by its new data, and the peer was sent what it was to have by the old
+/// data, a put appends the changes that the edge puts between both, and the peer was sent what it is to have by the new data.
 pub fn puts_are_those_of_the_edge()
     ensures waiting { (place : EdgePlace) (old new : Control) (peer : NodeId) (table : PeerTable) →
         IsBetween place old new peer table →

@@ -65,7 +65,7 @@ impl Slot {
         self.table.replay_all()
     }
 
-    /// Whether the peer was told all that it is to have.
+    /// Whether the peer was sent all that it is to have.
     #[tactic(auto, using(edge_defs::proofs::KeyLemmas::key_exact, edge_defs::proofs::KeyLemmas::value_exact))]
     pub(crate) fn is_put(&self) -> bool
         ensures { result ≡ true → IsPutAt self.now }

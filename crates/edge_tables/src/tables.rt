@@ -4,7 +4,7 @@ ghost use Rattle.std.specs.List.{All, AllZip};
 ghost use Rattle.std.specs.FinMap.{from_entries};
 ghost use Rattle.edge_tables.specs.Tables.{AtPeer, EachPeer, IsPutPart, downed, fresh, is_up_at, put_after, raised, waiting_at};
 ghost use Rattle.edge_tables.specs.Tables.{with_route, without_route};
-ghost use Rattle.edge_tables.specs.Slots.{Becomes, IsPutAt, HasActivity, IsSilentAt, is_of, peer_table};
+ghost use Rattle.edge_tables.specs.Slots.{Becomes, IsPutAt, HasActivity, IsSilentAt, is_of};
 
 use crate::announced::Announced;
 use crate::slot::{SharedKey, SharedValue, Slot};
@@ -25,7 +25,7 @@ enum Activity {
     Silent,
 }
 
-/// The tables that an edge holds towards its peers, whether the end of each session is up, what each peer was told, and the
+/// The tables that an edge holds towards its peers, whether the end of each session is up, what each peer was sent, and the
 /// octets that wait for it. Contracts see them as a finite map from peers. A call for a peer that is none of these changes
 /// nothing.
 #[derive(Drop)]
@@ -211,7 +211,7 @@ impl EdgeTables {
         }
     }
 
-    /// The end of the session is up, and the peer was told nothing: each of its routes is pending.
+    /// The end of the session is up, and the peer was sent nothing: each of its routes is pending.
     pub fn raise(&mut self, peer: NodeId) -> Result<(), NoMemory>
         ensures raised { OnOk result (AtPeer peer (λ old new. new ≡ raised old) self.old self.new) }
         ensures unchanged { OnErr result (self.new ≡ self.old) }
@@ -248,11 +248,11 @@ impl EdgeTables {
         }
     }
 
-    /// Puts to each peer whose end is up the changes since it was told last, after what waits: withdrawals first, each kind in
+    /// Puts to each peer whose end is up the changes since it was sent last, after what waits: withdrawals first, each kind in
     /// the order of keys, each change in an UPDATE message of its own (RFC 4271 section 4.3). It costs what is pending.
     pub fn put(&mut self) -> Result<(), NoMemory>
         ensures put { OnOk result (EachPeer (λ old new. new ≡ put_after old) self.old self.new) }
-        // Where memory runs out each peer is as before, or was told all with some first messages waiting.
+        // Where memory runs out each peer is as before, or was sent all with some first messages waiting.
         ensures partly { OnErr result (EachPeer IsPutPart self.old self.new) }
     {
         match self.activity {

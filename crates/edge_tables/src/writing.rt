@@ -1,8 +1,7 @@
 //! The UPDATE messages of changes.
-ghost use Rattle.std.specs.Prelude.{◌≡◌, ◌≤◌, ◌++◌, length, take, IfOk, OnOk, OnErr};
+ghost use Rattle.std.specs.Prelude.{◌≡◌, ◌≤◌, ◌++◌, length, IfOk, OnOk, OnErr};
 ghost use Rattle.bgp_messages.specs.declared.bgp_attributes.update.Change.TheVariants as updates;
 ghost use Rattle.bgp_messages.specs.bgp_update.Written.{IsWritable, IsWritableAdvert, written};
-ghost use Rattle.mv_base.specs.declared.table_defs.change.Change.TheVariants as changes;
 ghost use Rattle.edge_defs.specs.Messages.{as_update};
 ghost use Rattle.edge_tables.specs.Tables.{IsFront, advert_of, texts};
 

@@ -16,7 +16,7 @@ use Rattle.mv_base.specs.table_defs.Changes.{applied, key_of, value_of}
 use Rattle.table_laws.proofs.TableLemmas.{get-applied}
 use Rattle.edge_tables.specs.rib_sync.Ribs.{RibOut, Rows, rows_of, rib_out, rib_in, flushed}
 use Rattle.edge_tables.specs.declared.rib_sync.kept.Kept.{Kept}
-use Rattle.edge_tables.specs.rib_sync.Kept.{set_at, told_by, told_if, told_at, change_to, overlaid, told_table, kept_rib}
+use Rattle.edge_tables.specs.rib_sync.Kept.{set_at, sent_by, sent_if, sent_at, change_to, overlaid, sent_table, kept_rib}
 use Rattle.edge_tables.specs.declared.rib_sync.kept.News.{News}
 use Rattle.edge_tables.proofs.rib_sync.ListLemmas.{get-tree, get-ordered, from_sorted-entries, sorted}
 
@@ -30,11 +30,11 @@ says_head : {V E : Type 0} (says : E → Option V) (b : Bool) (entry : E) (rest 
 says_head says true entry rest old = refl
 says_head says false entry rest old = refl
 
-told_cases : {V : Type 0} (old : Option V) (new : Option (News V)) (set : Option V)
-    → says_or (λ v. Some v) old (says_or (λ n. n.told) new set) ≡ told_by old new set
-told_cases (Some value) new set = refl
-told_cases None (Some news) set = refl
-told_cases None None set = refl
+sent_cases : {V : Type 0} (old : Option V) (new : Option (News V)) (set : Option V)
+    → says_or (λ v. Some v) old (says_or (λ n. n.sent) new set) ≡ sent_by old new set
+sent_cases (Some value) new set = refl
+sent_cases None (Some news) set = refl
+sent_cases None None set = refl
 
 module _ {K V : Type 0} (cmp : K → K → Ordering) (total : IsTotalOrder cmp) where
   get-changed : (old : FinMap cmp V) (key : K) (value : Option V) (q : K)
@@ -50,22 +50,22 @@ module _ {K V : Type 0} (cmp : K → K → Ordering) (total : IsTotalOrder cmp) 
       ∙ ap (cond (eq_by_cmp cmp q e.0) (says e.1)) (get-overlaid says table es q)
       ∙ says_head says (eq_by_cmp cmp q e.0) e.1 (lookup (is_at (cmp q)) es) (get table q)
 
-  abbrev told_when : Kept K V → Bool → FinMap cmp V
-  told_when kept up =
-      cond up (overlaid (λ value. Some value) (overlaid (λ n. n.told) (from_entries kept.set.entries) kept.news.entries) kept.gone.entries) empty
+  abbrev sent_when : Kept K V → Bool → FinMap cmp V
+  sent_when kept up =
+      cond up (overlaid (λ value. Some value) (overlaid (λ n. n.sent) (from_entries kept.set.entries) kept.news.entries) kept.gone.entries) empty
 
-  get-told_when : (kept : Kept K V) (up : Bool) (q : K)
-      → get (told_when kept up) q ≡ told_if up (tree.get cmp kept.gone q) (tree.get cmp kept.news q) (tree.get cmp kept.set q)
-  get-told_when kept true q =
-      get-overlaid (λ value. Some value) (overlaid (λ n. n.told) (from_entries kept.set.entries) kept.news.entries) kept.gone.entries q
+  get-sent_when : (kept : Kept K V) (up : Bool) (q : K)
+      → get (sent_when kept up) q ≡ sent_if up (tree.get cmp kept.gone q) (tree.get cmp kept.news q) (tree.get cmp kept.set q)
+  get-sent_when kept true q =
+      get-overlaid (λ value. Some value) (overlaid (λ n. n.sent) (from_entries kept.set.entries) kept.news.entries) kept.gone.entries q
       ∙ ap (says_or (λ value. Some value) (tree.get cmp kept.gone q))
-      (get-overlaid (λ n. n.told) (from_entries kept.set.entries) kept.news.entries q
-      ∙ ap (says_or (λ n. n.told) (tree.get cmp kept.news q)) (get-tree cmp total kept.set q))
-      ∙ told_cases (tree.get cmp kept.gone q) (tree.get cmp kept.news q) (tree.get cmp kept.set q)
-  get-told_when kept false q = get-empty cmp q
+      (get-overlaid (λ n. n.sent) (from_entries kept.set.entries) kept.news.entries q
+      ∙ ap (says_or (λ n. n.sent) (tree.get cmp kept.news q)) (get-tree cmp total kept.set q))
+      ∙ sent_cases (tree.get cmp kept.gone q) (tree.get cmp kept.news q) (tree.get cmp kept.set q)
+  get-sent_when kept false q = get-empty cmp q
 
-  pub get-told : (kept : Kept K V) (q : K) → get (told_table cmp kept) q ≡ told_at cmp kept q
-  get-told kept q = get-told_when kept kept.up q
+  pub get-sent : (kept : Kept K V) (q : K) → get (sent_table cmp kept) q ≡ sent_at cmp kept q
+  get-sent kept q = get-sent_when kept kept.up q
 
   pub get-set : (kept : Kept K V) (q : K) → get (kept_rib cmp kept).set q ≡ set_at cmp kept q
   get-set kept q = get-tree cmp total kept.set q
@@ -82,14 +82,14 @@ module _ {K V : Type 0} (cmp : K → K → Ordering) (total : IsTotalOrder cmp) 
       ∙ sym (get-applied total table change q)
 
   pub same_rib : IsAntisymmetric cmp → (a b : RibOut cmp V) → a.up ≡ b.up → ((q : K) → get a.set q ≡ get b.set q)
-      → ((q : K) → get a.told q ≡ get b.told q) → a ≡ b
-  same_rib exact a b up set told =
+      → ((q : K) → get a.sent q ≡ get b.sent q) → a ≡ b
+  same_rib exact a b up set sent =
       let sets = same_map total exact a.set b.set set in
-      let tolds = same_map total exact a.told b.told told in
-      λ i. record { up = up i; set = sets i; told = tolds i }
+      let sents = same_map total exact a.sent b.sent sent in
+      λ i. record { up = up i; set = sets i; sent = sents i }
 
   seen : (rib : RibOut cmp V) → rib_out cmp (rows_of rib) ≡ rib
-  seen rib = λ i. record { up = rib.up; set = from_sorted-entries cmp rib.set i; told = from_sorted-entries cmp rib.told i }
+  seen rib = λ i. record { up = rib.up; set = from_sorted-entries cmp rib.set i; sent = from_sorted-entries cmp rib.sent i }
 
   pub seen_as : (rib : RibOut cmp V) (rows : Rows K V) → rows_of rib ≡ rows → rib_out cmp rows ≡ rib
   seen_as rib rows is = ap (rib_out cmp) (sym is) ∙ seen rib
@@ -97,75 +97,75 @@ module _ {K V : Type 0} (cmp : K → K → Ordering) (total : IsTotalOrder cmp) 
   -- ---- the calls of an outbox
 
   pub began : (kept : Kept K V) → kept.up ≡ false → kept.set.entries ≡ []
-      → rib_out cmp (rows_of (kept_rib cmp kept)) ≡ record { up = false; set = empty; told = empty }
-  began kept up set = seen (kept_rib cmp kept) ∙ (λ i. record { up = up i; set = from_entries (set i); told = told_when kept (up i) })
+      → rib_out cmp (rows_of (kept_rib cmp kept)) ≡ record { up = false; set = empty; sent = empty }
+  began kept up set = seen (kept_rib cmp kept) ∙ (λ i. record { up = up i; set = from_entries (set i); sent = sent_when kept (up i) })
 
   pub changed : IsAntisymmetric cmp → (old : Rows K V) (from to : Kept K V) (change : Change K V) → rows_of (kept_rib cmp from) ≡ old
-      → to.up ≡ from.up → ((q : K) → told_at cmp to q ≡ told_at cmp from q)
+      → to.up ≡ from.up → ((q : K) → sent_at cmp to q ≡ sent_at cmp from q)
       → ((q : K) → set_at cmp to q ≡ cond (eq_by_cmp cmp (key_of change) q) (value_of change) (set_at cmp from q))
       → rib_out cmp (rows_of (kept_rib cmp to)) ≡ record (rib_out cmp old) { set = applied (rib_out cmp old).set change }
-  changed exact old from to change is up told set =
+  changed exact old from to change is up sent set =
       seen (kept_rib cmp to)
       ∙ same_rib exact (kept_rib cmp to) (record (kept_rib cmp from) { set = applied (kept_rib cmp from).set change }) up
       (λ q. get-set to q ∙ get-change from.set to.set (kept_rib cmp from).set change set (get-set from) q)
-      (λ q. get-told to q ∙ told q ∙ sym (get-told from q))
+      (λ q. get-sent to q ∙ sent q ∙ sym (get-sent from q))
       ∙ ap (λ (rib : RibOut cmp V). record rib { set = applied rib.set change }) (sym (seen_as (kept_rib cmp from) old is))
 
   pub unchanged : IsAntisymmetric cmp → (old : Rows K V) (from to : Kept K V) → rows_of (kept_rib cmp from) ≡ old
-      → to.up ≡ from.up → ((q : K) → told_at cmp to q ≡ told_at cmp from q) → ((q : K) → set_at cmp to q ≡ set_at cmp from q)
+      → to.up ≡ from.up → ((q : K) → sent_at cmp to q ≡ sent_at cmp from q) → ((q : K) → set_at cmp to q ≡ set_at cmp from q)
       → rows_of (kept_rib cmp to) ≡ old
-  unchanged exact old from to is up told set =
+  unchanged exact old from to is up sent set =
       ap rows_of (same_rib exact (kept_rib cmp to) (kept_rib cmp from) up (λ q. get-set to q ∙ set q ∙ sym (get-set from q))
-      (λ q. get-told to q ∙ told q ∙ sym (get-told from q)))
+      (λ q. get-sent to q ∙ sent q ∙ sym (get-sent from q)))
       ∙ is
 
   pub replayed : IsAntisymmetric cmp → (old : Rows K V) (from to : Kept K V) → rows_of (kept_rib cmp from) ≡ old
-      → to.up ≡ true → ((q : K) → told_at cmp to q ≡ None) → ((q : K) → set_at cmp to q ≡ set_at cmp from q)
-      → rib_out cmp (rows_of (kept_rib cmp to)) ≡ record (rib_out cmp old) { up = true; told = empty }
-  replayed exact old from to is up told set =
+      → to.up ≡ true → ((q : K) → sent_at cmp to q ≡ None) → ((q : K) → set_at cmp to q ≡ set_at cmp from q)
+      → rib_out cmp (rows_of (kept_rib cmp to)) ≡ record (rib_out cmp old) { up = true; sent = empty }
+  replayed exact old from to is up sent set =
       seen (kept_rib cmp to)
-      ∙ same_rib exact (kept_rib cmp to) (record (kept_rib cmp from) { up = true; told = empty }) up
+      ∙ same_rib exact (kept_rib cmp to) (record (kept_rib cmp from) { up = true; sent = empty }) up
       (λ q. get-set to q ∙ set q ∙ sym (get-set from q))
-      (λ q. get-told to q ∙ told q ∙ sym (get-empty cmp q))
-      ∙ ap (λ (rib : RibOut cmp V). record rib { up = true; told = empty }) (sym (seen_as (kept_rib cmp from) old is))
+      (λ q. get-sent to q ∙ sent q ∙ sym (get-empty cmp q))
+      ∙ ap (λ (rib : RibOut cmp V). record rib { up = true; sent = empty }) (sym (seen_as (kept_rib cmp from) old is))
 
   pub downed : (old : Rows K V) (from to : Kept K V) → rows_of (kept_rib cmp from) ≡ old → to.up ≡ false → to.set ≡ from.set
-      → rib_out cmp (rows_of (kept_rib cmp to)) ≡ record (rib_out cmp old) { up = false; told = empty }
+      → rib_out cmp (rows_of (kept_rib cmp to)) ≡ record (rib_out cmp old) { up = false; sent = empty }
   downed old from to is up set =
-      let now : kept_rib cmp to ≡ record (kept_rib cmp from) { up = false; told = empty } =
-      λ i. record { up = up i; set = from_entries (set i).entries; told = told_when to (up i) } in
+      let now : kept_rib cmp to ≡ record (kept_rib cmp from) { up = false; sent = empty } =
+      λ i. record { up = up i; set = from_entries (set i).entries; sent = sent_when to (up i) } in
       seen (kept_rib cmp to) ∙ now
-      ∙ ap (λ (rib : RibOut cmp V). record rib { up = false; told = empty }) (sym (seen_as (kept_rib cmp from) old is))
+      ∙ ap (λ (rib : RibOut cmp V). record rib { up = false; sent = empty }) (sym (seen_as (kept_rib cmp from) old is))
 
-  told_up : IsAntisymmetric cmp → (from to : Kept K V) (up : Bool) → from.up ≡ up → to.up ≡ from.up → to.set ≡ from.set
-      → (from.up ≡ true → (q : K) → told_at cmp to q ≡ set_at cmp from q) → kept_rib cmp to ≡ flushed (kept_rib cmp from)
-  told_up exact from to true is up set told =
-      same_rib exact (kept_rib cmp to) (record (kept_rib cmp from) { told = (kept_rib cmp from).set }) up
+  sent_up : IsAntisymmetric cmp → (from to : Kept K V) (up : Bool) → from.up ≡ up → to.up ≡ from.up → to.set ≡ from.set
+      → (from.up ≡ true → (q : K) → sent_at cmp to q ≡ set_at cmp from q) → kept_rib cmp to ≡ flushed (kept_rib cmp from)
+  sent_up exact from to true is up set sent =
+      same_rib exact (kept_rib cmp to) (record (kept_rib cmp from) { sent = (kept_rib cmp from).set }) up
       (λ q. ap (λ (m : BTreeMap K V). get (from_entries {R = cmp} m.entries) q) set)
-      (λ q. get-told to q ∙ told is q ∙ sym (get-set from q))
-      ∙ ap (λ b. cond b (record (kept_rib cmp from) { told = (kept_rib cmp from).set }) (kept_rib cmp from)) (sym is)
-  told_up exact from to false is up set told =
+      (λ q. get-sent to q ∙ sent is q ∙ sym (get-set from q))
+      ∙ ap (λ b. cond b (record (kept_rib cmp from) { sent = (kept_rib cmp from).set }) (kept_rib cmp from)) (sym is)
+  sent_up exact from to false is up set sent =
       same_rib exact (kept_rib cmp to) (kept_rib cmp from) up
       (λ q. ap (λ (m : BTreeMap K V). get (from_entries {R = cmp} m.entries) q) set)
-      (λ q. ap (λ b. get (told_when to b) q) (up ∙ is) ∙ ap (λ b. get (told_when from b) q) (sym is))
-      ∙ ap (λ b. cond b (record (kept_rib cmp from) { told = (kept_rib cmp from).set }) (kept_rib cmp from)) (sym is)
+      (λ q. ap (λ b. get (sent_when to b) q) (up ∙ is) ∙ ap (λ b. get (sent_when from b) q) (sym is))
+      ∙ ap (λ b. cond b (record (kept_rib cmp from) { sent = (kept_rib cmp from).set }) (kept_rib cmp from)) (sym is)
 
-  pub told_all : IsAntisymmetric cmp → (old : Rows K V) (from to : Kept K V) → rows_of (kept_rib cmp from) ≡ old → to.up ≡ from.up → to.set ≡ from.set
-      → (from.up ≡ true → (q : K) → told_at cmp to q ≡ set_at cmp from q) → rib_out cmp (rows_of (kept_rib cmp to)) ≡ flushed (rib_out cmp old)
-  told_all exact old from to is up set told =
-      seen (kept_rib cmp to) ∙ told_up exact from to from.up refl up set told ∙ ap flushed (sym (seen_as (kept_rib cmp from) old is))
+  pub sent_all : IsAntisymmetric cmp → (old : Rows K V) (from to : Kept K V) → rows_of (kept_rib cmp from) ≡ old → to.up ≡ from.up → to.set ≡ from.set
+      → (from.up ≡ true → (q : K) → sent_at cmp to q ≡ set_at cmp from q) → rib_out cmp (rows_of (kept_rib cmp to)) ≡ flushed (rib_out cmp old)
+  sent_all exact old from to is up set sent =
+      seen (kept_rib cmp to) ∙ sent_up exact from to from.up refl up set sent ∙ ap flushed (sym (seen_as (kept_rib cmp from) old is))
 
-  -- where nothing is gone and nothing is new, what was told is what is set
-  told_is_set : (kept : Kept K V) (q : K) → kept.up ≡ true → kept.gone.entries ≡ [] → kept.news.entries ≡ [] → told_at cmp kept q ≡ set_at cmp kept q
-  told_is_set kept q up gone news =
+  -- where nothing is gone and nothing is new, what was sent is what is set
+  sent_is_set : (kept : Kept K V) (q : K) → kept.up ≡ true → kept.gone.entries ≡ [] → kept.news.entries ≡ [] → sent_at cmp kept q ≡ set_at cmp kept q
+  sent_is_set kept q up gone news =
       let old : tree.get cmp kept.gone q ≡ None = ap (lookup (is_at (cmp q))) gone in
       let new : tree.get cmp kept.news q ≡ None = ap (lookup (is_at (cmp q))) news in
-      λ i. told_if (up i) (old i) (new i) (set_at cmp kept q)
+      λ i. sent_if (up i) (old i) (new i) (set_at cmp kept q)
 
   pub flushed_already : IsAntisymmetric cmp → (old : Rows K V) (kept : Kept K V) → rows_of (kept_rib cmp kept) ≡ old → kept.gone.entries ≡ []
       → kept.news.entries ≡ [] → flushed (rib_out cmp old) ≡ rib_out cmp old
   flushed_already exact old kept is gone news =
-      sym (told_all exact old kept kept is refl refl (λ up q. told_is_set kept q up gone news)) ∙ ap (rib_out cmp) is
+      sym (sent_all exact old kept kept is refl refl (λ up q. sent_is_set kept q up gone news)) ∙ ap (rib_out cmp) is
 
   -- ---- the calls of an inbox
 

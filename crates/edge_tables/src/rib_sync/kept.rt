@@ -1,23 +1,23 @@
-//! What an outbox keeps: the table set, and beside it where the table told differs.
+//! What an outbox keeps: the table set, and beside it where the table sent differs.
 ghost use Rattle.std.specs.Prelude.{◌≡◌, ◌↔◌, IsTrue, None, Some, [], true, false, OnOk, OnErr, IfOk, if◌then◌else◌};
 ghost use Rattle.std.specs.Ordering.{eq_by_cmp};
 ghost use Rattle.std.specs.Option.{option_copied, option_map};
 ghost use Rattle.std.specs.BTreeMap.{get, IsOrdered};
-ghost use Rattle.edge_tables.specs.rib_sync.Kept.{IsCopying, IsWell, as_news, set_at, told_at};
+ghost use Rattle.edge_tables.specs.rib_sync.Kept.{IsCopying, IsWell, as_news, set_at, sent_at};
 
 use mv_base::NoMemory;
 use std::alloc::Global;
 use std::collections::BTreeMap;
 use std::mem;
 
-/// A value that was set, and the one that was told before, if any.
+/// A value that was set, and the one that was sent before, if any.
 #[derive(Drop)]
 pub(crate) struct News<V: Drop> {
     pub(crate) value: V,
-    pub(crate) told: Option<V>,
+    pub(crate) sent: Option<V>,
 }
 
-/// The table set, and the keys at which the table told differs: those that are gone, each with the value told, and those that
+/// The table set, and the keys at which the table sent differs: those that are gone, each with the value sent, and those that
 /// are new or have a new value. So a flush hands out these two maps and takes no memory.
 #[derive(Drop)]
 pub(crate) struct Kept<K: Ord + Drop, V: Drop> {
@@ -48,7 +48,7 @@ fn copied_option<T: Clone>(value: Option<&T>) -> Result<Option<T>, NoMemory>
     }
 }
 
-// Each entry, with nothing told.
+// Each entry, with nothing sent.
 fn all_new<K: Clone + Ord + Drop, V: Clone + Drop>(
     alloc: Global,
     set: &BTreeMap<K, V>,
@@ -62,7 +62,7 @@ fn all_new<K: Clone + Ord + Drop, V: Clone + Drop>(
     for (key, value) in set.iter() {
         let own = copied(key)?;
         let value = copied(value)?;
-        news.insert(own, News { value, told: None })?;
+        news.insert(own, News { value, sent: None })?;
     }
     Ok(news)
 }
@@ -89,7 +89,7 @@ impl<K: Clone + Ord + Drop, V: Clone + Eq + Drop> Kept<K, V> {
         requires values { IsCopying V.is_clone }
         ensures well { IsWell K.cmp self.new }
         ensures up { self.new.up ≡ self.old.up }
-        ensures told { (q : K) → told_at K.cmp self.new q ≡ told_at K.cmp self.old q }
+        ensures sent { (q : K) → sent_at K.cmp self.new q ≡ sent_at K.cmp self.old q }
         ensures ok { OnOk result ((q : K) →
             set_at K.cmp self.new q ≡ (if eq_by_cmp K.cmp key q then Some value else set_at K.cmp self.old q)) }
         ensures err { OnErr result ((q : K) → set_at K.cmp self.new q ≡ set_at K.cmp self.old q) }
@@ -98,9 +98,9 @@ impl<K: Clone + Ord + Drop, V: Clone + Eq + Drop> Kept<K, V> {
             self.set.insert(key, value)?;
             return Ok(());
         }
-        let told = copied_option(self.told(&key))?;
+        let sent = copied_option(self.sent(&key))?;
         let own = copied(&key)?;
-        if told.as_ref() == Some(&value) {
+        if sent.as_ref() == Some(&value) {
             self.set.insert(own, value)?;
             self.news.remove(&key);
             self.gone.remove(&key);
@@ -108,7 +108,7 @@ impl<K: Clone + Ord + Drop, V: Clone + Eq + Drop> Kept<K, V> {
         }
         let again = copied(&key)?;
         let news = copied(&value)?;
-        self.news.insert(again, News { value: news, told })?;
+        self.news.insert(again, News { value: news, sent })?;
         if self.set.insert(own, value).is_err() {
             self.news.remove(&key);
             return Err(NoMemory);
@@ -123,7 +123,7 @@ impl<K: Clone + Ord + Drop, V: Clone + Eq + Drop> Kept<K, V> {
         requires values { IsCopying V.is_clone }
         ensures well { IsWell K.cmp self.new }
         ensures up { self.new.up ≡ self.old.up }
-        ensures told { (q : K) → told_at K.cmp self.new q ≡ told_at K.cmp self.old q }
+        ensures sent { (q : K) → sent_at K.cmp self.new q ≡ sent_at K.cmp self.old q }
         ensures ok { OnOk result ((q : K) →
             set_at K.cmp self.new q ≡ (if eq_by_cmp K.cmp key.now q then None else set_at K.cmp self.old q)) }
         ensures err { OnErr result ((q : K) → set_at K.cmp self.new q ≡ set_at K.cmp self.old q) }
@@ -132,12 +132,12 @@ impl<K: Clone + Ord + Drop, V: Clone + Eq + Drop> Kept<K, V> {
             self.set.remove(key);
             return Ok(());
         }
-        let Some(told) = copied_option(self.told(key))? else {
+        let Some(sent) = copied_option(self.sent(key))? else {
             self.news.remove(key);
             self.set.remove(key);
             return Ok(());
         };
-        self.gone.insert(copied(key)?, told)?;
+        self.gone.insert(copied(key)?, sent)?;
         self.news.remove(key);
         self.set.remove(key);
         Ok(())
@@ -148,7 +148,7 @@ impl<K: Clone + Ord + Drop, V: Clone + Eq + Drop> Kept<K, V> {
         requires keys { IsCopying K.is_clone }
         requires values { IsCopying V.is_clone }
         ensures well { IsWell K.cmp self.new }
-        ensures up { OnOk result ((self.new.up ≡ true) × ((q : K) → told_at K.cmp self.new q ≡ None)) }
+        ensures up { OnOk result ((self.new.up ≡ true) × ((q : K) → sent_at K.cmp self.new q ≡ None)) }
         ensures set { (q : K) → set_at K.cmp self.new q ≡ set_at K.cmp self.old q }
         ensures err { OnErr result (self.new ≡ self.old) }
     {
@@ -159,9 +159,9 @@ impl<K: Clone + Ord + Drop, V: Clone + Eq + Drop> Kept<K, V> {
         Ok(())
     }
 
-    // What was told at the key.
-    fn told(&self, key: &K) -> Option<&V>
-        ensures { option_copied result ≡ told_at K.cmp self.now key.now }
+    // What was sent at the key.
+    fn sent(&self, key: &K) -> Option<&V>
+        ensures { option_copied result ≡ sent_at K.cmp self.now key.now }
     {
         if !self.up {
             return None;
@@ -170,7 +170,7 @@ impl<K: Clone + Ord + Drop, V: Clone + Eq + Drop> Kept<K, V> {
             return Some(value);
         }
         if let Some(news) = self.news.get(key) {
-            return news.told.as_ref();
+            return news.sent.as_ref();
         }
         self.set.get(key)
     }
@@ -200,7 +200,7 @@ impl<K: Clone + Ord + Drop, V: Clone + Eq + Drop> Kept<K, V> {
         ensures news { result.1 ≡ self.old.news }
         ensures up { self.new.up ≡ self.old.up }
         ensures set { self.new.set ≡ self.old.set }
-        ensures told { self.old.up ≡ true → (q : K) → told_at K.cmp self.new q ≡ set_at K.cmp self.old q }
+        ensures sent { self.old.up ≡ true → (q : K) → sent_at K.cmp self.new q ≡ set_at K.cmp self.old q }
     {
         let gone = mem::replace(&mut self.gone, BTreeMap::new(self.alloc));
         let news = mem::replace(&mut self.news, BTreeMap::new(self.alloc));

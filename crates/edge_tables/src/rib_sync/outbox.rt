@@ -13,7 +13,7 @@ use mv_base::NoMemory;
 use std::alloc::Global;
 use std::marker::Model;
 
-/// The routes that a peer is to have, and those that it was told (an Adj-RIB-Out, RFC 4271 section 3.2).
+/// The routes that a peer is to have, and those that it was sent (an Adj-RIB-Out, RFC 4271 section 3.2).
 #[derive(Drop)]
 pub struct Outbox<K: Ord + Drop, V: Drop> {
     kept: Kept<K, V>,
@@ -33,7 +33,7 @@ impl<K: Ord + Drop, V: Drop> Model for Outbox<K, V> {
 impl<K: Clone + Ord + Drop, V: Clone + Eq + Drop> Outbox<K, V> {
     /// An outbox that is down and empty. It takes no memory.
     pub fn of(alloc: Global) -> Outbox<K, V>
-        ensures { rib_out K.cmp result ≡ record { up = false; set = map.empty; told = map.empty } }
+        ensures { rib_out K.cmp result ≡ record { up = false; set = map.empty; sent = map.empty } }
     {
         Outbox {
             kept: Kept::of(alloc),
@@ -65,13 +65,13 @@ impl<K: Clone + Ord + Drop, V: Clone + Eq + Drop> Outbox<K, V> {
         self.kept.unset(key)
     }
 
-    /// Brings the outbox up, with nothing told: each key that is set is pending.
+    /// Brings the outbox up, with nothing sent: each key that is set is pending.
     pub fn replay_all(&mut self) -> Result<(), NoMemory>
         requires keys { IsAntisymmetric K.cmp }
         requires own_keys { IsCopying K.is_clone }
         requires own_values { IsCopying V.is_clone }
         ensures up { OnOk result (
-            let old = rib_out K.cmp self.old in rib_out K.cmp self.new ≡ record old { up = true; told = map.empty }) }
+            let old = rib_out K.cmp self.old in rib_out K.cmp self.new ≡ record old { up = true; sent = map.empty }) }
         ensures unchanged { OnErr result (self.new ≡ self.old) }
     {
         self.kept.replay_all()
@@ -79,18 +79,18 @@ impl<K: Clone + Ord + Drop, V: Clone + Eq + Drop> Outbox<K, V> {
 
     /// Takes the outbox down: the peer has nothing.
     pub fn down(&mut self)
-        ensures { rib_out K.cmp self.new ≡ record (rib_out K.cmp self.old) { up = false; told = map.empty } }
+        ensures { rib_out K.cmp self.new ≡ record (rib_out K.cmp self.old) { up = false; sent = map.empty } }
     {
         self.kept.down();
     }
 
-    /// Hands out the changes from what was told to what is set, which from then on is told. Applied in order to what was told
+    /// Hands out the changes from what was sent to what is set, which from then on is sent. Applied in order to what was sent
     /// they give what is set (`new_table` of `table_laws`). While the outbox is down there is none.
     pub fn flush(&mut self) -> Pending<K, V>
         requires keys { IsAntisymmetric K.cmp }
         requires values { IsExact V.eq }
         ensures changes { result ≡ pending V.eq (rib_out K.cmp self.old) }
-        ensures told { rib_out K.cmp self.new ≡ flushed (rib_out K.cmp self.old) }
+        ensures sent { rib_out K.cmp self.new ≡ flushed (rib_out K.cmp self.old) }
     {
         let (gone, news) = self.kept.take();
         Pending { gone, news }
@@ -101,7 +101,7 @@ impl<K: Clone + Ord + Drop, V: Clone + Eq + Drop> Outbox<K, V> {
         requires keys { IsAntisymmetric K.cmp }
         requires values { IsExact V.eq }
         ensures changes { IsTrue result ↔ (pending V.eq (rib_out K.cmp self.now) ≡ []) }
-        ensures told { result ≡ true → flushed (rib_out K.cmp self.now) ≡ rib_out K.cmp self.now }
+        ensures sent { result ≡ true → flushed (rib_out K.cmp self.now) ≡ rib_out K.cmp self.now }
     {
         self.kept.is_clear()
     }

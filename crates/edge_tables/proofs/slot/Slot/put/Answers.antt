@@ -8,5 +8,5 @@ pub returns-clause-partly : goal.returns-clause-partly
 returns-clause-partly c =
     on_err_weaker c.put_changes.result
     (put_part (rib_out key_cmp c.args.self.now.table) (rib_out key_cmp c.flush-pending.new.self) c.args.self.now.waiting c.put_changes.new.out
-    c.flush-pending.result c.flush-pending.ensures.changes c.flush-pending.ensures.told)
+    c.flush-pending.result c.flush-pending.ensures.changes c.flush-pending.ensures.sent)
     c.put_changes.ensures.err

@@ -1,6 +1,6 @@
 use Rattle.std.proofs.Common.{◌≡◌}
 use Rattle.edge_tables.specs.Tables.{IsPutPart, PeerTable, put_after}
-use Rattle.edge_tables.proofs.ActivityLemmas.{all_put, told_all}
+use Rattle.edge_tables.proofs.ActivityLemmas.{all_put, sent_all}
 use Rattle.edge_tables.proofs.SlotLemmas.{each_after}
 use Rattle.edge_tables.proofs.WayLemmas.{on_err}
 use Rattle.edge_tables.proofs.tables.EdgeTables.put.Goals as goal
@@ -15,7 +15,7 @@ pub returns-in-Put : goal.returns-in-Put
 returns-in-Put c = record {
   put =
       all_put c.self.inside.slots.items c.args.self.now c.self.view_is
-      (told_all c.self.inside.activity c.self.inside.slots.items c.in-Put.is c.self.invariant);
+      (sent_all c.self.inside.activity c.self.inside.slots.items c.in-Put.is c.self.invariant);
   partly = tt;
 }
 

@@ -11,7 +11,7 @@ returns-clause-changes g c =
       λ e. c.is_clear.ensures.1 (none_handed kept.gone.entries kept.news.entries (same ∙ e)),
     )
 
-pub returns-clause-told : goal.returns-clause-told
-returns-clause-told g c t =
+pub returns-clause-sent : goal.returns-clause-sent
+returns-clause-sent g c t =
     flushed_already g.K.Ord.cmp g.met.K.Ord.total c.requires.keys c.args.self.now c.self.inside.kept c.self.view_is (c.is_clear.ensures.0 t).0
     (c.is_clear.ensures.0 t).1

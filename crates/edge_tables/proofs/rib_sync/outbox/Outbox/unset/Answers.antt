@@ -7,12 +7,12 @@ pub returns-clause-unset : goal.returns-clause-unset
 returns-clause-unset g c =
     on_ok_weaker c.unset.result
     (changed g.K.Ord.cmp g.met.K.Ord.total c.requires.keys c.args.self.now c.self.inside.kept c.unset.new.self (Unreach c.args.key.now) c.self.view_is
-    c.unset.ensures.up c.unset.ensures.told)
+    c.unset.ensures.up c.unset.ensures.sent)
     c.unset.ensures.ok
 
 pub returns-clause-unchanged : goal.returns-clause-unchanged
 returns-clause-unchanged g c =
     on_err_weaker c.unset.result
     (unchanged g.K.Ord.cmp g.met.K.Ord.total c.requires.keys c.args.self.now c.self.inside.kept c.unset.new.self c.self.view_is c.unset.ensures.up
-    c.unset.ensures.told)
+    c.unset.ensures.sent)
     c.unset.ensures.err

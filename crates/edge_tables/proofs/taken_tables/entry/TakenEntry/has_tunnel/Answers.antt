@@ -1,7 +1,5 @@
-use Rattle.std.proofs.Common.{rules, ◌≡◌, ℕ, false, Option, ap, sym, ◌∙◌}
-use Rattle.edge_defs.specs.Datagrams.{is_tunnel}
+use Rattle.std.proofs.Common.{rules, ◌≡◌, ap, sym, ◌∙◌}
 use Rattle.edge_defs.specs.Edge.{TakenRoute}
-use Rattle.edge_defs.specs.Imported.{lsp_of}
 use Rattle.edge_tables.specs.taken_tables.Routes.{mark_in, mark_of}
 use Rattle.edge_tables.proofs.taken_tables.TunnelLemmas.{other_mark}
 use Rattle.edge_tables.proofs.taken_tables.entry.TakenEntry.has_tunnel.Goals as goal

@@ -20,7 +20,7 @@ use Rattle.edge_defs.specs.Keys.{Value, key_cmp, same_value}
 use Rattle.edge_defs.proofs.KeyLemmas.{key_exact, key_total}
 use Rattle.edge_defs.specs.Place.{OwnVrf, vrfs_from}
 use Rattle.edge_defs.specs.Steps.{learned, taken_change}
-use Rattle.edge_routes.specs.edge_home.Home.{Home, place_of}
+use Rattle.edge_routes.specs.edge_home.Home.{place_of}
 use Rattle.edge_tables.specs.taken_tables.Tables.{changed_at, is_news, reach, route_at}
 use Rattle.edge_tables.proofs.taken_tables.MapLemmas.{put_itself}
 use Rattle.control_laws.specs.Between.{MakesBetween}
@@ -33,11 +33,11 @@ use Rattle.control_laws.proofs.PeersKept.{update_makes}
 use Rattle.control_laws.proofs.PeersMaps.{itself_by, one_by}
 use Rattle.control_laws.proofs.PeersParts.{Customers}
 use Rattle.edge_control.specs.Sound.{IsSingle, IsSound, kept_of}
-use Rattle.edge_control.specs.Taking.{IsWithout, coming, dropping, learning, route_of, turned_all}
+use Rattle.edge_control.specs.Taking.{IsWithout, coming, dropping, learning, turned_all}
 use Rattle.edge_control.proofs.SoundLemmas.{sound_between}
 use Rattle.edge_control.proofs.PeerCalls.{more_nodes, sound_with}
 use Rattle.edge_control.proofs.PeerKinds.{gone_map, put_map, with_back, with_split}
-use Rattle.edge_control.proofs.PeerTurns.{turned_again, turned_alike, turned_each}
+use Rattle.edge_control.proofs.PeerTurns.{turned_alike, turned_each}
 use Rattle.edge_control.proofs.PeerWithout.{trees_without}
 
 -- ---- tables

@@ -90,25 +90,6 @@ impl EdgeControl {
         is_one_too_many(noted, count)
     }
 
-    /// The tree at that place notes the source.
-    fn note_fitting(
-        &mut self,
-        place: usize,
-        iface: IfaceId,
-        source: Addr,
-        group: Addr,
-    ) -> Result<(), ControlFault>
-        requires place { IsPlace self.old.home place (λ own. is_iface_of self.old.home.scenario own.id iface) }
-        ensures noted { (core : Core) (now : ℕ) → OnOk result (control_of self.new
-            ≡ effect (place_of self.old.home core) now (control_of self.old) (Customer (Active iface source group))) }
-        ensures home { self.new.home ≡ self.old.home }
-        ensures wants { wants_of self.new.trees ≡ wants_of self.old.trees }
-        ensures memory { OnErr result (result ≡ Err ControlFault.NoMemory) }
-        ensures unchanged { OnErr result (self.new ≡ self.old) }
-    {
-        note_at(&mut self.trees, place, iface, source, group)
-    }
-
     /// Notes at the interface, which is one of a VRF of the edge, that the source sends to the group.
     pub fn note(&mut self, iface: IfaceId, source: Addr, group: Addr) -> Result<(), ControlFault>
         requires own { is_own_iface self.old.home iface ≡ true }
@@ -124,7 +105,7 @@ impl EdgeControl {
         if self.is_over_noted(place, iface, source, group) {
             return Err(ControlFault::Full);
         }
-        self.note_fitting(place, iface, source, group)
+        note_at(&mut self.trees, place, iface, source, group)
     }
 
     /// The note is there no more. It takes no memory.

@@ -1,5 +1,5 @@
 //! Selections of customers.
-ghost use Rattle.std.specs.Prelude.{◌≡◌, ◌==◌, ℕ, ◌<◌, ◌^◌, min, true, false, nat_le, is_some, None, Err, IfOk, OnOk, OnErr};
+ghost use Rattle.std.specs.Prelude.{◌≡◌, ℕ, ◌<◌, ◌^◌, min, true, false, nat_le, is_some, None, Err, IfOk, OnOk, OnErr};
 ghost use Rattle.std.specs.FinMap as maps;
 ghost use Rattle.mv_base.specs.Lists.{Among};
 ghost use Rattle.mv_base.specs.core_walks.Core.{Core};
@@ -7,7 +7,7 @@ ghost use Rattle.edge_defs.specs.Place.{OwnVrf, tunnel_number};
 ghost use Rattle.edge_defs.specs.Steps.{Customer, Select, Unselect, effect};
 ghost use Rattle.edge_routes.specs.edge_home.Home.{place_of};
 ghost use Rattle.control_laws.specs.Control.{control_of};
-ghost use Rattle.edge_control.specs.Places.{IsPlace, is_own_vrf, is_selection_too_many, number_after, selection_limit, vrfs_of};
+ghost use Rattle.edge_control.specs.Places.{is_own_vrf, is_selection_too_many, number_after, selection_limit, vrfs_of};
 ghost use Rattle.edge_control.specs.Sound.{wants_of};
 ghost use Rattle.edge_control.specs.declared.fault.ControlFault.TheVariants as ControlFault;
 
@@ -52,30 +52,6 @@ impl EdgeControl {
         is_full(self.selections())
     }
 
-    /// The tree at that place selects the pattern.
-    fn select_fitting(
-        &mut self,
-        place: usize,
-        vrf: VrfId,
-        pattern: Pattern,
-        now: u64,
-    ) -> Result<u32, ControlFault>
-        requires place { IsPlace self.old.home place (λ own. own.id.0 == vrf.0) }
-        requires new { maps.get (control_of self.old).selections (record { vrf = vrf; pattern = pattern }) ≡ None }
-        requires few { is_selection_too_many (control_of self.old) ≡ false }
-        requires now { now < 2 ^ 63 }
-        ensures selected { (core : Core) → OnOk result (control_of self.new
-            ≡ effect (place_of self.old.home core) now (control_of self.old) (Customer (Select vrf pattern))) }
-        ensures number { (own : OwnVrf) → Among own (vrfs_of self.old.home) → own.id ≡ vrf →
-            IfOk result (λ lsp. lsp ≡ tunnel_number own.vrf (number_after (control_of self.old) vrf)) }
-        ensures home { self.new.home ≡ self.old.home }
-        ensures wants { wants_of self.new.trees ≡ wants_of self.old.trees }
-        ensures memory { OnErr result (result ≡ Err ControlFault.NoMemory) }
-        ensures unchanged { OnErr result (self.new ≡ self.old) }
-    {
-        select_at(&mut self.trees, place, pattern, now)
-    }
-
     /// Selects the pattern in the VRF, where it is not selected, and answers the LSP number of its tunnel (RFC 6514 section
     /// 12.1).
     pub fn select(&mut self, vrf: VrfId, pattern: Pattern, now: u64) -> Result<u32, ControlFault>
@@ -96,7 +72,7 @@ impl EdgeControl {
         if self.is_over_selected() {
             return Err(ControlFault::Full);
         }
-        self.select_fitting(place, vrf, pattern, now)
+        select_at(&mut self.trees, place, pattern, now)
     }
 
     /// The pattern is selected no more in the VRF. It takes no memory.

@@ -7,7 +7,7 @@ ghost use Rattle.scenario_defs.specs.Home.{local_routes};
 ghost use Rattle.vrf_trees.specs.Trees.{no_tree};
 ghost use Rattle.vrf_words.specs.tree_laws.TreeOf.{site_ifaces};
 ghost use Rattle.edge_control.specs.Places.{vrfs_of};
-ghost use Rattle.edge_control.specs.Start.{first_tree, with_iface, with_ifaces, with_route, with_routes};
+ghost use Rattle.edge_control.specs.Start.{first_tree, with_ifaces, with_routes};
 
 use edge_routes::edge_home::{EdgeHome, OwnVrf};
 use mv_base::{IfaceId, NoMemory, VrfId};

@@ -1,23 +1,19 @@
 -- Marks on what flows want.
-use Rattle.std.proofs.Common.{◌≡◌, ℕ, ◌&&◌, ◌||◌, Bool, true, false, cond, List, [], ◌∷◌, ◌++◌, map, Option, None, Some, is_some, refl, sym, ap, subst, ◌∙◌}
-use Rattle.std.specs.List.{list_any}
+use Rattle.std.proofs.Common.{◌≡◌, Bool, true, false, cond, List, [], ◌∷◌, ◌++◌, map, Option, None, Some, is_some, refl, sym, ap, subst, ◌∙◌}
 use Rattle.std.specs.Map.{lookup}
 use Rattle.std.specs.Map.Calls.{RetainsPairs}
 use Rattle.std.proofs.lemmas.Bool.{or_parts}
 use Rattle.mldp.specs.declared.mldp_fec.fec.Fec.{Fec}
 use Rattle.mv_base.specs.declared.ids.NodeId.{NodeId}
-use Rattle.selective.specs.declared.route_key.Learned.{Learned}
-use Rattle.selective.specs.declared.route_key.RouteKey.{RouteKey}
-use Rattle.selective.specs.Leaves.{Leaf, is_waiting}
+use Rattle.selective.specs.Leaves.{Leaf}
 use Rattle.vrf_words.specs.declared.tree_defs.flow.Flow.{Flow}
 use Rattle.vrf_words.specs.declared.tree_defs.flow.Upstream.{Upstream}
 use Rattle.vrf_words.specs.tree_defs.Keys.{same_flow}
 use Rattle.vrf_words.proofs.tree_defs.KeyLemmas.{same_flow_equal}
 use Rattle.vrf_trees.specs.declared.wants.Wants.{Wants}
 use Rattle.vrf_trees.specs.declared.wants.Cause.{Cause}
-use Rattle.vrf_trees.specs.declared.wants.Cause.TheVariants as causes
 use Rattle.vrf_trees.specs.Plan.{fecs_in}
-use Rattle.vrf_trees.specs.Wants.{Holds, edge_in, is_stale, mark, marked, marked_by, marked_waiting, touches, tunnels_in, tunnels_of, waits_for, wants_by}
+use Rattle.vrf_trees.specs.Wants.{Holds, edge_in, is_stale, mark, marked, marked_by, tunnels_in, tunnels_of, wants_by}
 
 abbrev pub mark_each : Cause → List (Flow × Wants) → List (Flow × Wants)
 mark_each cause es = map (λ (e : Flow × Wants). (e.0, mark cause e.0 e.1)) es

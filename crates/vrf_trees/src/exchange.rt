@@ -13,7 +13,7 @@ ghost use Rattle.vrf_trees.specs.Wants.{is_fec, is_in, is_stale, tunnels_in};
 use crate::plan::Plan;
 use crate::table::WantTable;
 use crate::wants::{Wants, is_wanted};
-use indexmap::{IndexMap, IndexSet};
+use indexmap::IndexSet;
 use mldp::mldp_fec::Fec;
 use mv_base::{NoMemory, Seq};
 use selective::Fecs;

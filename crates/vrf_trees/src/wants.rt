@@ -6,7 +6,7 @@ ghost use Rattle.selective_defs.specs.Selective.{matches};
 ghost use Rattle.vrf_words.specs.declared.tree_defs.flow.Flow.{Flow};
 ghost use Rattle.vrf_words.specs.tree_defs.Keys.{same_flow};
 ghost use Rattle.vrf_flows.specs.Stale.{is_listed, passes};
-ghost use Rattle.vrf_trees.specs.Wants.{has_fec, is_fec, is_in, is_known, is_news, mark, marked, touches, tunnels_in, wants_of};
+ghost use Rattle.vrf_trees.specs.Wants.{has_fec, is_in, is_known, is_news, mark, marked, touches, tunnels_in, wants_of};
 
 use crate::table::WantTable;
 use indexmap::IndexMap;

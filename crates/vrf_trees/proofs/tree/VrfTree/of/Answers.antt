@@ -1,4 +1,4 @@
-use Rattle.std.proofs.Common.{rules, ap}
+use Rattle.std.proofs.Common.{ap}
 use Rattle.vrf_words.specs.tree_defs.Flows.{VrfData}
 use Rattle.vrf_trees.proofs.RefreshLemmas.{none-sound}
 use Rattle.vrf_trees.proofs.tree.VrfTree.of.Goals as goal

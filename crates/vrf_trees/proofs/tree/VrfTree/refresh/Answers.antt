@@ -1,4 +1,4 @@
-use Rattle.std.proofs.Common.{rules, ap, subst, sym}
+use Rattle.std.proofs.Common.{ap, subst, sym}
 use Rattle.std.specs.FinMap as maps
 use Rattle.umh_select.specs.Routes.{AreOfCore}
 use Rattle.vrf_words.specs.tree_defs.Flows.{VrfData, flow_of, gained, lost, upstream_of}

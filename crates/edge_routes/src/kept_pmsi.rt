@@ -124,7 +124,9 @@ impl KeptPmsi {
         match &self.kept {
             Kept::None => None,
             Kept::Lsp {
-                root, identifier, ..
+                root,
+                identifier,
+                ..
             } => Some(lsp_by(*root, *identifier)),
             Kept::Beside(whole) => lsp_of(&whole.lent().pmsi),
         }

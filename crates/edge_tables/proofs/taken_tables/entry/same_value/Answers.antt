@@ -18,6 +18,7 @@ returns-then-not-same_comms c =
 pub returns : goal.returns
 returns c =
     by_tunnel (value_of c.args.own.now) (value_of c.args.other.now) c.same_attribute.result (c.same_hop.ensures.0 c.if-not-same_hop.false)
-    (c.same_comms.ensures.0 c.if-not-same_comms.false)
-    ((λ same. sym c.whole.ensures ∙ (c.same_attribute.ensures.0 same ∙ c.whole-2.ensures)),
-    (λ same. c.same_attribute.ensures.1 (c.whole.ensures ∙ (same ∙ sym c.whole-2.ensures))))
+    (c.same_comms.ensures.0 c.if-not-same_comms.false) (
+      (λ same. sym c.whole.ensures ∙ (c.same_attribute.ensures.0 same ∙ c.whole-2.ensures)),
+      (λ same. c.same_attribute.ensures.1 (c.whole.ensures ∙ (same ∙ sym c.whole-2.ensures))),
+    )

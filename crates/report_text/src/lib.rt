@@ -14,5 +14,5 @@ pub mod report_lines;
 mod writer;
 
 pub use digits::{put_digits, put_hex};
-pub use pieces::put_number;
+pub use pieces::{put_number, put_then};
 pub use writer::write_line;

@@ -15,6 +15,14 @@ pub fn put_number(out: &mut Bytes, number: u64) -> Result<(), NoMemory>
     out.extend(buffer.format(number).as_bytes())
 }
 
+/// Appends a text, and a number in decimal after it.
+pub fn put_then(out: &mut Bytes, text: &[u8], number: u64) -> Result<(), NoMemory>
+    ensures { OnOk result (out.new ≡ out.old ++ text.now ++ decimal number) }
+{
+    out.extend(text)?;
+    put_number(out, number)
+}
+
 /// Appends the name of an interface.
 pub fn put_iface(out: &mut Bytes, scenario: &Scenario, iface: IfaceId) -> Result<(), NoMemory>
     requires { iface.0 < length scenario.now.ifaces }

@@ -3,17 +3,17 @@ ghost use Rattle.std.specs.Prelude.{◌≡◌, ◌++◌, ◌<◌, length, OnOk, 
 ghost use Rattle.std.specs.Fmt.{decimal};
 ghost use Rattle.scenario_defs.specs.Text.{line_text, IsLineOf, refusal_text, fault_word, kind_word, hex_text};
 ghost use Rattle.scenario_defs.specs.Text.{ends_text};
+ghost use Rattle.report_text.specs.Parts.{ttl_text};
 
 use crate::digits::put_hex;
-use crate::pieces::{fault_word, kind_word, put_ends, put_iface, put_node, put_number};
+use crate::pieces::{fault_word, kind_word, put_ends, put_iface, put_node, put_then};
 use mv_base::{Bytes, IfaceId, NoMemory, NodeId};
 use scenario_defs::{Kind, Refusal, ReportLine, Scenario};
 
 fn put_bytes_refusal(out: &mut Bytes, place: u32, word: &[u8]) -> Result<(), NoMemory>
     ensures { OnOk result (out.new ≡ out.old ++ codes "bytes " ++ decimal place ++ codes " " ++ word.now) }
 {
-    out.extend(b"bytes ")?;
-    put_number(out, u64::from(place))?;
+    put_then(out, b"bytes ", u64::from(place))?;
     out.extend(b" ")?;
     out.extend(word)
 }
@@ -41,8 +41,7 @@ fn put_out(
     requires { iface.0 < length scenario.now.ifaces }
     ensures { OnOk result (out.new ≡ out.old ++ line_text scenario.now (ReportLine.Out number iface bytes.now)) }
 {
-    out.extend(b"out ")?;
-    put_number(out, number)?;
+    put_then(out, b"out ", number)?;
     out.extend(b" ")?;
     put_iface(out, scenario, iface)?;
     out.extend(b" ")?;
@@ -58,20 +57,17 @@ fn put_refused(
 ) -> Result<(), NoMemory>
     ensures { OnOk result (out.new ≡ out.old ++ line_text scenario.now (ReportLine.Refused line reason)) }
 {
-    out.extend(b"refused ")?;
-    put_number(out, u64::from(line))?;
+    put_then(out, b"refused ", u64::from(line))?;
     out.extend(b" ")?;
     put_refusal(out, reason)?;
     out.extend(b"\n")
 }
 
-fn put_last(out: &mut Bytes, first: u64, second: u64) -> Result<(), NoMemory>
-    ensures { OnOk result (out.new ≡ out.old ++ codes " " ++ decimal first ++ codes " " ++ decimal second ++ codes "\n") }
+/// Appends the last number of a line.
+fn put_last(out: &mut Bytes, number: u64) -> Result<(), NoMemory>
+    ensures { OnOk result (out.new ≡ out.old ++ codes " " ++ decimal number ++ codes "\n") }
 {
-    out.extend(b" ")?;
-    put_number(out, first)?;
-    out.extend(b" ")?;
-    put_number(out, second)?;
+    put_then(out, b" ", number)?;
     out.extend(b"\n")
 }
 
@@ -86,29 +82,28 @@ fn put_state(
 ) -> Result<(), NoMemory>
     ensures { OnOk result (out.new ≡ out.old ++ line_text scenario.now (ReportLine.State bytes copies buffers due unready)) }
 {
-    out.extend(b"state ")?;
-    put_number(out, bytes)?;
-    out.extend(b" ")?;
-    put_number(out, copies)?;
-    out.extend(b" ")?;
-    put_number(out, buffers)?;
-    put_last(out, due, unready)
+    put_then(out, b"state ", bytes)?;
+    put_then(out, b" ", copies)?;
+    put_then(out, b" ", buffers)?;
+    put_then(out, b" ", due)?;
+    put_last(out, unready)
 }
 
 fn put_halt(out: &mut Bytes, scenario: &Scenario, line: u32, node: NodeId) -> Result<(), NoMemory>
     requires { node.0 < length scenario.now.nodes }
     ensures { OnOk result (out.new ≡ out.old ++ line_text scenario.now (ReportLine.Halt line node)) }
 {
-    out.extend(b"halt ")?;
-    put_number(out, u64::from(line))?;
+    put_then(out, b"halt ", u64::from(line))?;
     out.extend(b" label ")?;
     put_node(out, scenario, node)?;
     out.extend(b"\n")
 }
 
+/// Appends a line of octets of a session, by its first word.
 fn put_octets(
     out: &mut Bytes,
     scenario: &Scenario,
+    word: &[u8],
     kind: Kind,
     from: NodeId,
     to: NodeId,
@@ -117,8 +112,9 @@ fn put_octets(
     requires from { from.0 < length scenario.now.nodes }
     requires to { to.0 < length scenario.now.nodes }
     ensures { OnOk result (out.new ≡
-        out.old ++ kind_word kind ++ codes " " ++ ends_text scenario.now from to ++ codes " " ++ hex_text bytes.now ++ codes "\n") }
+        out.old ++ word.now ++ kind_word kind ++ codes " " ++ ends_text scenario.now from to ++ codes " " ++ hex_text bytes.now ++ codes "\n") }
 {
+    out.extend(word)?;
     out.extend(kind_word(kind))?;
     out.extend(b" ")?;
     put_ends(out, scenario, from, to)?;
@@ -127,73 +123,37 @@ fn put_octets(
     out.extend(b"\n")
 }
 
-fn put_put(
-    out: &mut Bytes,
-    scenario: &Scenario,
-    kind: Kind,
-    from: NodeId,
-    to: NodeId,
-    bytes: &Bytes,
-) -> Result<(), NoMemory>
-    requires from { from.0 < length scenario.now.nodes }
-    requires to { to.0 < length scenario.now.nodes }
-    ensures { OnOk result (out.new ≡ out.old ++ line_text scenario.now (ReportLine.Put kind from to bytes.now)) }
+/// Appends the TTL of a copy, which a copy that lands has none of.
+fn put_ttl(out: &mut Bytes, ttl: Option<u8>) -> Result<(), NoMemory>
+    ensures { OnOk result (out.new ≡ out.old ++ ttl_text ttl) }
 {
-    out.extend(b"put ")?;
-    put_octets(out, scenario, kind, from, to, bytes)
+    match ttl {
+        None => Ok(()),
+        Some(ttl) => put_then(out, b" ", u64::from(ttl)),
+    }
 }
 
-fn put_take(
+/// Appends a line of a copy on a link, by its first word.
+fn put_copy(
     out: &mut Bytes,
     scenario: &Scenario,
-    kind: Kind,
-    from: NodeId,
-    to: NodeId,
-    bytes: &Bytes,
-) -> Result<(), NoMemory>
-    requires from { from.0 < length scenario.now.nodes }
-    requires to { to.0 < length scenario.now.nodes }
-    ensures { OnOk result (out.new ≡ out.old ++ line_text scenario.now (ReportLine.Take kind from to bytes.now)) }
-{
-    out.extend(b"take ")?;
-    put_octets(out, scenario, kind, from, to, bytes)
-}
-
-fn put_hop(
-    out: &mut Bytes,
-    scenario: &Scenario,
+    word: &[u8],
     from: NodeId,
     to: NodeId,
     label: u32,
-    ttl: u8,
+    ttl: Option<u8>,
     number: u64,
 ) -> Result<(), NoMemory>
     requires from { from.0 < length scenario.now.nodes }
     requires to { to.0 < length scenario.now.nodes }
-    ensures { OnOk result (out.new ≡ out.old ++ line_text scenario.now (ReportLine.Hop from to label ttl number)) }
+    ensures { OnOk result (out.new ≡
+        out.old ++ word.now ++ ends_text scenario.now from to ++ codes " " ++ decimal label ++ ttl_text ttl ++ codes " " ++ decimal number ++ codes "\n") }
 {
-    out.extend(b"hop ")?;
+    out.extend(word)?;
     put_ends(out, scenario, from, to)?;
-    out.extend(b" ")?;
-    put_number(out, u64::from(label))?;
-    put_last(out, u64::from(ttl), number)
-}
-
-fn put_land(
-    out: &mut Bytes,
-    scenario: &Scenario,
-    from: NodeId,
-    to: NodeId,
-    label: u32,
-    number: u64,
-) -> Result<(), NoMemory>
-    requires from { from.0 < length scenario.now.nodes }
-    requires to { to.0 < length scenario.now.nodes }
-    ensures { OnOk result (out.new ≡ out.old ++ line_text scenario.now (ReportLine.Land from to label number)) }
-{
-    out.extend(b"land ")?;
-    put_ends(out, scenario, from, to)?;
-    put_last(out, u64::from(label), number)
+    put_then(out, b" ", u64::from(label))?;
+    put_ttl(out, ttl)?;
+    put_last(out, number)
 }
 
 fn put_line(out: &mut Bytes, scenario: &Scenario, line: &ReportLine) -> Result<(), NoMemory>
@@ -220,26 +180,35 @@ fn put_line(out: &mut Bytes, scenario: &Scenario, line: &ReportLine) -> Result<(
             from,
             to,
             bytes,
-        } => put_put(out, scenario, *kind, *from, *to, bytes),
+        } => put_octets(out, scenario, b"put ", *kind, *from, *to, bytes),
         ReportLine::Take {
             kind,
             from,
             to,
             bytes,
-        } => put_take(out, scenario, *kind, *from, *to, bytes),
+        } => put_octets(out, scenario, b"take ", *kind, *from, *to, bytes),
         ReportLine::Hop {
             from,
             to,
             label,
             ttl,
             number,
-        } => put_hop(out, scenario, *from, *to, *label, *ttl, *number),
+        } => put_copy(
+            out,
+            scenario,
+            b"hop ",
+            *from,
+            *to,
+            *label,
+            Some(*ttl),
+            *number,
+        ),
         ReportLine::Land {
             from,
             to,
             label,
             number,
-        } => put_land(out, scenario, *from, *to, *label, *number),
+        } => put_copy(out, scenario, b"land ", *from, *to, *label, None, *number),
     }
 }
 

@@ -87,6 +87,10 @@ group_at row word = addr_at row word >>= λ addr. if is_group addr then Ok addr 
 unfoldable pub number_to : ℕ → List ℕ → Option ℕ
 number_to limit text = number_of text >>? λ number. only_if (nat_le 1 number && nat_le number limit) number
 
+-- a word that writes a number from 1 to that limit
+abbrev pub number_at : ℕ → Row → Placed → Result ℕ TextFault
+number_at limit row word = or_fault (number_to limit word.text) row word reasons.Number
+
 -- the number of a VRF that a text writes
 unfoldable pub vrf_number_of : List ℕ → Option ℕ
 vrf_number_of text = number_of text >>? λ number. only_if (nat_le 1 number && nat_le number 4095) number

@@ -12,6 +12,11 @@ pub record Placed : Type 0 where
 abbrev pub placed_word : Word → Placed
 placed_word w = record { column = w.column; text = w.text.now }
 
+-- the octets from the first one on that is no space
+abbrev pub unspaced : List ℕ → List ℕ
+unspaced [] = []
+unspaced (octet ∷ more) = if octet == 32 then unspaced more else octet ∷ more
+
 -- a part at that column is a word before the others, unless it is empty
 abbrev pub with_part : ℕ → List ℕ → List Placed → List Placed
 with_part column part words = if length part == 0 then words else record { column = column; text = part } ∷ words

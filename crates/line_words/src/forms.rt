@@ -8,7 +8,7 @@ ghost use Rattle.line_words.specs.Answers.{Gives};
 ghost use Rattle.line_words.specs.Words.{placed_word};
 ghost use Rattle.scenario_defs.specs.Names.{is_letter, is_name_octet as name_octet, is_name};
 ghost use Rattle.line_words.specs.Forms.{or_fault, is_unicast_front, is_unicast, is_group, same_family, ipv4_at, addr_at, source_at};
-ghost use Rattle.line_words.specs.Forms.{group_at, number_to, vrf_number_of, numbered_of, addressed_of, rd_of, target_of, rule_at};
+ghost use Rattle.line_words.specs.Forms.{group_at, number_to, number_at, vrf_number_of, numbered_of, addressed_of, rd_of, target_of, rule_at};
 ghost use Rattle.line_words.specs.Forms.{prefix_if, prefix_of, payload_at};
 
 use crate::fault::fault_at;
@@ -162,6 +162,13 @@ pub fn number_to(text: &[u8], limit: u32) -> Option<u32>
     } else {
         None
     }
+}
+
+/// The number from 1 to the limit that a word writes, or `Number`.
+pub fn number_at(row: Row, word: &Word, limit: u32) -> Result<u32, TextFault>
+    ensures { result ≡ number_at limit row (placed_word word.now) }
+{
+    or_fault(number_to(word.text, limit), row, word, Reason::Number)
 }
 
 /// The number of a VRF that a text writes: 1 to 4,095.

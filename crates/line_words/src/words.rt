@@ -1,7 +1,7 @@
 //! The first line of a text, and the words of a line.
 ghost use Rattle.std.specs.Prelude.{◌≡◌, ◌+◌, ◌<◌, ◌==◌, ◌≤◌, ◌∷◌, ℕ, length, map, position, IfOk};
 ghost use Rattle.std.specs.Str.Lines.{lines, strip_carriage_return};
-ghost use Rattle.line_words.specs.Words.{placed_word, with_part, words_from, words_of};
+ghost use Rattle.line_words.specs.Words.{placed_word, unspaced, with_part, words_from, words_of};
 
 use memchr::memchr;
 use std::alloc::{AllocError, Global};
@@ -50,6 +50,17 @@ fn without_return(line: &[u8]) -> &[u8]
         return line;
     }
     &line[..line.len() - 1]
+}
+
+/// The octets of a line from the first one on that is no space.
+pub fn unspaced(line: &[u8]) -> &[u8]
+    ensures { result.now ≡ unspaced line.now }
+{
+    let mut rest = line;
+    'spaces: while let [b' ', thereafter @ ..] = rest {
+        rest = thereafter;
+    }
+    rest
 }
 
 /// The octets up to the first space, and those after it.

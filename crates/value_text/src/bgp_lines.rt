@@ -8,7 +8,7 @@ ghost use Rattle.value_text.specs.MessageText.{attribute_text, HasOctets, reach_
 use crate::addr_text::put_addr;
 use crate::lined::{Lined, Worded};
 use crate::pmsi_lines::put_pmsi_word;
-use crate::route_lines::{put_rd, put_route, route_word};
+use crate::route_lines::{put_route, put_with_rd, route_word};
 use bgp_messages::bgp_attributes::{Advert, Key, Message, StreamFault};
 use bgp_values::mvpn_nlri::Afi;
 use bgp_values::pmsi_attr::Pmsi;
@@ -36,9 +36,7 @@ fn family_word(afi: Afi) -> &'static [u8]
 fn put_unicast(out: &mut Bytes, rd: &Rd, prefix: &Prefix) -> Result<(), NoMemory>
     ensures { OnOk result (out.new ≡ out.old ++ unicast_text rd.now prefix.now) }
 {
-    out.extend(b"unicast ")?;
-    put_rd(out, rd)?;
-    out.extend(b" ")?;
+    put_with_rd(out, b"unicast ", rd)?;
     put_prefix(out, prefix)
 }
 

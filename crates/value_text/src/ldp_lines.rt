@@ -7,13 +7,12 @@ use crate::lined::{Lined, Worded};
 use mldp::mldp_fec::Fec;
 use mldp::mldp_msgs::{LabelMessage, LdpFault};
 use mv_base::{Bytes, NoMemory};
-use report_text::put_number;
+use report_text::put_then;
 
 fn put_label_line(out: &mut Bytes, word: &[u8], label: u32, fec: &Fec) -> Result<(), NoMemory>
     ensures { OnOk result (out.new ≡ out.old ++ label_line word.now label fec.now) }
 {
-    out.extend(word)?;
-    put_number(out, u64::from(label))?;
+    put_then(out, word, u64::from(label))?;
     out.extend(b" ")?;
     put_fec(out, fec)?;
     out.extend(b"\n")
@@ -33,8 +32,7 @@ impl Lined for LabelMessage {
             LabelMessage::Withdraw(fec, label) => put_label_line(out, b"withdraw ", *label, fec),
             LabelMessage::Release(fec, label) => put_label_line(out, b"release ", *label, fec),
             LabelMessage::Ignored(kind) => {
-                out.extend(b"ignored ")?;
-                put_number(out, u64::from(*kind))?;
+                put_then(out, b"ignored ", u64::from(*kind))?;
                 out.extend(b"\n")
             }
         }

@@ -8,7 +8,7 @@ use crate::addr_text::put_addr;
 use crate::refused::put_refused;
 use mv_base::{Bytes, NoMemory};
 use pim_joinprune::{Group, JoinPrune, JpSource, PimFault, SourceKind};
-use report_text::put_number;
+use report_text::put_then;
 
 fn source_kind_word(kind: SourceKind) -> &'static [u8]
     ensures { result.now ≡ source_kind_text kind }
@@ -64,8 +64,7 @@ pub fn put_joinprune_lines(out: &mut Bytes, message: &JoinPrune) -> Result<(), N
 {
     out.extend(b"joinprune ")?;
     put_addr(out, &message.neighbour)?;
-    out.extend(b" ")?;
-    put_number(out, u64::from(message.holdtime))?;
+    put_then(out, b" ", u64::from(message.holdtime))?;
     out.extend(b"\n")?;
     put_groups(out, message.groups.as_slice())
 }

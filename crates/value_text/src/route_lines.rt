@@ -1,5 +1,5 @@
 //! MCAST-VPN routes, and their lines.
-ghost use Rattle.std.specs.Prelude.{◌≡◌, ◌++◌, ◌+◌, ◌<◌, ◌^◌, OnOk};
+ghost use Rattle.std.specs.Prelude.{◌≡◌, ◌++◌, ◌+◌, ◌<◌, ◌^◌, OnOk, codes};
 ghost use Rattle.hex.specs.Hex.{encode_lower};
 ghost use Rattle.value_text.specs.ValueText.{any_text, intra_text, active_text, inter_text, selective_text, flow_text, join_text};
 ghost use Rattle.value_text.specs.ValueText.{key_text, route_text, route_line, route_word, refused_line};
@@ -8,13 +8,15 @@ use crate::addr_text::put_addr;
 use crate::refused::put_refused;
 use bgp_values::mvpn_nlri::{LeafKey, Route, RouteFault, RouteReason};
 use mv_base::{Addr, Bytes, NoMemory, Rd};
-use report_text::{put_digits, put_hex, put_number};
+use report_text::{put_digits, put_hex, put_number, put_then};
 
-/// Appends a route distinguisher.
-pub fn put_rd(out: &mut Bytes, rd: &Rd) -> Result<(), NoMemory>
-    ensures { OnOk result (out.new ≡ out.old ++ encode_lower rd.now.0) }
+/// Appends a word, a route distinguisher and a space.
+pub fn put_with_rd(out: &mut Bytes, word: &[u8], rd: &Rd) -> Result<(), NoMemory>
+    ensures { OnOk result (out.new ≡ out.old ++ word.now ++ encode_lower rd.now.0 ++ codes " ") }
 {
-    put_digits(out, &rd.0)
+    out.extend(word)?;
+    put_digits(out, &rd.0)?;
+    out.extend(b" ")
 }
 
 fn put_any(out: &mut Bytes, addr: &Option<Addr>) -> Result<(), NoMemory>
@@ -29,18 +31,14 @@ fn put_any(out: &mut Bytes, addr: &Option<Addr>) -> Result<(), NoMemory>
 fn put_intra(out: &mut Bytes, rd: &Rd, originator: &Addr) -> Result<(), NoMemory>
     ensures { OnOk result (out.new ≡ out.old ++ intra_text rd.now originator.now) }
 {
-    out.extend(b"intra ")?;
-    put_rd(out, rd)?;
-    out.extend(b" ")?;
+    put_with_rd(out, b"intra ", rd)?;
     put_addr(out, originator)
 }
 
 fn put_inter(out: &mut Bytes, rd: &Rd, source_as: u32) -> Result<(), NoMemory>
     ensures { OnOk result (out.new ≡ out.old ++ inter_text rd.now source_as) }
 {
-    out.extend(b"inter ")?;
-    put_rd(out, rd)?;
-    out.extend(b" ")?;
+    put_with_rd(out, b"inter ", rd)?;
     put_number(out, u64::from(source_as))
 }
 
@@ -53,9 +51,7 @@ fn put_selective(
 ) -> Result<(), NoMemory>
     ensures { OnOk result (out.new ≡ out.old ++ selective_text rd.now source.now group.now originator.now) }
 {
-    out.extend(b"selective ")?;
-    put_rd(out, rd)?;
-    out.extend(b" ")?;
+    put_with_rd(out, b"selective ", rd)?;
     put_any(out, source)?;
     out.extend(b" ")?;
     put_any(out, group)?;
@@ -74,23 +70,22 @@ fn put_flow(out: &mut Bytes, source: &Addr, group: &Addr) -> Result<(), NoMemory
 fn put_active(out: &mut Bytes, rd: &Rd, source: &Addr, group: &Addr) -> Result<(), NoMemory>
     ensures { OnOk result (out.new ≡ out.old ++ active_text rd.now source.now group.now) }
 {
-    out.extend(b"active ")?;
-    put_rd(out, rd)?;
-    out.extend(b" ")?;
+    put_with_rd(out, b"active ", rd)?;
     put_flow(out, source, group)
 }
 
+/// Appends a route by which a flow is joined, by its first word.
 fn put_join(
     out: &mut Bytes,
+    word: &[u8],
     rd: &Rd,
     source_as: u32,
     source: &Addr,
     group: &Addr,
 ) -> Result<(), NoMemory>
-    ensures { OnOk result (out.new ≡ out.old ++ join_text rd.now source_as source.now group.now) }
+    ensures { OnOk result (out.new ≡ out.old ++ word.now ++ join_text rd.now source_as source.now group.now) }
 {
-    put_rd(out, rd)?;
-    out.extend(b" ")?;
+    put_with_rd(out, word, rd)?;
     put_number(out, u64::from(source_as))?;
     out.extend(b" ")?;
     put_flow(out, source, group)
@@ -135,22 +130,15 @@ pub fn put_route(out: &mut Bytes, route: &Route) -> Result<(), NoMemory>
             source_as,
             source,
             group,
-        } => {
-            out.extend(b"shared ")?;
-            put_join(out, rd, *source_as, source, group)
-        }
+        } => put_join(out, b"shared ", rd, *source_as, source, group),
         Route::SourceJoin {
             rd,
             source_as,
             source,
             group,
-        } => {
-            out.extend(b"source ")?;
-            put_join(out, rd, *source_as, source, group)
-        }
+        } => put_join(out, b"source ", rd, *source_as, source, group),
         Route::Other(kind, octets) => {
-            out.extend(b"other ")?;
-            put_number(out, u64::from(*kind))?;
+            put_then(out, b"other ", u64::from(*kind))?;
             out.extend(b" ")?;
             put_hex(out, octets.octets())
         }

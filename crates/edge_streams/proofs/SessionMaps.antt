@@ -10,18 +10,22 @@ use Rattle.std.proofs.lemmas.Cmp.{on_total}
 use Rattle.std.proofs.lemmas.List.{append-nil}
 use Rattle.indexmap.specs.IndexMap.{get}
 use Rattle.mv_base.specs.declared.ids.NodeId.{NodeId}
-use Rattle.mv_base.specs.framing.Feed.{Fed}
+use Rattle.mv_base.specs.framing.Cut.{Front}
+use Rattle.mv_base.specs.framing.Feed.{Fed, unfed}
 use Rattle.network_defs.proofs.label_defs.KeyLemmas.{node_cases, node_itself, node_apart, ties, apart}
 use Rattle.scenario_defs.specs.declared.event.Kind.{Kind}
 use Rattle.scenario_defs.specs.declared.event.Kind.TheVariants as kinds
 use Rattle.scenario_defs.specs.Kinds.{same_kind}
 use Rattle.bgp_messages.specs.declared.bgp_attributes.update.Message.{Message}
 use Rattle.bgp_messages.specs.declared.bgp_attributes.fault.StreamFault.{StreamFault}
+use Rattle.bgp_messages.specs.bgp_update.Reading.{message_front}
 use Rattle.mldp.specs.declared.mldp_msgs.message.LabelMessage.{LabelMessage}
 use Rattle.mldp.specs.declared.mldp_msgs.fault.LdpFault.{LdpFault}
+use Rattle.mldp.specs.mldp_msgs.Reading.{pdu_front}
+use Rattle.network_defs.specs.session_defs.Message.{SessionMessage, Bgp, Label, SessionFault, BgpFault, LabelFault, as_front, front_of}
 use Rattle.network_defs.specs.session_defs.Octets.{Stream}
 use Rattle.network_defs.specs.session_defs.PeerSession.{PeerSession, kind_number, peer_cmp}
-use Rattle.edge_streams.specs.Kept.{NodeMap, is_node, session, entries_as, bgp_stream, ldp_stream, streams_of}
+use Rattle.edge_streams.specs.Kept.{NodeMap, is_node, PutAt, IsSame, session, entries_as, stream_as, bgp_stream, ldp_stream, streams_of}
 
 -- ---- the order of sessions
 
@@ -144,40 +148,112 @@ stays kind peer now old new same sets = same_map peer_cmp_total peer_cmp_exact _
     here kinds.Bgp kinds.Ldp q same = refl
     here kinds.Ldp kinds.Bgp q same = refl
 
--- ---- a change of one map by node
+-- ---- one protocol
+
+-- A protocol: the kind of its sessions, its messages and faults as those of a session, and what is at the front of its octets.
+pub record Protocol (M E : Type 0) : Type 0 where
+  pub kind : Kind
+  pub message : M → SessionMessage
+  pub fault : E → SessionFault
+  pub front : List ℕ → Front M E
+  pub fronts : front_of kind ≡ (λ octets. as_front message fault (front octets))
+
+abbrev pub over_bgp : Protocol Message StreamFault
+over_bgp = record {
+  kind = kinds.Bgp;
+  message = λ message. Bgp message;
+  fault = λ fault. BgpFault fault;
+  front = message_front;
+  fronts = refl;
+}
+
+abbrev pub over_ldp : Protocol LabelMessage LdpFault
+over_ldp = record {
+  kind = kinds.Ldp;
+  message = λ message. Label message;
+  fault = λ fault. LabelFault fault;
+  front = pdu_front;
+  fronts = refl;
+}
+
+abbrev pub stream_of : {M E : Type 0} → Protocol M E → Fed M E → Stream
+stream_of p d = stream_as p.message p.fault d
+
+-- the sessions of the protocol have these streams, by node
+abbrev pub Has : {M E : Type 0} → Protocol M E → NodeMap (Fed M E) → FinMap peer_cmp Stream → Type 0
+Has p own streams = (q : NodeId) → maps.get streams (session p.kind q) ≡ option_map (stream_of p) (get is_node own q)
+
+-- Streams of one protocol change, and those of the other do not.
+pub record Changes {M E : Type 0} (p : Protocol M E) (before after : NodeMap (Fed M E)) (old new : FinMap peer_cmp Stream) : Type 0 where
+  pub had : Has p before old
+  pub has : Has p after new
+  pub others : (kind : Kind) (q : NodeId) → same_kind p.kind kind ≡ false → maps.get new (session kind q) ≡ maps.get old (session kind q)
+
+module _ (bgp : NodeMap (Fed Message StreamFault)) (ldp : NodeMap (Fed LabelMessage LdpFault)) (old : FinMap peer_cmp Stream)
+    (is : streams_of bgp ldp ≡ old) where
+  pub bgp_had : Has over_bgp bgp old
+  bgp_had q = ap (λ (m : FinMap peer_cmp Stream). maps.get m (session kinds.Bgp q)) (sym is) ∙ bgp_seen bgp ldp q
+
+  pub ldp_had : Has over_ldp ldp old
+  ldp_had q = ap (λ (m : FinMap peer_cmp Stream). maps.get m (session kinds.Ldp q)) (sym is) ∙ ldp_seen bgp ldp q
+
+  pub bgp_changes : (after : NodeMap (Fed Message StreamFault)) → Changes over_bgp bgp after old (streams_of after ldp)
+  bgp_changes after = record { had = bgp_had; has = bgp_seen after ldp; others = others }
+    where
+      others : (kind : Kind) (q : NodeId) → same_kind kinds.Bgp kind ≡ false
+          → maps.get (streams_of after ldp) (session kind q) ≡ maps.get old (session kind q)
+      others kinds.Bgp q differ = absurd cc
+      others kinds.Ldp q differ = ldp_seen after ldp q ∙ sym (ldp_had q)
+
+  pub ldp_changes : (after : NodeMap (Fed LabelMessage LdpFault)) → Changes over_ldp ldp after old (streams_of bgp after)
+  ldp_changes after = record { had = ldp_had; has = ldp_seen bgp after; others = others }
+    where
+      others : (kind : Kind) (q : NodeId) → same_kind kinds.Ldp kind ≡ false
+          → maps.get (streams_of bgp after) (session kind q) ≡ maps.get old (session kind q)
+      others kinds.Bgp q differ = bgp_seen bgp after q ∙ sym (bgp_had q)
+      others kinds.Ldp q differ = absurd cc
+
+-- ---- a change at one node
 
 push : {X Y : Type 0} (f : X → Y) (b : Bool) (now o : Option X) → option_map f (cond b now o) ≡ cond b (option_map f now) (option_map f o)
 push f true now o = refl
 push f false now o = refl
 
-pub bgp_sets : (old new : NodeMap (Fed Message StreamFault)) (ldp : NodeMap (Fed LabelMessage LdpFault)) (peer : NodeId)
-    (now : Option (Fed Message StreamFault)) → ((q : NodeId) → get is_node new q ≡ cond (is_node peer q) now (get is_node old q))
-    → Sets kinds.Bgp peer (option_map bgp_stream now) (streams_of old ldp) (streams_of new ldp)
-bgp_sets old new ldp peer now each kinds.Bgp q =
-    bgp_seen new ldp q ∙ ap (option_map bgp_stream) (each q) ∙ push bgp_stream (is_node peer q) now (get is_node old q)
-    ∙ ap (λ (o : Option Stream). cond (is_node peer q) (option_map bgp_stream now) o) (sym (bgp_seen old ldp q))
-bgp_sets old new ldp peer now each kinds.Ldp q = ldp_seen new ldp q ∙ sym (ldp_seen old ldp q)
+either : (now : Option Stream) (old new : FinMap peer_cmp Stream) (peer : NodeId) (own other : Kind) (q : NodeId)
+    → maps.get new (session own q) ≡ cond (is_node peer q) now (maps.get old (session own q))
+    → (same_kind own other ≡ false → maps.get new (session other q) ≡ maps.get old (session other q))
+    → maps.get new (session other q) ≡ cond (same_kind own other && is_node peer q) now (maps.get old (session other q))
+either now old new peer kinds.Bgp kinds.Bgp q here others = here
+either now old new peer kinds.Ldp kinds.Ldp q here others = here
+either now old new peer kinds.Bgp kinds.Ldp q here others = others refl
+either now old new peer kinds.Ldp kinds.Bgp q here others = others refl
 
-pub ldp_sets : (bgp : NodeMap (Fed Message StreamFault)) (old new : NodeMap (Fed LabelMessage LdpFault)) (peer : NodeId)
-    (now : Option (Fed LabelMessage LdpFault)) → ((q : NodeId) → get is_node new q ≡ cond (is_node peer q) now (get is_node old q))
-    → Sets kinds.Ldp peer (option_map ldp_stream now) (streams_of bgp old) (streams_of bgp new)
-ldp_sets bgp old new peer now each kinds.Ldp q =
-    ldp_seen bgp new q ∙ ap (option_map ldp_stream) (each q) ∙ push ldp_stream (is_node peer q) now (get is_node old q)
-    ∙ ap (λ (o : Option Stream). cond (is_node peer q) (option_map ldp_stream now) o) (sym (ldp_seen bgp old q))
-ldp_sets bgp old new peer now each kinds.Bgp q = bgp_seen bgp new q ∙ sym (bgp_seen bgp old q)
+module _ {M E : Type 0} (p : Protocol M E) (before after : NodeMap (Fed M E)) (old new : FinMap peer_cmp Stream) (is : Changes p before after old new)
+    (peer : NodeId) where
+  pub sets : (now : Option (Fed M E)) → PutAt peer now before after → Sets p.kind peer (option_map (stream_of p) now) old new
+  sets now each other q = either (option_map (stream_of p) now) old new peer p.kind other q here (is.others other q)
+    where
+      here : maps.get new (session p.kind q) ≡ cond (is_node peer q) (option_map (stream_of p) now) (maps.get old (session p.kind q))
+      here =
+          is.has q ∙ ap (option_map (stream_of p)) (each q) ∙ push (stream_of p) (is_node peer q) now (get is_node before q)
+          ∙ ap (λ (o : Option Stream). cond (is_node peer q) (option_map (stream_of p) now) o) (sym (is.had q))
 
-pub bgp_same : (old new : NodeMap (Fed Message StreamFault)) (ldp : NodeMap (Fed LabelMessage LdpFault))
-    → ((q : NodeId) → get is_node new q ≡ get is_node old q) → streams_of new ldp ≡ streams_of old ldp
-bgp_same old new ldp each = same_map peer_cmp_total peer_cmp_exact _ _ (λ s. at s.kind s.peer)
-  where
-    at : (kind : Kind) (q : NodeId) → maps.get (streams_of new ldp) (session kind q) ≡ maps.get (streams_of old ldp) (session kind q)
-    at kinds.Bgp q = bgp_seen new ldp q ∙ ap (option_map bgp_stream) (each q) ∙ sym (bgp_seen old ldp q)
-    at kinds.Ldp q = ldp_seen new ldp q ∙ sym (ldp_seen old ldp q)
+  pub raised : PutAt peer (Some unfed) before after → new ≡ maps.insert old (session p.kind peer) unfed
+  raised each = inserted p.kind peer (stream_of p unfed) old new (sets (Some unfed) each)
 
-pub ldp_same : (bgp : NodeMap (Fed Message StreamFault)) (old new : NodeMap (Fed LabelMessage LdpFault))
-    → ((q : NodeId) → get is_node new q ≡ get is_node old q) → streams_of bgp new ≡ streams_of bgp old
-ldp_same bgp old new each = same_map peer_cmp_total peer_cmp_exact _ _ (λ s. at s.kind s.peer)
-  where
-    at : (kind : Kind) (q : NodeId) → maps.get (streams_of bgp new) (session kind q) ≡ maps.get (streams_of bgp old) (session kind q)
-    at kinds.Bgp q = bgp_seen bgp new q ∙ sym (bgp_seen bgp old q)
-    at kinds.Ldp q = ldp_seen bgp new q ∙ ap (option_map ldp_stream) (each q) ∙ sym (ldp_seen bgp old q)
+  pub lost : PutAt peer None before after → new ≡ maps.remove old (session p.kind peer)
+  lost each = removed p.kind peer old new (sets None each)
+
+  pub same : IsSame before after → new ≡ old
+  same each = same_map peer_cmp_total peer_cmp_exact _ _ (λ s. by p.kind s.kind s.peer (here s.peer) (is.others s.kind s.peer))
+    where
+      here : (q : NodeId) → maps.get new (session p.kind q) ≡ maps.get old (session p.kind q)
+      here q = is.has q ∙ ap (option_map (stream_of p)) (each q) ∙ sym (is.had q)
+
+      by : (own other : Kind) (q : NodeId) → maps.get new (session own q) ≡ maps.get old (session own q)
+          → (same_kind own other ≡ false → maps.get new (session other q) ≡ maps.get old (session other q))
+          → maps.get new (session other q) ≡ maps.get old (session other q)
+      by kinds.Bgp kinds.Bgp q here others = here
+      by kinds.Ldp kinds.Ldp q here others = here
+      by kinds.Bgp kinds.Ldp q here others = others refl
+      by kinds.Ldp kinds.Bgp q here others = others refl

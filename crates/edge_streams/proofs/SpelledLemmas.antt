@@ -1,10 +1,10 @@
--- Each message that comes to wait in a stream is one that octets spell, and the fault of a stream is the first that it answered.
-use Rattle.std.proofs.Common.{◌≡◌, ℕ, List, [], ◌∷◌, ◌++◌, Some, Result, Ok, Err, refl, sym, ap, subst, ◌∙◌}
+-- Each message that comes to wait in a stream is one that octets spell.
+use Rattle.std.proofs.Common.{◌≡◌, ℕ, List, [], ◌∷◌, ◌++◌, Result, Ok, Err, sym, subst}
 use Rattle.std.specs.List.{flat_map, AllByRecursion}
 use Rattle.mv_base.specs.framing.Units.{Spelled, Begins}
-use Rattle.mv_base.specs.framing.Cut.{Front, Fails}
+use Rattle.mv_base.specs.framing.Cut.{Fails}
 use Rattle.mv_base.specs.framing.Feed.{Fed}
-use Rattle.mv_base.specs.framing.Feeding.{Feeds, FeedIs}
+use Rattle.mv_base.specs.framing.Feeding.{Feeds}
 use Rattle.mv_base.specs.declared.framing.fault.FeedFault.{FeedFault}
 use Rattle.mv_base.specs.declared.framing.fault.FeedFault.TheVariants as faults
 use Rattle.bgp_messages.specs.declared.bgp_attributes.update.Message.{Message}
@@ -55,22 +55,6 @@ module _ {M E : Type 0} (Spells : List M → List ℕ → Type 0) (Faulty : List
       (fails_hold (old.held ++ piece) is.added is.offset fault is.fails))
   feed_holds limit old piece (Err faults.Failed) new is held = subst (λ (d : Fed M E). AllByRecursion P d.waiting) (sym is.1) held
   feed_holds limit old piece (Err faults.NoMemory) new is held = subst (λ (d : Fed M E). AllByRecursion P d.waiting) (sym is.1) held
-
--- the first fault that was told stays, unless this feed tells one
-pub fault_stays : {X M E : Type 0} (front : List ℕ → Front M E) (old : Fed M E) (piece : List ℕ) (result : Result X (FeedFault E)) (new : Fed M E)
-    → FeedIs front old piece result new
-    → ((place : ℕ) (fault : E) → result ≡ Err (faults.First place fault) → ⊥) → old.fault ≡ new.fault
-fault_stays front old piece (Ok x) new is none = is.unfailed ∙ sym is.fault
-fault_stays front old piece (Err (faults.First place fault)) new is none = absurd (none place fault refl)
-fault_stays front old piece (Err faults.Failed) new is none = ap (λ (d : Fed _ _). d.fault) (sym is.1)
-fault_stays front old piece (Err faults.NoMemory) new is none = ap (λ (d : Fed _ _). d.fault) (sym is.1)
-
-pub fault_told : {X M E : Type 0} (front : List ℕ → Front M E) (old : Fed M E) (piece : List ℕ) (result : Result X (FeedFault E)) (new : Fed M E)
-    (place : ℕ) (fault : E) → FeedIs front old piece result new
-    → result ≡ Err (faults.First place fault) → Some (place, fault) ≡ new.fault
-fault_told front old piece result new place fault is e =
-    let told = subst (λ (r : Result _ (FeedFault _)). FeedIs front old piece r new) e is in
-    sym told.fault
 
 -- ---- both protocols
 

@@ -1,10 +1,10 @@
 -- Streams by node, as they are kept, and the streams of sessions that they are.
-use Rattle.std.specs.Prelude.{◌≡◌, ℕ, Bool, List, ◌++◌, map, Option, None, Some}
+use Rattle.std.specs.Prelude.{◌≡◌, ℕ, Bool, List, [], ◌++◌, map, Option, None, Some, option_map, if◌then◌else◌}
 use Rattle.std.specs.FinMap as maps
 use Rattle.std.specs.FinMap.{FinMap}
 use Rattle.std.specs.declared.hash.FoldHasher.{FoldHasher}
 use Rattle.std.specs.declared.hash.BuildHasherDefault.{BuildHasherDefault}
-use Rattle.indexmap.specs.IndexMap.{IndexMap}
+use Rattle.indexmap.specs.IndexMap.{IndexMap, get}
 use Rattle.mv_base.specs.declared.ids.NodeId.{NodeId}
 use Rattle.mv_base.specs.contracts.ids.NodeIdPartialEq.TheImpl as nodes_equal
 use Rattle.mv_base.specs.framing.Feed.{Fed}
@@ -26,10 +26,33 @@ NodeMap X = IndexMap NodeId X (BuildHasherDefault FoldHasher)
 abbrev pub is_node : NodeId → NodeId → Bool
 is_node = nodes_equal.ghosts.eq
 
+-- the node has this now, and every other node has what it had
+abbrev pub PutAt : {X : Type 0} → NodeId → Option X → NodeMap X → NodeMap X → Type 0
+PutAt peer now old new = (q : NodeId) → get is_node new q ≡ (if is_node peer q then now else get is_node old q)
+
+-- what the node has, where it has anything, is changed so, and every other node has what it had
+abbrev pub ChangedAt : {X : Type 0} → NodeId → (X → X) → NodeMap X → NodeMap X → Type 0
+ChangedAt peer change old new = (q : NodeId) → get is_node new q ≡
+    (if is_node peer q then option_map change (get is_node old q) else get is_node old q)
+
+-- each node has what it had
+abbrev pub IsSame : {X : Type 0} → NodeMap X → NodeMap X → Type 0
+IsSame old new = (q : NodeId) → get is_node new q ≡ get is_node old q
+
 -- the first message that waits in a stream that may be there is taken
 abbrev pub NextAt : {M E : Type 0} → Option (Fed M E) → Option M → Option (Fed M E) → Type 0
 NextAt None result new = (result ≡ None) × (new ≡ None)
 NextAt {M} {E} (Some old) result new = (left : Fed M E) × (new ≡ Some left) × NextIs old result left
+
+-- the messages that wait in a stream that may be there
+abbrev pub waiting_in : {M E : Type 0} → Option (Fed M E) → List M
+waiting_in None = []
+waiting_in (Some d) = d.waiting
+
+-- its first fault, with its place
+abbrev pub fault_in : {M E : Type 0} → Option (Fed M E) → Option (ℕ × E)
+fault_in None = None
+fault_in (Some d) = d.fault
 
 -- ---- one stream
 

@@ -9,13 +9,11 @@ ghost use Rattle.edge_streams.specs.Kept.{session};
 ghost use Rattle.edge_streams.specs.Spelled.{IsSpelled, IsSpelledLabel, SaysWritable, SaysWritableLabel};
 ghost use Rattle.edge_streams.specs.Streams.{with_octets, TakesFirst, told_fault};
 
-use crate::bgp_stream::{BgpStream, BgpStreams};
-use crate::ldp_stream::{LdpStream, LdpStreams};
-use crate::reason::{SessionReason, bgp_reason, ldp_reason};
-use crate::{bgp_stream, ldp_stream};
-use bgp_messages::bgp_update::Message;
+use crate::peer_streams::{self, PeerStreams};
+use crate::reason::SessionReason;
+use bgp_messages::bgp_update::{self, Message};
 use indexmap::IndexMap;
-use mldp::mldp_msgs::LabelMessage;
+use mldp::mldp_msgs::{self, LabelMessage};
 use mv_base::{NoMemory, NodeId};
 use scenario_defs::Kind;
 use std::alloc::Global;
@@ -26,8 +24,8 @@ use std::marker::Model;
 #[derive(Drop)]
 pub struct EdgeStreams {
     alloc: Global,
-    bgp: BgpStreams,
-    ldp: LdpStreams,
+    bgp: PeerStreams<bgp_update::Stream>,
+    ldp: PeerStreams<mldp_msgs::Stream>,
 }
 
 impl Model for EdgeStreams {
@@ -65,8 +63,8 @@ impl EdgeStreams {
         ensures same { OnErr result (self.new ≡ self.old) }
     {
         match kind {
-            Kind::Bgp => self.raise_bgp(peer),
-            Kind::Ldp => self.raise_ldp(peer),
+            Kind::Bgp => peer_streams::raise(&mut self.bgp, self.alloc, peer),
+            Kind::Ldp => peer_streams::raise(&mut self.ldp, self.alloc, peer),
         }
     }
 
@@ -75,8 +73,8 @@ impl EdgeStreams {
         ensures { self.new ≡ maps.remove self.old (session kind peer) }
     {
         match kind {
-            Kind::Bgp => self.lose_bgp(peer),
-            Kind::Ldp => self.lose_ldp(peer),
+            Kind::Bgp => peer_streams::lose(&mut self.bgp, peer),
+            Kind::Ldp => peer_streams::lose(&mut self.ldp, peer),
         }
     }
 
@@ -85,7 +83,7 @@ impl EdgeStreams {
         ensures fed { OnOk result (self.new ≡ with_octets (session kinds.Bgp peer) bytes.now self.old) }
         ensures same { OnErr result (self.new ≡ self.old) }
     {
-        bgp_stream::feed(&mut self.bgp, peer, bytes)
+        peer_streams::feed(&mut self.bgp, peer, bytes)
     }
 
     /// Octets come from the LDP neighbour (RFC 5036 section 3.1). They go to its stream, where it has one that has had no fault.
@@ -93,7 +91,7 @@ impl EdgeStreams {
         ensures fed { OnOk result (self.new ≡ with_octets (session kinds.Ldp peer) bytes.now self.old) }
         ensures same { OnErr result (self.new ≡ self.old) }
     {
-        ldp_stream::feed(&mut self.ldp, peer, bytes)
+        peer_streams::feed(&mut self.ldp, peer, bytes)
     }
 
     /// Takes the first message from the BGP peer that waits, if one does. It takes no memory.
@@ -103,7 +101,7 @@ impl EdgeStreams {
         ensures spelled { IfSome result (λ message. IsSpelled message) }
         ensures writable { IfSome result (λ message. SaysWritable message) }
     {
-        bgp_stream::next(&mut self.bgp, peer)
+        peer_streams::next(&mut self.bgp, peer)
     }
 
     /// Takes the first message from the LDP neighbour that waits, if one does. It takes no memory.
@@ -113,7 +111,7 @@ impl EdgeStreams {
         ensures spelled { IfSome result (λ message. IsSpelledLabel message) }
         ensures writable { IfSome result (λ message. SaysWritableLabel message) }
     {
-        ldp_stream::next(&mut self.ldp, peer)
+        peer_streams::next(&mut self.ldp, peer)
     }
 
     /// Takes all messages of the BGP peer that wait, in order. The session has a stream.
@@ -125,11 +123,7 @@ impl EdgeStreams {
         ensures rest { OnOk result (self.new ≡ maps.insert self.old (session kinds.Bgp peer)
             (record (stream_at self.old (session kinds.Bgp peer)) { waiting = [] })) }
     {
-        let mut messages = Vec::new(self.alloc);
-        while let Some(message) = self.next_bgp(peer) {
-            messages.push(message)?;
-        }
-        Ok(messages)
+        peer_streams::drain(&mut self.bgp, self.alloc, peer)
     }
 
     /// Takes all messages of the LDP neighbour that wait, in order. The session has a stream.
@@ -141,11 +135,7 @@ impl EdgeStreams {
         ensures rest { OnOk result (self.new ≡ maps.insert self.old (session kinds.Ldp peer)
             (record (stream_at self.old (session kinds.Ldp peer)) { waiting = [] })) }
     {
-        let mut messages = Vec::new(self.alloc);
-        while let Some(message) = self.next_ldp(peer) {
-            messages.push(message)?;
-        }
-        Ok(messages)
+        peer_streams::drain(&mut self.ldp, self.alloc, peer)
     }
 
     /// The first fault of the session's stream, and its place, counted from the stream's first octet. A place past the greatest
@@ -154,48 +144,8 @@ impl EdgeStreams {
         ensures { result ≡ told_fault (fault_at self.now (session kind peer)) }
     {
         match kind {
-            Kind::Bgp => self.fault_bgp(peer),
-            Kind::Ldp => self.fault_ldp(peer),
+            Kind::Bgp => peer_streams::fault(&self.bgp, peer),
+            Kind::Ldp => peer_streams::fault(&self.ldp, peer),
         }
-    }
-
-    fn raise_bgp(&mut self, peer: NodeId) -> Result<(), NoMemory>
-        ensures raised { OnOk result (self.new ≡ maps.insert self.old (session kinds.Bgp peer) unfed) }
-        ensures same { OnErr result (self.new ≡ self.old) }
-    {
-        self.bgp.insert(peer, BgpStream::of(self.alloc))?;
-        Ok(())
-    }
-
-    fn raise_ldp(&mut self, peer: NodeId) -> Result<(), NoMemory>
-        ensures raised { OnOk result (self.new ≡ maps.insert self.old (session kinds.Ldp peer) unfed) }
-        ensures same { OnErr result (self.new ≡ self.old) }
-    {
-        self.ldp.insert(peer, LdpStream::of(self.alloc))?;
-        Ok(())
-    }
-
-    fn lose_bgp(&mut self, peer: NodeId)
-        ensures { self.new ≡ maps.remove self.old (session kinds.Bgp peer) }
-    {
-        self.bgp.swap_remove(&peer);
-    }
-
-    fn lose_ldp(&mut self, peer: NodeId)
-        ensures { self.new ≡ maps.remove self.old (session kinds.Ldp peer) }
-    {
-        self.ldp.swap_remove(&peer);
-    }
-
-    fn fault_bgp(&self, peer: NodeId) -> Option<(u64, SessionReason)>
-        ensures { result ≡ told_fault (fault_at self.now (session kinds.Bgp peer)) }
-    {
-        bgp_reason(self.bgp.get(&peer)?.fault())
-    }
-
-    fn fault_ldp(&self, peer: NodeId) -> Option<(u64, SessionReason)>
-        ensures { result ≡ told_fault (fault_at self.now (session kinds.Ldp peer)) }
-    {
-        ldp_reason(self.ldp.get(&peer)?.fault())
     }
 }

@@ -12,7 +12,7 @@ use Rattle.line_words.specs.declared.fault.TextFault.{TextFault}
 use Rattle.line_words.specs.declared.words.Row.{Row}
 use Rattle.line_words.specs.Forms.{fault, ◌>>=◌}
 use Rattle.line_words.specs.Lines.{is_blank, is_outside, row_of, words_in}
-use Rattle.line_words.specs.Words.{Placed, placed, words_of}
+use Rattle.line_words.specs.Words.{Placed, placed, unspaced, words_of}
 use Rattle.scenario_defs.specs.declared.event.Script.{Script}
 use Rattle.scenario_lines.specs.declared.scenario_draft.line.Line.{Line}
 use Rattle.scenario_lines.specs.scenario_draft.Drafted.{Drafted}
@@ -60,7 +60,7 @@ mark_placed : (column : ℕ) (line : List ℕ) → is_mark line ≡ true → (at
 mark_placed column [] h = absurd cc
 mark_placed column (octet ∷ more) h = by (is_space octet) refl h (mark_placed (column + 1) more)
   where
-    by : (space : Bool) → is_space octet ≡ space → cond space (is_mark more) (is_ended (octet ∷ more)) ≡ true
+    by : (space : Bool) → is_space octet ≡ space → is_ended (cond space (unspaced more) (octet ∷ more)) ≡ true
         → (is_mark more ≡ true → (at : ℕ) × (placed (column + 1) (slice_split is_space more) ≡ report_at at))
         → (at : ℕ) × (placed column (slice_split is_space (octet ∷ more)) ≡ report_at at)
     by true e h again = let found = again h in (found.0, ap (placed column) (slice_split-cons_yes is_space octet more e) ∙ found.1)
@@ -72,7 +72,7 @@ spaces_no_mark : (line : List ℕ) → list_all is_space line ≡ true → is_ma
 spaces_no_mark [] h = refl
 spaces_no_mark (octet ∷ more) h =
     let parts = and_parts (is_space octet) (list_all is_space more) h in
-    ap (λ (b : Bool). cond b (is_mark more) (is_ended (octet ∷ more))) parts.0 ∙ spaces_no_mark more parts.1
+    ap (λ (b : Bool). is_ended (cond b (unspaced more) (octet ∷ more))) parts.0 ∙ spaces_no_mark more parts.1
 
 comment_no_mark : (octet : ℕ) (more : List ℕ) → (octet == 35) ≡ true → is_mark (octet ∷ more) ≡ false
 comment_no_mark octet more h = subst (λ (b : ℕ). is_mark (b ∷ more) ≡ false) (sym (eqb-true octet 35 h)) refl

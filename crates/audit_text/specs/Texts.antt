@@ -14,6 +14,7 @@ use Rattle.line_words.specs.declared.fault.ReadFault.{ReadFault}
 use Rattle.line_words.specs.declared.fault.ReadFault.TheVariants as faults
 use Rattle.line_words.specs.declared.fault.TextFault.{TextFault}
 use Rattle.line_words.specs.Lines.{are_spaces}
+use Rattle.line_words.specs.Words.{unspaced}
 use Rattle.report_text.specs.report_lines.Bounds.{HasTypeBounds}
 use Rattle.scenario_lines.specs.scenario_draft.Adding.{empty_draft}
 use Rattle.scenario_text.specs.Grammar.{script_from}
@@ -29,8 +30,7 @@ is_ended octets = pointwise nat_eq (take 6 octets) (codes "report") && are_space
 
 -- whether the only word of a line is `report`: there may be spaces before and after it
 abbrev pub is_mark : List ℕ → Bool
-is_mark [] = false
-is_mark (octet ∷ more) = if octet == 32 then is_mark more else is_ended (octet ∷ more)
+is_mark line = is_ended (unspaced line)
 
 -- Lines are cut at the first one whose only word is `report`: those before it, and those after it.
 pub record AreCut (all front thereafter : List (List ℕ)) : Type 0 where

@@ -5,7 +5,7 @@ ghost use Rattle.std.specs.Str.Lines.{lines};
 ghost use Rattle.audit_text.specs.Texts.{is_ended, is_mark};
 ghost use Rattle.audit_text.specs.Cutting.{line_length, AreParts};
 
-use line_words::{TEXT_LIMIT, are_spaces, place_of, split_line};
+use line_words::{TEXT_LIMIT, are_spaces, place_of, split_line, unspaced};
 
 /// The texts before and after a line `report`, and the number of that line.
 #[derive(Clone, Copy)]
@@ -29,11 +29,7 @@ fn is_ended(octets: &[u8]) -> bool
 fn is_mark(line: &[u8]) -> bool
     ensures { result ≡ is_mark line.now }
 {
-    let mut rest = line;
-    'spaces: while let [b' ', thereafter @ ..] = rest {
-        rest = thereafter;
-    }
-    is_ended(rest)
+    is_ended(unspaced(line))
 }
 
 /// How many octets the first line of a text has, with the line feed after it.

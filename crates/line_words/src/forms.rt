@@ -153,7 +153,7 @@ pub fn group_at(row: Row, word: &Word) -> Result<Addr, TextFault>
 
 /// The number from 1 to the limit that a text writes.
 #[tactic(auto, unfolding(crate::specs::Forms::number_to))]
-pub fn number_to(text: &[u8], limit: u32) -> Option<u32>
+fn number_to(text: &[u8], limit: u32) -> Option<u32>
     ensures { result ≡ number_to limit text.now }
 {
     let number = read_number(text)?;

@@ -19,8 +19,8 @@ mod words;
 
 pub use fault::{ReadFault, Reason, TEXT_LIMIT, TextFault, fault_at, reason_word};
 pub use forms::{
-    addr_at, group_at, ipv4_at, is_name, is_unicast, number_at, number_to, or_fault, payload_at,
-    rd_of, rule_at, same_family, source_at, target_of, vrf_number_of,
+    addr_at, group_at, ipv4_at, is_name, is_unicast, number_at, or_fault, payload_at, rd_of,
+    rule_at, same_family, source_at, target_of, vrf_number_of,
 };
 pub use lines::{are_spaces, row_of, words_in};
 pub use lists::{prefixes_at, targets_at};

@@ -23,9 +23,9 @@ use Rattle.scenario_lines.specs.scenario_draft.Drafted.{Drafted}
 use Rattle.scenario_lines.specs.scenario_draft.Naming.{vrf_at, site_at, iface_at, is_of_iface}
 use Rattle.scenario_text.specs.event_lines.EventGrammar.{event_line, event_word, event_words, bare_line}
 use Rattle.scenario_text.specs.event_lines.ClockGrammar.{tick_line, tick_words}
-use Rattle.scenario_text.specs.event_lines.JoinGrammar.{entry_line, iface_entry, three_words, entry_at, source_entry}
+use Rattle.scenario_text.specs.event_lines.JoinGrammar.{entry_line, iface_entry, entry_at, source_entry}
 use Rattle.scenario_text.specs.event_lines.SelectGrammar.{select_line, select_words, pattern_at, any_source_at, any_group_at}
-use Rattle.scenario_text.specs.event_lines.PayloadGrammar.{send_line, send_words, send_head}
+use Rattle.scenario_text.specs.event_lines.PayloadGrammar.{send_line, send_head}
 use Rattle.scenario_text.specs.Grammar.{words_line}
 use Rattle.made_laws.proofs.LineLemmas.{at, in_events, addr_word}
 
@@ -104,7 +104,7 @@ pub join_said : (draft : Drafted) (row : Row) (iface : IfaceId) (found : Iface) 
     → same_family found.addr group ≡ true
     → words_line draft row (at c (codes "join") ∷ at d name ∷ at e a ∷ at f b ∷ []) ≡ Ok
     (says.Event (events.Customer (customers.Join iface (Source source group))))
-unfolding event_line event_word event_words entry_line iface_entry three_words
+unfolding event_line event_word event_words entry_line iface_entry
 join_said draft row iface found source group name a b c d e f takes flow named there family =
     in_events draft row (at c (codes "join")) (at d name ∷ at e a ∷ at f b ∷ [])
     (says.Event (events.Customer (customers.Join iface (Source source group)))) takes.begun
@@ -124,7 +124,7 @@ pub send_said : (draft : Drafted) (row : Row) (site : SiteId) (source group : Ad
     → ((column : ℕ) → site_at draft row (at column name) ≡ Ok site) → payload_at row (at g payload) ≡ Ok octets
     → words_line draft row (at c (codes "send") ∷ at d name ∷ at e a ∷ at f b ∷ at g payload ∷ [])
     ≡ Ok (says.Event (events.Send site source group octets))
-unfolding event_line event_word event_words send_line send_words
+unfolding event_line event_word event_words send_line
 send_said draft row site source group name a b payload octets c d e f g takes flow named read =
     in_events draft row (at c (codes "send")) (at d name ∷ at e a ∷ at f b ∷ at g payload ∷ []) (says.Event (events.Send site source group octets))
     takes.begun

@@ -36,7 +36,7 @@ use Rattle.scenario_lines.specs.scenario_draft.Adding.{IsFree}
 use Rattle.scenario_lines.specs.scenario_draft.Naming.{node_named, edge_named, vrf_named, site_named, iface_named, new_name, node_at, edge_at, vrf_at, site_at, iface_at, is_at, node_addr_at, has_number, vrf_number_at, has_rd, rd_at, joins, other_end_at}
 use Rattle.scenario_lines.specs.NodeGrammar.{node_words, node_counted, is_full, node_line, link_between, link_words, link_counted, link_line}
 use Rattle.scenario_lines.specs.VrfGrammar.{vrf_head, vrf_tail, overlaps, is_vpn_at, vrf_rules, vrf_words, vrf_counted, vrf_line}
-use Rattle.scenario_lines.specs.SiteGrammar.{site_words, site_counted, site_line, is_mixed, is_taken, iface_rules, iface_parts, iface_words, iface_counted, iface_line}
+use Rattle.scenario_lines.specs.SiteGrammar.{site_words, site_counted, site_line, is_mixed, is_taken, iface_rules, iface_parts, iface_counted, iface_line}
 use Rattle.scenario_lines.specs.ScenarioGrammar.{scenario_word, scenario_words, scenario_line, events_line}
 use Rattle.scenario_text.specs.event_lines.EventGrammar.{event_line}
 use Rattle.scenario_text.specs.Grammar.{words_line}
@@ -291,7 +291,7 @@ parts_said draft row id iface vrf site addr c d e f new h =
 pub iface_said : (draft : Drafted) (row : Row) (id : IfaceId) (iface : Iface) (vrf site addr : List ℕ) (c d e f g : ℕ) → draft.begun ≡ false
     → IsNewIface draft id iface vrf site → addr_of addr ≡ Some iface.addr
     → words_line draft row (at c (codes "iface") ∷ at d iface.name ∷ at e vrf ∷ at f site ∷ at g addr ∷ []) ≡ Ok (says.Iface id iface)
-unfolding scenario_line scenario_word scenario_words iface_line iface_counted iface_words iface_rules
+unfolding scenario_line scenario_word scenario_words iface_line iface_counted iface_rules
 iface_said draft row id iface vrf site addr c d e f g begun new h =
     in_scenario draft row (at c (codes "iface")) (at d iface.name ∷ at e vrf ∷ at f site ∷ at g addr ∷ []) (says.Iface id iface) begun
     (rw (new.few, parts_said draft row id iface vrf site addr d e f g new h, new.mixed, new.taken)

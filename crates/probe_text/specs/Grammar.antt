@@ -10,7 +10,7 @@ use Rattle.scenario_defs.specs.declared.scenario.Scenario.{Scenario}
 use Rattle.line_words.specs.declared.fault.Reason.TheVariants as reasons
 use Rattle.line_words.specs.declared.fault.TextFault.{TextFault}
 use Rattle.line_words.specs.declared.words.Row.{Row}
-use Rattle.line_words.specs.Words.{Placed}
+use Rattle.line_words.specs.Words.{Placed, unspaced}
 use Rattle.line_words.specs.Lines.{row_of, words_in}
 use Rattle.line_words.specs.Forms.{fault, ◌>>=◌, group_at, payload_at, same_family, source_at}
 use Rattle.scenario_lines.specs.declared.scenario_draft.line.Line.{Line}
@@ -26,11 +26,6 @@ use Rattle.probe_text.specs.declared.input.Ends.{Ends}
 use Rattle.probe_text.specs.declared.input.ProbeText.{ProbeText}
 
 -- ---- the line `probe`
-
--- octets without the spaces before them
-abbrev pub unspaced : List ℕ → List ℕ
-unspaced [] = []
-unspaced (octet ∷ more) = if octet == 32 then unspaced more else octet ∷ more
 
 -- octets up to the first space
 abbrev pub up_to_space : List ℕ → List ℕ

@@ -17,26 +17,23 @@ use probe_defs::ProbeLine;
 use scenario_defs::Scenario;
 use scenario_lines::scenario_draft::{Draft, Line, edge_at, iface_at, is_of_iface};
 use scenario_lines::{count_fault, scenario_line};
-use std::alloc::Global;
 
 /// The most joins of a text.
 const JOIN_LIMIT: usize = 1024;
 
 /// A line of the scenario by its words.
 #[tactic(auto, unfolding(crate::specs::Grammar::declaring))]
-fn declaring(alloc: Global, draft: &Draft, row: Row, words: &[Word]) -> Result<Line, ReadFault>
+fn declaring(draft: &Draft, row: Row, words: &[Word]) -> Result<Line, ReadFault>
     requires topology { IsTopology (length draft.now.scenario.nodes) draft.now.scenario.links }
     ensures { Gives result (declaring draft.now row (map placed_word words.now)) }
 {
-    match words {
-        [] => Ok(Line::Blank),
-        [first, rest @ ..] => {
-            if first.text == b"events".as_slice() {
-                return Err(ReadFault::Text(fault_at(row.number, first.column, Reason::Word)));
-            }
-            scenario_line(alloc, draft, row, first, rest)
-        }
+    let [first, rest @ ..] = words else {
+        return Ok(Line::Blank);
+    };
+    if first.text == b"events".as_slice() {
+        return Err(ReadFault::Text(fault_at(row.number, first.column, Reason::Word)));
     }
+    scenario_line(draft, row, first, rest)
 }
 
 #[tactic(auto, unfolding(crate::specs::Grammar::two_ends))]
@@ -113,40 +110,30 @@ fn join_line(draft: &Draft, edge: NodeId, row: Row, words: &[Word]) -> Result<Pr
 
 /// A line `piece` by the words after the first one.
 #[tactic(auto, unfolding(crate::specs::Grammar::piece_line))]
-fn piece_line(alloc: Global, row: Row, words: &[Word]) -> Result<ProbeLine, ReadFault>
+fn piece_line(draft: &Draft, row: Row, words: &[Word]) -> Result<ProbeLine, ReadFault>
     ensures { Gives result (piece_line row (map placed_word words.now)) }
 {
     let [octets] = words else {
         return Err(ReadFault::Text(count_fault(row, words, 1)));
     };
-    let bytes = payload_at(alloc, row, octets)?;
+    let bytes = payload_at(draft.alloc(), row, octets)?;
     Ok(ProbeLine::Piece(bytes))
 }
 
 /// What a line of the scenario says, given what the lines before it declared.
 #[tactic(auto, unfolding(crate::specs::Grammar::declared_by))]
-pub(crate) fn declared_by(
-    alloc: Global,
-    draft: &Draft,
-    number: u32,
-    octets: &[u8],
-) -> Result<Line, ReadFault>
+pub(crate) fn declared_by(draft: &Draft, number: u32, octets: &[u8]) -> Result<Line, ReadFault>
     requires topology { IsTopology (length draft.now.scenario.nodes) draft.now.scenario.links }
     requires short { length octets.now ≤ TEXT_LIMIT }
     ensures { Gives result (declared_by draft.now number octets.now) }
 {
-    let words = words_in(alloc, number, octets)?;
-    declaring(alloc, draft, row_of(number, octets), &words)
+    let words = words_in(draft.alloc(), number, octets)?;
+    declaring(draft, row_of(number, octets), &words)
 }
 
 /// What the line `probe` says.
 #[tactic(auto, unfolding(crate::specs::Grammar::probe_line))]
-pub(crate) fn probe_line(
-    alloc: Global,
-    draft: &Draft,
-    number: u32,
-    octets: &[u8],
-) -> Result<Ends, ReadFault>
+pub(crate) fn probe_line(draft: &Draft, number: u32, octets: &[u8]) -> Result<Ends, ReadFault>
     requires topology { IsTopology (length draft.now.scenario.nodes) draft.now.scenario.links }
     requires short { length octets.now ≤ TEXT_LIMIT }
     ensures { Gives result (probe_line draft.now number octets.now) }
@@ -155,14 +142,13 @@ pub(crate) fn probe_line(
     if !is_connected(scenario.nodes.len(), scenario.links.as_slice()) {
         return Err(ReadFault::Text(fault_at(number, 1, Reason::Apart)));
     }
-    let words = words_in(alloc, number, octets)?;
+    let words = words_in(draft.alloc(), number, octets)?;
     Ok(ends_line(draft, row_of(number, octets), &words)?)
 }
 
 /// A line of the probe by its words, after so many joins.
 #[tactic(auto, unfolding(crate::specs::Grammar::given_words))]
 fn given_words(
-    alloc: Global,
     draft: &Draft,
     edge: NodeId,
     joins: usize,
@@ -181,7 +167,7 @@ fn given_words(
         return Ok(Some(join_line(draft, edge, row, rest)?));
     }
     if first.text == b"piece".as_slice() {
-        return Ok(Some(piece_line(alloc, row, rest)?));
+        return Ok(Some(piece_line(draft, row, rest)?));
     }
     Err(ReadFault::Text(fault_at(row.number, first.column, Reason::Word)))
 }
@@ -189,7 +175,6 @@ fn given_words(
 /// What a line of the probe says, after so many joins.
 #[tactic(auto, unfolding(crate::specs::Grammar::given_by))]
 pub(crate) fn given_by(
-    alloc: Global,
     draft: &Draft,
     edge: NodeId,
     joins: usize,
@@ -199,6 +184,6 @@ pub(crate) fn given_by(
     requires { length octets.now ≤ TEXT_LIMIT }
     ensures { Gives result (given_by draft.now edge joins number octets.now) }
 {
-    let words = words_in(alloc, number, octets)?;
-    given_words(alloc, draft, edge, joins, row_of(number, octets), &words)
+    let words = words_in(draft.alloc(), number, octets)?;
+    given_words(draft, edge, joins, row_of(number, octets), &words)
 }

@@ -1,9 +1,9 @@
 //! The line `probe` of a text.
 ghost use Rattle.std.specs.Prelude.{◌≡◌, ◌<◌, ◌≤◌, length, position, IfErr, IfOk, None, Some};
 ghost use Rattle.std.specs.Str.Lines.{lines};
-ghost use Rattle.probe_text.specs.Grammar.{first_word, is_probe_line, unspaced, up_to_space};
+ghost use Rattle.probe_text.specs.Grammar.{first_word, is_probe_line, up_to_space};
 
-use line_words::{place_of, split_line};
+use line_words::{place_of, split_line, unspaced};
 
 fn up_to_space(octets: &[u8]) -> &[u8]
     ensures { result.now ≡ up_to_space octets.now }
@@ -18,11 +18,7 @@ fn up_to_space(octets: &[u8]) -> &[u8]
 fn first_word(line: &[u8]) -> &[u8]
     ensures { result.now ≡ first_word line.now }
 {
-    let mut rest = line;
-    'spaces: while let [b' ', thereafter @ ..] = rest {
-        rest = thereafter;
-    }
-    up_to_space(rest)
+    up_to_space(unspaced(line))
 }
 
 /// Whether the first word of the line is `probe`.

@@ -40,7 +40,7 @@ fn read_front<'a>(alloc: Global, text: &'a [u8], place: usize) -> Result<Front<'
     'lines: while done < place {
         let (line, thereafter) = split_line(rest);
         let number = done as u32 + 1;
-        let said = match declared_by(alloc, &draft, number, line) {
+        let said = match declared_by(&draft, number, line) {
             Ok(said) => said,
             Err(stop) => return Err(stop),
         };
@@ -90,24 +90,18 @@ fn add_line(
 }
 
 /// Reads the lines from that number on, which are after the line `probe`.
-fn read_lines(
-    alloc: Global,
-    draft: &Draft,
-    edge: NodeId,
-    first: u32,
-    text: &[u8],
-) -> Result<ProbeLines, ReadFault>
+fn read_lines(draft: &Draft, edge: NodeId, first: u32, text: &[u8]) -> Result<ProbeLines, ReadFault>
     requires some { 0 < first }
     requires short { first + length text.now ≤ TEXT_LIMIT + 1 }
     ensures { Gives result (given_from draft.now edge [] first (lines text.now)) }
 {
-    let mut given = ProbeLines::new(alloc);
+    let mut given = ProbeLines::new(draft.alloc());
     let mut joins = 0;
     let mut number = first;
     let mut rest = text;
     'lines: while !rest.is_empty() {
         let (line, thereafter) = split_line(rest);
-        let one = given_by(alloc, draft, edge, joins, number, line)?;
+        let one = given_by(draft, edge, joins, number, line)?;
         joins = add_line(&mut given, joins, one)?;
         number += 1;
         rest = thereafter;
@@ -116,7 +110,7 @@ fn read_lines(
 }
 
 /// Reads the lines from that number on, of which the first is the line `probe`.
-fn read_probe(alloc: Global, front: Front<'_>, number: u32) -> Result<ProbeText, ReadFault>
+fn read_probe(front: Front<'_>, number: u32) -> Result<ProbeText, ReadFault>
     requires topology { IsTopology (length front.draft.scenario.nodes) front.draft.scenario.links }
     requires some { 0 < number }
     requires short { number + length front.thereafter.now ≤ TEXT_LIMIT + 1 }
@@ -125,8 +119,8 @@ fn read_probe(alloc: Global, front: Front<'_>, number: u32) -> Result<ProbeText,
 {
     let Front { draft, thereafter } = front;
     let (line, rest) = split_line(thereafter);
-    let ends = probe_line(alloc, &draft, number, line)?;
-    let lines = read_lines(alloc, &draft, ends.edge, number + 1, rest)?;
+    let ends = probe_line(&draft, number, line)?;
+    let lines = read_lines(&draft, ends.edge, number + 1, rest)?;
     let Script { scenario, .. } = draft.into_script(number);
     Ok(ProbeText {
         scenario,
@@ -147,7 +141,7 @@ pub fn read(alloc: Global, text: &[u8]) -> Result<ProbeText, ReadFault>
     match probe_place(text) {
         Ok(place) => {
             let front = read_front(alloc, text, place)?;
-            read_probe(alloc, front, place as u32 + 1)
+            read_probe(front, place as u32 + 1)
         }
         Err(count) => Err(ReadFault::Text(fault_at(count as u32 + 1, 1, Reason::Probe))),
     }

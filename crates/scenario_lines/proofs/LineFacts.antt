@@ -328,7 +328,6 @@ iface_parts_meets draft row a b c d =
 
 iface_words_meets : (draft : Drafted) (row : Row) (id : IfaceId) (a b c d : Placed) → id.0 ≡ length draft.scenario.ifaces
     → length draft.scenario.ifaces < 1024 → Meets (IsDeclared draft) (iface_words draft row id a b c d)
-unfolding iface_words
 iface_words_meets draft row id a b c d next few =
     bind_meets _ (iface_parts draft row a b c d) _
     (λ iface i. let known = (iface_parts_meets draft row a b c d).holds iface i in

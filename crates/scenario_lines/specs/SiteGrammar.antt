@@ -59,7 +59,7 @@ iface_parts draft row a b c d =
     addr_at row d >>= λ addr. Ok (record { name = name; vrf = vrf; site = site; addr = addr })
 
 -- `iface NAME VRF SITE ADDR`
-unfoldable pub iface_words : Drafted → Row → IfaceId → Placed → Placed → Placed → Placed → Result Line TextFault
+abbrev pub iface_words : Drafted → Row → IfaceId → Placed → Placed → Placed → Placed → Result Line TextFault
 iface_words draft row id a b c d = iface_parts draft row a b c d >>= λ iface. iface_rules draft row id c iface
 
 -- the words after `iface`

@@ -5,7 +5,7 @@ ghost use Rattle.scenario_lines.specs.NodeGrammar.{is_full, node_line, link_betw
 
 use crate::forms::count_fault;
 use crate::scenario_draft::{Draft, Line, new_name, node_addr_at, node_at, other_end_at};
-use line_words::{Reason, Row, TextFault, Word, fault_at, number_to, or_fault};
+use line_words::{Reason, Row, TextFault, Word, fault_at, number_at};
 use mv_base::{Link, NodeId};
 use scenario_defs::{Node, Scenario};
 
@@ -89,6 +89,6 @@ pub fn link_line(draft: &Draft, row: Row, first: &Word, rest: &[Word]) -> Result
     };
     let from = node_at(draft, row, a)?;
     let to = other_end_at(draft, row, from, b)?;
-    let cost = or_fault(number_to(cost.text, COST_LIMIT), row, cost, Reason::Number)?;
+    let cost = number_at(row, cost, COST_LIMIT)?;
     link_between(row, b, from, to, cost)
 }

@@ -14,7 +14,6 @@ use crate::site_lines::{iface_line, site_line};
 use crate::vrf_lines::vrf_line;
 use line_words::{ReadFault, Reason, Row, TextFault, Word, fault_at, or_fault};
 use mv_base::core_walks::is_connected;
-use std::alloc::Global;
 
 /// What the first word of a line begins.
 #[derive(Clone, Copy)]
@@ -78,7 +77,6 @@ fn events_line(draft: &Draft, row: Row, words: &[Word]) -> Result<Line, TextFaul
 
 #[tactic(auto, unfolding(crate::specs::ScenarioGrammar::scenario_words))]
 fn scenario_words(
-    alloc: Global,
     draft: &Draft,
     row: Row,
     kind: ScenarioWord,
@@ -92,8 +90,8 @@ fn scenario_words(
         ScenarioWord::Edge => Ok(node_line(draft, row, true, first, rest)?),
         ScenarioWord::Core => Ok(node_line(draft, row, false, first, rest)?),
         ScenarioWord::Link => Ok(link_line(draft, row, first, rest)?),
-        ScenarioWord::Vrf => vrf_line(alloc, draft, row, first, rest),
-        ScenarioWord::Site => site_line(alloc, draft, row, first, rest),
+        ScenarioWord::Vrf => vrf_line(draft, row, first, rest),
+        ScenarioWord::Site => site_line(draft, row, first, rest),
         ScenarioWord::Iface => Ok(iface_line(draft, row, first, rest)?),
         ScenarioWord::Setting(setting) => Ok(setting_line(draft, row, setting, first, rest)?),
         ScenarioWord::Events => Ok(events_line(draft, row, rest)?),
@@ -104,7 +102,6 @@ fn scenario_words(
 /// is connected.
 #[tactic(auto, unfolding(crate::specs::ScenarioGrammar::scenario_line))]
 pub fn scenario_line(
-    alloc: Global,
     draft: &Draft,
     row: Row,
     first: &Word,
@@ -114,5 +111,5 @@ pub fn scenario_line(
     ensures { Gives result (scenario_line draft.now row (placed_word first.now) (map placed_word rest.now)) }
 {
     let kind = scenario_word(row, first)?;
-    scenario_words(alloc, draft, row, kind, first, rest)
+    scenario_words(draft, row, kind, first, rest)
 }

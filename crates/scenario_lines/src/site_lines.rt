@@ -2,7 +2,7 @@
 ghost use Rattle.std.specs.Prelude.{◌≡◌, map};
 ghost use Rattle.line_words.specs.Answers.{Gives};
 ghost use Rattle.line_words.specs.Words.{placed_word};
-ghost use Rattle.scenario_lines.specs.SiteGrammar.{site_line, iface_rules, iface_parts, iface_line};
+ghost use Rattle.scenario_lines.specs.SiteGrammar.{site_line, iface_rules, iface_line};
 
 use crate::forms::count_fault;
 use crate::lists::{is_any_mixed, is_any_taken};
@@ -10,7 +10,6 @@ use crate::scenario_draft::{Draft, Line, new_name, site_at, vrf_at};
 use line_words::{ReadFault, Reason, Row, TextFault, Word, addr_at, fault_at, prefixes_at};
 use mv_base::{IfaceId, SiteId};
 use scenario_defs::{Iface, Site};
-use std::alloc::Global;
 
 const SITE_LIMIT: usize = 512;
 
@@ -18,13 +17,7 @@ const IFACE_LIMIT: usize = 1024;
 
 /// The line of a site by its words.
 #[tactic(auto, unfolding(crate::specs::SiteGrammar::site_line, crate::specs::SiteGrammar::site_counted, crate::specs::SiteGrammar::site_words))]
-pub fn site_line(
-    alloc: Global,
-    draft: &Draft,
-    row: Row,
-    first: &Word,
-    rest: &[Word],
-) -> Result<Line, ReadFault>
+pub fn site_line(draft: &Draft, row: Row, first: &Word, rest: &[Word]) -> Result<Line, ReadFault>
     ensures { Gives result (site_line draft.now row (placed_word first.now) (map placed_word rest.now)) }
 {
     let number = draft.scenario().sites.len();
@@ -36,7 +29,7 @@ pub fn site_line(
         return Err(ReadFault::Text(count_fault(row, rest, 2)));
     };
     let name = new_name(draft, row, name)?;
-    let prefixes = prefixes_at(alloc, row, prefixes)?;
+    let prefixes = prefixes_at(draft.alloc(), row, prefixes)?;
     Ok(Line::Site {
         id,
         site: Site { name, prefixes },
@@ -63,32 +56,8 @@ fn iface_rules(
     Ok(Line::Iface { id, iface })
 }
 
-#[tactic(auto, unfolding(crate::specs::SiteGrammar::iface_parts))]
-fn iface_parts(
-    draft: &Draft,
-    row: Row,
-    name: &Word,
-    vrf: &Word,
-    site: &Word,
-    addr: &Word,
-) -> Result<Iface, TextFault>
-    ensures { result ≡ iface_parts draft.now row
-        (placed_word name.now) (placed_word vrf.now) (placed_word site.now) (placed_word addr.now) }
-{
-    let name = new_name(draft, row, name)?;
-    let vrf = vrf_at(draft, row, vrf)?;
-    let site = site_at(draft, row, site)?;
-    let addr = addr_at(row, addr)?;
-    Ok(Iface {
-        name,
-        vrf,
-        site,
-        addr,
-    })
-}
-
 /// The line of an interface by its words.
-#[tactic(auto, unfolding(crate::specs::SiteGrammar::iface_line, crate::specs::SiteGrammar::iface_counted, crate::specs::SiteGrammar::iface_words))]
+#[tactic(auto, unfolding(crate::specs::SiteGrammar::iface_line, crate::specs::SiteGrammar::iface_counted, crate::specs::SiteGrammar::iface_parts))]
 pub fn iface_line(draft: &Draft, row: Row, first: &Word, rest: &[Word]) -> Result<Line, TextFault>
     ensures { result ≡ iface_line draft.now row (placed_word first.now) (map placed_word rest.now) }
 {
@@ -100,6 +69,11 @@ pub fn iface_line(draft: &Draft, row: Row, first: &Word, rest: &[Word]) -> Resul
     let [name, vrf, site, addr] = rest else {
         return Err(count_fault(row, rest, 4));
     };
-    let iface = iface_parts(draft, row, name, vrf, site, addr)?;
+    let iface = Iface {
+        name: new_name(draft, row, name)?,
+        vrf: vrf_at(draft, row, vrf)?,
+        site: site_at(draft, row, site)?,
+        addr: addr_at(row, addr)?,
+    };
     iface_rules(draft, row, id, site, iface)
 }

@@ -11,7 +11,6 @@ use line_words::{ReadFault, Reason, Row, TextFault, Word, fault_at, rule_at, tar
 use mv_base::route_targets::Targets;
 use mv_base::{NodeId, Rd, Rule, VrfId};
 use scenario_defs::{Name, Vrf};
-use std::alloc::Global;
 
 const VRF_LIMIT: usize = 256;
 
@@ -49,7 +48,6 @@ fn vrf_head(
 
 #[tactic(auto, unfolding(crate::specs::VrfGrammar::vrf_tail))]
 fn vrf_tail(
-    alloc: Global,
     draft: &Draft,
     row: Row,
     edge: NodeId,
@@ -60,7 +58,7 @@ fn vrf_tail(
     ensures { Gives result (vrf_tail draft.now row edge (placed_word rd.now) (placed_word targets.now) (placed_word rule.now)) }
 {
     let rd = rd_at(draft, row, edge, rd)?;
-    let targets = targets_at(alloc, row, targets)?;
+    let targets = targets_at(draft.alloc(), row, targets)?;
     let rule = rule_at(row, rule)?;
     Ok(VrfTail { rd, targets, rule })
 }
@@ -98,13 +96,7 @@ fn vrf_rules(
 
 /// The line of a VRF by its words.
 #[tactic(auto, unfolding(crate::specs::VrfGrammar::vrf_line, crate::specs::VrfGrammar::vrf_counted, crate::specs::VrfGrammar::vrf_words))]
-pub fn vrf_line(
-    alloc: Global,
-    draft: &Draft,
-    row: Row,
-    first: &Word,
-    rest: &[Word],
-) -> Result<Line, ReadFault>
+pub fn vrf_line(draft: &Draft, row: Row, first: &Word, rest: &[Word]) -> Result<Line, ReadFault>
     ensures { Gives result (vrf_line draft.now row (placed_word first.now) (map placed_word rest.now)) }
 {
     let number = draft.scenario().vrfs.len();
@@ -116,6 +108,6 @@ pub fn vrf_line(
         return Err(ReadFault::Text(count_fault(row, rest, 6)));
     };
     let head = vrf_head(draft, row, name, edge, number)?;
-    let tail = vrf_tail(alloc, draft, row, head.edge, rd, targets, rule)?;
+    let tail = vrf_tail(draft, row, head.edge, rd, targets, rule)?;
     Ok(vrf_rules(draft, row, id, targets, head, tail)?)
 }

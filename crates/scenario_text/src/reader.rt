@@ -16,30 +16,26 @@ use scenario_lines::scenario_line;
 use std::alloc::Global;
 
 #[tactic(auto, unfolding(crate::specs::Grammar::words_line))]
-fn words_line(alloc: Global, draft: &Draft, row: Row, words: &[Word]) -> Result<Line, ReadFault>
+fn words_line(draft: &Draft, row: Row, words: &[Word]) -> Result<Line, ReadFault>
     requires topology { IsTopology (length draft.now.scenario.nodes) draft.now.scenario.links }
     ensures { Gives result (words_line draft.now row (map placed_word words.now)) }
 {
     match words {
         [] => Ok(Line::Blank),
-        [first, rest @ ..] => {
-            if draft.begun() {
-                return event_line(alloc, draft, row, first, rest);
-            }
-            scenario_line(alloc, draft, row, first, rest)
-        }
+        [first, rest @ ..] if draft.begun() => event_line(draft, row, first, rest),
+        [first, rest @ ..] => scenario_line(draft, row, first, rest),
     }
 }
 
 /// What a line says, given what the lines before it declared.
 #[tactic(auto, unfolding(crate::specs::Grammar::line_of))]
-fn line_of(alloc: Global, draft: &Draft, number: u32, octets: &[u8]) -> Result<Line, ReadFault>
+fn line_of(draft: &Draft, number: u32, octets: &[u8]) -> Result<Line, ReadFault>
     requires topology { IsTopology (length draft.now.scenario.nodes) draft.now.scenario.links }
     requires short { length octets.now ≤ TEXT_LIMIT }
     ensures { Gives result (line_of draft.now number octets.now) }
 {
-    let words = words_in(alloc, number, octets)?;
-    words_line(alloc, draft, row_of(number, octets), &words)
+    let words = words_in(draft.alloc(), number, octets)?;
+    words_line(draft, row_of(number, octets), &words)
 }
 
 /// Reads the whole text: what it says, or its first fault.
@@ -55,7 +51,7 @@ pub fn read(alloc: Global, text: &[u8]) -> Result<Script, ReadFault>
     let mut rest = text;
     'lines: while !rest.is_empty() {
         let (line, thereafter) = split_line(rest);
-        let said = line_of(alloc, &draft, number, line)?;
+        let said = line_of(&draft, number, line)?;
         draft.add(number, said)?;
         number += 1;
         rest = thereafter;

@@ -79,6 +79,11 @@ impl Draft {
         }
     }
 
+    /// The allocator that the draft grows by.
+    pub fn alloc(&self) -> Global {
+        self.events.alloc()
+    }
+
     pub fn scenario(&self) -> &Scenario
         ensures { result.now ≡ self.now.scenario }
     {

@@ -88,13 +88,11 @@ at_iface_meets draft row c iface entry i e =
     (i, own.0, own.1))
 
 three_words_meets : (draft : Drafted) (row : Row) (a b c : Placed) → Meets (IsNamed draft) (three_words draft row a b c)
-unfolding three_words
 three_words_meets draft row a b c =
     bind_meets _ (iface_at draft row a) _ (λ iface i. bind_meets _ (entry_at row b c) _ (λ entry e.
     at_iface_meets draft row c iface entry ((iface_meets draft row a).holds iface i) ((entry_meets row b c).holds entry e)))
 
 four_words_meets : (draft : Drafted) (row : Row) (a b c d : Placed) → Meets (IsNamed draft) (four_words draft row a b c d)
-unfolding four_words
 four_words_meets draft row a b c d =
     bind_meets _ (iface_at draft row a) _ (λ iface i. bind_meets _ (rpt_entry row b c d) _ (λ entry e.
     at_iface_meets draft row c iface entry ((iface_meets draft row a).holds iface i) ((rpt_entry_meets row b c d).holds entry e)))
@@ -238,7 +236,6 @@ send_head_meets draft row a b c =
     ok_meets _ _ ((site_meets draft row a).holds site i, (source_meets row b).holds source s, (group_meets row c).holds group g))))
 
 send_words_meets : (draft : Drafted) (row : Row) (a b c d : Placed) → length d.text ≤ 4096 → Meets (IsTold draft) (send_words draft row a b c d)
-unfolding send_words
 send_words_meets draft row a b c d short =
     bind_meets _ (send_head draft row a b c) _ (λ head h. bind_meets _ (payload_at row d) _ (λ payload p.
     unless_meets _ (family_fault (same_family head.source head.group)) row c _ (λ kept.

@@ -58,11 +58,11 @@ at_iface draft row c iface entry =
     unless_broken (family_fault (is_entry_of draft iface entry)) row c (record { iface = iface; entry = entry })
 
 -- `IFACE * G` or `IFACE S G`
-unfoldable pub three_words : Drafted → Row → Placed → Placed → Placed → Result IfaceEntry TextFault
+abbrev pub three_words : Drafted → Row → Placed → Placed → Placed → Result IfaceEntry TextFault
 three_words draft row a b c = iface_at draft row a >>= λ iface. entry_at row b c >>= λ entry. at_iface draft row c iface entry
 
 -- `IFACE S G rpt`
-unfoldable pub four_words : Drafted → Row → Placed → Placed → Placed → Placed → Result IfaceEntry TextFault
+abbrev pub four_words : Drafted → Row → Placed → Placed → Placed → Placed → Result IfaceEntry TextFault
 four_words draft row a b c d = iface_at draft row a >>= λ iface. rpt_entry row b c d >>= λ entry. at_iface draft row c iface entry
 
 -- the words after `join` or `prune`

@@ -1,5 +1,7 @@
 -- The lines that end in octets: what each says, or its first fault.
 use Rattle.std.specs.Prelude.{List, [], ◌∷◌, Result, Ok}
+use Rattle.mv_base.specs.declared.addr.Addr.{Addr}
+use Rattle.mv_base.specs.declared.ids.SiteId.{SiteId}
 use Rattle.scenario_defs.specs.declared.event.CustomerEvent.TheVariants as customers
 use Rattle.scenario_defs.specs.declared.event.Event.TheVariants as events
 use Rattle.line_words.specs.declared.fault.Reason.TheVariants as reasons
@@ -11,7 +13,6 @@ use Rattle.scenario_lines.specs.declared.scenario_draft.line.Line.{Line}
 use Rattle.scenario_lines.specs.declared.scenario_draft.line.Line.TheVariants as says
 use Rattle.scenario_lines.specs.scenario_draft.Drafted.{Drafted}
 use Rattle.scenario_lines.specs.scenario_draft.Naming.{iface_at, site_at}
-use Rattle.scenario_text.specs.declared.event_lines.payload_lines.SendHead.{SendHead}
 use Rattle.scenario_text.specs.event_lines.Rules.{unless_broken, family_fault}
 
 -- `pim IFACE HEX`
@@ -36,6 +37,12 @@ packet_line draft row (a ∷ []) = fault row.number row.after reasons.Count
 packet_line draft row (a ∷ b ∷ []) = packet_words draft row a b
 packet_line draft row (a ∷ b ∷ c ∷ more) = fault row.number c.column reasons.Count
 
+-- The first words of a send.
+pub record SendHead : Type 0 where
+  pub site : SiteId
+  pub source : Addr
+  pub group : Addr
+
 -- `SITE S G` of a send
 unfoldable pub send_head : Drafted → Row → Placed → Placed → Placed → Result SendHead TextFault
 send_head draft row a b c =
@@ -43,7 +50,7 @@ send_head draft row a b c =
     Ok (record { site = site; source = source; group = group })
 
 -- `send SITE S G HEX`
-unfoldable pub send_words : Drafted → Row → Placed → Placed → Placed → Placed → Result Line TextFault
+abbrev pub send_words : Drafted → Row → Placed → Placed → Placed → Placed → Result Line TextFault
 send_words draft row a b c d =
     send_head draft row a b c >>= λ head. payload_at row d >>= λ payload.
     unless_broken (family_fault (same_family head.source head.group)) row c

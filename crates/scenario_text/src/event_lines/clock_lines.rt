@@ -3,7 +3,7 @@ ghost use Rattle.std.specs.Prelude.{◌≡◌, map};
 ghost use Rattle.line_words.specs.Words.{placed_word};
 ghost use Rattle.scenario_text.specs.event_lines.ClockGrammar.{tick_line, node_event, node_line};
 
-use line_words::{Reason, Row, TextFault, Word, number_to, or_fault};
+use line_words::{Row, TextFault, Word, number_at};
 use mv_base::NodeId;
 use scenario_defs::Event;
 use scenario_lines::count_fault;
@@ -19,12 +19,7 @@ pub fn tick_line(row: Row, words: &[Word]) -> Result<Line, TextFault>
     let [count] = words else {
         return Err(count_fault(row, words, 1));
     };
-    let count = or_fault(
-        number_to(count.text, TICK_LIMIT),
-        row,
-        count,
-        Reason::Number,
-    )?;
+    let count = number_at(row, count, TICK_LIMIT)?;
     Ok(Line::Event {
         event: Event::Tick {
             count: u64::from(count),

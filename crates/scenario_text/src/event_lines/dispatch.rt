@@ -14,7 +14,6 @@ use crate::event_lines::session_lines::{move_line, session_line};
 use crate::event_lines::words::{BareWord, EventWord, bare_event, event_word};
 use line_words::{ReadFault, Reason, Row, TextFault, Word, fault_at, or_fault};
 use scenario_lines::scenario_draft::{Draft, Line};
-use std::alloc::Global;
 
 const EVENT_LIMIT: usize = 200_000;
 
@@ -31,21 +30,15 @@ fn bare_line(row: Row, word: BareWord, words: &[Word]) -> Result<Line, TextFault
 }
 
 #[tactic(auto, unfolding(crate::specs::event_lines::EventGrammar::event_words))]
-fn event_words(
-    alloc: Global,
-    draft: &Draft,
-    row: Row,
-    kind: EventWord,
-    rest: &[Word],
-) -> Result<Line, ReadFault>
+fn event_words(draft: &Draft, row: Row, kind: EventWord, rest: &[Word]) -> Result<Line, ReadFault>
     ensures { Gives result (event_words draft.now row kind (map placed_word rest.now)) }
 {
     match kind {
         EventWord::Tick => Ok(tick_line(row, rest)?),
         EventWord::Move => Ok(move_line(draft, row, rest)?),
-        EventWord::Pim => pim_line(alloc, draft, row, rest),
-        EventWord::Packet => packet_line(alloc, draft, row, rest),
-        EventWord::Send => send_line(alloc, draft, row, rest),
+        EventWord::Pim => pim_line(draft, row, rest),
+        EventWord::Packet => packet_line(draft, row, rest),
+        EventWord::Send => send_line(draft, row, rest),
         EventWord::Node(word) => Ok(node_line(draft, row, word, rest)?),
         EventWord::Session(word) => Ok(session_line(draft, row, word, rest)?),
         EventWord::Link(word) => Ok(link_line(draft, row, word, rest)?),
@@ -58,18 +51,12 @@ fn event_words(
 
 /// A line of an event by its words.
 #[tactic(auto, unfolding(crate::specs::event_lines::EventGrammar::event_line))]
-pub fn event_line(
-    alloc: Global,
-    draft: &Draft,
-    row: Row,
-    first: &Word,
-    rest: &[Word],
-) -> Result<Line, ReadFault>
+pub fn event_line(draft: &Draft, row: Row, first: &Word, rest: &[Word]) -> Result<Line, ReadFault>
     ensures { Gives result (event_line draft.now row (placed_word first.now) (map placed_word rest.now)) }
 {
     let kind = or_fault(event_word(first.text), row, first, Reason::Word)?;
     if draft.event_count() >= EVENT_LIMIT {
         return Err(ReadFault::Text(fault_at(row.number, first.column, Reason::Limit)));
     }
-    event_words(alloc, draft, row, kind, rest)
+    event_words(draft, row, kind, rest)
 }

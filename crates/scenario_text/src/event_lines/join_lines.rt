@@ -2,7 +2,7 @@
 ghost use Rattle.std.specs.Prelude.{◌≡◌, map};
 ghost use Rattle.line_words.specs.Words.{placed_word};
 ghost use Rattle.scenario_text.specs.event_lines.JoinGrammar.{entry_event, star_entry, source_entry, if_rpt, rpt_entry, entry_at};
-ghost use Rattle.scenario_text.specs.event_lines.JoinGrammar.{at_iface, three_words, four_words, iface_entry, entry_line};
+ghost use Rattle.scenario_text.specs.event_lines.JoinGrammar.{at_iface, iface_entry, entry_line};
 
 use crate::event_lines::rules::{family_fault, is_entry_of, unless_broken};
 use line_words::{Reason, Row, TextFault, Word, fault_at, group_at, source_at};
@@ -90,45 +90,21 @@ fn at_iface(
     unless_broken(family_fault(kept), row, group, IfaceEntry { iface, entry })
 }
 
-#[tactic(auto, unfolding(crate::specs::event_lines::JoinGrammar::three_words))]
-fn three_words(
-    draft: &Draft,
-    row: Row,
-    iface: &Word,
-    source: &Word,
-    group: &Word,
-) -> Result<IfaceEntry, TextFault>
-    ensures { result ≡ three_words draft.now row (placed_word iface.now) (placed_word source.now) (placed_word group.now) }
-{
-    let iface = iface_at(draft, row, iface)?;
-    let entry = entry_at(row, source, group)?;
-    at_iface(draft, row, group, iface, entry)
-}
-
-#[tactic(auto, unfolding(crate::specs::event_lines::JoinGrammar::four_words))]
-fn four_words(
-    draft: &Draft,
-    row: Row,
-    iface: &Word,
-    source: &Word,
-    group: &Word,
-    last: &Word,
-) -> Result<IfaceEntry, TextFault>
-    ensures { result ≡ four_words draft.now row
-        (placed_word iface.now) (placed_word source.now) (placed_word group.now) (placed_word last.now) }
-{
-    let iface = iface_at(draft, row, iface)?;
-    let entry = rpt_entry(row, source, group, last)?;
-    at_iface(draft, row, group, iface, entry)
-}
-
 #[tactic(auto, unfolding(crate::specs::event_lines::JoinGrammar::iface_entry))]
 fn iface_entry(draft: &Draft, row: Row, words: &[Word]) -> Result<IfaceEntry, TextFault>
     ensures { result ≡ iface_entry draft.now row (map placed_word words.now) }
 {
     match words {
-        [iface, source, group] => three_words(draft, row, iface, source, group),
-        [iface, source, group, last] => four_words(draft, row, iface, source, group, last),
+        [iface, source, group] => {
+            let iface = iface_at(draft, row, iface)?;
+            let entry = entry_at(row, source, group)?;
+            at_iface(draft, row, group, iface, entry)
+        }
+        [iface, source, group, last] => {
+            let iface = iface_at(draft, row, iface)?;
+            let entry = rpt_entry(row, source, group, last)?;
+            at_iface(draft, row, group, iface, entry)
+        }
         _ => Err(count_fault(row, words, 4)),
     }
 }

@@ -4,7 +4,7 @@ ghost use Rattle.line_words.specs.Words.{placed_word};
 ghost use Rattle.scenario_text.specs.event_lines.LinkGrammar.{highest, link_event, link_line};
 
 use crate::event_lines::rules::{link_fault, unless_broken};
-use line_words::{Reason, Row, TextFault, Word, number_to, or_fault};
+use line_words::{Row, TextFault, Word, number_at};
 use mv_base::NodeId;
 use scenario_defs::Event;
 use scenario_lines::count_fault;
@@ -65,12 +65,7 @@ pub fn link_line(draft: &Draft, row: Row, word: LinkWord, words: &[Word]) -> Res
     };
     let from = node_at(draft, row, a)?;
     let to = node_at(draft, row, b)?;
-    let number = or_fault(
-        number_to(number.text, highest(word)),
-        row,
-        number,
-        Reason::Number,
-    )?;
+    let number = number_at(row, number, highest(word))?;
     let broken = link_fault(draft.scenario().links.as_slice(), from, to);
     let event = link_event(word, from, to, number);
     unless_broken(broken, row, b, Line::Event { event })

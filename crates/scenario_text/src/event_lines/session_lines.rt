@@ -5,7 +5,7 @@ ghost use Rattle.scenario_text.specs.event_lines.SessionGrammar.{session_event, 
 ghost use Rattle.scenario_text.specs.event_lines.SessionGrammar.{session_line, move_line};
 
 use crate::event_lines::rules::{session_fault, unless_broken};
-use line_words::{Reason, Row, TextFault, Word, number_to, or_fault};
+use line_words::{Reason, Row, TextFault, Word, number_at, or_fault};
 use mv_base::NodeId;
 use scenario_defs::{Event, Kind};
 use scenario_lines::scenario_draft::{Draft, Line, edge_at, node_at};
@@ -104,12 +104,7 @@ pub fn move_line(draft: &Draft, row: Row, words: &[Word]) -> Result<Line, TextFa
         return Err(count_fault(row, words, 4));
     };
     let named = session_at(draft, row, kind, a, b)?;
-    let count = or_fault(
-        number_to(count.text, MOVE_LIMIT),
-        row,
-        count,
-        Reason::Number,
-    )?;
+    let count = number_at(row, count, MOVE_LIMIT)?;
     let links = draft.scenario().links.as_slice();
     let broken = session_fault(links, named.kind, named.a, named.b);
     let event = Event::Move {

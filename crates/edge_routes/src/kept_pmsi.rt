@@ -1,7 +1,8 @@
 //! PMSI Tunnel attributes of routes that were taken, as a table keeps them.
 ghost use Rattle.std.specs.Prelude.{◌≡◌, IfOk, IfSome};
+ghost use Rattle.mv_base.specs.Number.{◌>>?◌};
 ghost use Rattle.edge_defs.specs.Imported.{lsp_of};
-ghost use Rattle.edge_routes.specs.KeptPmsi.{attribute_of, lsp_by};
+ghost use Rattle.edge_routes.specs.KeptPmsi.{attribute_of, lsp_by, mark_in, mark_of};
 
 use crate::shared::Shared;
 use crate::tunnel::{identifier_of, lsp_by, lsp_of};
@@ -85,14 +86,53 @@ fn beside(alloc: Global, pmsi: Option<Pmsi>) -> Result<Kept, NoMemory>
     Ok(Kept::Beside(Shared::of(alloc, Whole { pmsi })?))
 }
 
+/// The last octet of the opaque value of a FEC element, in which the tunnels of one root mostly differ.
+pub fn mark_of(fec: &Fec) -> Option<u8>
+    ensures { result ≡ mark_of fec.now }
+{
+    fec.opaque.octets().last().copied()
+}
+
+/// That of an LSP, where there is one.
+fn mark_of_lsp(lsp: Option<Fec>) -> Option<u8>
+    ensures { result ≡ lsp >>? mark_of }
+{
+    match lsp {
+        None => None,
+        Some(fec) => mark_of(&fec),
+    }
+}
+
 impl KeptPmsi {
     /// The attribute, or none. Only of one that is no LSP as edges use it memory is taken.
-    pub fn of(alloc: Global, pmsi: Option<Pmsi>) -> Result<KeptPmsi, NoMemory>
-        ensures { IfOk result (λ kept. kept ≡ pmsi) }
+    pub fn of(alloc: Global, pmsi: &Option<Pmsi>) -> Result<KeptPmsi, NoMemory>
+        ensures { IfOk result (λ kept. kept ≡ pmsi.now) }
     {
-        let kept = match lsp_kept(&pmsi) {
+        let kept = match lsp_kept(pmsi) {
             Some(kept) => kept,
-            None => beside(alloc, pmsi)?,
+            None => beside(alloc, *pmsi)?,
+        };
+        Ok(KeptPmsi { kept })
+    }
+
+    /// The same attribute, for one more. One that is in memory is there once for all.
+    pub fn share(&self) -> Result<KeptPmsi, NoMemory>
+        ensures { IfOk result (λ kept. kept ≡ self.now) }
+    {
+        let kept = match &self.kept {
+            Kept::None => Kept::None,
+            Kept::Lsp {
+                leaf_info,
+                label,
+                root,
+                identifier,
+            } => Kept::Lsp {
+                leaf_info: *leaf_info,
+                label: *label,
+                root: *root,
+                identifier: *identifier,
+            },
+            Kept::Beside(whole) => Kept::Beside(whole.share()?),
         };
         Ok(KeptPmsi { kept })
     }
@@ -129,6 +169,17 @@ impl KeptPmsi {
                 ..
             } => Some(lsp_by(*root, *identifier)),
             Kept::Beside(whole) => lsp_of(&whole.lent().pmsi),
+        }
+    }
+
+    /// The last octet of the opaque value of the tunnel, where that is such an LSP as edges use.
+    pub fn mark(&self) -> Option<u8>
+        ensures { result ≡ mark_in self.now }
+    {
+        match &self.kept {
+            Kept::None => None,
+            Kept::Lsp { identifier, .. } => Some(identifier[3]),
+            Kept::Beside(_) => mark_of_lsp(self.lsp()),
         }
     }
 }

@@ -27,7 +27,7 @@ pub use imported::{
     FlowRoute, ImportedSelective, JoinBy, SelectiveRoute, TakenValue, imported_active,
     imported_inclusive, imported_join, imported_selective, inclusive_tunnel, is_admitted, join_by,
 };
-pub use kept_pmsi::KeptPmsi;
+pub use kept_pmsi::{KeptPmsi, mark_of};
 pub use local::LocalVrf;
 pub use originated::{
     Import, RemoteUpstream, active_key, afi_of, import_target, inclusive_key, join_route,

@@ -36,8 +36,8 @@ pub(crate) fn number(afi: Afi) -> u8
     }
 }
 
-/// The first eight octets, and zeros where there are fewer.
-fn filled(octets: &[u8]) -> [u8; 8]
+/// The octets, which are at most eight, and zeros after them.
+fn padded(octets: &[u8]) -> [u8; 8]
     requires { length octets.now ≤ 8 }
     ensures { result ≡ filled 8 octets.now }
 {
@@ -45,6 +45,17 @@ fn filled(octets: &[u8]) -> [u8; 8]
     let (front, _spare) = eight.split_at_mut(octets.len());
     front.copy_from_slice(octets);
     eight
+}
+
+/// The same. Mostly they are eight, and nothing is copied one by one.
+fn filled(octets: &[u8]) -> [u8; 8]
+    requires { length octets.now ≤ 8 }
+    ensures { result ≡ filled 8 octets.now }
+{
+    match octets {
+        [a, b, c, d, e, f, g, h] => [*a, *b, *c, *d, *e, *f, *g, *h],
+        _ => padded(octets),
+    }
 }
 
 /// The number that eight octets spell, the first one weighing most.

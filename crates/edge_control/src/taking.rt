@@ -14,7 +14,6 @@ ghost use Rattle.edge_control.specs.Taking.{dropping, learning, route_of, turned
 
 use crate::control::EdgeControl;
 use crate::each::{forget_in, learn_or_forget};
-use edge_routes::Shared;
 use edge_routes::edge_home::EdgeHome;
 use edge_routes::route_order::TakenKey;
 use edge_tables::taken_tables::{RouteValue, TakenTables, same_value};
@@ -104,7 +103,7 @@ impl EdgeControl {
         &mut self,
         peer: NodeId,
         key: &TakenKey,
-        value: &Shared<RouteValue>,
+        value: &RouteValue,
         now: u64,
     ) -> Result<bool, NoMemory>
         ensures fresh { IfOk result (λ fresh. fresh ≡ not (is_some (route_at self.old.peers peer key.now))) }
@@ -123,7 +122,7 @@ impl EdgeControl {
         if !self.taken.enter(peer, key, value, now)? {
             return Ok(false);
         }
-        match learn_said(&self.home, &mut self.trees, peer, key, value.lent(), now) {
+        match learn_said(&self.home, &mut self.trees, peer, key, value, now) {
             Ok(()) => Ok(true),
             Err(fault) => {
                 self.taken.forget(peer, key);
@@ -138,7 +137,7 @@ impl EdgeControl {
         &mut self,
         peer: NodeId,
         key: &TakenKey,
-        value: &Shared<RouteValue>,
+        value: &RouteValue,
         now: u64,
     ) -> Result<(), NoMemory>
         ensures announced { OnOk result (control_of self.new ≡ record (control_of self.old) {
@@ -151,7 +150,7 @@ impl EdgeControl {
         ensures home { self.new.home ≡ self.old.home }
         ensures wants { wants_of self.new.trees ≡ wants_of self.old.trees }
     {
-        if !is_news(&self.taken, peer, key, value.lent()) {
+        if !is_news(&self.taken, peer, key, value) {
             return Ok(());
         }
         self.withdraw(peer, key);

@@ -4,7 +4,6 @@ ghost use Rattle.bgp_messages.specs.bgp_update.Written.{IsWritableKey};
 
 use bgp_messages::bgp_attributes::Key;
 use bgp_values::mvpn_nlri::{Afi, Route};
-use edge_routes::Shared;
 use edge_routes::route_order::TakenKey;
 use edge_tables::taken_tables::{RouteValue, TakenTables};
 use mv_base::route_targets::ExtComm;
@@ -29,10 +28,10 @@ fn key(alloc: Global) -> Result<TakenKey, NoMemory> {
 }
 
 /// A value with one community.
-fn value(alloc: Global, hop: u8) -> Result<Shared<RouteValue>, NoMemory> {
+fn value(alloc: Global, hop: u8) -> Result<RouteValue, NoMemory> {
     let mut comms = Seq::new(alloc);
     comms.push(ExtComm([1, 2, 0xc0, 0, 2, 1, 0, 1]))?;
-    RouteValue::shared(alloc, Addr::V4([192, 0, 2, hop]), comms, None)
+    RouteValue::of(alloc, Addr::V4([192, 0, 2, hop]), comms, &None)
 }
 
 /// The clock at which the route was learned.

@@ -19,7 +19,6 @@ use crate::edge_updates::inclusive::{append_at, append_by};
 use bgp_messages::bgp_attributes::{Advert, Key, Message, Update};
 use edge_control::EdgeControl;
 use edge_control::of_edge_tables::taken_tables::RouteValue;
-use edge_routes::Shared;
 use edge_routes::route_order::{KeptKey, TakenKey};
 use mldp::mldp_fec::Fec;
 use mv_base::{NoMemory, NodeId};
@@ -59,7 +58,7 @@ fn enter(
     fecs: &mut Vec<Fec>,
     peer: NodeId,
     key: &TakenKey,
-    value: &Shared<RouteValue>,
+    value: &RouteValue,
     now: u64,
 ) -> Result<bool, NoMemory>
     ensures taken { IfOk result (λ fresh. fresh ≡ true →
@@ -71,7 +70,7 @@ fn enter(
     if !control.enter(peer, key, value, now)? {
         return Ok(false);
     }
-    append_by(fecs, control, peer, key.key(), &value.lent().lent())?;
+    append_by(fecs, control, peer, key.key(), &value.lent())?;
     Ok(true)
 }
 
@@ -81,7 +80,7 @@ fn announce_again(
     fecs: &mut Vec<Fec>,
     peer: NodeId,
     key: &TakenKey,
-    value: &Shared<RouteValue>,
+    value: &RouteValue,
     now: u64,
 ) -> Result<(), NoMemory>
     ensures taken { OnOk result (
@@ -115,7 +114,7 @@ fn announce(
     } = advert;
     let alloc = *fecs.allocator();
     let own = TakenKey::of(alloc, key)?;
-    let value = RouteValue::shared(alloc, next_hop, comms, pmsi)?;
+    let value = RouteValue::of(alloc, next_hop, comms, &pmsi)?;
     if enter(control, fecs, peer, &own, &value, now)? {
         return Ok(own.into_kept());
     }

@@ -9,7 +9,7 @@ use Rattle.label_defs.specs.LabelData.{same_fec}
 use Rattle.label_defs.proofs.KeyLemmas.{same_fec_equal, same_fec_from}
 use Rattle.edge_defs.specs.Datagrams.{is_tunnel}
 use Rattle.edge_defs.specs.Imported.{lsp_of}
-use Rattle.edge_tables.specs.taken_tables.Routes.{mark_in, mark_of}
+use Rattle.edge_routes.specs.KeptPmsi.{mark_in, mark_of}
 
 -- `==` of FEC elements says whether they are one
 pub fec_equals : (fec own : Fec) (equal : Bool) → equal ≡ fecs_equal.ghosts.eq own fec → equal ≡ same_fec own fec

@@ -5,13 +5,13 @@ ghost use Rattle.edge_defs.specs.Imported.{lsp_of};
 ghost use Rattle.edge_defs.specs.Keys.{same_value};
 ghost use Rattle.edge_routes.specs.Judged.{value_of};
 ghost use Rattle.edge_routes.specs.route_order.Values.{as_value};
-ghost use Rattle.edge_tables.specs.taken_tables.Routes.{handed, mark_in, mark_of};
+ghost use Rattle.edge_tables.specs.taken_tables.Routes.{handed};
 
 use crate::taken_tables::kept_comms::KeptComms;
 use bgp_messages::bgp_attributes::Comms;
 use bgp_values::pmsi_attr::Pmsi;
 use edge_routes::route_order::{same_attribute, same_comms, same_hop};
-use edge_routes::{KeptPmsi, Shared, TakenValue};
+use edge_routes::{KeptPmsi, TakenValue, mark_of};
 use mldp::mldp_fec::Fec;
 use mv_base::{Addr, NoMemory};
 use std::alloc::Global;
@@ -26,21 +26,31 @@ pub struct RouteValue {
 }
 
 impl RouteValue {
-    /// The value of these parts, which several may have.
-    pub fn shared(
+    /// The value of these parts.
+    pub fn of(
         alloc: Global,
         next_hop: Addr,
         comms: Comms,
-        pmsi: Option<Pmsi>,
-    ) -> Result<Shared<RouteValue>, NoMemory>
-        ensures { IfOk result (λ value. handed value ≡ as_value next_hop comms pmsi) }
+        pmsi: &Option<Pmsi>,
+    ) -> Result<RouteValue, NoMemory>
+        ensures { IfOk result (λ value. handed value ≡ as_value next_hop comms pmsi.now) }
     {
-        let value = RouteValue {
+        Ok(RouteValue {
             next_hop,
-            comms: KeptComms::of(comms),
+            comms: KeptComms::of(alloc, comms)?,
             pmsi: KeptPmsi::of(alloc, pmsi)?,
-        };
-        Shared::of(alloc, value)
+        })
+    }
+
+    /// The same value, for one more. What of it is in memory beside is there once for all.
+    pub fn share(&self) -> Result<RouteValue, NoMemory>
+        ensures { IfOk result (λ value. handed value ≡ handed self.now) }
+    {
+        Ok(RouteValue {
+            next_hop: self.next_hop,
+            comms: self.comms.share()?,
+            pmsi: self.pmsi.share()?,
+        })
     }
 
     /// The same, lent.
@@ -52,23 +62,6 @@ impl RouteValue {
             comms: self.comms.as_slice(),
             pmsi: &self.pmsi,
         }
-    }
-}
-
-/// The last octet of the opaque value of a FEC element, in which the tunnels of one root mostly differ.
-fn mark_of(fec: &Fec) -> Option<u8>
-    ensures { result ≡ mark_of fec.now }
-{
-    fec.opaque.octets().last().copied()
-}
-
-/// That of a tunnel, where it is such a one as edges use.
-fn mark_in(pmsi: &KeptPmsi) -> Option<u8>
-    ensures { result ≡ mark_in pmsi.now }
-{
-    match pmsi.lsp() {
-        None => None,
-        Some(fec) => mark_of(&fec),
     }
 }
 
@@ -88,12 +81,11 @@ pub fn is_tunnel(own: Option<Fec>, fec: &Fec) -> bool
     }
 }
 
-/// A route that was taken: its value, the clock at which it was learned, and whether its delay was run. Values are kept beside the
-/// table, so that a search goes through keys alone; of the tunnel a mark is kept in it, so that a search for a tunnel looks at few
-/// values.
+/// A route that was taken: its value, the clock at which it was learned, and whether its delay was run. Of the tunnel a mark is kept, so
+/// that a search for a tunnel looks at few of them whole.
 #[derive(Drop)]
 pub struct TakenEntry {
-    value: Shared<RouteValue>,
+    value: RouteValue,
     since: u64,
     mark: Option<u8>,
     run: bool,
@@ -111,17 +103,17 @@ impl Model for TakenEntry {
     ghost view = { λ e. record { value = handed e.value; since = e.since; run = e.run } };
 
     ghost use Rattle.std.specs.Prelude.{◌≡◌};
-    ghost use Rattle.edge_tables.specs.taken_tables.Routes.{mark_in};
+    ghost use Rattle.edge_routes.specs.KeptPmsi.{mark_in};
 
     ghost invariant = { λ e. e.mark ≡ mark_in e.value.pmsi };
 }
 
 impl TakenEntry {
     /// The route, learned at the clock.
-    pub(crate) fn of(value: Shared<RouteValue>, now: u64) -> TakenEntry
+    pub(crate) fn of(value: RouteValue, now: u64) -> TakenEntry
         ensures { result ≡ record { value = handed value; since = now; run = false } }
     {
-        let mark = mark_in(&value.lent().pmsi);
+        let mark = value.pmsi.mark();
         TakenEntry {
             value,
             since: now,
@@ -134,7 +126,7 @@ impl TakenEntry {
     pub fn value(&self) -> TakenValue<'_>
         ensures { value_of result ≡ self.now.value }
     {
-        self.value.lent().lent()
+        self.value.lent()
     }
 
     /// Whether the tunnel of the route is that one, and such a one as edges use. Most routes of a table have another mark, so a search

@@ -10,7 +10,6 @@ ghost use Rattle.edge_tables.specs.taken_tables.Tables.{IsSpelledKey, reach};
 use crate::taken_tables::entry::{RouteValue, TakenEntry};
 use crate::taken_tables::table::TakenTable;
 use bgp_messages::bgp_attributes::Key;
-use edge_routes::Shared;
 use edge_routes::route_order::{TakenKey, are_octets};
 use mv_base::NoMemory;
 
@@ -35,7 +34,7 @@ fn spelled(key: &TakenKey)
 pub(crate) fn enter(
     table: &mut TakenTable,
     key: &TakenKey,
-    value: &Shared<RouteValue>,
+    value: &RouteValue,
     now: u64,
 ) -> Result<bool, NoMemory>
     ensures fresh { IfOk result (λ fresh. fresh ≡ not (is_some (maps.get (taken_in table.old) key.now))) }

@@ -9,7 +9,6 @@ ghost use Rattle.edge_tables.specs.taken_tables.Tables.{AreSpelled, changed_at, 
 use crate::taken_tables::entry::RouteValue;
 use crate::taken_tables::learning::enter;
 use crate::taken_tables::table::TakenTable;
-use edge_routes::Shared;
 use edge_routes::route_order::TakenKey;
 use mv_base::{NoMemory, NodeId};
 use std::collections::BTreeMap;
@@ -23,7 +22,7 @@ pub(crate) fn enter_from(
     slots: &mut Slots,
     peer: NodeId,
     key: &TakenKey,
-    value: &Shared<RouteValue>,
+    value: &RouteValue,
     now: u64,
 ) -> Result<bool, NoMemory>
     ensures fresh { IfOk result (λ fresh. fresh ≡ not (is_some (route_at (tables_of slots.old.entries) peer key.now))) }

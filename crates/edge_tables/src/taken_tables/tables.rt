@@ -15,8 +15,8 @@ use crate::rib_sync::Entries;
 use crate::taken_tables::entry::{RouteValue, TakenEntry};
 use crate::taken_tables::slots::{Slots, enter_from, forget_from};
 use crate::taken_tables::table::{TakenTable, run_node};
+use edge_routes::LocalVrf;
 use edge_routes::route_order::{KeptKey, TakenKey};
-use edge_routes::{LocalVrf, Shared};
 use mv_base::{NoMemory, NodeId};
 use scenario_defs::Node;
 use std::alloc::Global;
@@ -87,7 +87,7 @@ impl TakenTables {
         &mut self,
         peer: NodeId,
         key: &TakenKey,
-        value: &Shared<RouteValue>,
+        value: &RouteValue,
         now: u64,
     ) -> Result<bool, NoMemory>
         ensures fresh { IfOk result (λ fresh. fresh ≡ not (is_some (route_at self.old peer key.now))) }

@@ -14,7 +14,6 @@ pub returns-then-not-is_news-clause-announced : goal.returns-then-not-is_news-cl
 returns-then-not-is_news-clause-announced c =
     let same : is_news (handed c.args.value.now) (route_at c.args.self.now.peers c.args.peer c.args.key.now) ≡ false =
     ap (λ (k : Kept). is_news (handed c.args.value.now) (route_at k.peers c.args.peer c.args.key.now)) (sym c.self.view_is)
-    ∙ ap (λ (v : RouteValue). is_news (handed v) (route_at c.self.inside.taken c.args.peer c.args.key.now)) (sym c.lent.ensures)
     ∙ sym c.is_news.ensures ∙ c.if-not-is_news.true in
     ap (λ (tables : FinMap node_cmp Taken). record (control_of c.args.self.now) { peers = tables })
     (sym (table_stays c.args.self.now.peers c.args.peer c.args.key.now (handed c.args.value.now) c.args.now same))
@@ -23,7 +22,6 @@ pub returns-in-Ok-clause-announced : goal.returns-in-Ok-clause-announced
 returns-in-Ok-clause-announced c =
     let news : is_news (handed c.args.value.now) (route_at c.args.self.now.peers c.args.peer c.args.key.now) ≡ true =
     ap (λ (k : Kept). is_news (handed c.args.value.now) (route_at k.peers c.args.peer c.args.key.now)) (sym c.self.view_is)
-    ∙ ap (λ (v : RouteValue). is_news (handed v) (route_at c.self.inside.taken c.args.peer c.args.key.now)) (sym c.lent.ensures)
     ∙ sym c.is_news.ensures ∙ c.if-not-is_news.false in
     let none : route_at c.withdraw.new.self.peers c.args.peer c.args.key.now ≡ None =
     ap (λ (control : Control). route_at control.peers c.args.peer c.args.key.now) (c.withdraw.ensures.withdrawn c.args.now)
@@ -43,5 +41,4 @@ returns-in-Err-clause-withdrawn c = c.in-Err.ensures.unchanged ∙ c.withdraw.en
 pub returns-in-Err-clause-news : goal.returns-in-Err-clause-news
 returns-in-Err-clause-news c =
     ap (λ (k : Kept). is_news (handed c.args.value.now) (route_at k.peers c.args.peer c.args.key.now)) (sym c.self.view_is)
-    ∙ ap (λ (v : RouteValue). is_news (handed v) (route_at c.self.inside.taken c.args.peer c.args.key.now)) (sym c.lent.ensures)
     ∙ sym c.is_news.ensures ∙ c.if-not-is_news.false

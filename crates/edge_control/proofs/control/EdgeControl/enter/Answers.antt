@@ -29,9 +29,7 @@ invariant_of-self-in-Ok c =
     subst (λ (tables : FinMap node_cmp Taken). IsSound (kept_of c.self.inside.home c.learn_said.new.trees.items tables))
     (sym (c.in_ok-enter.ensures.entered c.if-not-branch.false))
     (came kept c.self.invariant c.args.peer c.args.key.now c.spelled.ensures (handed c.args.value.now) c.args.now c.learn_said.new.trees.items none
-    up (λ core. c.in-Ok.ensures.learned core
-    ∙ ap (λ (v : RouteValue). turned_all (learning kept.home core c.args.peer c.args.now c.args.key.now (Some (route_of (handed v) c.args.now)))
-    (vrfs_of kept.home) kept.trees) c.lent.ensures)).0
+    up c.in-Ok.ensures.learned).0
 
 pub invariant_of-self-in-Err : goal.invariant_of-self-in-Err
 invariant_of-self-in-Err c =
@@ -46,9 +44,7 @@ invariant_of-self-in-Err c =
     ∙ taken_back kept.peers c.args.peer c.args.key.now (handed c.args.value.now) c.args.now none in
     subst (λ (tables : FinMap node_cmp Taken). IsSound (kept_of c.self.inside.home c.learn_said.new.trees.items tables)) (sym back)
     (went kept c.self.invariant c.args.peer c.args.key.now c.spelled.ensures (handed c.args.value.now) c.args.now c.learn_said.new.trees.items none
-    up (λ core. c.in-Err.ensures.forgot core
-    ∙ ap (λ (v : RouteValue). turned_all (dropping kept.home core c.args.peer c.args.now c.args.key.now (Some (route_of (handed v) c.args.now)))
-    (vrfs_of kept.home) kept.trees) c.lent.ensures)).0
+    up c.in-Err.ensures.forgot).0
 
 pub returns-in-Ok-clause-entered : goal.returns-in-Ok-clause-entered
 returns-in-Ok-clause-entered c = λ yes.
@@ -59,9 +55,7 @@ returns-in-Ok-clause-entered c = λ yes.
     ap (λ (tables : FinMap node_cmp Taken). control_of (kept_of c.self.inside.home c.learn_said.new.trees.items tables))
     (c.in_ok-enter.ensures.entered c.if-not-branch.false)
     ∙ (came kept c.self.invariant c.args.peer c.args.key.now c.spelled.ensures (handed c.args.value.now) c.args.now c.learn_said.new.trees.items none
-    up (λ core. c.in-Ok.ensures.learned core
-    ∙ ap (λ (v : RouteValue). turned_all (learning kept.home core c.args.peer c.args.now c.args.key.now (Some (route_of (handed v) c.args.now)))
-    (vrfs_of kept.home) kept.trees) c.lent.ensures)).1
+    up c.in-Ok.ensures.learned).1
     ∙ ap (λ (k : Kept). record (control_of k) {
       peers =
           changed_at c.args.peer (λ taken. taken_change c.args.now taken (reach c.args.key.now (handed c.args.value.now))) k.peers;
@@ -72,9 +66,9 @@ returns-in-Ok-clause-wants c =
     let kept : Kept = kept_of c.self.inside.home c.self.inside.trees.items c.self.inside.taken in
     let none : route_at kept.peers c.args.peer c.args.key.now ≡ None =
     none_there (route_at kept.peers c.args.peer c.args.key.now) (sym c.in_ok-enter.ensures.fresh ∙ c.if-not-branch.false) in
-    let route : TakenRoute = route_of (handed c.lent.result.now) c.args.now in
+    let route : TakenRoute = route_of (handed c.args.value.now) c.args.now in
     ap wants_of (c.in-Ok.ensures.learned no_core
-    ∙ as_coming kept c.self.invariant c.args.peer c.args.key.now c.spelled.ensures (handed c.lent.result.now) c.args.now kept.trees none no_core)
+    ∙ as_coming kept c.self.invariant c.args.peer c.args.key.now c.spelled.ensures (handed c.args.value.now) c.args.now kept.trees none no_core)
     ∙ turned_wants (coming kept.home no_core c.args.peer c.args.now c.args.key.now (Some route))
     (λ own tree. (change_leaves (place_of kept.home no_core) own c.args.peer c.args.now c.args.key.now None (Some route) tree).1) (vrfs_of kept.home)
     kept.trees (as_many kept c.self.invariant)
@@ -93,15 +87,13 @@ returns-in-Err-clause-unchanged c =
     ∙ taken_back kept.peers c.args.peer c.args.key.now (handed c.args.value.now) c.args.now none in
     ap (λ (tables : FinMap node_cmp Taken). control_of (kept_of c.self.inside.home c.learn_said.new.trees.items tables)) back
     ∙ (went kept c.self.invariant c.args.peer c.args.key.now c.spelled.ensures (handed c.args.value.now) c.args.now c.learn_said.new.trees.items none
-    up (λ core. c.in-Err.ensures.forgot core
-    ∙ ap (λ (v : RouteValue). turned_all (dropping kept.home core c.args.peer c.args.now c.args.key.now (Some (route_of (handed v) c.args.now)))
-    (vrfs_of kept.home) kept.trees) c.lent.ensures)).1
+    up c.in-Err.ensures.forgot).1
     ∙ ap control_of c.self.view_is
 
 pub returns-in-Err-clause-wants : goal.returns-in-Err-clause-wants
 returns-in-Err-clause-wants c =
     let kept : Kept = kept_of c.self.inside.home c.self.inside.trees.items c.self.inside.taken in
-    let route : TakenRoute = route_of (handed c.lent.result.now) c.args.now in
+    let route : TakenRoute = route_of (handed c.args.value.now) c.args.now in
     ap wants_of (c.in-Err.ensures.forgot no_core)
     ∙ turned_wants (dropping kept.home no_core c.args.peer c.args.now c.args.key.now (Some route))
     (λ own tree. (change_leaves (place_of kept.home no_core) own c.args.peer c.args.now c.args.key.now (Some route) None tree).1) (vrfs_of kept.home)

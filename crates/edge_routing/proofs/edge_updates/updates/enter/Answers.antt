@@ -24,5 +24,5 @@ returns-clause-taken c = λ yes.
     none_there (route_at c.args.control.now.peers c.args.peer c.args.key.now) (sym c.in_ok-enter.ensures.fresh ∙ c.if-not-branch.false) in
     entered_taken c.args.now c.args.peer c.args.key.now (handed c.args.value.now) c.args.control.now c.enter.new.self before
     c.append_by.new.fecs.items c.enter.ensures.home c.enter.ensures.wants (c.in_ok-enter.ensures.entered c.if-not-branch.false) none
-    (c.in_ok-append_by.ensures ∙ ap (λ (key : Key). before ++ next key (value_of c.lent-2.result)) c.key.ensures.key
-    ∙ ap (λ (value : Value). before ++ next c.args.key.now value) (c.lent-2.ensures ∙ ap handed c.lent.ensures))
+    (c.in_ok-append_by.ensures ∙ ap (λ (key : Key). before ++ next key (value_of c.lent.result)) c.key.ensures.key
+    ∙ ap (λ (value : Value). before ++ next c.args.key.now value) c.lent.ensures)

@@ -1,6 +1,6 @@
 -- An edge that was given lines, and the next one.
-use Rattle.std.proofs.Common.{◌≡◌, ◌≢◌, ℕ, ◌<◌, true, false, List, [], ◌∷◌, ◌++◌, length, Option, Some, None, inl, inr, ◌-◌, refl, sym, ap, subst, ◌∙◌, append_assoc, arith}
-use Rattle.std.proofs.lemmas.Bool.{cases_lt}
+use Rattle.std.proofs.Common.{◌≡◌, ◌≢◌, ℕ, ◌<◌, true, false, List, [], ◌∷◌, ◌++◌, length, Option, Some, None, inl, inr, ◌-◌, ◌==◌, Bool, refl, sym, ap, subst, ◌∙◌, append_assoc, arith}
+use Rattle.std.proofs.lemmas.Bool.{cases_lt, eqb-true}
 use Rattle.std.proofs.lemmas.List.{append-nil, length-append, get_or_append_left, get_or-append_right}
 use Rattle.std.proofs.lemmas.Option.{same_Some}
 use Rattle.std.specs.Prelude.{fold, is_some}
@@ -43,7 +43,7 @@ use Rattle.probe_defs.specs.Probed.{edge_with, joined, table_of, taken_at_once}
 use Rattle.probe_defs.specs.declared.probe.ProbeLine.{ProbeLine}
 use Rattle.probe_defs.specs.declared.probe.ProbeLine.TheVariants.{Join, Piece}
 use Rattle.probe_defs.proofs.LineLemmas.{comes}
-use Rattle.edge_probe.specs.Behind.{IsFresh, IsGiven, IsInCore}
+use Rattle.edge_probe.specs.Behind.{IsFresh, IsGiven, IsInCore, IsTold}
 use Rattle.edge_probe.proofs.RoomLemmas.{joined_few, not_over}
 
 -- ---- a line more
@@ -69,6 +69,26 @@ joins_join [] iface source group = refl
 joins_join (Join i s g ∷ done) iface source group =
     ap (λ (js : List IfaceEntry). record { iface = i; entry = Source s g } ∷ js) (joins_join done iface source group)
 joins_join (Piece first ∷ done) iface source group = joins_join done iface source group
+
+joins_piece : (done : List ProbeLine) (piece : List ℕ) → joins_of (done ++ Piece piece ∷ []) ≡ joins_of done
+joins_piece [] piece = refl
+joins_piece (Join i s g ∷ done) piece =
+    ap (λ (js : List IfaceEntry). record { iface = i; entry = Source s g } ∷ js) (joins_piece done piece)
+joins_piece (Piece first ∷ done) piece = joins_piece done piece
+
+-- a line more after lines that say the same
+octets_after : (a b : List ProbeLine) (line : ProbeLine) → octets_of a ≡ octets_of b
+    → octets_of (a ++ line ∷ []) ≡ octets_of (b ++ line ∷ [])
+octets_after a b (Join iface source group) same = octets_join a iface source group ∙ same ∙ sym (octets_join b iface source group)
+octets_after a b (Piece piece) same =
+    octets_piece a piece ∙ ap (λ (xs : List ℕ). xs ++ piece) same ∙ sym (octets_piece b piece)
+
+joins_after : (a b : List ProbeLine) (line : ProbeLine) → joins_of a ≡ joins_of b → joins_of (a ++ line ∷ []) ≡ joins_of (b ++ line ∷ [])
+joins_after a b (Join iface source group) same =
+    joins_join a iface source group
+    ∙ ap (λ (js : List IfaceEntry). js ++ record { iface = iface; entry = Source source group } ∷ []) same
+    ∙ sym (joins_join b iface source group)
+joins_after a b (Piece piece) same = joins_piece a piece ∙ same ∙ sym (joins_piece b piece)
 
 no_octets : IsOctets []
 no_octets i = omega arith
@@ -109,14 +129,22 @@ module _ (core : Topology) (peer : NodeId) (done : List ProbeLine) (old : EdgeVi
   at own = place_of (home_of old) own
 
   abbrev before : Core → EdgeState
-  before own = thereafter (at own) peer done
+  before own = thereafter (at own) peer g.as_given
 
-  more : (own : Core) (line : ProbeLine) → thereafter (at own) peer (done ++ line ∷ []) ≡ given (at own) peer (before own) line
-  more own line = fold_snoc (given (at own) peer) (begun (at own) peer) done line
+  more : (own : Core) (line : ProbeLine) → thereafter (at own) peer (g.as_given ++ line ∷ []) ≡ given (at own) peer (before own) line
+  more own line = fold_snoc (given (at own) peer) (begun (at own) peer) g.as_given line
+
+  abbrev own_octets : IsOctets (octets_of g.as_given)
+  own_octets = subst IsOctets (sym g.same_octets) g.octets
 
   pub control_at : (own : Core) → IsCoreOf core.nodes core.links own
       → (data_of old).control ≡ edge_with (at own) peer (table_of (messages_in (octets_of done))) (joined (home_of old).scenario (joins_of done))
-  control_at own is = sym ((g.is own is).parts own).keeps ∙ (comes (at own) peer done g.octets).keeps
+  control_at own is =
+      sym ((g.is own is).parts own).keeps ∙ (comes (at own) peer g.as_given own_octets).keeps
+      ∙ ap (λ (octets : List ℕ). edge_with (at own) peer (table_of (messages_in octets)) (joined (home_of old).scenario (joins_of g.as_given)))
+      g.same_octets
+      ∙ ap (λ (joins : List IfaceEntry). edge_with (at own) peer (table_of (messages_in (octets_of done))) (joined (home_of old).scenario joins))
+      g.same_joins
 
   pub is_up_still : is_up old kinds.Bgp peer ≡ true
   is_up_still =
@@ -130,7 +158,8 @@ module _ (core : Topology) (peer : NodeId) (done : List ProbeLine) (old : EdgeVi
         before own,
         g.is own is,
         ap (λ (state : EdgeState). state.spent) (sym (more own line))
-            ∙ (comes (at own) peer (done ++ line ∷ []) fits).unspent,
+            ∙ (comes (at own) peer (g.as_given ++ line ∷ [])
+            (subst IsOctets (sym (octets_after g.as_given done line g.same_octets)) fits)).unspent,
       ))
 
   pub next : (line : ProbeLine) (new : EdgeView) → home_of new ≡ home_of old → new.spent ≡ None → IsOctets (octets_of (done ++ line ∷ []))
@@ -139,7 +168,10 @@ module _ (core : Topology) (peer : NodeId) (done : List ProbeLine) (old : EdgeVi
     in_core = in_core_still core old new same g.in_core;
     unspent = unspent;
     octets = fits;
-    is = λ own is. subst (λ (home : Home). IsIn (thereafter (place_of home own) peer (done ++ line ∷ [])) new) (sym same)
+    as_given = g.as_given ++ line ∷ [];
+    same_octets = octets_after g.as_given done line g.same_octets;
+    same_joins = joins_after g.as_given done line g.same_joins;
+    is = λ own is. subst (λ (home : Home). IsIn (thereafter (place_of home own) peer (g.as_given ++ line ∷ [])) new) (sym same)
         (subst (λ (state : EdgeState). IsIn state new) (sym (more own line)) (makes own is (before own) (g.is own is)));
   }
 
@@ -177,7 +209,8 @@ pub fault_given : (core : Topology) (peer : NodeId) (done : List ProbeLine) (edg
 fault_given core peer done edge g =
     let t = g.in_core.told in
     ap (λ (streams : _). fault_at streams (peer_session peer)) (sym (g.is t.0 t.1).streams)
-    ∙ (comes (place_of (home_of edge) t.0) peer done g.octets).stream
+    ∙ (comes (place_of (home_of edge) t.0) peer g.as_given (subst IsOctets (sym g.same_octets) g.octets)).stream
+    ∙ ap (λ (octets : List ℕ). fault_as (λ f. BgpFault f) (fault_in octets)) g.same_octets
 
 -- what was said of it is a fault of BGP
 told_as : (fault : Option (ℕ × StreamFault)) (place : ℕ) (reason : SessionReason)
@@ -202,6 +235,49 @@ pub none_given : (core : Topology) (peer : NodeId) (done : List ProbeLine) (edge
     → fault_at edge.streams (peer_session peer) ≡ None → fault_in (octets_of done) ≡ None
 none_given core peer done edge g e = none_as (fault_in (octets_of done)) (sym (fault_given core peer done edge g) ∙ e)
 
+-- ---- the same in other pieces
+
+-- lines that say the same
+pub said_alike : (core : Topology) (peer : NodeId) (a b : List ProbeLine) (fault : Option (ℕ × StreamFault)) (edge : EdgeView)
+    → octets_of a ≡ octets_of b → joins_of a ≡ joins_of b → IsTold core peer a fault edge → IsTold core peer b fault edge
+said_alike core peer a b fault edge octets joins told =
+    let g = told.given in
+    record {
+      given = record {
+        in_core = g.in_core;
+        unspent = g.unspent;
+        octets = subst IsOctets octets g.octets;
+        as_given = g.as_given;
+        same_octets = g.same_octets ∙ octets;
+        same_joins = g.same_joins ∙ joins;
+        is = g.is;
+      };
+      fault_is = told.fault_is ∙ ap fault_in octets;
+    }
+
+-- no octets
+pub none_given_yet : (core : Topology) (peer : NodeId) (done : List ProbeLine) (fault : Option (ℕ × StreamFault)) (edge : EdgeView)
+    → IsTold core peer done fault edge → IsTold core peer (done ++ Piece [] ∷ []) fault edge
+none_given_yet core peer done fault edge told =
+    said_alike core peer done (done ++ Piece [] ∷ []) fault edge (sym (octets_piece done [] ∙ append-nil (octets_of done))) (sym (joins_piece done []))
+    told
+
+-- nothing is left
+pub none_left : (b : Bool) (rest : List ℕ) → b ≡ true → b ≡ (length rest == 0) → rest ≡ []
+none_left b [] empty is = refl
+none_left b (x ∷ rest) empty is = absurd (omega (arith, eqb-true (length (x ∷ rest)) 0 (sym is ∙ empty)))
+
+-- two pieces are one
+pub both_given : (core : Topology) (peer : NodeId) (done : List ProbeLine) (first second : List ℕ) (fault : Option (ℕ × StreamFault)) (edge : EdgeView)
+    → IsTold core peer ((done ++ Piece first ∷ []) ++ Piece second ∷ []) fault edge
+    → IsTold core peer (done ++ Piece (first ++ second) ∷ []) fault edge
+both_given core peer done first second fault edge told =
+    said_alike core peer ((done ++ Piece first ∷ []) ++ Piece second ∷ []) (done ++ Piece (first ++ second) ∷ []) fault edge
+    (octets_piece (done ++ Piece first ∷ []) second ∙ ap (λ (xs : List ℕ). xs ++ second) (octets_piece done first)
+    ∙ append_assoc (octets_of done) first second ∙ sym (octets_piece done (first ++ second)))
+    (joins_piece (done ++ Piece first ∷ []) second ∙ joins_piece done first ∙ sym (joins_piece done (first ++ second)))
+    told
+
 -- ---- the first line
 
 pub first_not_lacking : (core : Topology) (peer : NodeId) (old : EdgeView) → IsFresh core old → Lacks core (step_of old 0 (Raised kinds.Bgp peer)) old
@@ -216,6 +292,9 @@ first_given core peer old new fresh same unspent makes = record {
   in_core = in_core_still core old new same fresh.in_core;
   unspent = unspent;
   octets = no_octets;
+  as_given = [];
+  same_octets = refl;
+  same_joins = refl;
   is = λ own is. subst (λ (home : Home). IsIn (begun (place_of home own) peer) new) (sym same)
       (makes own is (fresh_state (home_of old).scenario.labels) fresh.is);
 }

@@ -38,12 +38,16 @@ pub record IsFresh (core : Topology) (edge : EdgeView) : Type 0 where
   pub unspent : edge.spent ≡ None
   pub is : IsIn (fresh_state (home_of edge).scenario.labels) edge
 
--- An edge in its core that was given these lines: it is not spent, and is that of the definitions after them, for each core of the definitions.
+-- An edge in its core that was given these lines, or the same octets in other pieces: it is not spent, and is that of the definitions after
+-- the lines as they were given, for each core of the definitions.
 pub record IsGiven (core : Topology) (peer : NodeId) (lines : List ProbeLine) (edge : EdgeView) : Type 0 where
   pub in_core : IsInCore core edge
   pub unspent : edge.spent ≡ None
   pub octets : IsOctets (octets_of lines)
-  pub is : (own : Core) → IsCoreOf core.nodes core.links own → IsIn (thereafter (place_of (home_of edge) own) peer lines) edge
+  pub as_given : List ProbeLine
+  pub same_octets : octets_of as_given ≡ octets_of lines
+  pub same_joins : joins_of as_given ≡ joins_of lines
+  pub is : (own : Core) → IsCoreOf core.nodes core.links own → IsIn (thereafter (place_of (home_of edge) own) peer as_given) edge
 
 -- and this is the first fault of the octets
 pub record IsTold (core : Topology) (peer : NodeId) (lines : List ProbeLine) (fault : Option (ℕ × StreamFault)) (edge : EdgeView) :

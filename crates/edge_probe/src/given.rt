@@ -20,6 +20,9 @@ use probe_defs::{ProbeLine, ProbeLines};
 use scenario_defs::{JoinEntry, Kind, Scenario};
 use std::alloc::Global;
 
+/// At most how many octets the edge is given at a time: few messages, so that what they take of memory is free again for the next ones.
+const PIECE_LEN: usize = 256;
+
 /// The first fault of octets that came from a peer, with its place, if they have one.
 pub(crate) type PeerFault = Option<(u64, StreamFault)>;
 
@@ -104,6 +107,29 @@ pub(crate) fn take(
     }
 }
 
+/// The same, piece by piece. What is answered is the first fault of all octets that came, which was `fault` before these.
+fn take_all(
+    own: &mut Edge,
+    peer: NodeId,
+    octets: &[u8],
+    fault: PeerFault,
+    core: &Core,
+) -> Result<PeerFault, NoMemory>
+    requires given { (done : List Line) × IsTold core.now peer done fault own.old }
+    ensures told { (done : List Line) → IsTold core.now peer done fault own.old →
+        IfOk result (λ next. IsTold core.now peer (done ++ lines.Piece octets.now ∷ []) next own.new) }
+    ensures home { home_of own.new ≡ home_of own.old }
+{
+    let mut fault = fault;
+    let mut rest = octets;
+    while !rest.is_empty() {
+        let (front, more) = rest.split_at(rest.len().min(PIECE_LEN));
+        fault = take(own, peer, front, core)?;
+        rest = more;
+    }
+    Ok(fault)
+}
+
 /// The edge is given a line. What is answered is the first fault of all octets that came, which was `fault` before it.
 fn give(
     own: &mut Edge,
@@ -129,7 +155,7 @@ fn give(
             join(own, alloc, scenario, *iface, *source, *group, core)?;
             Ok(fault)
         }
-        ProbeLine::Piece(octets) => take(own, peer, octets.as_slice(), core),
+        ProbeLine::Piece(octets) => take_all(own, peer, octets.as_slice(), fault, core),
     }
 }
 

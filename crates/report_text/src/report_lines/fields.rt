@@ -38,12 +38,7 @@ pub fn number_of(text: &[u8]) -> Option<u64>
 pub fn short_number_of(text: &[u8]) -> Option<u32>
     ensures { result ≡ short_number_of text.now }
 {
-    let number = number_of(text)?;
-    if number <= 4294967295 {
-        Some(number as u32)
-    } else {
-        None
-    }
+    u32::try_from(number_of(text)?).ok()
 }
 
 /// The number below 2^8 that digits write.
@@ -51,12 +46,7 @@ pub fn short_number_of(text: &[u8]) -> Option<u32>
 fn ttl_of(text: &[u8]) -> Option<u8>
     ensures { result ≡ ttl_of text.now }
 {
-    let number = number_of(text)?;
-    if number <= 255 {
-        Some(number as u8)
-    } else {
-        None
-    }
+    u8::try_from(number_of(text)?).ok()
 }
 
 /// The octets that a text writes in hexadecimal digits, two each, or none as `-`.

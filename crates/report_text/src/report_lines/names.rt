@@ -36,11 +36,7 @@ pub fn node_named(scenario: &Scenario, text: &[u8]) -> Option<NodeId>
     ensures { result ≡ node_named scenario.now text.now }
 {
     let place = node_place(text, scenario.nodes.as_slice())?;
-    if place <= 65535 {
-        Some(NodeId(place as u16))
-    } else {
-        None
-    }
+    Some(NodeId(u16::try_from(place).ok()?))
 }
 
 /// The interface that a text names.
@@ -49,9 +45,5 @@ pub fn iface_named(scenario: &Scenario, text: &[u8]) -> Option<IfaceId>
     ensures { result ≡ iface_named scenario.now text.now }
 {
     let place = iface_place(text, scenario.ifaces.as_slice())?;
-    if place <= 65535 {
-        Some(IfaceId(place as u16))
-    } else {
-        None
-    }
+    Some(IfaceId(u16::try_from(place).ok()?))
 }

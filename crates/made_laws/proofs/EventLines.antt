@@ -24,7 +24,7 @@ use Rattle.scenario_lines.specs.scenario_draft.Naming.{vrf_at, site_at, iface_at
 use Rattle.scenario_text.specs.event_lines.EventGrammar.{event_line, event_word, event_words, bare_line}
 use Rattle.scenario_text.specs.event_lines.ClockGrammar.{tick_line, tick_words}
 use Rattle.scenario_text.specs.event_lines.JoinGrammar.{entry_line, iface_entry, entry_at, source_entry}
-use Rattle.scenario_text.specs.event_lines.SelectGrammar.{select_line, select_words, pattern_at, any_source_at, any_group_at}
+use Rattle.scenario_text.specs.event_lines.SelectGrammar.{select_line, select_words, pattern_at, any_or}
 use Rattle.scenario_text.specs.event_lines.PayloadGrammar.{send_line, send_head}
 use Rattle.scenario_text.specs.Grammar.{words_line}
 use Rattle.made_laws.proofs.LineLemmas.{at, in_events, addr_word}
@@ -146,7 +146,7 @@ third_payload row c = refl
 
 pattern_word : (row : Row) (a b : List ℕ) (source group : Addr) (c d : ℕ) → AreOfFlow a b source group
     → pattern_at row (at c a) (at d b) ≡ Ok (record { source = Some source; group = Some group })
-unfolding pattern_at any_source_at any_group_at
+unfolding pattern_at any_or
 pattern_word row a b source group c d flow =
     rw (
       flow.no_star,

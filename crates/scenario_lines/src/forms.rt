@@ -1,9 +1,25 @@
-//! What lines of all kinds share: what a word out of a few means, and the fault of too few words or too many.
+//! What lines of all kinds share: the number of one thing more, what a word out of a few means, and the fault of too few
+//! words or too many.
 ghost use Rattle.std.specs.Prelude.{◌≡◌, drop, map};
 ghost use Rattle.line_words.specs.Words.{placed_word};
-ghost use Rattle.scenario_lines.specs.Forms.{count_fault, meaning_of};
+ghost use Rattle.scenario_lines.specs.Forms.{count_fault, meaning_of, next_number};
 
 use line_words::{Reason, Row, TextFault, Word, fault_at};
+
+/// The number of one thing more of a kind, or `Limit` at the first word where there are as many as there may be.
+pub(crate) fn next_number(
+    count: usize,
+    limit: u16,
+    row: Row,
+    first: &Word,
+) -> Result<u16, TextFault>
+    ensures { result ≡ next_number count limit row (placed_word first.now) }
+{
+    if count >= usize::from(limit) {
+        return Err(fault_at(row.number, first.column, Reason::Limit));
+    }
+    Ok(count as u16)
+}
 
 /// What the text means, by the words and their meanings.
 pub fn meaning_of<T: Copy>(text: &[u8], words: &[(&'static [u8], T)]) -> Option<T>

@@ -4,27 +4,24 @@ ghost use Rattle.line_words.specs.Answers.{Gives};
 ghost use Rattle.line_words.specs.Words.{placed_word};
 ghost use Rattle.scenario_lines.specs.SiteGrammar.{site_line, iface_rules, iface_line};
 
-use crate::forms::count_fault;
+use crate::forms::{count_fault, next_number};
 use crate::lists::{is_any_mixed, is_any_taken};
 use crate::scenario_draft::{Draft, Line, new_name, site_at, vrf_at};
 use line_words::{ReadFault, Reason, Row, TextFault, Word, addr_at, fault_at, prefixes_at};
 use mv_base::{IfaceId, SiteId};
 use scenario_defs::{Iface, Site};
 
-const SITE_LIMIT: usize = 512;
+const SITE_LIMIT: u16 = 512;
 
-const IFACE_LIMIT: usize = 1024;
+const IFACE_LIMIT: u16 = 1024;
 
 /// The line of a site by its words.
 #[tactic(auto, unfolding(crate::specs::SiteGrammar::site_line, crate::specs::SiteGrammar::site_counted, crate::specs::SiteGrammar::site_words))]
 pub fn site_line(draft: &Draft, row: Row, first: &Word, rest: &[Word]) -> Result<Line, ReadFault>
     ensures { Gives result (site_line draft.now row (placed_word first.now) (map placed_word rest.now)) }
 {
-    let number = draft.scenario().sites.len();
-    if number >= SITE_LIMIT {
-        return Err(ReadFault::Text(fault_at(row.number, first.column, Reason::Limit)));
-    }
-    let id = SiteId(number as u16);
+    let number = next_number(draft.scenario().sites.len(), SITE_LIMIT, row, first)?;
+    let id = SiteId(number);
     let [name, prefixes] = rest else {
         return Err(ReadFault::Text(count_fault(row, rest, 2)));
     };
@@ -61,11 +58,8 @@ fn iface_rules(
 pub fn iface_line(draft: &Draft, row: Row, first: &Word, rest: &[Word]) -> Result<Line, TextFault>
     ensures { result ≡ iface_line draft.now row (placed_word first.now) (map placed_word rest.now) }
 {
-    let number = draft.scenario().ifaces.len();
-    if number >= IFACE_LIMIT {
-        return Err(fault_at(row.number, first.column, Reason::Limit));
-    }
-    let id = IfaceId(number as u16);
+    let number = next_number(draft.scenario().ifaces.len(), IFACE_LIMIT, row, first)?;
+    let id = IfaceId(number);
     let [name, vrf, site, addr] = rest else {
         return Err(count_fault(row, rest, 4));
     };

@@ -4,7 +4,7 @@ ghost use Rattle.line_words.specs.Answers.{Gives};
 ghost use Rattle.line_words.specs.Words.{placed_word};
 ghost use Rattle.scenario_lines.specs.VrfGrammar.{vrf_head, vrf_tail, vrf_rules, vrf_line};
 
-use crate::forms::count_fault;
+use crate::forms::{count_fault, next_number};
 use crate::lists::{is_overlap, is_vpn_taken};
 use crate::scenario_draft::{Draft, Line, edge_at, new_name, rd_at, vrf_number_at};
 use line_words::{ReadFault, Reason, Row, TextFault, Word, fault_at, rule_at, targets_at};
@@ -12,7 +12,7 @@ use mv_base::route_targets::Targets;
 use mv_base::{NodeId, Rd, Rule, VrfId};
 use scenario_defs::{Name, Vrf};
 
-const VRF_LIMIT: usize = 256;
+const VRF_LIMIT: u16 = 256;
 
 /// The first words of a VRF.
 #[derive(Clone, Copy)]
@@ -99,11 +99,8 @@ fn vrf_rules(
 pub fn vrf_line(draft: &Draft, row: Row, first: &Word, rest: &[Word]) -> Result<Line, ReadFault>
     ensures { Gives result (vrf_line draft.now row (placed_word first.now) (map placed_word rest.now)) }
 {
-    let number = draft.scenario().vrfs.len();
-    if number >= VRF_LIMIT {
-        return Err(ReadFault::Text(fault_at(row.number, first.column, Reason::Limit)));
-    }
-    let id = VrfId(number as u16);
+    let number = next_number(draft.scenario().vrfs.len(), VRF_LIMIT, row, first)?;
+    let id = VrfId(number);
     let [name, edge, number, rd, targets, rule] = rest else {
         return Err(ReadFault::Text(count_fault(row, rest, 6)));
     };

@@ -1,6 +1,6 @@
 -- What a line of an event of a VRF, an interface or a site keeps to where it is without fault.
 use Rattle.std.proofs.Common.{◌≡◌, ◌<◌, ◌≤◌, true, List, [], ◌∷◌, length, Option, Some, None}
-use Rattle.std.specs.Prelude.{IfSome}
+use Rattle.std.specs.Prelude.{IfSome, Result}
 use Rattle.std.specs.List.{AllByRecursion}
 use Rattle.mv_base.specs.declared.addr.Addr.{Addr}
 use Rattle.mv_base.specs.declared.ids.IfaceId.{IfaceId}
@@ -11,6 +11,7 @@ use Rattle.scenario_defs.specs.declared.event.IfaceEntry.{IfaceEntry}
 use Rattle.scenario_defs.specs.declared.event.JoinEntry.{JoinEntry}
 use Rattle.scenario_defs.specs.declared.event.JoinEntry.TheVariants as entries
 use Rattle.scenario_defs.specs.Rules.{IsUnicast, IsGroup, AreOfOneFamily, NamesFlow, IsEntry, group_of, IsOfIface, IsPattern, IsEventOf}
+use Rattle.line_words.specs.declared.fault.TextFault.{TextFault}
 use Rattle.line_words.specs.declared.words.Row.{Row}
 use Rattle.line_words.specs.Words.{Placed}
 use Rattle.line_words.specs.Forms.{source_at, group_at, payload_at, same_family}
@@ -25,7 +26,7 @@ use Rattle.scenario_text.specs.declared.event_lines.select_lines.SelectWord.{Sel
 use Rattle.scenario_text.specs.declared.event_lines.select_lines.SelectWord.TheVariants as select_kinds
 use Rattle.scenario_text.specs.event_lines.JoinGrammar.{entry_event, star_entry, source_entry, if_rpt, rpt_entry, entry_at, at_iface, three_words, four_words, iface_entry, entry_line}
 use Rattle.scenario_text.specs.event_lines.FlowGrammar.{flow_event, flow_words, flow_line}
-use Rattle.scenario_text.specs.event_lines.SelectGrammar.{select_event, any_source_at, any_group_at, pattern_at, select_words, select_line}
+use Rattle.scenario_text.specs.event_lines.SelectGrammar.{select_event, any_or, pattern_at, select_words, select_line}
 use Rattle.scenario_text.specs.event_lines.PayloadGrammar.{pim_words, pim_line, packet_words, packet_line, send_head, send_words, send_line}
 use Rattle.scenario_text.specs.event_lines.Rules.{is_flow_of, is_entry_of, is_of_family, family_fault}
 use Rattle.scenario_text.proofs.event_lines.RuleFacts.{IsTold, unless_meets, kept_family, flow_of}
@@ -143,17 +144,12 @@ flow_line_meets draft row word (a ∷ b ∷ c ∷ d ∷ more) = err_meets _ _
 
 -- ---- selections
 
-any_source_meets : (row : Row) (b : Placed) → Meets (λ source. IfSome source IsUnicast) (any_source_at row b)
-unfolding any_source_at
-any_source_meets row b =
-    either_meets _ _ _ _ (ok_meets (λ source. IfSome source IsUnicast) None tt)
-    (bind_meets _ (source_at row b) _ (λ source s. ok_meets (λ source. IfSome source IsUnicast) (Some source) ((source_meets row b).holds source s)))
-
-any_group_meets : (row : Row) (c : Placed) → Meets (λ group. IfSome group IsGroup) (any_group_at row c)
-unfolding any_group_at
-any_group_meets row c =
-    either_meets _ _ _ _ (ok_meets (λ group. IfSome group IsGroup) None tt)
-    (bind_meets _ (group_at row c) _ (λ group g. ok_meets (λ group. IfSome group IsGroup) (Some group) ((group_meets row c).holds group g)))
+any_meets : (Holds : Addr → Type 0) (word : Placed) (addr : Result Addr TextFault) → Meets Holds addr
+    → Meets (λ found. IfSome found Holds) (any_or word addr)
+unfolding any_or
+any_meets Holds word addr meets =
+    either_meets _ _ _ _ (ok_meets (λ found. IfSome found Holds) None tt)
+    (bind_meets _ addr _ (λ found s. ok_meets (λ found. IfSome found Holds) (Some found) (meets.holds found s)))
 
 -- Source and group of a pattern are what their words may write.
 abbrev AreOfPattern : Pattern → Type 0
@@ -162,9 +158,9 @@ AreOfPattern pattern = IfSome pattern.source IsUnicast × IfSome pattern.group I
 pattern_meets : (row : Row) (b c : Placed) → Meets AreOfPattern (pattern_at row b c)
 unfolding pattern_at
 pattern_meets row b c =
-    bind_meets _ (any_source_at row b) _ (λ source s. bind_meets _ (any_group_at row c) _ (λ group g.
+    bind_meets _ (any_or b (source_at row b)) _ (λ source s. bind_meets _ (any_or c (group_at row c)) _ (λ group g.
     ok_meets AreOfPattern (record { source = source; group = group })
-    ((any_source_meets row b).holds source s, (any_group_meets row c).holds group g)))
+    ((any_meets IsUnicast b _ (source_meets row b)).holds source s, (any_meets IsGroup c _ (group_meets row c)).holds group g)))
 
 families : (source group : Option Addr) → is_of_family (record { source = source; group = group }) ≡ true
     → IfSome source (λ s. IfSome group (λ g. AreOfOneFamily s g))

@@ -31,20 +31,14 @@ abbrev pub select_event : SelectWord → VrfId → Pattern → Event
 select_event select_kinds.Select vrf pattern = events.Customer (customers.Select vrf pattern)
 select_event select_kinds.Unselect vrf pattern = events.Customer (customers.Unselect vrf pattern)
 
--- a word that writes the address of a source, or `*` for any (RFC 6625 section 2)
-unfoldable pub any_source_at : Row → Placed → Result (Option Addr) TextFault
-any_source_at row word =
-    if pointwise nat_eq word.text (codes "*") then Ok None else source_at row word >>= λ source. Ok (Some source)
-
--- a word that writes the address of a group, or `*` for any
-unfoldable pub any_group_at : Row → Placed → Result (Option Addr) TextFault
-any_group_at row word =
-    if pointwise nat_eq word.text (codes "*") then Ok None else group_at row word >>= λ group. Ok (Some group)
+-- no address at a word `*`, which is any (RFC 6625 section 2), and elsewhere the one that it writes
+unfoldable pub any_or : Placed → Result Addr TextFault → Result (Option Addr) TextFault
+any_or word addr = if pointwise nat_eq word.text (codes "*") then Ok None else addr >>= λ addr. Ok (Some addr)
 
 -- `S G`, with `*` for S, G or both
 unfoldable pub pattern_at : Row → Placed → Placed → Result Pattern TextFault
 pattern_at row b c =
-    any_source_at row b >>= λ source. any_group_at row c >>= λ group. Ok (record { source = source; group = group })
+    any_or b (source_at row b) >>= λ source. any_or c (group_at row c) >>= λ group. Ok (record { source = source; group = group })
 
 -- `VRF S G`
 unfoldable pub select_words : Drafted → Row → SelectWord → Placed → Placed → Placed → Result Line TextFault

@@ -1,7 +1,7 @@
 //! The lines of selections.
 ghost use Rattle.std.specs.Prelude.{◌≡◌, map};
 ghost use Rattle.line_words.specs.Words.{placed_word};
-ghost use Rattle.scenario_text.specs.event_lines.SelectGrammar.{select_event, any_source_at, any_group_at, pattern_at, select_line};
+ghost use Rattle.scenario_text.specs.event_lines.SelectGrammar.{select_event, any_or, pattern_at, select_line};
 
 use crate::event_lines::rules::{family_fault, is_of_family, unless_broken};
 use line_words::{Row, TextFault, Word, group_at, source_at};
@@ -26,36 +26,24 @@ fn select_event(word: SelectWord, vrf: VrfId, pattern: Pattern) -> Event
     }
 }
 
-/// A source, or `*` for any (RFC 6625 section 2).
-#[tactic(auto, unfolding(crate::specs::event_lines::SelectGrammar::any_source_at))]
-fn any_source_at(row: Row, word: &Word) -> Result<Option<Addr>, TextFault>
-    ensures { result ≡ any_source_at row (placed_word word.now) }
+/// No address at `*`, which is any (RFC 6625 section 2), and elsewhere the one that the word writes.
+#[tactic(auto, unfolding(crate::specs::event_lines::SelectGrammar::any_or))]
+fn any_or(word: &Word, addr: Result<Addr, TextFault>) -> Result<Option<Addr>, TextFault>
+    ensures { result ≡ any_or (placed_word word.now) addr }
 {
     if word.text == b"*".as_slice() {
         return Ok(None);
     }
-    let source = source_at(row, word)?;
-    Ok(Some(source))
-}
-
-/// A group, or `*` for any.
-#[tactic(auto, unfolding(crate::specs::event_lines::SelectGrammar::any_group_at))]
-fn any_group_at(row: Row, word: &Word) -> Result<Option<Addr>, TextFault>
-    ensures { result ≡ any_group_at row (placed_word word.now) }
-{
-    if word.text == b"*".as_slice() {
-        return Ok(None);
-    }
-    let group = group_at(row, word)?;
-    Ok(Some(group))
+    let addr = addr?;
+    Ok(Some(addr))
 }
 
 #[tactic(auto, unfolding(crate::specs::event_lines::SelectGrammar::pattern_at))]
 fn pattern_at(row: Row, source: &Word, group: &Word) -> Result<Pattern, TextFault>
     ensures { result ≡ pattern_at row (placed_word source.now) (placed_word group.now) }
 {
-    let source = any_source_at(row, source)?;
-    let group = any_group_at(row, group)?;
+    let source = any_or(source, source_at(row, source))?;
+    let group = any_or(group, group_at(row, group))?;
     Ok(Pattern { source, group })
 }
 

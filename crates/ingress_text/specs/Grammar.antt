@@ -33,6 +33,11 @@ address_at row word = or_fault (dotted_of word.text) row word reasons.Address
 unfoldable pub label_of : List ℕ → Option ℕ
 label_of text = number_of text >>? λ number. only_if (nat_le 16 number && nat_le number 1048575) number
 
+-- the fault of a line with too few words after the first one, or with more than two
+abbrev pub count_fault : Row → List Placed → TextFault
+count_fault row (a ∷ b ∷ extra ∷ more) = record { line = row.number; column = extra.column; reason = reasons.Count }
+count_fault row few = record { line = row.number; column = row.after; reason = reasons.Count }
+
 -- ---- `root ADDR HEX`
 
 unfoldable pub root_words : Row → Placed → Placed → Result Step TextFault

@@ -3,7 +3,7 @@ ghost use Rattle.std.specs.Prelude.{◌≡◌, map};
 ghost use Rattle.mv_base.specs.Dotted.{dotted_of};
 ghost use Rattle.line_words.specs.Answers.{Gives};
 ghost use Rattle.line_words.specs.Words.{placed_word};
-ghost use Rattle.ingress_text.specs.Grammar.{address_at, claimed, distinct, first_line, from_line, from_words, is_other, label_of, leaf_line, leaf_words};
+ghost use Rattle.ingress_text.specs.Grammar.{address_at, claimed, count_fault, distinct, first_line, from_line, from_words, is_other, label_of, leaf_line, leaf_words};
 ghost use Rattle.ingress_text.specs.Grammar.{next_line, root_again, root_line, root_words, words_line};
 
 use crate::draft::Draft;
@@ -44,6 +44,16 @@ fn label_of(text: &[u8]) -> Option<Label>
     }
 }
 
+/// The fault of a line that does not have two words after the first one: at the third of them, or after the last one.
+fn count_fault(row: Row, words: &[Word]) -> TextFault
+    ensures { result ≡ count_fault row (map placed_word words.now) }
+{
+    match words {
+        [_, _, extra, ..] => fault_at(row.number, extra.column, Reason::Count),
+        _ => fault_at(row.number, row.after, Reason::Count),
+    }
+}
+
 /// The line of the root by the words after the first one.
 #[tactic(auto, unfolding(crate::specs::Grammar::root_words))]
 fn root_words(alloc: Global, row: Row, addr: &Word, octets: &Word) -> Result<Step, ReadFault>
@@ -60,15 +70,10 @@ fn root_words(alloc: Global, row: Row, addr: &Word, octets: &Word) -> Result<Ste
 fn root_line(alloc: Global, row: Row, words: &[Word]) -> Result<Step, ReadFault>
     ensures { Gives result (root_line row (map placed_word words.now)) }
 {
-    match words {
-        [addr, octets] => root_words(alloc, row, addr, octets),
-        [_, _, extra, ..] => Err(ReadFault::Text(fault_at(
-            row.number,
-            extra.column,
-            Reason::Count,
-        ))),
-        _ => Err(ReadFault::Text(fault_at(row.number, row.after, Reason::Count))),
-    }
+    let [addr, octets] = words else {
+        return Err(ReadFault::Text(count_fault(row, words)));
+    };
+    root_words(alloc, row, addr, octets)
 }
 
 /// A further line of a root, which is a fault whatever its words are.
@@ -78,8 +83,7 @@ fn root_again(row: Row, first: &Word, words: &[Word]) -> TextFault
 {
     match words {
         [_, _] => fault_at(row.number, first.column, Reason::Again),
-        [_, _, extra, ..] => fault_at(row.number, extra.column, Reason::Count),
-        _ => fault_at(row.number, row.after, Reason::Count),
+        _ => count_fault(row, words),
     }
 }
 
@@ -143,11 +147,10 @@ fn leaf_words(
 fn leaf_line(draft: &Draft, root: &Root, row: Row, words: &[Word]) -> Result<Step, TextFault>
     ensures { result ≡ leaf_line draft.now root.now row (map placed_word words.now) }
 {
-    match words {
-        [addr, label] => leaf_words(draft, root, row, addr, label),
-        [_, _, extra, ..] => Err(fault_at(row.number, extra.column, Reason::Count)),
-        _ => Err(fault_at(row.number, row.after, Reason::Count)),
-    }
+    let [addr, label] = words else {
+        return Err(count_fault(row, words));
+    };
+    leaf_words(draft, root, row, addr, label)
 }
 
 #[tactic(auto, unfolding(crate::specs::Grammar::from_words))]
@@ -178,15 +181,10 @@ fn from_line(
 ) -> Result<Step, ReadFault>
     ensures { Gives result (from_line draft.now root.now row (map placed_word words.now)) }
 {
-    match words {
-        [addr, octets] => from_words(alloc, draft, root, row, addr, octets),
-        [_, _, extra, ..] => Err(ReadFault::Text(fault_at(
-            row.number,
-            extra.column,
-            Reason::Count,
-        ))),
-        _ => Err(ReadFault::Text(fault_at(row.number, row.after, Reason::Count))),
-    }
+    let [addr, octets] = words else {
+        return Err(ReadFault::Text(count_fault(row, words)));
+    };
+    from_words(alloc, draft, root, row, addr, octets)
 }
 
 /// The first line, which is that of the root.

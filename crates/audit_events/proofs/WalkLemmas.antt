@@ -28,7 +28,7 @@ use Rattle.audit_events.specs.declared.sents.Walk.{Walk}
 use Rattle.audit_events.specs.Case.{scenario_of, events_of, audited_of, past_of, fates_of, is_open, IsCase}
 use Rattle.audit_events.specs.Fates.{is_refused, opened, opens_after, closes, closings}
 use Rattle.audit_events.specs.Joined.{Kept, kept_of, Follows, TakesGiven, Steps, IsEmpty, IsFresh}
-use Rattle.audit_events.specs.Sents.{flow_of, fate_in, closing_in, sent_now, sent_of, sents_before, sents_of, IsStepped, IsWalked}
+use Rattle.audit_events.specs.Sents.{flow_of, fate_in, closing_in, sent_now, sent_if_any, sent_of, sents_before, listed, sents_of, IsStepped, IsWalked}
 use Rattle.audit_events.proofs.DatagramLemmas.{sent_at, one_more_sent}
 use Rattle.audit_events.proofs.FateLemmas.{event_judged}
 use Rattle.audit_events.proofs.FollowLemmas.{one_more, refused_follows, steps_follow, empty_follows}
@@ -146,7 +146,7 @@ module _ (case : Case) (is : IsCase case) (number : ℕ) (timed : Timed) (at : s
       → sents_before case (number + 1) ≡ sents_before case number ++ map (sent_of case) (sent_by number timed.event)
   accepted_sents holds = sents_next ∙ ap (λ b. sents_before case number ++ map (sent_of case) (cond b (sent_by number timed.event) [])) holds
 
-  pub quiet_sents : is_accepted refused timed ≡ true → flow_of timed.event ≡ None → sents_before case (number + 1) ≡ sents_before case number ++ []
+  quiet_sents : is_accepted refused timed ≡ true → flow_of timed.event ≡ None → sents_before case (number + 1) ≡ sents_before case number ++ []
   quiet_sents holds none = accepted_sents holds ∙ ap (λ (l : List Datagram). sents_before case number ++ map (sent_of case) l) (by timed.event none)
     where
       by : (event : Event) → flow_of event ≡ None → sent_by number event ≡ []
@@ -204,15 +204,25 @@ module _ (case : Case) (is : IsCase case) (number : ℕ) (timed : Timed) (at : s
   closing_is closing e =
       closing_got ∙ ap (λ (b : Bool). Some b) (sym (e ∙ ap (λ (o : Option Bool). elim o [ None ↦ false | Some b ↦ b ]) closing_got))
 
-  pub one_sent : (walk : Walk) → IsWalked case number walk → is_accepted refused timed ≡ true → (flow : Flow) → flow_of timed.event ≡ Some flow
-      → (closing windowed : Bool) →
-      closing ≡ closing_in case.closings number → windowed ≡ (walk.is_open && closing) → (sent : Sent)
-      → sent ≡ sent_now case (kept_of walk.joined) windowed number flow →
-      sents_before case (number + 1) ≡ sents_before case number ++ sent ∷ []
-  one_sent walk walked holds flow e closing windowed c w sent same =
-      flow_sents walk walked holds flow e closing (closing_is closing c)
-      ∙ (ap (λ b. sents_before case number ++ sent_now case (kept_of walk.joined) b number flow ∷ []) (sym w)
-      ∙ ap (λ (s : Sent). sents_before case number ++ s ∷ []) (sym same))
+  pub taken_sents : (walk : Walk) → IsWalked case number walk → is_accepted refused timed ≡ true → (sent : Option Sent)
+      → sent ≡ sent_if_any case walk number timed.event →
+      sents_before case (number + 1) ≡ sents_before case number ++ listed sent
+  taken_sents walk walked holds sent same =
+      by (flow_of timed.event) refl ∙ ap (λ (s : Option Sent). sents_before case number ++ listed s) (sym same)
+    where
+      closing : Bool
+      closing = closing_in case.closings number
+
+      of_flow : Option Flow → Option Sent
+      of_flow flow =
+          elim flow [ None ↦ None | Some f ↦ Some (sent_now case (kept_of walk.joined) (walk.is_open && closing) number f) ]
+
+      by : (flow : Option Flow) → flow_of timed.event ≡ flow
+          → sents_before case (number + 1) ≡ sents_before case number ++ listed (of_flow (flow_of timed.event))
+      by None e = quiet_sents holds e ∙ ap (λ (f : Option Flow). sents_before case number ++ listed (of_flow f)) (sym e)
+      by (Some flow) e =
+          flow_sents walk walked holds flow e closing (closing_is closing refl)
+          ∙ ap (λ (f : Option Flow). sents_before case number ++ listed (of_flow f)) (sym e)
 
   pub fate_got : (fate : Fate) → fate ≡ fate_in case.fates number → slice_get case.fates number ≡ Some fate
   fate_got fate e =

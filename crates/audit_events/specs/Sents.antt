@@ -1,10 +1,9 @@
 -- The datagrams that were accepted, each with its receivers where it is of a window.
-use Rattle.std.specs.Prelude.{◌≡◌, ℕ, ◌+◌, ◌≤◌, Bool, true, false, List, [], ◌∷◌, map, take, slice_get, Option, None, Some, if◌then◌else◌}
+use Rattle.std.specs.Prelude.{◌≡◌, ℕ, ◌+◌, ◌≤◌, ◌&&◌, Bool, false, List, [], ◌∷◌, map, take, slice_get, Option, None, Some, if◌then◌else◌}
 use Rattle.audit_defs.specs.scenario_defs.declared.event.Event.{Event}
 use Rattle.audit_defs.specs.scenario_defs.declared.event.Event.TheVariants as events
-use Rattle.audit_defs.specs.scenario_defs.declared.event.Timed.{Timed}
 use Rattle.audit_defs.specs.mvpn_model.Packets.{source_in, group_in}
-use Rattle.audit_defs.specs.mvpn_model.Past.{is_accepted, receivers, ticks_in}
+use Rattle.audit_defs.specs.mvpn_model.Past.{receivers, ticks_in}
 use Rattle.audit_defs.specs.mvpn_model.Report.{Datagram, datagrams}
 use Rattle.audit_events.specs.declared.case.Case.{Case}
 use Rattle.audit_events.specs.declared.fate.Fate.{Fate}
@@ -40,6 +39,14 @@ sent_now case kept windowed number flow = record {
   asked = if windowed then Some (receivers_now (scenario_of case) kept case.vpns flow) else None;
 }
 
+-- the same of the event of that number, if it sends one, by what is known after those before it
+abbrev pub sent_if_any : Case → Walk → ℕ → Event → Option Sent
+sent_if_any case walk number event =
+    elim (flow_of event) [
+      | None ↦ None
+      | Some flow ↦ Some (sent_now case (kept_of walk.joined) (walk.is_open && closing_in case.closings number) number flow)
+    ]
+
 -- ---- what is said of datagrams
 
 -- what is said of a datagram
@@ -74,10 +81,6 @@ pub record IsWalked (case : Case) (number : ℕ) (walk : Walk) : Type 0 where
   pub clock : walk.joined.clock ≤ ticks_in (take number (events_of case))
   pub count : walk.joined.count ≤ number
   pub opened : walk.is_open ≡ is_open case number
-
--- The event is none of those that count as refused.
-abbrev pub IsAccepted : Case → Timed → Type 0
-IsAccepted case timed = is_accepted (audited_of case).refused timed ≡ true
 
 -- The same but for the window, which is still that before the event of that number.
 pub record IsStepped (case : Case) (number : ℕ) (walk : Walk) : Type 0 where

@@ -4,8 +4,7 @@ ghost use Rattle.audit_defs.specs.mvpn_model.Packets.{source_in, group_in};
 ghost use Rattle.audit_events.specs.Case.{IsCase, events_of};
 ghost use Rattle.audit_events.specs.Joined.{kept_of};
 ghost use Rattle.audit_events.specs.Receivers.{receivers_now};
-ghost use Rattle.audit_events.specs.Sents.{flow_of, fate_in, closing_in, sent_now, sents_before, listed};
-ghost use Rattle.audit_events.specs.Sents.{IsAccepted, IsStepped, IsWalked};
+ghost use Rattle.audit_events.specs.Sents.{flow_of, fate_in, closing_in, sent_now, sent_if_any, sents_before, listed, IsWalked};
 
 use crate::case::Case;
 use crate::fate::Fate;
@@ -139,47 +138,22 @@ impl Walk {
     }
 
     /// The datagram of the event of that number, if it sends one.
-    fn sent_of(
+    fn sent_if_any(
         &self,
         alloc: Global,
         case: &Case<'_>,
         number: usize,
-        timed: &Timed,
+        event: &Event,
     ) -> Result<Option<Sent>, NoMemory>
-        requires is { IsCase case.now }
-        requires walked { IsWalked case.now number self.now }
-        requires at { slice_get (events_of case.now) number ≡ Some timed.now }
-        requires accepted { IsAccepted case.now timed.now }
-        ensures { IfOk result (λ sent. sents_before case.now (number + 1) ≡ sents_before case.now number ++ listed sent) }
+        ensures { IfOk result (λ sent. sent ≡ sent_if_any case.now self.now number event.now) }
     {
-        match flow_of(&timed.event) {
+        match flow_of(event) {
             Some(flow) => {
-                let closing = closing_in(case, number);
-                let windowed = is_windowed(self.is_open, closing);
+                let windowed = is_windowed(self.is_open, closing_in(case, number));
                 Ok(Some(self.sent(alloc, case, number, &flow, windowed)?))
             }
             None => Ok(None),
         }
-    }
-
-    /// Takes the event of that number, which was accepted.
-    fn accept(
-        &mut self,
-        alloc: Global,
-        case: &Case<'_>,
-        number: usize,
-        timed: &Timed,
-    ) -> Result<Option<Sent>, NoMemory>
-        requires is { IsCase case.now }
-        requires walked { IsWalked case.now number self.old }
-        requires at { slice_get (events_of case.now) number ≡ Some timed.now }
-        requires accepted { IsAccepted case.now timed.now }
-        ensures stepped { OnOk result (IsStepped case.now number self.new) }
-        ensures sent { IfOk result (λ sent. sents_before case.now (number + 1) ≡ sents_before case.now number ++ listed sent) }
-    {
-        let sent = self.sent_of(alloc, case, number, timed)?;
-        self.joined.step(&case.script.scenario, &timed.event)?;
-        Ok(sent)
     }
 
     /// Takes the event of that number. The datagram that it sends, if it was accepted and sends one.
@@ -201,7 +175,8 @@ impl Walk {
             self.is_open = opens_after(self.is_open, timed, fate);
             return Ok(None);
         }
-        let sent = self.accept(alloc, case, number, timed)?;
+        let sent = self.sent_if_any(alloc, case, number, &timed.event)?;
+        self.joined.step(&case.script.scenario, &timed.event)?;
         self.is_open = opens_after(self.is_open, timed, fate);
         Ok(sent)
     }

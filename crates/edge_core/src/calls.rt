@@ -13,7 +13,9 @@ ghost use Rattle.edge_core.specs.Taking.{AnswersOctets};
 use crate::edge::{Edge, spent_by};
 use crate::edge_call::EdgeCall;
 use crate::fault::{EdgeAnswer, EdgeFault};
+use bgp_messages::bgp_update::Message;
 use core_paths::Core;
+use mldp::mldp_msgs::LabelMessage;
 use mv_base::{Bytes, IfaceId, NodeId};
 use scenario_defs::Kind;
 
@@ -44,7 +46,7 @@ impl Edge {
         if let Some(fault) = self.spent {
             return Err(EdgeFault::from(fault));
         }
-        let answer = self.parts.take_bgp(peer, bytes, now, core);
+        let answer = self.parts.take_octets::<Message>(peer, bytes, now, core);
         self.spent = spent_by(&answer);
         answer
     }
@@ -60,7 +62,9 @@ impl Edge {
         if let Some(fault) = self.spent {
             return Err(EdgeFault::from(fault));
         }
-        let answer = self.parts.take_ldp(peer, bytes, now, core);
+        let answer = self
+            .parts
+            .take_octets::<LabelMessage>(peer, bytes, now, core);
         self.spent = spent_by(&answer);
         answer
     }

@@ -9,17 +9,18 @@ ghost use Rattle.edge_defs.specs.Datagrams.{arriving_fate, entering_fate, outs_o
 ghost use Rattle.edge_defs.specs.Place.{OwnVrf};
 ghost use Rattle.edge_routes.specs.edge_home.Home.{place_of};
 ghost use Rattle.edge_routing.specs.edge_control.Places.{is_own_vrf, vrfs_of};
-ghost use Rattle.edge_routing.specs.edge_datagrams.Datagrams.{branches_on, edge_with};
+ghost use Rattle.edge_routing.specs.edge_datagrams.Datagrams.{branches_on};
 ghost use Rattle.edge_core.specs.Called.{going};
-ghost use Rattle.edge_core.specs.State.{IsFate, data_of};
+ghost use Rattle.edge_core.specs.State.{IsFate, data_of, home_of};
 
+use crate::edge::Edge;
 use crate::fate::{Branches, Fate};
 use crate::parts::Parts;
 use core_paths::Core;
 use edge_routing::edge_datagrams::{entering, leaving};
 use edge_routing::of_edge_labels::EdgeLabels;
 use label_defs::Branch;
-use label_forwarding::Branch as Hop;
+use label_forwarding::{Branch as Hop, Datagram};
 use mldp::mldp_fec::Fec;
 use mv_base::{Addr, NoMemory, NodeId, Seq, SiteId, VrfId};
 use scenario_defs::IfaceList;
@@ -62,41 +63,6 @@ fn branches_on(
 }
 
 impl Parts {
-    /// Where a datagram goes that the site sends into the VRF.
-    pub(crate) fn enter(
-        &self,
-        alloc: Global,
-        vrf: VrfId,
-        site: SiteId,
-        source: Addr,
-        group: Addr,
-        now: u64,
-        core: &Core,
-    ) -> Result<Fate, NoMemory>
-        requires own { is_own_vrf self.now.routing.control.home vrf ≡ true }
-        requires core { core.now.nodes ≡ length self.now.routing.control.home.scenario.nodes }
-        ensures { (walks : Walks) → IsCoreOf core.now.nodes core.now.links walks → (own : OwnVrf) →
-            Among own (vrfs_of self.now.routing.control.home) → own.id ≡ vrf →
-            IfOk result (IsFate
-            (entering_fate (place_of self.now.routing.control.home walks) now (data_of (going self.now)) own site source group)) }
-    {
-        let fate = entering(
-            &self.routing.control,
-            alloc,
-            vrf,
-            site,
-            source,
-            group,
-            now,
-            core,
-        )?;
-        let branches = branches_on(&self.labels, alloc, fate.tunnel)?;
-        Ok(Fate {
-            outs: fate.outs,
-            branches,
-        })
-    }
-
     /// The interfaces at which a copy on the tree leaves: none where the edge is no leaf of it.
     fn delivered(
         &self,
@@ -120,30 +86,69 @@ impl Parts {
             Ok(Seq::new(alloc))
         }
     }
+}
 
-    /// Where a copy goes that came from the neighbour under the label.
-    pub(crate) fn arrive(
+impl Edge {
+    /// Where a datagram goes that the site sends into the VRF at the clock, in the core as the edge knows it (RFC 6513 sections 9.1.1 and
+    /// 12).
+    pub fn enter(
+        &self,
+        alloc: Global,
+        vrf: VrfId,
+        site: SiteId,
+        datagram: &Datagram<'_>,
+        now: u64,
+        core: &Core,
+    ) -> Result<Fate, NoMemory>
+        requires own { is_own_vrf (home_of self.now) vrf ≡ true }
+        requires core { core.now.nodes ≡ length (home_of self.now).scenario.nodes }
+        ensures { (walks : Walks) → IsCoreOf core.now.nodes core.now.links walks → (own : OwnVrf) →
+            Among own (vrfs_of (home_of self.now)) → own.id ≡ vrf →
+            IfOk result (IsFate
+            (entering_fate (place_of (home_of self.now) walks) now (data_of self.now) own site datagram.now.source datagram.now.group)) }
+    {
+        let fate = entering(
+            &self.parts.routing.control,
+            alloc,
+            vrf,
+            site,
+            datagram.source(),
+            datagram.group(),
+            now,
+            core,
+        )?;
+        let branches = branches_on(&self.parts.labels, alloc, fate.tunnel)?;
+        Ok(Fate {
+            outs: fate.outs,
+            branches,
+        })
+    }
+
+    /// Where a copy goes that came from the neighbour under the label, in the core as the edge knows it (RFC 6513 section 9.1.1; RFC 3032).
+    pub fn arrive(
         &self,
         alloc: Global,
         from: NodeId,
         label: u32,
-        source: Addr,
-        group: Addr,
+        datagram: &Datagram<'_>,
         now: u64,
         core: &Core,
     ) -> Result<Fate, NoMemory>
-        requires core { core.now.nodes ≡ length self.now.routing.control.home.scenario.nodes }
+        requires core { core.now.nodes ≡ length (home_of self.now).scenario.nodes }
         ensures { (walks : Walks) → IsCoreOf core.now.nodes core.now.links walks →
             IfOk result (IsFate
-            (arriving_fate (place_of self.now.routing.control.home walks) now (data_of (going self.now)) from label source group)) }
+            (arriving_fate (place_of (home_of self.now) walks) now (data_of self.now) from label datagram.now.source datagram.now.group)) }
     {
-        match self.labels.node().fib().lookup(from, label) {
+        let (source, group) = (datagram.source(), datagram.group());
+        match self.parts.labels.node().fib().lookup(from, label) {
             None => Ok(Fate {
                 outs: Seq::new(alloc),
                 branches: Seq::new(alloc),
             }),
             Some(entry) => Ok(Fate {
-                outs: self.delivered(alloc, &entry.fec, entry.leaf, source, group, now, core)?,
+                outs: self
+                    .parts
+                    .delivered(alloc, &entry.fec, entry.leaf, source, group, now, core)?,
                 branches: branches_along(alloc, &entry.fec, entry.branches())?,
             }),
         }

@@ -5,13 +5,14 @@
 //! up (`clocks.rt`), and whether it is spent; contracts see it as an `EdgeView` of these five. A call changes what it
 //! is about, and then `settle` (`parts.rt`) makes the row of label steps: that of the call itself, and one for each
 //! tree of which the edge becomes or stops being a leaf. Octets that come are fed to the session's stream, the messages
-//! that wait then are taken one after another, and the first fault of the stream is answered (`octets.rt`; RFC 4271
-//! section 4, RFC 5036 section 3.1). `calls.rt` has the calls that may change an edge: each answers for a spent edge,
-//! has its part done by `Parts`, and notes whether the edge is spent now. All of these but octets are values
-//! (`EdgeCall` in `edge_call.rt`), which the layers above hand on; `named.rt` has each by its name. `queries.rt` and `lists.rt` have what is
-//! asked of an edge, which changes nothing. `specs/State.antt` says what holds of an edge that is not spent (`IsLive`)
-//! and which edge of `node_defs` it is (`IsIn`); `Calls` what a call is, asks for and answers; `Answers`, `Taking` and
-//! `Pim` what others answer. Above it `network_nodes` has it as one of the two kinds of nodes.
+//! that wait then are taken one after another, and the first fault of the stream is answered: one function for the
+//! messages of either protocol, which are an `EdgeMessage` (`octets.rt`; RFC 4271 section 4, RFC 5036 section 3.1).
+//! `calls.rt` has the calls that may change an edge: each answers for a spent edge, has its part done by `Parts`, and
+//! notes whether the edge is spent now. All of these but octets are values (`EdgeCall` in `edge_call.rt`), which the
+//! layers above hand on; `named.rt` has each by its name. `queries.rt` and `lists.rt` have what is asked of an edge,
+//! and `datagrams.rt` where a datagram goes, which changes nothing. `specs/State.antt` says what holds of an edge that
+//! is not spent (`IsLive`) and which edge of `node_defs` it is (`IsIn`); `Calls` what a call is, asks for and answers;
+//! `Answers`, `Taking` and `Pim` what others answer. Above it `network_nodes` has it as one of the two kinds of nodes.
 #![tactic(auto)]
 
 mod calls;

@@ -1,86 +1,25 @@
-//! What is asked of an edge, and where datagrams go from it. Nothing changes.
-ghost use Rattle.std.specs.Prelude.{◌≡◌, ◌<◌, ◌^◌, min, not, true, false, is_some, length, IfOk, None, Some};
+//! What is asked of an edge. Nothing changes.
+ghost use Rattle.std.specs.Prelude.{◌≡◌, min, not, true, false, is_some, None, Some};
 ghost use Rattle.std.specs.FinMap as maps;
 ghost use Rattle.std.specs.FinSet as sets;
 ghost use Rattle.mv_base.specs.Lists.{Among};
-ghost use Rattle.mv_base.specs.core_walks.Core.{Core as Walks, IsCoreOf};
-ghost use Rattle.edge_defs.specs.Datagrams.{arriving_fate, entering_fate};
+ghost use Rattle.mv_base.specs.core_walks.Core.{Core as Walks};
 ghost use Rattle.edge_defs.specs.Due.{due};
 ghost use Rattle.edge_defs.specs.Place.{OwnVrf};
 ghost use Rattle.edge_defs.specs.Tunnels.{leaves};
 ghost use Rattle.edge_routes.specs.edge_home.Home.{place_of};
-ghost use Rattle.edge_routing.specs.control_laws.Control.{control_of};
 ghost use Rattle.edge_routing.specs.vrf_words.tree_laws.Imports.{imports};
 ghost use Rattle.edge_routing.specs.edge_control.Places.{is_own_vrf, vrfs_of};
-ghost use Rattle.edge_core.specs.State.{IsFate, data_of, home_of, is_up};
+ghost use Rattle.edge_core.specs.State.{data_of, home_of, is_up};
 
 use crate::edge::Edge;
-use crate::fate::Fate;
-use core_paths::Core;
 use edge_routing::edge_datagrams::imports;
 use edge_routing::edge_leaves::due;
-use label_forwarding::Datagram;
 use mldp::mldp_fec::Fec;
-use mv_base::{NoMemory, NodeId, Pattern, SiteId, VrfId};
+use mv_base::{NodeId, Pattern, VrfId};
 use scenario_defs::Kind;
-use std::alloc::Global;
 
 impl Edge {
-    /// Where a datagram goes that the site sends into the VRF at the clock, in the core as the edge knows it (RFC 6513 sections 9.1.1 and
-    /// 12).
-    pub fn enter(
-        &self,
-        alloc: Global,
-        vrf: VrfId,
-        site: SiteId,
-        datagram: &Datagram<'_>,
-        now: u64,
-        core: &Core,
-    ) -> Result<Fate, NoMemory>
-        requires own { is_own_vrf (home_of self.now) vrf ≡ true }
-        requires core { core.now.nodes ≡ length (home_of self.now).scenario.nodes }
-        ensures { (walks : Walks) → IsCoreOf core.now.nodes core.now.links walks → (own : OwnVrf) →
-            Among own (vrfs_of (home_of self.now)) → own.id ≡ vrf →
-            IfOk result (IsFate
-            (entering_fate (place_of (home_of self.now) walks) now (data_of self.now) own site datagram.now.source datagram.now.group)) }
-    {
-        self.parts.enter(
-            alloc,
-            vrf,
-            site,
-            datagram.source(),
-            datagram.group(),
-            now,
-            core,
-        )
-    }
-
-    /// Where a copy goes that came from the neighbour under the label, in the core as the edge knows it (RFC 6513 section 9.1.1; RFC 3032).
-    pub fn arrive(
-        &self,
-        alloc: Global,
-        from: NodeId,
-        label: u32,
-        datagram: &Datagram<'_>,
-        now: u64,
-        core: &Core,
-    ) -> Result<Fate, NoMemory>
-        requires core { core.now.nodes ≡ length (home_of self.now).scenario.nodes }
-        ensures { (walks : Walks) → IsCoreOf core.now.nodes core.now.links walks →
-            IfOk result (IsFate
-            (arriving_fate (place_of (home_of self.now) walks) now (data_of self.now) from label datagram.now.source datagram.now.group)) }
-    {
-        self.parts.arrive(
-            alloc,
-            from,
-            label,
-            datagram.source(),
-            datagram.group(),
-            now,
-            core,
-        )
-    }
-
     /// Whether the pattern is selected in the VRF. It takes no memory.
     pub fn is_selected(&self, vrf: VrfId, pattern: Pattern) -> bool
         requires own { is_own_vrf (home_of self.now) vrf ≡ true }

@@ -1,9 +1,0 @@
-use Rattle.std.proofs.Common.{map}
-use Rattle.network_defs.specs.session_defs.Message.{Label}
-use Rattle.edge_core.proofs.TakingLemmas.{AreLeft}
-use Rattle.edge_core.proofs.parts.Parts.take_labels.Given as goal
-
-abbrev pub invariant-loop-message : goal.invariant-loop-message
-invariant-loop-message l =
-    AreLeft l.core l.now l.peer (map (λ message. Label message) l.fn.messages.items) (map (λ message. Label message) l.message-iterator.rest.items)
-    l.fn.self l.self

@@ -95,7 +95,7 @@ impl CoreNode {
         if let Some(fault) = self.spent {
             return Err(CoreFault::from(fault));
         }
-        let answer = self.parts.take_ldp(peer, bytes, now, core);
+        let answer = self.parts.take(peer, bytes, now, core);
         self.spent = spent_by(&answer);
         answer
     }

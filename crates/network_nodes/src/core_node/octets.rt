@@ -1,12 +1,11 @@
 //! Octets that come over sessions, and the messages that they spell (RFC 5036 section 3.1).
 ghost use Rattle.std.specs.Prelude.{◌≡◌, ◌<◌, ◌^◌, map, true, length, All, OnOk, Err, None};
-ghost use Rattle.label_defs.specs.Steps.{Taken};
 ghost use Rattle.network_defs.specs.session_defs.Message.{Label};
 ghost use Rattle.network_defs.specs.session_defs.PeerSession.{fault_at};
 ghost use Rattle.edge_streams.specs.Spelled.{SaysWritableLabel};
 ghost use Rattle.wire_laws.specs.CoreNodes.{ldp_with};
 ghost use Rattle.network_nodes.specs.core_node.Answers.{IsSpending};
-ghost use Rattle.network_nodes.specs.core_node.Called.{Settles, SettlesCall, thereafter, going, spent_after};
+ghost use Rattle.network_nodes.specs.core_node.Called.{Settles, thereafter, going, spent_after};
 ghost use Rattle.network_nodes.specs.core_node.Taking.{AnswersOctets, IsSessionFault, taken_by};
 ghost use Rattle.network_nodes.specs.core_node.View.{IsLive, is_up};
 ghost use Rattle.network_nodes.specs.declared.core_node.fault.CoreFault.{CoreFault as CoreFaults};
@@ -19,26 +18,6 @@ use mv_base::NodeId;
 use scenario_defs::Kind;
 
 impl Parts {
-    /// Takes a message of the neighbour.
-    fn take_label(
-        &mut self,
-        peer: NodeId,
-        message: LabelMessage,
-        now: u64,
-        core: &Core,
-    ) -> CoreAnswer
-        requires live { IsLive self.old.node self.old.streams }
-        requires nodes { core.now.nodes ≡ length self.old.node.place.addrs }
-        requires now { now < 2 ^ 63 }
-        requires writable { SaysWritableLabel message }
-        ensures settles { SettlesCall core.now now (Taken peer message) (going self.old) self.new result }
-        ensures only { IsSpending result }
-    {
-        // It is known here that a core as nodes know it is there.
-        let _ = core.nodes();
-        told(self.node.take(peer, message, now, core))
-    }
-
     /// Takes messages of the neighbour, one after another.
     fn take_labels(
         &mut self,
@@ -55,8 +34,10 @@ impl Parts {
             (going self.old) self.new result }
         ensures only { IsSpending result }
     {
+        // It is known here that a core as nodes know it is there.
+        let _ = core.nodes();
         for message in messages {
-            if let Err(fault) = self.take_label(peer, message, now, core) {
+            if let Err(fault) = told(self.node.take(peer, message, now, core)) {
                 return Err(fault);
             }
         }
@@ -80,13 +61,7 @@ impl Parts {
 
     /// Takes octets of the session with the neighbour, which is up: the messages that are whole with them, those before its first fault
     /// too.
-    pub(crate) fn take_ldp(
-        &mut self,
-        peer: NodeId,
-        bytes: &[u8],
-        now: u64,
-        core: &Core,
-    ) -> CoreAnswer
+    pub(crate) fn take(&mut self, peer: NodeId, bytes: &[u8], now: u64, core: &Core) -> CoreAnswer
         requires live { IsLive self.old.node self.old.streams }
         requires nodes { core.now.nodes ≡ length self.old.node.place.addrs }
         requires now { now < 2 ^ 63 }

@@ -3,7 +3,7 @@ use Rattle.network_defs.specs.session_defs.Message.{Label}
 use Rattle.wire_laws.specs.CoreNodes.{ldp_with}
 use Rattle.edge_streams.proofs.FedLemmas.{fed_there}
 use Rattle.network_nodes.proofs.core_node.TakingLemmas.{mid_live, octets_stopped, octets_taken, up_there}
-use Rattle.network_nodes.proofs.core_node.parts.Parts.take_ldp.Goals as goal
+use Rattle.network_nodes.proofs.core_node.parts.Parts.take.Goals as goal
 
 pub drain_ldp-requires : goal.drain_ldp-requires
 drain_ldp-requires c =

@@ -18,6 +18,7 @@ use Rattle.mvpn_tool.specs.declared.stop.Stop.{Stop}
 use Rattle.mvpn_tool.specs.declared.stop.Stop.TheVariants as stops
 use Rattle.mvpn_tool.specs.Input.{IsInput, IsReadUpTo, Taken}
 use Rattle.mvpn_tool.specs.Outcome.{ReplayEnds, Replays, Takes}
+use Rattle.mvpn_tool.specs.TellOutcome.{IsBounded}
 use Rattle.decode_text.specs.HexText.{octets_of}
 
 -- Some input that the source may have had says what these octets say.
@@ -25,10 +26,6 @@ pub record SaysAlike {X : Type 0} (says : List ℕ → X) (left : Option (List �
   pub input : List ℕ
   pub is_input : IsInput left input
   pub same : says input ≡ says octets
-
--- What is longer than the limit says that alone.
-abbrev pub IsBounded : {X : Type 0} → (List ℕ → X) → Type 0
-IsBounded says = (octets : List ℕ) → 16777216 < length octets → (more : List ℕ) → says (octets ++ more) ≡ says octets
 
 both_true : {A : Type 0} (b c : Bool) (x y z : A) → b ≡ true → c ≡ true → cond b x y ≡ cond c x z
 both_true b c x y z h k = rw (h, k) refl

@@ -1,6 +1,6 @@
 -- Laws of how a command ends that reads a text and shows what is in it.
-use Rattle.std.proofs.Common.{◌≡◌, ◌≢◌, ℕ, ◌⊎◌, List, refl, inl, inr, sym, ap, subst, ◌∙◌, arith}
-use Rattle.std.specs.Prelude.{Option, None, Some, Result, Ok, Err, IfErr, IsErrOf, Bool, true, false}
+use Rattle.std.proofs.Common.{◌≡◌, ◌≢◌, ℕ, ◌⊎◌, List, refl, inl, inr, sym, ap, ◌∙◌, arith}
+use Rattle.std.specs.Prelude.{Option, None, Some, Result, Ok, Err, IfErr, IfOk, IsErrOf, OnErr, OnOk, Bool, true, false}
 use Rattle.mv_io.specs.Causes.{Rose}
 use Rattle.mv_io.specs.Octets.{Appended, AppendedPart}
 use Rattle.line_words.specs.FaultText.{fault_text}
@@ -9,7 +9,7 @@ use Rattle.mvpn_tool.specs.declared.stop.Stop.{Stop}
 use Rattle.mvpn_tool.specs.declared.stop.Stop.TheVariants as stops
 use Rattle.mvpn_tool.specs.Input.{IsInput, Taken}
 use Rattle.mvpn_tool.specs.Runs.{TellRun}
-use Rattle.mvpn_tool.specs.TellOutcome.{TellEnd, TellEnds, TellTakes, tell_status}
+use Rattle.mvpn_tool.specs.TellOutcome.{TellEnds, TellTakes, TellsText, ToldPart, tell_status}
 use Rattle.mvpn_tool.proofs.EndLemmas.{SaysAlike}
 
 abbrev pub answer : Bool → Result Bool Stop
@@ -17,15 +17,6 @@ answer b = Ok b
 
 abbrev failed : Stop → Result Bool Stop
 failed stop = Err stop
-
--- An answer is one of two.
-pub not_false : (b : Bool) → b ≡ true → answer b ≢ answer false
-not_false true e f = absurd cc
-not_false false e f = absurd cc
-
-pub not_true : (b : Bool) → b ≡ false → answer b ≢ answer true
-not_true true e f = absurd cc
-not_true false e f = absurd cc
 
 -- The input was taken, however the command ended.
 pub tell_takes : (left new : Option (List ℕ)) (result : Result Bool Stop) → Taken left new → result ≢ Err stops.Label → TellTakes result left new
@@ -36,11 +27,10 @@ tell_takes left new (Err stops.Sink) t n = t
 tell_takes left new (Err stops.Memory) t n = tt
 tell_takes left new (Err stops.Label) t n = absurd (n refl)
 
--- Showing does not run out of labels, nor does a fault.
-pub not_label : (result : Result Bool Stop) → IfErr result (λ e. (e ≡ stops.Sink) ⊎ (e ≡ stops.Memory)) → result ≢ Err stops.Label
+-- Writing what is shown does not run out of labels, nor does writing a fault.
+pub not_label : (result : Result Bool Stop) → IfErr result (λ e. e ≡ stops.Sink) → result ≢ Err stops.Label
 not_label (Ok refused) o e = absurd cc
-not_label (Err stop) (inl t) e = absurd cc
-not_label (Err stop) (inr t) e = absurd cc
+not_label (Err stop) o e = absurd cc
 
 pub fault_not_label : (stop : Stop) → stop ≢ stops.Label → failed stop ≢ failed stops.Label
 fault_not_label stop n e = n cc
@@ -48,29 +38,11 @@ fault_not_label stop n e = n cc
 some_is : (x y : List ℕ) → Some x ≡ Some y → x ≡ y
 some_is x y e = cc
 
--- A prefix of what is shown was written.
-pub part_told : {X : Type 0} (Tells : Bool → X → List ℕ → Type 0) (result : Result Bool Stop) (stop : Stop) (what : X) (written text : List ℕ)
-    (refused : Bool) (old new : Option (List ℕ)) → result ≡ Err stop → stop ≡ stops.Sink → Tells refused what text
-    → written ≡ text → AppendedPart old new written → TellEnd Tells what result old new
-part_told Tells result stop what written text refused old new e is tells same part =
-    rw (e, is) (record { refused = refused; text = text; tells = tells; written = subst (AppendedPart old new) same part })
-
 module _ {X : Type 0} (read : List ℕ → Result X TextFault) where
   -- ---- what is read
 
   abbrev says : X → Result X TextFault
   says what = Ok what
-
-  one_value : (x y : X) → says x ≡ says y → x ≡ y
-  one_value x y e = cc
-
-  -- What the input says is what was read, where the source said it.
-  pub one_reading : (left : Option (List ℕ)) (text input : List ℕ) (what other : X) → SaysAlike read left text → read text ≡ Ok what
-      → left ≡ Some input → read input ≡ Ok other → what ≡ other
-  one_reading None text input what other a e l h = absurd cc
-  one_reading (Some xs) text input what other a e l h =
-      let is : xs ≡ input = some_is xs input l in
-      one_value what other (sym e ∙ sym a.same ∙ ap read (sym a.is_input ∙ is) ∙ h)
 
   -- An input says something or has a fault, and not both.
   said_whole : (left : Option (List ℕ)) (text input : List ℕ) (what : X) (fault : TextFault) → IsInput left text → read text ≡ says what
@@ -104,19 +76,15 @@ module _ {X : Type 0} (read : List ℕ → Result X TextFault) where
     tell_faulty left old new octets fault stops.Label w p n a e = absurd (n.1 refl)
 
     -- What is shown was written.
-    pub tell_ends : (left old new : Option (List ℕ)) (text : List ℕ) (what : X) (result : Result Bool Stop) → SaysAlike read left text
-        → read text ≡ Ok what →
-        TellEnd Tells what result old new → IfErr result (λ e. (e ≡ stops.Sink) ⊎ (e ≡ stops.Memory)) → TellEnds read Tells left result old new
-    tell_ends left old new text what (Ok refused) a e l o =
-        record { input = a.input; is_input = a.is_input; what = what; said = a.same ∙ e; text = l.0; tells = l.1; written = l.2 }
-    tell_ends left old new text what (Err stops.Sink) a e l o = record { input = a.input; is_input = a.is_input; part = rw (a.same, e) l }
-    tell_ends left old new text what (Err stops.Memory) a e l o = inl l
-    tell_ends left old new text what (Err stops.Label) a e l (inl t) = absurd cc
-    tell_ends left old new text what (Err stops.Label) a e l (inr t) = absurd cc
-    tell_ends left old new text what (Err stops.Text) a e l (inl t) = absurd cc
-    tell_ends left old new text what (Err stops.Text) a e l (inr t) = absurd cc
-    tell_ends left old new text what (Err stops.Source) a e l (inl t) = absurd cc
-    tell_ends left old new text what (Err stops.Source) a e l (inr t) = absurd cc
+    pub tell_ends : (left old new : Option (List ℕ)) (octets text : List ℕ) (refused : Bool) (result : Result Bool Stop)
+        → SaysAlike read left octets → TellsText read Tells refused octets text → OnOk result (Appended old new text)
+        → OnErr result (AppendedPart old new text) → IfOk result (λ b. b ≡ refused) → IfErr result (λ e. e ≡ stops.Sink)
+        → TellEnds read Tells left result old new
+    tell_ends left old new octets text refused (Ok b) a t ok part is o =
+        record { input = a.input; is_input = a.is_input; what = t.what; said = a.same ∙ t.said; text = text; tells = rw is t.tells; written = ok }
+    tell_ends left old new octets text refused (Err e) a t ok part is o =
+        let shown : ToldPart Tells t.what old new = record { refused = refused; text = text; tells = t.tells; written = part } in
+        rw o (record { input = a.input; is_input = a.is_input; part = rw (a.same, t.said) shown })
 
     -- ---- each status
 

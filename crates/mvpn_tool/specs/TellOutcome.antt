@@ -1,12 +1,23 @@
 -- How a command may end that reads a text and shows what is in it: what it read, and what it wrote. Which command it is says what a text says
 -- (`read`), and what is shown of that, with a fault among it where it says so (`Tells`).
-use Rattle.std.specs.Prelude.{◌≡◌, ℕ, ◌⊎◌, ⊤, Bool, true, false, List, [], Option, Result, Ok, Err, MatchResult}
+use Rattle.std.specs.Prelude.{◌≡◌, ℕ, ◌<◌, ◌++◌, ◌⊎◌, ⊤, Bool, true, false, List, [], length, Option, Result, Ok, Err, MatchResult}
 use Rattle.mv_io.specs.Octets.{Appended, AppendedPart}
 use Rattle.line_words.specs.FaultText.{fault_text}
 use Rattle.line_words.specs.declared.fault.TextFault.{TextFault}
 use Rattle.mvpn_tool.specs.declared.stop.Stop.{Stop}
 use Rattle.mvpn_tool.specs.declared.stop.Stop.TheVariants as stops
 use Rattle.mvpn_tool.specs.Input.{IsInput, Taken}
+
+-- What is longer than the limit says that alone.
+abbrev pub IsBounded : {X : Type 0} → (List ℕ → X) → Type 0
+IsBounded says = (octets : List ℕ) → 16777216 < length octets → (more : List ℕ) → says (octets ++ more) ≡ says octets
+
+-- This is shown of a text, which says something.
+pub record TellsText {X : Type 0} (read : List ℕ → Result X TextFault) (Tells : Bool → X → List ℕ → Type 0) (refused : Bool)
+    (input text : List ℕ) : Type 0 where
+  pub what : X
+  pub said : read input ≡ Ok what
+  pub tells : Tells refused what text
 
 -- All that is shown of the input was written.
 pub record ToldAll {X : Type 0} (read : List ℕ → Result X TextFault) (Tells : Bool → X → List ℕ → Type 0) (refused : Bool)
@@ -40,12 +51,6 @@ pub record ToldEarly {X : Type 0} (read : List ℕ → Result X TextFault) (Tell
   pub input : List ℕ
   pub is_input : IsInput left input
   pub part : MatchResult (read input) (λ what. ToldPart Tells what old new) (λ fault. AppendedPart old new (fault_text fault))
-
--- how the writing of what is shown ends
-abbrev pub TellEnd : {X : Type 0} → (Bool → X → List ℕ → Type 0) → X → Result Bool Stop → Option (List ℕ) → Option (List ℕ) → Type 0
-TellEnd Tells what (Ok refused) old new = (text : List ℕ) × Tells refused what text × Appended old new text
-TellEnd Tells what (Err stops.Memory) old new = Appended old new []
-TellEnd Tells what (Err other) old new = ToldPart Tells what old new
 
 -- how the command ends
 abbrev pub TellEnds : {X : Type 0} → (List ℕ → Result X TextFault) → (Bool → X → List ℕ → Type 0) →

@@ -19,12 +19,12 @@ fn is_calm(line: &ReportLine) -> bool
 {
     match line {
         ReportLine::State {
-            bytes,
-            copies,
-            buffers,
-            due,
-            unready,
-        } => *bytes == 0 && *copies == 0 && *buffers == 0 && *due == 0 && *unready == 0,
+            bytes: 0,
+            copies: 0,
+            buffers: 0,
+            due: 0,
+            unready: 0,
+        } => true,
         _ => false,
     }
 }

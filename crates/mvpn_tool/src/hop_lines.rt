@@ -2,18 +2,12 @@
 ghost use Rattle.std.specs.Prelude.{◌≡◌, ◌++◌, true, false, OnOk, IfOk};
 ghost use Rattle.mvpn_tool.specs.HopLines.{HasFault, IsFile, TellsFault, TellsHops, hop_line, hop_lines, label_text, pcap_word};
 
+use crate::shown::Shown;
 use core_pcap::{CoreHop, PcapFault, read};
 use mv_base::{Bytes, NoMemory};
 use report_text::{put_hex, put_number};
 use std::alloc::Global;
 use value_text::put_refused;
-
-/// The lines of a file, and whether the last one shows a fault.
-#[derive(Drop)]
-pub struct FileLines {
-    pub text: Bytes,
-    pub refused: bool,
-}
 
 fn pcap_word(fault: PcapFault) -> &'static [u8]
     ensures { result.now ≡ pcap_word fault }
@@ -69,18 +63,18 @@ fn lines_of(alloc: Global, hops: &[CoreHop]) -> Result<Bytes, NoMemory>
 }
 
 /// The same lines, and after them that of the fault, where there is one.
-fn with_fault(text: Bytes, fault: Option<(u64, PcapFault)>) -> Result<FileLines, NoMemory>
+fn with_fault(text: Bytes, fault: Option<(u64, PcapFault)>) -> Result<Shown, NoMemory>
     ensures { IfOk result (λ lines. TellsFault fault text lines.refused lines.text) }
 {
     let mut text = text;
     match fault {
-        None => Ok(FileLines {
+        None => Ok(Shown {
             text,
             refused: false,
         }),
         Some((place, fault)) => {
             put_refused(&mut text, place as usize, pcap_word(fault))?;
-            Ok(FileLines {
+            Ok(Shown {
                 text,
                 refused: true,
             })
@@ -89,7 +83,7 @@ fn with_fault(text: Bytes, fault: Option<(u64, PcapFault)>) -> Result<FileLines,
 }
 
 /// The lines of the hops that a file spells, or of those before its first fault, and the line of that fault.
-pub fn tell_hops(alloc: Global, octets: &[u8]) -> Result<FileLines, NoMemory>
+pub fn tell_hops(alloc: Global, octets: &[u8]) -> Result<Shown, NoMemory>
     ensures told { IfOk result (λ lines. TellsHops lines.refused octets.now lines.text) }
     ensures whole { IsFile octets.now → IfOk result (λ lines. lines.refused ≡ false) }
     ensures fault { HasFault octets.now → IfOk result (λ lines. lines.refused ≡ true) }

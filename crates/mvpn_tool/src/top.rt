@@ -7,12 +7,12 @@ ghost use Rattle.mvpn_tool.specs.Runs.{Runs, UsageRun, ReplayRun, DecodeRun, Mak
 
 use crate::audit::judge;
 use crate::command::{Command, Output, command_of};
-use crate::decode::decode;
-use crate::hops::hops;
-use crate::ingress::ingress;
+use crate::hops::Hops;
+use crate::ingress::Ingress;
 use crate::make::make;
-use crate::probe::probe;
+use crate::probe::Probe;
 use crate::replay::replay;
+use crate::shown::show;
 use crate::stop::Stop;
 use crate::sweep::sweep;
 use audit_defs::Verdict;
@@ -120,7 +120,7 @@ fn run_decode<S: Source, K: Sink>(
 ) -> End
     ensures { DecodeRun format (ending S.left S.faults K.written K.faults result source.old source.new sink.old sink.new) }
 {
-    told(decode(alloc, format, source, sink))
+    told(show(alloc, &format, source, sink))
 }
 
 fn run_audit<S: Source, K: Sink>(alloc: Global, source: &mut S, sink: &mut K) -> End
@@ -140,19 +140,19 @@ fn run_audit<S: Source, K: Sink>(alloc: Global, source: &mut S, sink: &mut K) ->
 fn run_hops<S: Source, K: Sink>(alloc: Global, source: &mut S, sink: &mut K) -> End
     ensures { HopsRun (ending S.left S.faults K.written K.faults result source.old source.new sink.old sink.new) }
 {
-    told(hops(alloc, source, sink))
+    told(show(alloc, &Hops, source, sink))
 }
 
 fn run_ingress<S: Source, K: Sink>(alloc: Global, source: &mut S, sink: &mut K) -> End
     ensures { IngressRun (ending S.left S.faults K.written K.faults result source.old source.new sink.old sink.new) }
 {
-    told(ingress(alloc, source, sink))
+    told(show(alloc, &Ingress, source, sink))
 }
 
 fn run_probe<S: Source, K: Sink>(alloc: Global, source: &mut S, sink: &mut K) -> End
     ensures { ProbeRun (ending S.left S.faults K.written K.faults result source.old source.new sink.old sink.new) }
 {
-    told(probe(alloc, source, sink))
+    told(show(alloc, &Probe, source, sink))
 }
 
 /// Runs the command that the words name. What is true of each status then, command by command, is `Runs`.

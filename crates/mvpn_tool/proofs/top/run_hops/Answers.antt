@@ -1,12 +1,16 @@
 use Rattle.mvpn_tool.specs.HopLines.{HasFault, IsFile, TellsHops, within_limit}
+use Rattle.mvpn_tool.proofs.EndLemmas.{limit-bounded}
 use Rattle.mvpn_tool.proofs.TellLemmas.{tell_run}
 use Rattle.mvpn_tool.proofs.top.run_hops.Goals as goal
+
+pub show-requires : goal.show-requires
+show-requires g c = limit-bounded
 
 pub returns : goal.returns
 returns g c =
     rw (c.told.ensures.status, c.told.ensures.world)
-    (tell_run within_limit TellsHops IsFile HasFault (g.S.Source.left c.args.source.now) (g.S.Source.left c.hops.new.source)
-    (g.K.Sink.written c.args.sink.now) (g.K.Sink.written c.hops.new.sink)
-    (g.S.Source.faults c.args.source.now) (g.S.Source.faults c.hops.new.source) (g.K.Sink.faults c.args.sink.now) (g.K.Sink.faults c.hops.new.sink)
-    c.hops.result c.hops.ensures.ends c.hops.ensures.taken c.hops.ensures.whole c.hops.ensures.fault c.hops.ensures.source_failed
-    c.hops.ensures.sink_failed)
+    (tell_run within_limit TellsHops IsFile HasFault (g.S.Source.left c.args.source.now) (g.S.Source.left c.show.new.source)
+    (g.K.Sink.written c.args.sink.now) (g.K.Sink.written c.show.new.sink)
+    (g.S.Source.faults c.args.source.now) (g.S.Source.faults c.show.new.source) (g.K.Sink.faults c.args.sink.now) (g.K.Sink.faults c.show.new.sink)
+    c.show.result c.show.ensures.ends c.show.ensures.taken c.show.ensures.sound c.show.ensures.faulty c.show.ensures.source_failed
+    c.show.ensures.sink_failed)

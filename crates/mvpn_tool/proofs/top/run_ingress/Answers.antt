@@ -2,15 +2,19 @@ use Rattle.std.proofs.Common.{◌≡◌, true, false}
 use Rattle.ingress_text.specs.declared.input.Input.{Input}
 use Rattle.ingress_text.specs.Grammar.{input_of}
 use Rattle.ingress_text.specs.Telling.{is_refused, Tells}
+use Rattle.mvpn_tool.proofs.EndLemmas.{ingress-bounded}
 use Rattle.mvpn_tool.proofs.TellLemmas.{tell_run}
 use Rattle.mvpn_tool.proofs.top.run_ingress.Goals as goal
+
+pub show-requires : goal.show-requires
+show-requires g c = ingress-bounded
 
 pub returns : goal.returns
 returns g c =
     rw (c.told.ensures.status, c.told.ensures.world)
     (tell_run input_of Tells (λ (x : Input). is_refused x ≡ false) (λ (x : Input). is_refused x ≡ true) (g.S.Source.left c.args.source.now)
-    (g.S.Source.left c.ingress.new.source) (g.K.Sink.written c.args.sink.now) (g.K.Sink.written c.ingress.new.sink)
-    (g.S.Source.faults c.args.source.now) (g.S.Source.faults c.ingress.new.source) (g.K.Sink.faults c.args.sink.now)
-    (g.K.Sink.faults c.ingress.new.sink)
-    c.ingress.result c.ingress.ensures.ends c.ingress.ensures.taken c.ingress.ensures.whole c.ingress.ensures.fault c.ingress.ensures.source_failed
-    c.ingress.ensures.sink_failed)
+    (g.S.Source.left c.show.new.source) (g.K.Sink.written c.args.sink.now) (g.K.Sink.written c.show.new.sink)
+    (g.S.Source.faults c.args.source.now) (g.S.Source.faults c.show.new.source) (g.K.Sink.faults c.args.sink.now)
+    (g.K.Sink.faults c.show.new.sink)
+    c.show.result c.show.ensures.ends c.show.ensures.taken c.show.ensures.sound c.show.ensures.faulty c.show.ensures.source_failed
+    c.show.ensures.sink_failed)

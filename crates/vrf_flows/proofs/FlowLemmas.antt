@@ -12,7 +12,7 @@ use Rattle.vrf_words.specs.declared.tree_defs.flow.Flow.{Flow}
 use Rattle.vrf_words.specs.tree_defs.Keys.{same_flow}
 use Rattle.vrf_words.proofs.tree_defs.KeyLemmas.{same_flow_equal, same_flow_symmetric}
 use Rattle.vrf_flows.specs.declared.held.Held.{Held}
-use Rattle.vrf_flows.specs.Held.{touches, mark, marked, unknown, held_too, forgotten, differ, lapsed, Now}
+use Rattle.vrf_flows.specs.Held.{touches, mark, marked, unknown, held_sent, held_too, forgotten, differ, lapsed, Now}
 use Rattle.vrf_flows.specs.Plan.{put_at, puts, sets, replan, planned, gain, loss, settled, settled_by}
 
 -- ---- marks
@@ -217,20 +217,22 @@ none-of None h = refl
 none-of (Some x) h = absurd cc
 
 -- A flow that is held stays as it is.
-pub held-present : (look : Flow → Option Held) (flow q : Flow) → is_some (look flow) ≡ true → look q ≡ held_too (same_flow flow q) (look q)
-held-present look flow q h = by (same_flow flow q) (look q) refl refl
+pub held-present : (look : Flow → Option Held) (asked : Bool) (flow q : Flow) → is_some (look flow) ≡ true
+    → look q ≡ held_sent asked (same_flow flow q) (look q)
+held-present look asked flow q h = by (same_flow flow q) (look q) refl refl
   where
-    by : (b : Bool) (o : Option Held) → same_flow flow q ≡ b → look q ≡ o → o ≡ held_too b o
+    by : (b : Bool) (o : Option Held) → same_flow flow q ≡ b → look q ≡ o → o ≡ held_sent asked b o
     by b (Some x) s e = refl
     by false None s e = refl
     by true None s e = absurd (none-some (look flow) h (ap look (same_flow_equal flow q s) ∙ e))
 
 -- A flow that is not held is held then.
-pub held-absent : (look : Flow → Option Held) (flow q : Flow) (new : Option Held) → is_some (look flow) ≡ false
-    → new ≡ cond (same_flow flow q) (Some (record { stale = true; kept = None })) (look q) → new ≡ held_too (same_flow flow q) (look q)
-held-absent look flow q new h n = n ∙ by (same_flow flow q) (look q) refl refl
+pub held-absent : (look : Flow → Option Held) (asked : Bool) (flow q : Flow) (new : Option Held) → is_some (look flow) ≡ false
+    → new ≡ cond (same_flow flow q) (Some (record { stale = asked; kept = None })) (look q) → new ≡ held_sent asked (same_flow flow q) (look q)
+held-absent look asked flow q new h n = n ∙ by (same_flow flow q) (look q) refl refl
   where
-    by : (b : Bool) (o : Option Held) → same_flow flow q ≡ b → look q ≡ o → cond b (Some (record { stale = true; kept = None })) o ≡ held_too b o
+    by : (b : Bool) (o : Option Held) → same_flow flow q ≡ b → look q ≡ o
+        → cond b (Some (record { stale = asked; kept = None })) o ≡ held_sent asked b o
     by true None s e = refl
     by false None s e = refl
     by false (Some x) s e = refl

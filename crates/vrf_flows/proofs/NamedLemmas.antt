@@ -1,5 +1,5 @@
 -- The interfaces of the entries that may join a flow or its group are all that may ask for it.
-use Rattle.std.proofs.Common.{◌≡◌, ℕ, ◌==◌, is_some, Bool, true, false, cond, ◌&&◌, ◌||◌, List, [], ◌∷◌, Option, None, Some, Result, Ok, Err, IfOk, arith, refl, sym, ap, ◌∙◌}
+use Rattle.std.proofs.Common.{◌≡◌, ℕ, ◌==◌, length, is_some, Bool, true, false, cond, ◌&&◌, ◌||◌, List, [], ◌∷◌, Option, None, Some, Result, Ok, Err, IfOk, arith, refl, sym, ap, ◌∙◌}
 use Rattle.std.specs.List.{list_any}
 use Rattle.std.proofs.lemmas.Bool.{or_left, or_right}
 use Rattle.std.proofs.lemmas.Bool.Decides.{nat_tests}
@@ -15,7 +15,7 @@ use Rattle.pim_state.specs.Plan.{is_at}
 use Rattle.pim_state.proofs.MapLemmas.{at-equal, not_both}
 use Rattle.vrf_words.specs.declared.tree_defs.flow.Flow.{Flow}
 use Rattle.vrf_words.specs.declared.tree_defs.flow.SiteIface.{SiteIface}
-use Rattle.vrf_flows.specs.Sight.{asking_marked, asking_of, is_marked, marks_of}
+use Rattle.vrf_flows.specs.Sight.{IsUnasked, asking_marked, asking_of, is_marked, marks_of}
 use Rattle.vrf_flows.proofs.MarkLemmas.{is_among, is_named, unmarked}
 
 -- ---- the interface of an entry is named
@@ -97,3 +97,19 @@ marked_asking joined shared ifaces entries active clock flow own all marks m (Ok
     h ∙ (ap (λ (l : List Bool). asking_marked l ifaces entries active clock flow) m
     ∙ marked_all joined shared ifaces entries active clock flow own all)
 marked_asking joined shared ifaces entries active clock flow own all marks m (Err fault) h = tt
+
+empty-list : (xs : List IfaceEntry) → (length xs == 0) ≡ true → xs ≡ []
+empty-list [] h = refl
+empty-list (x ∷ xs) h = absurd (grind (arith, nat_tests))
+
+-- Where no entry joins the flow or its group, no interface asks for it.
+pub none-asking : (joined shared : List IfaceEntry) (entries : Entries) (flow : Flow) → (length joined == 0) ≡ true → (length shared == 0) ≡ true
+    → HasOwn entries joined (Source flow.source flow.group) → HasOwn entries shared (Star flow.group) → IsUnasked entries flow
+none-asking joined shared entries flow j s own all [] active clock = refl
+none-asking joined shared entries flow j s own all (first ∷ ifaces) active clock =
+    (λ i. cond (silent entries joined shared first.iface active clock flow own all among i) (first ∷ asking_of ifaces entries active clock flow)
+    (asking_of ifaces entries active clock flow))
+    ∙ none-asking joined shared entries flow j s own all ifaces active clock
+  where
+    among : is_among joined shared first.iface ≡ false
+    among = λ i. is_among (empty-list joined j i) (empty-list shared s i) first.iface

@@ -1,5 +1,5 @@
 -- The invariant of a VRF's flows, call by call.
-use Rattle.std.proofs.Common.{◌≡◌, ℕ, ◌==◌, is_some, Bool, true, false, not, cond, ◌&&◌, ◌||◌, List, [], ◌∷◌, ◌++◌, filter, Option, None, Some, refl, sym, ap, ◌∙◌}
+use Rattle.std.proofs.Common.{◌≡◌, ℕ, ◌==◌, is_some, Bool, true, false, not, cond, ◌&&◌, ◌||◌, List, [], ◌∷◌, ◌++◌, filter, Option, None, Some, refl, sym, ap, subst, ◌∙◌}
 use Rattle.std.specs.List.{list_any}
 use Rattle.std.specs.Map.{lookup}
 use Rattle.std.specs.FinMap as finite
@@ -30,10 +30,10 @@ use Rattle.vrf_words.specs.declared.tree_defs.flow.SiteIface.{SiteIface}
 use Rattle.vrf_words.specs.declared.tree_defs.flow.Upstream.{Upstream}
 use Rattle.vrf_words.specs.tree_defs.Keys.{same_flow}
 use Rattle.vrf_words.specs.tree_defs.Flows.{gained, lost}
-use Rattle.vrf_words.proofs.tree_defs.KeyLemmas.{same_flow_itself, same_upstream_itself}
+use Rattle.vrf_words.proofs.tree_defs.KeyLemmas.{same_flow_equal, same_flow_itself, same_upstream_itself}
 use Rattle.vrf_flows.specs.declared.held.Held.{Held}
-use Rattle.vrf_flows.specs.Held.{Now, kept_of, is_stale, touches, marked, held_too, joins_in, joins_itself, holds_entry, names, names_in, lapsed, ended, differ}
-use Rattle.vrf_flows.specs.Sight.{flow_by, is_joined, is_sent, is_needed, flow_at}
+use Rattle.vrf_flows.specs.Held.{Now, kept_of, is_stale, touches, marked, held_sent, held_too, joins_in, joins_itself, holds_entry, names, names_in, lapsed, ended, differ}
+use Rattle.vrf_flows.specs.Sight.{IsUnasked, asking_of, flow_by, is_joined, is_sent, is_needed, flow_at}
 use Rattle.vrf_flows.specs.Plan.{joined_by, planned, gain, loss, settled, settled_by}
 use Rattle.vrf_flows.specs.State.{Keeps}
 
@@ -428,25 +428,71 @@ unsent-needed ifaces entries sent others q known h = by (is_joined ifaces entrie
     by false t = known t
 
 -- What is needed where one flow more is known to be sent is held, where that flow is.
-pub sent-needed : (held next : Flow → Option Held) (flow : Flow) (ifaces : List SiteIface) (entries : Entries) (sent others : List Flow) →
-    ((q : Flow) → is_needed ifaces entries sent q ≡ true → is_some (held q) ≡ true) → ((q : Flow) → next q ≡ held_too (same_flow flow q) (held q)) →
+pub sent-needed : (held next : Flow → Option Held) (flow : Flow) (asked : Bool) (ifaces : List SiteIface) (entries : Entries)
+    (sent others : List Flow) → ((q : Flow) → is_needed ifaces entries sent q ≡ true → is_some (held q) ≡ true) →
+    ((q : Flow) → next q ≡ held_sent asked (same_flow flow q) (held q)) →
     ((q : Flow) → is_sent others q ≡ cond (same_flow flow q) true (is_sent sent q)) → (q : Flow) → is_needed ifaces entries others q ≡ true
     → is_some (next q) ≡ true
-sent-needed held next flow ifaces entries sent others needed more known q h = ap is_some (more q) ∙ by (same_flow flow q) refl
+sent-needed held next flow asked ifaces entries sent others needed more known q h = ap is_some (more q) ∙ by (same_flow flow q) refl
   where
-    made : (o : Option Held) → is_some (held_too true o) ≡ true
+    made : (o : Option Held) → is_some (held_sent asked true o) ≡ true
     made None = refl
     made (Some x) = refl
 
-    kept : (o : Option Held) → is_some o ≡ true → is_some (held_too false o) ≡ true
+    kept : (o : Option Held) → is_some o ≡ true → is_some (held_sent asked false o) ≡ true
     kept None t = absurd cc
     kept (Some x) t = refl
 
-    by : (b : Bool) → same_flow flow q ≡ b → is_some (held_too b (held q)) ≡ true
+    by : (b : Bool) → same_flow flow q ≡ b → is_some (held_sent asked b (held q)) ≡ true
     by true s = made (held q)
     by false s =
         kept (held q) (needed q (unsent-needed ifaces entries sent others q
         (λ t. sym (known q ∙ ap (λ (c : Bool). cond c true (is_sent sent q)) s) ∙ t) h))
+
+-- A flow that nobody asks for is none of the VRF.
+pub unasked-none : (ifaces : List SiteIface) (entries : Entries) (sent : List Flow) (chosen : Flow → Choice) (clock : ℕ) (flow q : Flow)
+    → IsUnasked entries flow → same_flow flow q ≡ true → flow_at ifaces entries sent chosen clock q ≡ None
+unasked-none ifaces entries sent chosen clock flow q unasked s =
+    ap (λ (list : List SiteIface). flow_by list (chosen q))
+    (subst (λ (f : Flow). asking_of ifaces entries (is_sent sent q) clock f ≡ []) (same_flow_equal flow q s)
+    (unasked ifaces (is_sent sent q) clock))
+
+-- A flow that is not marked is what it was, where it is known to be sent as it was, or nobody asks for it.
+pub asked-same : (ifaces : List SiteIface) (entries : Entries) (sent others : List Flow) (chosen : Flow → Choice) (clock : ℕ) (flow : Flow)
+    (asked : Bool) → (asked ≡ false → IsUnasked entries flow) →
+    ((q : Flow) → same_flow flow q ≡ false → is_sent sent q ≡ is_sent others q) → (q : Flow) → (asked && same_flow flow q) ≡ false
+    → flow_at ifaces entries sent chosen clock q ≡ flow_at ifaces entries others chosen clock q
+asked-same ifaces entries sent others chosen clock flow asked unasked known q h = by (same_flow flow q) asked refl refl h
+  where
+    by : (b a : Bool) → same_flow flow q ≡ b → asked ≡ a → (a && b) ≡ false
+        → flow_at ifaces entries sent chosen clock q ≡ flow_at ifaces entries others chosen clock q
+    by false a s e t = sent-same ifaces entries sent others chosen clock q (known q s)
+    by true false s e t =
+        unasked-none ifaces entries sent chosen clock flow q (unasked e) s
+        ∙ sym (unasked-none ifaces entries others chosen clock flow q (unasked e) s)
+    by true true s e t = absurd cc
+
+-- What is held too of a flow that is known to be sent was not held, and is what it is.
+pub keeps-sent : (held next : Flow → Option Held) (flow : Flow) (ifaces : List SiteIface) (entries : Entries) (sent : List Flow)
+    (chosen : Flow → Choice) (clock : ℕ) (asked : Bool) → (asked ≡ false → IsUnasked entries flow) →
+    Keeps held (flow_at ifaces entries sent chosen clock) (is_needed ifaces entries sent) →
+    ((q : Flow) → next q ≡ held_sent asked (same_flow flow q) (held q)) →
+    Keeps next (flow_at ifaces entries sent chosen clock) (is_needed ifaces entries sent)
+keeps-sent held next flow ifaces entries sent chosen clock asked unasked keeps more = record {
+  fresh = λ q h. ap kept_of (more q) ∙ fresh q (same_flow flow q) asked (held q) refl refl refl (ap is_stale (sym (more q)) ∙ h);
+  needed = λ q h. ap is_some (more q) ∙ there (same_flow flow q) (held q) (keeps.needed q h);
+}
+  where
+    there : (b : Bool) (o : Option Held) → is_some o ≡ true → is_some (held_sent asked b o) ≡ true
+    there b None h = absurd cc
+    there b (Some x) h = refl
+
+    fresh : (q : Flow) (b a : Bool) (o : Option Held) → same_flow flow q ≡ b → asked ≡ a → held q ≡ o → is_stale (held_sent a b o) ≡ false
+        → kept_of (held_sent a b o) ≡ flow_at ifaces entries sent chosen clock q
+    fresh q b a (Some x) s e k h = ap kept_of (sym k) ∙ keeps.fresh q (ap is_stale k ∙ h)
+    fresh q false a None s e k h = ap kept_of (sym k) ∙ keeps.fresh q (ap is_stale k)
+    fresh q true true None s e k h = absurd cc
+    fresh q true false None s e k h = sym (unasked-none ifaces entries sent chosen clock flow q (unasked e) s)
 
 -- ---- one interface more
 
@@ -513,7 +559,7 @@ keeps-of entries chosen held sent ifaces h s f = record {
 pub kept-change : (b : Bool) (held next : Option Held) → next ≡ marked b held → kept_of next ≡ kept_of held
 kept-change b held next n = ap kept_of n ∙ kept-marked b held
 
-pub kept-grown : (b : Bool) (held next : Option Held) → next ≡ held_too b held → kept_of next ≡ kept_of held
-kept-grown true None next n = ap kept_of n
-kept-grown false None next n = ap kept_of n
-kept-grown b (Some x) next n = ap kept_of n
+pub kept-grown : (asked b : Bool) (held next : Option Held) → next ≡ held_sent asked b held → kept_of next ≡ kept_of held
+kept-grown asked true None next n = ap kept_of n
+kept-grown asked false None next n = ap kept_of n
+kept-grown asked b (Some x) next n = ap kept_of n

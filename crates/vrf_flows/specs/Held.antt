@@ -93,10 +93,14 @@ unknown = record { stale = true; kept = None }
 abbrev pub settled_as : Now → Held
 settled_as kept = record { stale = false; kept = kept }
 
+-- What is held of a flow that is known to be sent, where it is to be held too. Where no entry may join it, it is known to be none of the VRF.
+abbrev pub held_sent : Bool → Bool → Option Held → Option Held
+held_sent asked here None = if here then Some (record { stale = asked; kept = None }) else None
+held_sent asked here (Some held) = Some held
+
 -- what is held of a flow, where it is to be held too
 abbrev pub held_too : Bool → Option Held → Option Held
-held_too here None = if here then Some unknown else None
-held_too here (Some held) = Some held
+held_too here held = held_sent true here held
 
 -- what is held of a flow, once nothing of what it was is kept
 abbrev pub forgotten : Option Held → Option Held

@@ -1,5 +1,5 @@
 -- What flows are recomputed from.
-use Rattle.std.specs.Prelude.{ℕ, ◌||◌, ◌&&◌, ◌%◌, is_some, Bool, true, false, List, [], ◌∷◌, get_or, replicate, slice_set, None, Some}
+use Rattle.std.specs.Prelude.{◌≡◌, ℕ, ◌||◌, ◌&&◌, ◌%◌, is_some, Bool, true, false, List, [], ◌∷◌, get_or, replicate, slice_set, None, Some}
 use Rattle.std.specs.List.{list_any, filter}
 use Rattle.mv_base.specs.declared.ids.IfaceId.{IfaceId}
 use Rattle.mv_base.specs.declared.ids.NodeId.{NodeId}
@@ -18,6 +18,10 @@ use Rattle.vrf_flows.specs.Held.{Now}
 abbrev pub asking_of : List SiteIface → Entries → Bool → ℕ → Flow → List SiteIface
 asking_of ifaces entries active clock flow =
     filter (λ (own : SiteIface). asks entries own.iface flow.source flow.group active clock) ifaces
+
+-- No interface asks for the flow, at any clock, whether its source is known to send or not.
+abbrev pub IsUnasked : Entries → Flow → Type 0
+IsUnasked entries flow = (ifaces : List SiteIface) (active : Bool) (clock : ℕ) → asking_of ifaces entries active clock flow ≡ []
 
 -- ---- the interfaces that may ask for a flow, by the entries
 

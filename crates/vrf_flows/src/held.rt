@@ -1,10 +1,10 @@
 //! Flows that a VRF may have, each with what it was at the last refresh.
-ghost use Rattle.std.specs.Prelude.{◌≡◌, is_some, OnOk};
+ghost use Rattle.std.specs.Prelude.{◌≡◌, is_some, OnOk, OnErr};
 ghost use Rattle.std.specs.List.{list_any};
 ghost use Rattle.indexmap.specs.IndexMap.{get, IsUnique};
 ghost use Rattle.vrf_words.specs.declared.tree_defs.flow.Flow.{Flow};
 ghost use Rattle.vrf_words.specs.tree_defs.Keys.{same_flow};
-ghost use Rattle.vrf_flows.specs.Held.{cause_of, concerns, held_too, joins_flow, joins_in, joins_itself, holds_entry};
+ghost use Rattle.vrf_flows.specs.Held.{cause_of, concerns, held_sent, held_too, joins_flow, joins_in, joins_itself, holds_entry};
 
 use crate::table::FlowTable;
 use indexmap::IndexMap;
@@ -84,7 +84,21 @@ pub(crate) fn hold(flows: &mut FlowTable, flow: Flow) -> Result<(), NoMemory>
     if flows.holds(&flow) {
         return Ok(());
     }
-    flows.hold(flow)?;
+    flows.hold(flow, true)?;
+    Ok(())
+}
+
+/// Holds a flow too that is known to be sent. Where no entry may join it, it is known to be none of the VRF, and no refresh looks at it.
+pub(crate) fn hold_sent(flows: &mut FlowTable, flow: Flow, asked: bool) -> Result<(), NoMemory>
+    requires unique { IsUnique same_flow flows.old }
+    ensures each { (q : Flow) → OnOk result (get same_flow flows.new q ≡ held_sent asked (same_flow flow q) (get same_flow flows.old q)) }
+    ensures unchanged { (q : Flow) → OnErr result (get same_flow flows.new q ≡ get same_flow flows.old q) }
+    ensures unique { IsUnique same_flow flows.new }
+{
+    if flows.holds(&flow) {
+        return Ok(());
+    }
+    flows.hold(flow, asked)?;
     Ok(())
 }
 

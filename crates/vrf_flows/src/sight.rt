@@ -1,9 +1,9 @@
 //! What flows are recomputed from.
-ghost use Rattle.std.specs.Prelude.{◌≡◌, ◌<◌, ℕ, IfOk};
+ghost use Rattle.std.specs.Prelude.{◌≡◌, ◌<◌, ℕ, false, IfOk};
 ghost use Rattle.mv_base.specs.declared.ids.NodeId.{NodeId};
 ghost use Rattle.umh_select.specs.Routes.{AreCosts, AreOfCore};
 ghost use Rattle.vrf_words.specs.tree_defs.Flows.{chosen_for};
-ghost use Rattle.vrf_flows.specs.Sight.{asking_marked, asking_of, flow_by, is_joined, is_marked, is_needed, is_sent, mark_named, marks_of, seen};
+ghost use Rattle.vrf_flows.specs.Sight.{IsUnasked, asking_marked, asking_of, is_joined, is_marked, is_needed, is_sent, mark_named, marks_of, seen};
 
 use crate::held::Kept;
 use core_paths::Core;
@@ -94,7 +94,22 @@ fn asking(
         group: flow.group,
     });
     let shared = sight.entries.listed(&JoinEntry::Star { group: flow.group });
+    if joined.is_empty() && shared.is_empty() {
+        return Ok(Seq::new(alloc));
+    }
     asking_marked(alloc, sight, flow, active, &marks_of(joined, shared))
+}
+
+/// Whether an entry may join the flow: one of its own, or one of its group. Without any, no interface asks for it, at any clock.
+pub(crate) fn may_be_asked(entries: &Downstream, flow: Flow) -> bool
+    ensures { result ≡ false → IsUnasked entries.now flow }
+{
+    let joined = entries.listed(&JoinEntry::Source {
+        source: flow.source,
+        group: flow.group,
+    });
+    let shared = entries.listed(&JoinEntry::Star { group: flow.group });
+    !joined.is_empty() || !shared.is_empty()
 }
 
 /// Whether one of the interfaces has an entry that joins the flow itself.
@@ -129,18 +144,7 @@ fn choice_of(sight: &Sight<'_>, flow: Flow) -> Choice
         .choose(flow.source, flow.group, sight.me, sight.core)
 }
 
-/// A flow that these interfaces ask for.
-fn flow_by(ifaces: Seq<SiteIface>, choice: Choice) -> Option<Kept>
-    ensures { result ≡ flow_by ifaces choice }
-{
-    if ifaces.is_empty() {
-        None
-    } else {
-        Some(Kept { choice, ifaces })
-    }
-}
-
-/// The flow, where it is one of the VRF.
+/// The flow, where it is one of the VRF: where some interface asks for it. An upstream is chosen for none else.
 pub(crate) fn flow_at(
     alloc: Global,
     sight: &Sight<'_>,
@@ -151,7 +155,11 @@ pub(crate) fn flow_at(
     ensures { (cost : NodeId → ℕ) → AreCosts sight.now.core.now sight.now.me cost → IfOk result (λ now. now ≡ seen sight.now cost flow) }
 {
     let ifaces = asking_now(alloc, sight, flow)?;
-    Ok(flow_by(ifaces, choice_of(sight, flow)))
+    if ifaces.is_empty() {
+        return Ok(None);
+    }
+    let choice = choice_of(sight, flow);
+    Ok(Some(Kept { choice, ifaces }))
 }
 
 /// Those of the interfaces that ask for the flow, in their order.

@@ -1,5 +1,5 @@
 //! What a VRF keeps, with its flows as the last refresh left them.
-ghost use Rattle.std.specs.Prelude.{◌≡◌, ◌<◌, ◌≤◌, ◌||◌, ◌++◌, [], ◌∷◌, ℕ, filter, map, min, true, false, if◌then◌else◌};
+ghost use Rattle.std.specs.Prelude.{◌≡◌, ◌<◌, ◌≤◌, ◌&&◌, ◌||◌, ◌++◌, [], ◌∷◌, ℕ, filter, map, min, true, false, if◌then◌else◌};
 ghost use Rattle.std.specs.Prelude.{is_some, Some, IfOk, IfSome, OnOk, OnErr};
 ghost use Rattle.std.specs.FinMap as maps;
 ghost use Rattle.std.specs.FinSet as sets;
@@ -18,10 +18,10 @@ ghost use Rattle.vrf_flows.specs.Sight.{ifaces_of, is_sent};
 ghost use Rattle.vrf_flows.specs.State.{IsSound, iface_in, no_vrf, compares_costs};
 ghost use Rattle.vrf_flows.specs.State.{given_at, is_announced_in, is_noted_in, needed_in, vrf_of};
 
-use crate::held::{Cause, Held, Kept, hold, hold_entries};
+use crate::held::{Cause, Held, Kept, hold_entries, hold_sent};
 use crate::marks::{mark, mark_between, mark_ended, mark_peer};
 use crate::plan::{Joins, joined_before, joins_of, leaves_of, plan, settle};
-use crate::sight::{Sight, asking_now};
+use crate::sight::{Sight, asking_now, may_be_asked};
 use crate::table::FlowTable;
 use core_paths::Core;
 use indexmap::IndexSet;
@@ -69,27 +69,44 @@ fn is_announced(actives: &[ActiveRoute], flow: Flow) -> bool
     actives.iter().any(|route| route.flow == flow)
 }
 
-/// The flow is known to be sent from now on. There is room for it.
-fn send(flows: &mut FlowTable, sent: &mut IndexSet<Flow>, flow: Flow)
+/// Marks the flow, where an entry may join it.
+fn mark_asked(flows: &mut FlowTable, flow: Flow, asked: bool)
+    requires unique { IsUnique same_flow flows.old }
+    ensures each { (q : Flow) → get same_flow flows.new q ≡ marked (asked && same_flow flow q) (get same_flow flows.old q) }
+    ensures unique { IsUnique same_flow flows.new }
+{
+    if asked {
+        mark(flows, &Cause::Flow(flow));
+    }
+}
+
+/// The flow is known to be sent from now on. There is room for it. It may be another one by that where an entry may join it.
+fn send(flows: &mut FlowTable, sent: &mut IndexSet<Flow>, flow: Flow, asked: bool)
     requires room { 1 ≤ spare sent.old }
     requires unique { IsUnique same_flow flows.old }
     ensures sent { (q : Flow) → is_sent sent.new.keys q ≡ (if same_flow flow q then true else is_sent sent.old.keys q) }
-    ensures each { (q : Flow) → get same_flow flows.new q ≡ marked (same_flow flow q) (get same_flow flows.old q) }
+    ensures each { (q : Flow) → get same_flow flows.new q ≡ marked (asked && same_flow flow q) (get same_flow flows.old q) }
     ensures unique { IsUnique same_flow flows.new }
 {
     sent.insert(flow).unwrap();
-    mark(flows, &Cause::Flow(flow));
+    mark_asked(flows, flow, asked);
 }
 
 /// The flow is known to be sent no more, where nothing else tells it.
-fn unsend(flows: &mut FlowTable, sent: &mut IndexSet<Flow>, flow: Flow, told: bool)
+fn unsend(
+    flows: &mut FlowTable,
+    sent: &mut IndexSet<Flow>,
+    flow: Flow,
+    asked: bool,
+    told: bool,
+)
     requires unique { IsUnique same_flow flows.old }
     ensures sent { (q : Flow) → is_sent sent.new.keys q
         ≡ (if told then is_sent sent.old.keys q else if same_flow flow q then false else is_sent sent.old.keys q) }
-    ensures each { (q : Flow) → get same_flow flows.new q ≡ marked (same_flow flow q) (get same_flow flows.old q) }
+    ensures each { (q : Flow) → get same_flow flows.new q ≡ marked (asked && same_flow flow q) (get same_flow flows.old q) }
     ensures unique { IsUnique same_flow flows.new }
 {
-    mark(flows, &Cause::Flow(flow));
+    mark_asked(flows, flow, asked);
     if !told {
         sent.swap_remove(&flow);
     }
@@ -226,10 +243,11 @@ impl State {
             ≡ record (vrf_of self.old) { notes = sets.insert (sets.from_list self.old.notes.keys) note }) }
         ensures unchanged { OnErr result (vrf_of self.new ≡ vrf_of self.old) }
     {
-        hold(&mut self.flows, note.flow)?;
+        let asked = may_be_asked(&self.entries, note.flow);
+        hold_sent(&mut self.flows, note.flow, asked)?;
         self.sent.reserve(1)?;
         self.notes.insert(note)?;
-        send(&mut self.flows, &mut self.sent, note.flow);
+        send(&mut self.flows, &mut self.sent, note.flow, asked);
         Ok(())
     }
 
@@ -240,7 +258,8 @@ impl State {
     {
         self.notes.swap_remove(&note);
         let told = self.is_told(note.flow);
-        unsend(&mut self.flows, &mut self.sent, note.flow, told);
+        let asked = may_be_asked(&self.entries, note.flow);
+        unsend(&mut self.flows, &mut self.sent, note.flow, asked, told);
     }
 
     /// Whether a note or a Source Active route is of the flow.
@@ -275,10 +294,11 @@ impl State {
             ≡ record (vrf_of self.old) { actives = sets.insert (sets.from_list self.old.actives.keys) route }) }
         ensures unchanged { OnErr result (vrf_of self.new ≡ vrf_of self.old) }
     {
-        hold(&mut self.flows, route.flow)?;
+        let asked = may_be_asked(&self.entries, route.flow);
+        hold_sent(&mut self.flows, route.flow, asked)?;
         self.sent.reserve(1)?;
         self.actives.insert(route)?;
-        send(&mut self.flows, &mut self.sent, route.flow);
+        send(&mut self.flows, &mut self.sent, route.flow, asked);
         Ok(())
     }
 
@@ -290,7 +310,8 @@ impl State {
     {
         self.actives.swap_remove(&route);
         let told = self.is_told(route.flow);
-        unsend(&mut self.flows, &mut self.sent, route.flow, told);
+        let asked = may_be_asked(&self.entries, route.flow);
+        unsend(&mut self.flows, &mut self.sent, route.flow, asked, told);
     }
 
     pub(crate) fn umh_learn(&mut self, peer: NodeId, route: Learned) -> Result<(), NoMemory>

@@ -3,7 +3,7 @@ ghost use Rattle.std.specs.Prelude.{◌≡◌, is_some, true, false, None, Some,
 ghost use Rattle.indexmap.specs.IndexMap.{get, IsEmpty, IsUnique};
 ghost use Rattle.vrf_words.specs.declared.tree_defs.flow.Flow.{Flow};
 ghost use Rattle.vrf_words.specs.tree_defs.Keys.{same_flow};
-ghost use Rattle.vrf_flows.specs.Held.{concerns, forgotten, is_fresh, is_stale_in, marked, settled_as, unknown};
+ghost use Rattle.vrf_flows.specs.Held.{concerns, forgotten, is_fresh, is_stale_in, marked, settled_as};
 ghost use Rattle.vrf_flows.specs.Stale.{AreAmong};
 
 use crate::held::{Cause, Held, HeldFlows, Kept};
@@ -98,19 +98,16 @@ impl FlowTable {
         self.stale.is_empty()
     }
 
-    /// Holds a flow of which nothing is known.
-    pub fn hold(&mut self, flow: Flow) -> Result<(), NoMemory>
+    /// Holds a flow of which nothing is known, or that is known to be none of the VRF.
+    pub fn hold(&mut self, flow: Flow, stale: bool) -> Result<(), NoMemory>
         requires unique { IsUnique same_flow self.old }
         ensures each { (q : Flow) → OnOk result (get same_flow self.new q
-            ≡ (if same_flow flow q then Some unknown else get same_flow self.old q)) }
+            ≡ (if same_flow flow q then Some (record { stale = stale; kept = None }) else get same_flow self.old q)) }
         ensures unchanged { (q : Flow) → OnErr result (get same_flow self.new q ≡ get same_flow self.old q) }
         ensures unique { IsUnique same_flow self.new }
     {
-        let held = Held {
-            stale: true,
-            kept: None,
-        };
-        self.stale.add(flow);
+        let held = Held { stale, kept: None };
+        self.stale.add_if(flow, stale);
         self.held.insert(flow, held)?;
         Ok(())
     }

@@ -1,4 +1,4 @@
-use Rattle.std.proofs.Common.{rules, ◌≡◌, sym, ap, subst, ◌∙◌}
+use Rattle.std.proofs.Common.{true, rules, ◌≡◌, sym, ap, subst, ◌∙◌}
 use Rattle.std.specs.List.{list_any}
 use Rattle.std.specs.FinSet as sets
 use Rattle.indexmap.specs.IndexMap.{get}
@@ -47,7 +47,7 @@ returns-clause-taken c =
     let taken : c.take.new.self ≡ applied c.self.inside.state.entries c.args.iface c.args.message.now c.args.now = search rules in
     let flows =
     flows-same old.flows c.mark_message.new.flows c.self.invariant.unique c.mark_message.ensures.unique
-    (λ q. kept-change _ _ _ (c.mark_message.ensures.each q) ∙ kept-grown _ _ _ (c.hold_message.ensures.grown q)) in
+    (λ q. kept-change _ _ _ (c.mark_message.ensures.each q) ∙ kept-grown true _ _ _ (c.hold_message.ensures.grown q)) in
     let made : vrf_of (record c.self.inside.state { entries = c.take.new.self; flows = c.mark_message.new.flows })
     ≡ record (vrf_of c.self.inside.state) { entries = applied c.self.inside.state.entries c.args.iface c.args.message.now c.args.now } =
     λ i. record {
@@ -65,7 +65,7 @@ returns-in_err-hold_message-clause-unchanged c =
     let old = c.self.inside.state in
     let flows =
     flows-same old.flows c.hold_message.new.flows c.self.invariant.unique c.hold_message.ensures.unique
-    (λ q. kept-grown _ _ _ (c.hold_message.ensures.grown q)) in
+    (λ q. kept-grown true _ _ _ (c.hold_message.ensures.grown q)) in
     let same : vrf_of (record c.self.inside.state { flows = c.hold_message.new.flows }) ≡ vrf_of c.self.inside.state =
     λ i. record {
       ifaces = old.ifaces;
@@ -83,7 +83,7 @@ returns-in_err-take-clause-unchanged c =
     let old = c.self.inside.state in
     let flows =
     flows-same old.flows c.hold_message.new.flows c.self.invariant.unique c.hold_message.ensures.unique
-    (λ q. kept-grown _ _ _ (c.hold_message.ensures.grown q)) in
+    (λ q. kept-grown true _ _ _ (c.hold_message.ensures.grown q)) in
     let same : vrf_of (record c.self.inside.state { entries = c.take.new.self; flows = c.hold_message.new.flows }) ≡ vrf_of c.self.inside.state =
     λ i. record {
       ifaces = old.ifaces;

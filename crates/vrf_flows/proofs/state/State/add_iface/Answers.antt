@@ -44,7 +44,7 @@ returns-clause-added c =
     let ifaces : c.push.new.self ≡ c.args.self.now.ifaces ++ (record { iface = c.args.iface; site = c.args.site }) ∷ [] = search rules in
     let flows =
     flows-same old.flows c.mark.new.flows c.requires.sound.unique c.mark.ensures.unique
-    (λ q. kept-change _ _ _ (c.mark.ensures.each q) ∙ kept-grown _ _ _ (c.hold_entries.ensures.grown q)) in
+    (λ q. kept-change _ _ _ (c.mark.ensures.each q) ∙ kept-grown true _ _ _ (c.hold_entries.ensures.grown q)) in
     λ i. record {
       ifaces = ifaces i;
       entries = old.entries;
@@ -60,7 +60,7 @@ returns-in_err-hold_entries-clause-unchanged c =
     let old = c.args.self.now in
     let flows =
     flows-same old.flows c.hold_entries.new.flows c.requires.sound.unique c.hold_entries.ensures.unique
-    (λ q. kept-grown _ _ _ (c.hold_entries.ensures.grown q)) in
+    (λ q. kept-grown true _ _ _ (c.hold_entries.ensures.grown q)) in
     on-err {P = vrf_of (record c.args.self.now { flows = c.hold_entries.new.flows }) ≡ vrf_of c.args.self.now} c.from_residual.result
     (λ i. record {
       ifaces = old.ifaces;
@@ -77,7 +77,7 @@ returns-in_err-push-clause-unchanged c =
     let old = c.args.self.now in
     let flows =
     flows-same old.flows c.hold_entries.new.flows c.requires.sound.unique c.hold_entries.ensures.unique
-    (λ q. kept-grown _ _ _ (c.hold_entries.ensures.grown q)) in
+    (λ q. kept-grown true _ _ _ (c.hold_entries.ensures.grown q)) in
     on-err {P = vrf_of (record c.args.self.now { ifaces = c.push.new.self; flows = c.hold_entries.new.flows }) ≡ vrf_of c.args.self.now}
     c.from_residual-in_err-push.result (λ i. record {
       ifaces = c.in_err-push.ensures.err i;

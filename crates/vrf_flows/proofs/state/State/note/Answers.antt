@@ -1,4 +1,4 @@
-use Rattle.std.proofs.Common.{◌≡◌, Bool, true, cond, List, sym, ap, ◌∙◌}
+use Rattle.std.proofs.Common.{◌≡◌, ◌&&◌, Bool, true, cond, List, sym, ap, ◌∙◌}
 use Rattle.std.specs.FinSet as sets
 use Rattle.indexmap.specs.IndexMap.{get}
 use Rattle.vrf_words.specs.declared.tree_defs.flow.Flow.{Flow}
@@ -6,9 +6,10 @@ use Rattle.vrf_words.specs.tree_defs.Keys.{same_flow}
 use Rattle.vrf_words.specs.tree_defs.Flows.{chosen_for}
 use Rattle.vrf_words.specs.declared.tree_defs.flow.Note.{Note}
 use Rattle.vrf_words.proofs.tree_defs.KeyLemmas.{note_exact, note_ties, note_total, same_note}
+use Rattle.vrf_flows.specs.Held.{kept_of}
 use Rattle.vrf_flows.specs.Sight.{flow_at, is_needed, is_sent}
 use Rattle.vrf_flows.specs.State.{is_announced_in, is_noted_in, vrf_of}
-use Rattle.vrf_flows.proofs.TreeLemmas.{absent-none, keeps-change, keeps-grown, kept-change, kept-grown, sent-needed, sent-same}
+use Rattle.vrf_flows.proofs.TreeLemmas.{absent-none, asked-same, keeps-change, keeps-sent, kept-change, kept-grown, sent-needed}
 use Rattle.vrf_flows.proofs.StateLemmas.{on-err, flows-same}
 use Rattle.vrf_flows.proofs.SetLemmas.{any-inserted, inserted, more-left}
 use Rattle.vrf_flows.proofs.state.State.note.Goals as goal
@@ -18,9 +19,10 @@ returns-clause-sound c =
     let old = c.args.self.now in
     let sound = c.requires.sound in
     let chosen = chosen_for old.routes sound.cost in
+    let asked = c.may_be_asked-asked.result in
     let grown =
-    keeps-grown (get same_flow old.flows) (get same_flow c.hold.new.flows) (flow_at old.ifaces old.entries old.sent.keys chosen old.clock)
-    (is_needed old.ifaces old.entries old.sent.keys) sound.keeps c.hold.ensures.grown in
+    keeps-sent (get same_flow old.flows) (get same_flow c.hold_sent.new.flows) c.args.note.flow old.ifaces old.entries old.sent.keys chosen old.clock
+    asked c.may_be_asked-asked.ensures sound.keeps c.in_ok-hold_sent.ensures.each in
     let others = c.send.new.sent.keys in
     let known : (q : Flow) → is_sent c.send.new.sent.keys q ≡ cond (same_flow c.args.note.flow q) true (is_sent c.args.self.now.sent.keys q) =
     λ q. c.send.ensures.sent q ∙ ap (λ (list : List Flow). cond (same_flow c.args.note.flow q) true (is_sent list q)) c.reserve.ensures.keys in
@@ -32,13 +34,13 @@ returns-clause-sound c =
           (any-inserted note_total note_exact same_note note_ties (λ (x : Note). same_flow x.flow q) old.notes.keys c.insert.new.self.keys c.args.note
           (λ p. c.in_ok-insert.ensures.updates.0 p));
       cost = sound.cost;
-      keeps = keeps-change (get same_flow c.hold.new.flows) (get same_flow c.send.new.flows) (same_flow c.args.note.flow)
+      keeps = keeps-change (get same_flow c.hold_sent.new.flows) (get same_flow c.send.new.flows) (λ q. asked && same_flow c.args.note.flow q)
           (flow_at old.ifaces old.entries old.sent.keys chosen old.clock) (flow_at old.ifaces old.entries others chosen old.clock)
           (is_needed old.ifaces old.entries old.sent.keys) (is_needed old.ifaces old.entries others) grown c.send.ensures.each
-          (λ q h. sent-same old.ifaces old.entries old.sent.keys others chosen old.clock q
-          (sym (known q ∙ ap (λ (b : Bool). cond b true (is_sent old.sent.keys q)) h)))
-          (sent-needed (get same_flow old.flows) (get same_flow c.hold.new.flows) c.args.note.flow old.ifaces old.entries old.sent.keys others
-          sound.keeps.needed (λ q. c.in_ok-hold.ensures.each q) known)
+          (asked-same old.ifaces old.entries old.sent.keys others chosen old.clock c.args.note.flow asked c.may_be_asked-asked.ensures
+          (λ q h. sym (known q ∙ ap (λ (b : Bool). cond b true (is_sent old.sent.keys q)) h)))
+          (sent-needed (get same_flow old.flows) (get same_flow c.hold_sent.new.flows) c.args.note.flow asked old.ifaces old.entries old.sent.keys
+          others sound.keeps.needed (λ q. c.in_ok-hold_sent.ensures.each q) known)
           (λ q h. absent-none old.ifaces old.entries others chosen old.clock q h);
     }
 
@@ -50,7 +52,7 @@ returns-clause-noted c =
     in
     let flows =
     flows-same old.flows c.send.new.flows c.requires.sound.unique c.send.ensures.unique
-    (λ q. kept-change _ _ _ (c.send.ensures.each q) ∙ kept-grown _ _ _ (c.hold.ensures.grown q)) in
+    (λ q. kept-change _ _ _ (c.send.ensures.each q) ∙ kept-grown _ _ _ _ (c.in_ok-hold_sent.ensures.each q)) in
     λ i. record {
       ifaces = old.ifaces;
       entries = old.entries;
@@ -61,12 +63,12 @@ returns-clause-noted c =
           flows i;
     }
 
-pub returns-in_err-hold-clause-unchanged : goal.returns-in_err-hold-clause-unchanged
-returns-in_err-hold-clause-unchanged c =
+pub returns-in_err-hold_sent-clause-unchanged : goal.returns-in_err-hold_sent-clause-unchanged
+returns-in_err-hold_sent-clause-unchanged c =
     let old = c.args.self.now in
     let flows =
-    flows-same old.flows c.hold.new.flows c.requires.sound.unique c.hold.ensures.unique (λ q. kept-grown _ _ _ (c.hold.ensures.grown q)) in
-    on-err {P = vrf_of (record c.args.self.now { flows = c.hold.new.flows }) ≡ vrf_of c.args.self.now} c.from_residual.result
+    flows-same old.flows c.hold_sent.new.flows c.requires.sound.unique c.hold_sent.ensures.unique (λ q. ap kept_of (c.in_err-hold_sent.ensures.unchanged q)) in
+    on-err {P = vrf_of (record c.args.self.now { flows = c.hold_sent.new.flows }) ≡ vrf_of c.args.self.now} c.from_residual.result
     (λ i. record {
       ifaces = old.ifaces;
       entries = old.entries;
@@ -81,8 +83,8 @@ pub returns-in_err-reserve-clause-unchanged : goal.returns-in_err-reserve-clause
 returns-in_err-reserve-clause-unchanged c =
     let old = c.args.self.now in
     let flows =
-    flows-same old.flows c.hold.new.flows c.requires.sound.unique c.hold.ensures.unique (λ q. kept-grown _ _ _ (c.hold.ensures.grown q)) in
-    on-err {P = vrf_of (record c.args.self.now { sent = c.reserve.new.self; flows = c.hold.new.flows }) ≡ vrf_of c.args.self.now}
+    flows-same old.flows c.hold_sent.new.flows c.requires.sound.unique c.hold_sent.ensures.unique (λ q. kept-grown _ _ _ _ (c.in_ok-hold_sent.ensures.each q)) in
+    on-err {P = vrf_of (record c.args.self.now { sent = c.reserve.new.self; flows = c.hold_sent.new.flows }) ≡ vrf_of c.args.self.now}
     c.from_residual-in_err-reserve.result (λ i.
     record {
       ifaces = old.ifaces;
@@ -98,9 +100,9 @@ pub returns-in_err-insert-clause-unchanged : goal.returns-in_err-insert-clause-u
 returns-in_err-insert-clause-unchanged c =
     let old = c.args.self.now in
     let flows =
-    flows-same old.flows c.hold.new.flows c.requires.sound.unique c.hold.ensures.unique (λ q. kept-grown _ _ _ (c.hold.ensures.grown q)) in
+    flows-same old.flows c.hold_sent.new.flows c.requires.sound.unique c.hold_sent.ensures.unique (λ q. kept-grown _ _ _ _ (c.in_ok-hold_sent.ensures.each q)) in
     on-err {P =
-    vrf_of (record c.args.self.now { notes = c.insert.new.self; sent = c.reserve.new.self; flows = c.hold.new.flows }) ≡ vrf_of c.args.self.now}
+    vrf_of (record c.args.self.now { notes = c.insert.new.self; sent = c.reserve.new.self; flows = c.hold_sent.new.flows }) ≡ vrf_of c.args.self.now}
     c.from_residual-in_err-insert.result (λ i. record {
       ifaces = old.ifaces;
       entries = old.entries;

@@ -1,4 +1,4 @@
-use Rattle.std.proofs.Common.{◌≡◌, ◌||◌, Bool, false, cond, sym, ap, ◌∙◌}
+use Rattle.std.proofs.Common.{◌≡◌, ◌&&◌, ◌||◌, Bool, false, cond, sym, ap, ◌∙◌}
 use Rattle.std.specs.FinSet as sets
 use Rattle.indexmap.specs.IndexMap.{get}
 use Rattle.vrf_words.specs.declared.tree_defs.flow.Flow.{Flow}
@@ -8,7 +8,7 @@ use Rattle.vrf_words.specs.declared.tree_defs.flow.Note.{Note}
 use Rattle.vrf_words.proofs.tree_defs.KeyLemmas.{note_exact, note_ties, note_total, same_note}
 use Rattle.vrf_flows.specs.Sight.{flow_at, is_needed, is_sent}
 use Rattle.vrf_flows.specs.State.{is_announced_in, is_noted_in}
-use Rattle.vrf_flows.proofs.TreeLemmas.{absent-none, keeps-change, kept-change, sent-same, unsent-needed}
+use Rattle.vrf_flows.proofs.TreeLemmas.{absent-none, asked-same, keeps-change, kept-change, unsent-needed}
 use Rattle.vrf_flows.proofs.StateLemmas.{flows-same}
 use Rattle.vrf_flows.proofs.SetLemmas.{any-fewer, any-removed, either-one, fewer-left, less, removed, unsent-was}
 use Rattle.vrf_flows.proofs.state.State.unnote.Goals as goal
@@ -18,6 +18,7 @@ returns-clause-sound c =
     let old = c.args.self.now in
     let sound = c.requires.sound in
     let chosen = chosen_for old.routes sound.cost in
+    let asked = c.may_be_asked-asked.result in
     let others = c.unsend.new.sent.keys in
     let known : (q : Flow) → is_sent c.unsend.new.sent.keys q
     ≡ cond c.is_told-told.result (is_sent c.args.self.now.sent.keys q)
@@ -34,11 +35,11 @@ returns-clause-sound c =
           (is_announced_in old.actives.keys q) (any-fewer note_total note_exact same_note note_ties (λ (x : Note). same_flow x.flow q) old.notes.keys
           c.swap_remove.new.self.keys c.args.note (λ p. c.swap_remove.ensures.updates.0 p)) h);
       cost = sound.cost;
-      keeps = keeps-change (get same_flow old.flows) (get same_flow c.unsend.new.flows) (same_flow c.args.note.flow)
+      keeps = keeps-change (get same_flow old.flows) (get same_flow c.unsend.new.flows) (λ q. asked && same_flow c.args.note.flow q)
           (flow_at old.ifaces old.entries old.sent.keys chosen old.clock) (flow_at old.ifaces old.entries others chosen old.clock)
           (is_needed old.ifaces old.entries old.sent.keys) (is_needed old.ifaces old.entries others) sound.keeps c.unsend.ensures.each
-          (λ q h. sent-same old.ifaces old.entries old.sent.keys others chosen old.clock q
-          (sym (known q ∙ (ap (λ (b : Bool). cond c.is_told-told.result (is_sent old.sent.keys q) (cond b false (is_sent old.sent.keys q))) h
+          (asked-same old.ifaces old.entries old.sent.keys others chosen old.clock c.args.note.flow asked c.may_be_asked-asked.ensures
+          (λ q h. sym (known q ∙ (ap (λ (b : Bool). cond c.is_told-told.result (is_sent old.sent.keys q) (cond b false (is_sent old.sent.keys q))) h
           ∙ either-one c.is_told-told.result (is_sent old.sent.keys q)))))
           (λ q h. sound.keeps.needed q (unsent-needed old.ifaces old.entries old.sent.keys others q
           (λ t. unsent-was c.is_told-told.result (same_flow c.args.note.flow q) (is_sent old.sent.keys q) (sym (known q) ∙ t)) h))

@@ -7,7 +7,7 @@ ghost use Rattle.vrf_words.specs.tree_defs.Keys.{same_flow};
 ghost use Rattle.mv_base.specs.Prefix.{covers};
 ghost use Rattle.umh_select.specs.Routes.{is_from};
 ghost use Rattle.vrf_flows.specs.Held.{concerns, covers_from, mark, marked, forgotten, unknown, names, names_in, lapses, ends, lapsed, ended};
-ghost use Rattle.vrf_flows.specs.Held.{differ, is_news};
+ghost use Rattle.vrf_flows.specs.Held.{differ, is_fresh, is_news};
 ghost use Rattle.vrf_flows.specs.Stale.{is_listed, passes};
 
 use crate::held::{Cause, Held, HeldFlows, cause_of};
@@ -21,14 +21,20 @@ use scenario_defs::IfaceEntry;
 use umh_select::{LearnedRoutes, RouteKey};
 use vrf_words::tree_defs::Flow;
 
-/// Marks the flow, where it is held.
-pub(crate) fn mark_held(flows: &mut HeldFlows, flow: Flow)
+/// Marks the flow, where it is held, and answers whether it was held and not stale.
+pub(crate) fn mark_held(flows: &mut HeldFlows, flow: Flow) -> bool
     requires unique { IsUnique same_flow flows.old }
+    ensures news { result ≡ is_fresh (get same_flow flows.old flow) }
     ensures each { (q : Flow) → get same_flow flows.new q ≡ marked (same_flow flow q) (get same_flow flows.old q) }
     ensures unique { IsUnique same_flow flows.new }
 {
-    if let Some(held) = flows.get_mut(&flow) {
-        held.stale = true;
+    match flows.get_mut(&flow) {
+        None => false,
+        Some(held) => {
+            let news = !held.stale;
+            held.stale = true;
+            news
+        }
     }
 }
 

@@ -3,7 +3,7 @@ ghost use Rattle.std.specs.Prelude.{◌≡◌, is_some, true, false, None, Some,
 ghost use Rattle.indexmap.specs.IndexMap.{get, IsEmpty, IsUnique};
 ghost use Rattle.vrf_words.specs.declared.tree_defs.flow.Flow.{Flow};
 ghost use Rattle.vrf_words.specs.tree_defs.Keys.{same_flow};
-ghost use Rattle.vrf_flows.specs.Held.{concerns, forgotten, is_fresh, is_stale_in, marked, settled_as};
+ghost use Rattle.vrf_flows.specs.Held.{concerns, forgotten, is_stale_in, marked, settled_as};
 ghost use Rattle.vrf_flows.specs.Stale.{AreAmong};
 
 use crate::held::{Cause, Held, HeldFlows, Kept};
@@ -38,16 +38,6 @@ impl Model for FlowTable {
     ghost view = { λ t. t.held };
 
     ghost invariant = { λ t. AreListed (is_stale_in t.held) t.stale };
-}
-
-/// Whether the flow is held and not stale.
-fn is_fresh(held: &HeldFlows, flow: &Flow) -> bool
-    ensures { result ≡ is_fresh (get same_flow held.now flow.now) }
-{
-    match held.get(flow) {
-        Some(own) => !own.stale,
-        None => false,
-    }
 }
 
 impl FlowTable {
@@ -141,8 +131,7 @@ impl FlowTable {
         ensures each { (q : Flow) → get same_flow self.new q ≡ marked (same_flow flow q) (get same_flow self.old q) }
         ensures unique { IsUnique same_flow self.new }
     {
-        let news = is_fresh(&self.held, &flow);
-        mark_held(&mut self.held, flow);
+        let news = mark_held(&mut self.held, flow);
         self.stale.add_if(flow, news);
     }
 

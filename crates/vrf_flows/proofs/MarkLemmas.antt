@@ -1,5 +1,5 @@
 -- The interface of each entry has a mark.
-use Rattle.std.proofs.Common.{inl, inr, ◌≡◌, ◌<◌, ◌%◌, ℕ, ◌==◌, ◌||◌, Bool, true, false, List, [], ◌∷◌, length, replicate, set, get_or, refl, sym, ap, subst, ◌∙◌, arith}
+use Rattle.std.proofs.Common.{inl, inr, ◌≡◌, ◌<◌, ◌%◌, ℕ, ◌==◌, ◌||◌, Bool, true, false, List, [], ◌∷◌, length, replicate, set, get_or, refl, ap, subst, ◌∙◌, arith}
 use Rattle.std.specs.List.{list_any}
 use Rattle.std.proofs.lemmas.Bool.{both_ways, cases_eq, eqb-true}
 use Rattle.std.proofs.lemmas.List.{get_or-set_same, get_or-set_other, length-set}

@@ -9,7 +9,7 @@ use Rattle.vrf_words.specs.tree_defs.Keys.{same_flow}
 use Rattle.vrf_words.proofs.tree_defs.KeyLemmas.{same_flow_equal, same_flow_itself, same_flow_symmetric}
 use Rattle.vrf_flows.specs.declared.held.Held.{Held}
 use Rattle.vrf_flows.specs.declared.stale.StaleFlows.{StaleFlows}
-use Rattle.vrf_flows.specs.Held.{Now, is_fresh, is_stale, marked, settled_as, unknown}
+use Rattle.vrf_flows.specs.Held.{Now, is_fresh, is_stale, marked, settled_as}
 use Rattle.vrf_flows.specs.Plan.{planned, put_at, replan, settled}
 use Rattle.vrf_flows.specs.Stale.{AreAmong, AreListed, is_listed, passes}
 

@@ -93,13 +93,7 @@ fn send(flows: &mut FlowTable, sent: &mut IndexSet<Flow>, flow: Flow, asked: boo
 }
 
 /// The flow is known to be sent no more, where nothing else tells it.
-fn unsend(
-    flows: &mut FlowTable,
-    sent: &mut IndexSet<Flow>,
-    flow: Flow,
-    asked: bool,
-    told: bool,
-)
+fn unsend(flows: &mut FlowTable, sent: &mut IndexSet<Flow>, flow: Flow, asked: bool, told: bool)
     requires unique { IsUnique same_flow flows.old }
     ensures sent { (q : Flow) → is_sent sent.new.keys q
         ≡ (if told then is_sent sent.old.keys q else if same_flow flow q then false else is_sent sent.old.keys q) }

@@ -1,4 +1,4 @@
-use Rattle.std.proofs.Common.{rules, ◌||◌, sym, ap, ◌∙◌}
+use Rattle.std.proofs.Common.{◌||◌, sym, ap, ◌∙◌}
 use Rattle.indexmap.specs.IndexMap.{get}
 use Rattle.umh_select.specs.Routes.{Routes}
 use Rattle.vrf_words.specs.tree_defs.Keys.{same_flow}

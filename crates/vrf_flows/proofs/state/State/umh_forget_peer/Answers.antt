@@ -1,4 +1,4 @@
-use Rattle.std.proofs.Common.{◌≡◌, subst, sym, ap, ◌∙◌}
+use Rattle.std.proofs.Common.{◌≡◌, subst, sym, ◌∙◌}
 use Rattle.std.specs.FinSet as sets
 use Rattle.std.specs.FinMap as maps
 use Rattle.std.specs.List.{list_any}

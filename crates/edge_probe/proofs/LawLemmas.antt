@@ -34,7 +34,7 @@ use Rattle.network_laws.proofs.core_laws.CoresFound.{some_cores}
 use Rattle.vrf_words.proofs.tree_laws.Leaving.{root_by}
 use Rattle.probe_defs.specs.Lines.{IsProbe, joins_of}
 use Rattle.probe_defs.specs.Probed.{Probed, admitted, edge_with, joined, table_of as table_by, taken_at_once}
-use Rattle.probe_defs.specs.declared.probe.Import.{Import}
+use Rattle.probe_defs.specs.Imports.{Import}
 use Rattle.probe_defs.specs.declared.probe.ProbeLine.{ProbeLine}
 use Rattle.probe_defs.specs.declared.probe.ProbeReport.{ProbeReport}
 use Rattle.edge_probe.specs.Targets.{HasTarget}

@@ -31,7 +31,7 @@ use Rattle.edge_core.specs.View.{EdgeView}
 use Rattle.probe_defs.specs.Given.{fault_in, messages_in}
 use Rattle.probe_defs.specs.Lines.{IsProbe, joins_of, octets_of}
 use Rattle.probe_defs.specs.Probed.{Probed, Yield, imports_of, table_of, wants_of}
-use Rattle.probe_defs.specs.declared.probe.Import.{Import}
+use Rattle.probe_defs.specs.Imports.{Import}
 use Rattle.probe_defs.specs.declared.probe.ProbeLine.{ProbeLine}
 use Rattle.edge_probe.specs.Behind.{AreLinesAt, IsFresh, IsTold}
 use Rattle.edge_probe.proofs.GivenLemmas.{control_at}

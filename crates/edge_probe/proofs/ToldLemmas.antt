@@ -29,7 +29,7 @@ use Rattle.edge_core.specs.edge_control.Places.{is_own_vrf, vrfs_of}
 use Rattle.edge_core.specs.State.{data_of, home_of}
 use Rattle.edge_core.specs.View.{EdgeView}
 use Rattle.edge_core.specs.Listed.{admitted_from, admitted_keys}
-use Rattle.probe_defs.specs.declared.probe.Import.{Import}
+use Rattle.probe_defs.specs.Imports.{Import}
 use Rattle.probe_defs.specs.Probed.{admitted, edge_with, joined, table_of, taken_at_once}
 use Rattle.probe_defs.specs.Given.{messages_in}
 use Rattle.probe_defs.specs.Lines.{joins_of, octets_of}

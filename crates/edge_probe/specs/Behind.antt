@@ -12,7 +12,7 @@ use Rattle.scenario_defs.specs.Rules.{Rules}
 use Rattle.scenario_defs.specs.declared.scenario.Vrf.{Vrf}
 use Rattle.edge_defs.specs.Keys.{Table}
 use Rattle.probe_defs.specs.Probed.{admitted}
-use Rattle.probe_defs.specs.declared.probe.Import.{Import}
+use Rattle.probe_defs.specs.Imports.{Import}
 use Rattle.edge_routes.specs.edge_home.Home.{Home, place_of}
 use Rattle.network_defs.specs.node_defs.EdgeState.{fresh_state}
 use Rattle.probe_defs.specs.Given.{thereafter, fault_in}

@@ -6,7 +6,7 @@ use Rattle.scenario_defs.specs.declared.scenario.Scenario.{Scenario}
 use Rattle.scenario_defs.specs.declared.scenario.Vrf.{Vrf}
 use Rattle.edge_defs.specs.Imported.{is_admitted}
 use Rattle.edge_defs.specs.Keys.{Table, Value}
-use Rattle.probe_defs.specs.declared.probe.Import.{Import}
+use Rattle.probe_defs.specs.Imports.{Import}
 
 -- It is taken by a VRF of the edge; the table has a route of that key, and one of the route's communities is a Route Target of that VRF.
 pub record HasTarget (scenario : Scenario) (edge : NodeId) (table : Table) (import : Import) : Type 0 where

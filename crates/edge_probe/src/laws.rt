@@ -7,7 +7,7 @@ ghost use Rattle.scenario_defs.specs.declared.scenario.Scenario.{Scenario};
 ghost use Rattle.edge_defs.specs.Place.{addr_of};
 ghost use Rattle.probe_defs.specs.Lines.{IsProbe};
 ghost use Rattle.probe_defs.specs.Probed.{Probed, table_of};
-ghost use Rattle.probe_defs.specs.declared.probe.Import.{Import};
+ghost use Rattle.probe_defs.specs.Imports.{Import};
 ghost use Rattle.probe_defs.specs.declared.probe.ProbeLine.{ProbeLine};
 ghost use Rattle.probe_defs.specs.declared.probe.ProbeReport.{ProbeReport};
 ghost use Rattle.edge_probe.specs.Targets.{HasTarget};

@@ -1,5 +1,5 @@
 //! What is reported of an edge that was given the lines of a probe.
-ghost use Rattle.std.specs.Prelude.{◌≡◌, ◌++◌, ◌≤◌, ◌<◌, length, map, slice_get, List, Some, IfOk, OnOk};
+ghost use Rattle.std.specs.Prelude.{◌≡◌, ◌++◌, ◌≤◌, ◌<◌, length, slice_get, List, Some, IfOk, OnOk};
 ghost use Rattle.mv_base.specs.Lists.{Among};
 ghost use Rattle.mv_base.specs.core_walks.Topology.{Topology};
 ghost use Rattle.edge_core.specs.State.{home_of};
@@ -10,23 +10,11 @@ ghost use Rattle.probe_defs.specs.Probed.{imports_of, table_of};
 ghost use Rattle.probe_defs.specs.declared.probe.ProbeLine.{ProbeLine as Line};
 ghost use Rattle.edge_probe.specs.Behind.{IsGiven, taken_by};
 
-use edge_core::{Edge, RouteKeys};
+use edge_core::Edge;
 use mv_base::{NoMemory, NodeId, VrfId};
-use probe_defs::{Import, Imports};
+use probe_defs::Imports;
 use scenario_defs::{Scenario, Vrf};
 use std::alloc::Global;
-
-/// Adds the routes of these keys, which the VRF takes.
-fn add_keys(imports: &mut Imports, vrf: VrfId, keys: &RouteKeys) -> Result<(), NoMemory>
-    ensures { OnOk result (imports.new ≡ imports.old ++ map (λ key. record { vrf = vrf; key = key }) keys.now) }
-{
-    let all = keys.as_slice();
-    for key in all {
-        let shared = key.share()?;
-        imports.push(Import { vrf, key: shared })?;
-    }
-    Ok(())
-}
 
 /// Adds what the VRF of that number takes from the peer, if it is one of the edge.
 fn add_vrf(
@@ -49,7 +37,7 @@ fn add_vrf(
     }
     let id = VrfId(number as u16);
     let keys = own.imports(alloc, id)?;
-    add_keys(imports, id, &keys)
+    imports.push_vrf(id, keys)
 }
 
 /// What the VRFs of the edge take from the peer, VRF after VRF, each in the order of keys.

@@ -10,7 +10,7 @@ use Rattle.value_text.specs.MessageText.{bgp_word, nlri_text}
 use Rattle.value_text.specs.ValueText.{fec_line, refused_line}
 use Rattle.probe_text.specs.probe_defs.Lines.{octets_of}
 use Rattle.probe_text.specs.probe_defs.Probed.{Probed, Yield}
-use Rattle.probe_text.specs.probe_defs.declared.probe.Import.{Import}
+use Rattle.probe_text.specs.probe_defs.Imports.{Import}
 use Rattle.probe_text.specs.probe_defs.declared.probe.ProbeReport.{ProbeReport}
 use Rattle.probe_text.specs.declared.input.ProbeText.{ProbeText}
 

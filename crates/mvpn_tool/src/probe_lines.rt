@@ -1,12 +1,13 @@
 //! The lines of what one edge makes of the octets of a peer.
 ghost use Rattle.std.specs.Prelude.{◌≡◌, ◌++◌, OnOk};
 ghost use Rattle.std.specs.List.{flat_map};
+ghost use Rattle.probe_text.specs.probe_defs.Imports.{imports_by};
 ghost use Rattle.mvpn_tool.specs.ProbeLines.{import_line, refused_text, report_text, vrf_name, want_line};
 
-use bgp_messages::bgp_attributes::StreamFault;
+use bgp_messages::bgp_attributes::{Key, StreamFault};
 use mldp::mldp_fec::Fec;
 use mv_base::{Bytes, NoMemory, VrfId};
-use probe_text::of_probe_defs::{Import, ProbeReport};
+use probe_text::of_probe_defs::{Imports, ProbeReport, VrfImports};
 use report_text::put_number;
 use scenario_defs::Scenario;
 use value_text::{Worded, put_fec_line, put_key};
@@ -22,21 +23,33 @@ fn put_vrf(out: &mut Bytes, scenario: &Scenario, vrf: VrfId) -> Result<(), NoMem
 }
 
 /// Appends the line of a route that a VRF takes.
-fn put_import(out: &mut Bytes, scenario: &Scenario, import: &Import) -> Result<(), NoMemory>
-    ensures { OnOk result (out.new ≡ out.old ++ import_line scenario.now import.now) }
+fn put_import(out: &mut Bytes, scenario: &Scenario, vrf: VrfId, key: &Key) -> Result<(), NoMemory>
+    ensures { OnOk result (out.new ≡ out.old ++ import_line scenario.now (record { vrf = vrf; key = key.now })) }
 {
     out.extend(b"import ")?;
-    put_vrf(out, scenario, import.vrf)?;
+    put_vrf(out, scenario, vrf)?;
     out.extend(b" ")?;
-    put_key(out, &import.key.key())?;
+    put_key(out, key)?;
     out.extend(b"\n")
 }
 
-fn put_imports(out: &mut Bytes, scenario: &Scenario, imports: &[Import]) -> Result<(), NoMemory>
+/// Appends the lines of the routes that one VRF takes.
+fn put_vrf_imports(out: &mut Bytes, scenario: &Scenario, own: &VrfImports) -> Result<(), NoMemory>
+    ensures { OnOk result (out.new ≡ out.old ++ flat_map (import_line scenario.now) (imports_by own.now)) }
+{
+    let keys = own.keys.as_slice();
+    for key in keys {
+        put_import(out, scenario, own.vrf, &key.key())?;
+    }
+    Ok(())
+}
+
+fn put_imports(out: &mut Bytes, scenario: &Scenario, imports: &Imports) -> Result<(), NoMemory>
     ensures { OnOk result (out.new ≡ out.old ++ flat_map (import_line scenario.now) imports.now) }
 {
-    for import in imports {
-        put_import(out, scenario, import)?;
+    let vrfs = imports.vrfs();
+    for own in vrfs {
+        put_vrf_imports(out, scenario, own)?;
     }
     Ok(())
 }
@@ -82,7 +95,7 @@ pub(crate) fn put_report(
 ) -> Result<(), NoMemory>
     ensures { OnOk result (out.new ≡ out.old ++ report_text scenario.now report.now) }
 {
-    put_imports(out, scenario, report.imports.as_slice())?;
+    put_imports(out, scenario, &report.imports)?;
     put_wants(out, report.wants.as_slice())?;
     put_first_fault(out, &report.fault)
 }

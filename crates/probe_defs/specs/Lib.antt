@@ -1,4 +1,5 @@
 pub use Rattle.edge_defs.specs as edge_defs
 pub mod Lines
+pub mod Imports
 pub mod Probed
 pub mod Given

@@ -32,8 +32,8 @@ use Rattle.edge_defs.specs.Imported.{is_admitted}
 use Rattle.edge_defs.specs.Keys.{Table, Value}
 use Rattle.edge_defs.specs.Place.{EdgePlace, OwnVrf, vrfs_from}
 use Rattle.edge_defs.specs.Tunnels.{leaves}
+use Rattle.probe_defs.specs.Imports.{Import, by_keys}
 use Rattle.probe_defs.specs.Lines.{joins_of, octets_of}
-use Rattle.probe_defs.specs.declared.probe.Import.{Import}
 use Rattle.probe_defs.specs.declared.probe.ProbeLine.{ProbeLine}
 use Rattle.probe_defs.specs.declared.probe.ProbeReport.{ProbeReport}
 
@@ -65,8 +65,7 @@ admitted vrf table = map (λ entry. entry.0) (filter (λ (entry : Key × Value).
 
 -- what each VRF of the edge takes, VRF after VRF
 abbrev pub imports_of : Scenario → NodeId → Table → List Import
-imports_of scenario edge table =
-    flat_map (λ (own : OwnVrf). map (λ key. record { vrf = own.id; key = key }) (admitted own.vrf table)) (vrfs_from edge 0 scenario.vrfs)
+imports_of scenario edge table = flat_map (λ (own : OwnVrf). by_keys own.id (admitted own.vrf table)) (vrfs_from edge 0 scenario.vrfs)
 
 -- ---- what the edge wants
 

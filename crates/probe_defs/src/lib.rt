@@ -11,4 +11,4 @@ mod laws;
 mod probe;
 
 pub use laws::lines_make_a_probe;
-pub use probe::{Import, Imports, ProbeLine, ProbeLines, ProbeReport};
+pub use probe::{Imports, ProbeLine, ProbeLines, ProbeReport, VrfImports};

@@ -13,6 +13,6 @@ imports-requires c = record {
 
 pub returns : goal.returns
 returns c = λ core peer done given among.
-    vrf_adds core peer done c.args.own.now given among c.args.number c.args.vrf.now c.requires.at c.args.me c.add_keys.result c.args.imports.now
-    c.add_keys.new.imports c.in_ok-keys.keys c.requires.me c.if-vrf-me.false
-    c.in_ok-keys.ensures c.add_keys.ensures
+    vrf_adds core peer done c.args.own.now given among c.args.number c.args.vrf.now c.requires.at c.args.me c.push_vrf.result c.args.imports.now
+    c.push_vrf.new.self c.in_ok-keys.keys c.requires.me c.if-vrf-me.false
+    c.in_ok-keys.ensures c.push_vrf.ensures

@@ -5,7 +5,7 @@ use Rattle.edge_defs.specs.Keys.{Table}
 use Rattle.probe_defs.specs.Given.{messages_in}
 use Rattle.probe_defs.specs.Lines.{octets_of}
 use Rattle.probe_defs.specs.Probed.{table_of}
-use Rattle.probe_defs.specs.declared.probe.Import.{Import}
+use Rattle.probe_defs.specs.Imports.{Import}
 use Rattle.edge_probe.specs.Behind.{taken_by}
 use Rattle.edge_probe.proofs.ToldLemmas.{first_more, taken_first}
 use Rattle.edge_probe.proofs.told.imports_of.Goals as goal

@@ -1,5 +1,5 @@
 -- Messages of a session are taken one after another, and octets that spell them.
-use Rattle.std.proofs.Common.{◌≡◌, ◌∙◌, refl, sym, ap, subst, arith, ℕ, inl, inr, true, List, [], ◌∷◌, map, length, Option, None, Some, Result, Ok, Err, OnOk, is_some}
+use Rattle.std.proofs.Common.{◌≡◌, ◌∙◌, refl, sym, ap, subst, arith, ℕ, ◌<◌, inl, inr, true, List, [], ◌∷◌, length, Option, None, Some, Result, Ok, Err, OnOk, is_some}
 use Rattle.std.specs.FinMap as maps
 use Rattle.std.specs.FinMap.{FinMap}
 use Rattle.std.proofs.lemmas.Option.{none-some}
@@ -14,20 +14,21 @@ use Rattle.network_defs.specs.session_defs.Message.{SessionFault, SessionMessage
 use Rattle.network_defs.specs.session_defs.Octets.{Stream}
 use Rattle.network_defs.specs.session_defs.PeerSession.{PeerSession, fault_at, peer_cmp, stream_at}
 use Rattle.edge_defs.specs.Place.{EdgePlace}
-use Rattle.edge_routes.specs.edge_home.Home.{place_of}
+use Rattle.edge_routes.specs.edge_home.Home.{Home, place_of}
 use Rattle.network_defs.specs.node_defs.EdgeState.{EdgeState, all_taken, call_of, called, took, took_unless}
 use Rattle.node_laws.proofs.TakenLemmas.{message_called, spent_takes}
 use Rattle.edge_routing.specs.edge_streams.Kept.{session}
-use Rattle.edge_routing.specs.edge_streams.Streams.{with_octets}
+use Rattle.edge_routing.specs.edge_streams.Streams.{TakesFirst, with_octets}
 use Rattle.edge_core.specs.declared.fault.EdgeFault.{EdgeFault}
 use Rattle.edge_core.specs.declared.fault.EdgeFault.TheVariants as faults
 use Rattle.edge_core.specs.declared.parts.Parts.{Parts}
 use Rattle.edge_core.specs.Answers.{Makes, spent_by}
-use Rattle.edge_core.specs.Called.{Settles, SettlesCall, thereafter, going, spent_after}
+use Rattle.edge_core.specs.Called.{IsReady, Settles, SettlesCall, thereafter, going, spent_after, with_streams}
 use Rattle.edge_core.specs.State.{IsIn, IsLive, is_up}
-use Rattle.edge_core.specs.Taking.{AnswersOctets, IsSessionFault, taken_by, took_by}
-use Rattle.edge_routing.proofs.edge_streams.DrainLemmas.{put_same}
+use Rattle.edge_core.specs.Taking.{AnswersOctets, IsSessionFault, drained, taken_by, took_by}
+use Rattle.edge_routing.proofs.edge_streams.DrainLemmas.{put_again, put_same, put_there, stream_put}
 use Rattle.edge_routing.proofs.edge_streams.FedLemmas.{drained_is, now_fed, put_quiet, put_up, stream_fed}
+use Rattle.edge_core.specs.View.{EdgeView}
 use Rattle.edge_core.proofs.StepLemmas.{one_fault}
 
 -- ---- messages
@@ -146,11 +147,114 @@ none_left core now peer all left first parts e are =
       live = λ none. are.live;
     }))
 
--- ---- octets
+spends_some : (fault : EdgeFault) → Among fault (faults.NoLabel ∷ faults.NoMemory ∷ []) → spent_after (Err fault) ≡ None → ⊥
+spends_some fault (inl e) none = absurd (let k = sym (ap spent_by e) ∙ none in cc)
+spends_some fault (inr (inl e)) none = absurd (let k = sym (ap spent_by e) ∙ none in cc)
+spends_some fault (inr (inr a)) none = a
 
-pub map_none : {X Y : Type 0} (f : X → Y) (xs : List X) → length xs ≡ 0 → map f xs ≡ []
-map_none f [] e = refl
-map_none f (x ∷ xs) e = absurd (omega (arith, e))
+-- The edge is spent, so nothing is said of its streams.
+spent_anyhow : (core : Topology) (step : Core → EdgeState → EdgeState) (old : EdgeView) (new : Parts) (streams : FinMap peer_cmp Stream)
+    (fault : EdgeFault) → old.spent ≡ None → Among fault (faults.NoLabel ∷ faults.NoMemory ∷ [])
+    → Settles core step old (with_streams streams new) (Err fault) → Settles core step old new (Err fault)
+spent_anyhow core step old new streams fault unspent one k = record {
+  answers = record {
+    home = k.answers.home;
+    before = λ spent e. absurd (none-some spent (sym unspent ∙ e));
+    unspent = tt;
+    made = tt;
+    goes_on = tt;
+    toward = k.answers.toward;
+    lacks = k.answers.lacks;
+    spends = k.answers.spends;
+  };
+  live = λ none. absurd (spends_some fault one none);
+}
+
+-- ---- messages that wait
+
+-- Some first ones of the messages that waited in the first parts were taken, and the others wait still, in parts that are the first ones but
+-- for them.
+pub record AreWaiting (core : Topology) (now : ℕ) (own : PeerSession) (first parts : Parts) : Type 0 where
+  pub there : is_some (maps.get parts.streams own) ≡ true
+  pub same : drained own parts.streams ≡ drained own first.streams
+  pub left : AreLeft core now own.peer (stream_at first.streams own).waiting (stream_at parts.streams own).waiting
+      (with_streams (drained own first.streams) first) (with_streams (drained own first.streams) parts)
+
+pub all_waiting : (core : Topology) (now : ℕ) (own : PeerSession) (first : Parts) → is_some (maps.get first.streams own) ≡ true
+    → IsLive first.routing first.labels (drained own first.streams) → AreWaiting core now own first first
+all_waiting core now own first there live = record {
+  there = there;
+  same = refl;
+  left = all_left core now own.peer (stream_at first.streams own).waiting (with_streams (drained own first.streams) first) live;
+}
+
+module _ (core : Topology) (now : ℕ) (own : PeerSession) (first parts : Parts) (are : AreWaiting core now own first parts)
+    (streams : FinMap peer_cmp Stream) where
+  abbrev all_first : List SessionMessage
+  all_first = (stream_at first.streams own).waiting
+
+  abbrev calm : Parts → Parts
+  calm any = with_streams (drained own first.streams) any
+
+  pub still_ready : IsReady core now (calm first) → IsReady core now (calm parts)
+  still_ready ready = record {
+    live = are.left.live;
+    nodes = ready.nodes ∙ ap (λ (h : Home). length h.scenario.nodes) (sym are.left.home);
+    clock = ready.clock;
+  }
+
+  module _ (message : SessionMessage) (took_so : TakesFirst own parts.streams (Some message) streams) where
+    abbrev more : List SessionMessage
+    more = took_so.0
+
+    abbrev rest : Stream
+    rest = record (stream_at parts.streams own) { waiting = more }
+
+    still_left : AreLeft core now own.peer all_first (message ∷ more) (calm first) (calm parts)
+    still_left = subst (λ (ms : List SessionMessage). AreLeft core now own.peer all_first ms (calm first) (calm parts)) took_so.1 are.left
+
+    rest_at : (new : Parts) → new.streams ≡ streams → stream_at new.streams own ≡ rest
+    rest_at new same = ap (λ (s : FinMap peer_cmp Stream). stream_at s own) (same ∙ took_so.2) ∙ stream_put parts.streams own rest
+
+    pub one_fewer : (new : Parts) → new.streams ≡ streams
+        → length (stream_at new.streams own).waiting < length (stream_at parts.streams own).waiting
+    one_fewer new same =
+        let before : length (stream_at parts.streams own).waiting ≡ length (message ∷ more) = ap (λ (ms : List SessionMessage). length ms) took_so.1 in
+        let after : length (stream_at new.streams own).waiting ≡ length more = ap (λ (s : Stream). length s.waiting) (rest_at new same) in
+        omega (arith, before, after)
+
+    pub one_taken : (new : Parts) → new.streams ≡ streams
+        → SettlesCall core now (call_of own.peer message) (going (calm parts)) (calm new) (Ok tt) → AreWaiting core now own first new
+    one_taken new same h =
+        let is : new.streams ≡ maps.insert parts.streams own rest = same ∙ took_so.2 in
+        let at = rest_at new same in
+        record {
+          there = put_there parts.streams new.streams own rest is;
+          same = (λ i. maps.insert (is i) own (record (at i) { waiting = [] }))
+              ∙ (put_again parts.streams own rest (record rest { waiting = [] }) ∙ are.same);
+          left = subst (λ (ms : List SessionMessage). AreLeft core now own.peer all_first ms (calm first) (calm new))
+              (sym (ap (λ (s : Stream). s.waiting) at))
+              (one_less core now own.peer message more (calm parts) all_first (calm first) still_left (calm new) h);
+        }
+
+    pub one_stopped : (new : Parts) (fault : EdgeFault) → Among fault (faults.NoLabel ∷ faults.NoMemory ∷ [])
+        → SettlesCall core now (call_of own.peer message) (going (calm parts)) (calm new) (Err fault)
+        → Settles core (taken_by (going first) now own.peer all_first) (going (calm first)) new (Err fault)
+    one_stopped new fault one h =
+        spent_anyhow core (taken_by (going first) now own.peer all_first) (going (calm first)) new (drained own first.streams) fault refl one
+        (stopped_at core now own.peer message more (calm parts) all_first (calm first) still_left (calm new) fault h)
+
+  pub none_waiting : TakesFirst own parts.streams None streams
+      → Settles core (taken_by (going first) now own.peer all_first) (going (calm first)) (with_streams streams parts) (Ok tt)
+  none_waiting took_so =
+      let is : drained own first.streams ≡ streams =
+      sym are.same ∙ ((λ i. maps.insert parts.streams own (record (stream_at parts.streams own) { waiting = sym took_so.0 i }))
+      ∙ (put_same parts.streams own are.there ∙ sym took_so.1)) in
+      subst (λ (s : FinMap peer_cmp Stream). Settles core (taken_by (going first) now own.peer all_first) (going (calm first)) (with_streams s parts)
+      (Ok tt)) is
+      (none_left core now own.peer all_first (stream_at parts.streams own).waiting (calm first) (calm parts) took_so.0 are.left)
+
+-- ---- octets
 
 -- a session whose end is up has a stream
 pub up_there : (kind : Kind) (peer : NodeId) (parts : Parts) → IsLive parts.routing parts.labels parts.streams → is_up (going parts) kind peer ≡ true
@@ -252,11 +356,6 @@ module _ (core : Topology) (now : ℕ) (kind : Kind) (peer : NodeId) (octets : L
     settled_whole : (result : Result (Unit {0}) EdgeFault) → Settles core (taken_by (going mid) now peer messages) (going mid) new result
         → Settles core (taken_by (going mid) now peer whole.waiting) (going mid) new result
     settled_whole result h = subst (λ (ms : List SessionMessage). Settles core (taken_by (going mid) now peer ms) (going mid) new result) whole_is h
-
-    spends_some : (fault : EdgeFault) → Among fault (faults.NoLabel ∷ faults.NoMemory ∷ []) → spent_after (Err fault) ≡ None → ⊥
-    spends_some fault (inl e) none = absurd (let k = sym (ap spent_by e) ∙ none in cc)
-    spends_some fault (inr (inl e)) none = absurd (let k = sym (ap spent_by e) ∙ none in cc)
-    spends_some fault (inr (inr a)) none = a
 
     -- a message made the edge spent
     pub octets_stopped : (fault : EdgeFault) → Among fault (faults.NoLabel ∷ faults.NoMemory ∷ [])

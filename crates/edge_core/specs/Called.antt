@@ -1,5 +1,6 @@
 -- An edge in the midst of a call: its customers' and its peers' part and its streams are after it, and its label part is not.
 use Rattle.std.specs.Prelude.{◌≡◌, ◌<◌, ◌^◌, ℕ, length, Option, None, Result, Ok, Err, IfOk, option_map}
+use Rattle.std.specs.FinMap.{FinMap}
 use Rattle.mv_base.specs.declared.memory.NoMemory.{NoMemory}
 use Rattle.mv_base.specs.core_walks.Core.{Core}
 use Rattle.mv_base.specs.core_walks.Topology.{Topology}
@@ -8,6 +9,8 @@ use Rattle.edge_defs.specs.Steps.{Call, own_label_call, raised_after}
 use Rattle.mldp_node.specs.declared.fault.NodeFault.{NodeFault}
 use Rattle.mldp_node.specs.NodeData.{cause}
 use Rattle.network_defs.specs.node_defs.EdgeState.{EdgeState}
+use Rattle.network_defs.specs.session_defs.Octets.{Stream}
+use Rattle.network_defs.specs.session_defs.PeerSession.{peer_cmp}
 use Rattle.edge_routing.specs.edge_labels.Calls.{MayMake, own_call}
 use Rattle.edge_routing.specs.edge_labels.declared.own_call.OwnCall.{OwnCall}
 use Rattle.edge_routing.specs.declared.routing.LeafCandidates.{LeafCandidates}
@@ -47,11 +50,15 @@ pub record IsMidway (core : Topology) (now : ℕ) (own : OwnCall) (call : Call) 
   pub home : parts.routing.control.home ≡ home_of old
   pub stepped : IfOk told (IsStepped core now call old.routing parts.routing)
 
--- A call is midway.
+-- the parts with other streams
+abbrev pub with_streams : FinMap peer_cmp Stream → Parts → Parts
+with_streams streams parts = record parts { streams = streams }
+
+-- A call is midway, whatever the streams of the parts are.
 pub record IsCalled (core : Topology) (now : ℕ) (own : OwnCall) (told : Result LeafCandidates NoMemory) (parts : Parts) : Type 0 where
   pub call : Call
   pub old : EdgeView
-  pub is : IsMidway core now own call old told parts
+  pub is : IsMidway core now own call old told (with_streams (streams_after call old.streams) parts)
 
 -- an edge of these parts after an answer
 abbrev pub spent_after : Result (Unit {0}) EdgeFault → Option Spent

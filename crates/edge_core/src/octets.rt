@@ -1,18 +1,20 @@
 //! Octets that come over sessions, and the messages that they spell (RFC 4271 section 4, RFC 5036 section 3.1).
-ghost use Rattle.std.specs.Prelude.{◌≡◌, [], map, true, is_some, All, IfOk, OnOk, Err, None};
+ghost use Rattle.std.specs.Prelude.{◌≡◌, [], true, is_some, option_map, IfSome, OnOk, Err, None};
 ghost use Rattle.std.specs.FinMap as maps;
+ghost use Rattle.std.specs.FinMap.{FinMap};
 ghost use Rattle.scenario_defs.specs.declared.event.Kind.{Kind as Kinds};
 ghost use Rattle.scenario_defs.specs.declared.event.Kind.TheVariants as kinds;
 ghost use Rattle.network_defs.specs.node_defs.EdgeState.{call_of};
 ghost use Rattle.network_defs.specs.session_defs.Message.{SessionMessage, Bgp, Label};
-ghost use Rattle.network_defs.specs.session_defs.PeerSession.{fault_at, stream_at};
+ghost use Rattle.network_defs.specs.session_defs.Octets.{Stream};
+ghost use Rattle.network_defs.specs.session_defs.PeerSession.{fault_at, peer_cmp, stream_at};
 ghost use Rattle.edge_routing.specs.edge_streams.Kept.{session};
 ghost use Rattle.edge_routing.specs.edge_streams.Spelled.{SaysWritable, SaysWritableLabel};
-ghost use Rattle.edge_routing.specs.edge_streams.Streams.{with_octets};
+ghost use Rattle.edge_routing.specs.edge_streams.Streams.{with_octets, TakesFirst};
 ghost use Rattle.edge_core.specs.Answers.{IsOneOf};
-ghost use Rattle.edge_core.specs.Called.{IsReady, Settles, SettlesCall, thereafter, going, spent_after};
+ghost use Rattle.edge_core.specs.Called.{IsReady, Settles, SettlesCall, thereafter, going, spent_after, with_streams};
 ghost use Rattle.edge_core.specs.State.{IsLive, is_up};
-ghost use Rattle.edge_core.specs.Taking.{AnswersOctets, IsSessionFault, taken_by};
+ghost use Rattle.edge_core.specs.Taking.{AnswersOctets, IsSessionFault, drained, taken_by};
 ghost use Rattle.edge_core.specs.declared.fault.EdgeFault.{EdgeFault as EdgeFaults};
 
 use crate::fault::{EdgeAnswer, EdgeFault};
@@ -44,19 +46,18 @@ pub(crate) trait EdgeMessage: Drop {
     fn feed(streams: &mut EdgeStreams, peer: NodeId, bytes: &[u8]) -> Result<(), NoMemory>
         ensures { OnOk result (streams.new ≡ with_octets (session protocol peer) bytes.now streams.old) };
 
-    /// Takes all messages that wait in that stream, in order. The session has one.
-    fn drain(streams: &mut EdgeStreams, peer: NodeId) -> Result<Vec<Self>, NoMemory>
-        requires { is_some (maps.get streams.old (session protocol peer)) ≡ true }
-        ensures messages { IfOk result (λ messages. map of_session messages.items ≡ (stream_at streams.old (session protocol peer)).waiting) }
-        ensures writable { IfOk result (λ messages. All is_writable messages.items) }
-        ensures rest { OnOk result (streams.new ≡ maps.insert streams.old (session protocol peer)
-            (record (stream_at streams.old (session protocol peer)) { waiting = [] })) };
+    /// Takes the first message that waits in that stream, if one does.
+    fn next(streams: &mut EdgeStreams, peer: NodeId) -> Option<Self>
+        ensures first { TakesFirst (session protocol peer) streams.old (option_map of_session result) streams.new }
+        ensures writable { IfSome result is_writable };
 
-    /// The edge takes the message of the peer.
+    /// The edge takes the message of the peer. It goes by no stream, and changes none.
     fn take(self, edge: &mut Parts, peer: NodeId, now: u64, core: &Core) -> EdgeAnswer
-        requires ready { IsReady core.now now edge.old }
+        requires ready { (streams : FinMap peer_cmp Stream) × IsReady core.now now (with_streams streams edge.old) }
         requires writable { is_writable self }
-        ensures settles { SettlesCall core.now now (call_of peer (of_session self)) (going edge.old) edge.new result }
+        ensures settles { (streams : FinMap peer_cmp Stream) → IsReady core.now now (with_streams streams edge.old) →
+            SettlesCall core.now now (call_of peer (of_session self)) (going (with_streams streams edge.old)) (with_streams streams edge.new) result }
+        ensures same { edge.new.streams ≡ edge.old.streams }
         ensures only { IsOneOf [] result };
 }
 
@@ -75,8 +76,8 @@ impl EdgeMessage for Message {
         streams.feed_bgp(peer, bytes)
     }
 
-    fn drain(streams: &mut EdgeStreams, peer: NodeId) -> Result<Vec<Message>, NoMemory> {
-        streams.drain_bgp(peer)
+    fn next(streams: &mut EdgeStreams, peer: NodeId) -> Option<Message> {
+        streams.next_bgp(peer)
     }
 
     fn take(self, edge: &mut Parts, peer: NodeId, now: u64, core: &Core) -> EdgeAnswer {
@@ -100,8 +101,8 @@ impl EdgeMessage for LabelMessage {
         streams.feed_ldp(peer, bytes)
     }
 
-    fn drain(streams: &mut EdgeStreams, peer: NodeId) -> Result<Vec<LabelMessage>, NoMemory> {
-        streams.drain_ldp(peer)
+    fn next(streams: &mut EdgeStreams, peer: NodeId) -> Option<LabelMessage> {
+        streams.next_ldp(peer)
     }
 
     fn take(self, edge: &mut Parts, peer: NodeId, now: u64, core: &Core) -> EdgeAnswer {
@@ -111,20 +112,15 @@ impl EdgeMessage for LabelMessage {
 }
 
 impl Parts {
-    /// Takes messages of the peer, one after another.
-    fn take_all<M: EdgeMessage>(
-        &mut self,
-        peer: NodeId,
-        messages: Vec<M>,
-        now: u64,
-        core: &Core,
-    ) -> EdgeAnswer
-        requires ready { IsReady core.now now self.old }
-        requires writable { All M.is_writable messages.items }
-        ensures settles { Settles core.now (taken_by (going self.old) now peer (map M.of_session messages.items)) (going self.old) self.new result }
+    /// Takes all messages of the peer that wait in the session's stream, one after another. The session has one.
+    fn take_all<M: EdgeMessage>(&mut self, peer: NodeId, now: u64, core: &Core) -> EdgeAnswer
+        requires there { is_some (maps.get self.old.streams (session M.protocol peer)) ≡ true }
+        requires ready { IsReady core.now now (with_streams (drained (session M.protocol peer) self.old.streams) self.old) }
+        ensures settles { Settles core.now (taken_by (going self.old) now peer (stream_at self.old.streams (session M.protocol peer)).waiting)
+            (going (with_streams (drained (session M.protocol peer) self.old.streams) self.old)) self.new result }
         ensures only { IsOneOf [] result }
     {
-        for message in messages {
+        while let Some(message) = M::next(&mut self.streams, peer) {
             if let Err(fault) = message.take(self, peer, now, core) {
                 return Err(fault);
             }
@@ -161,8 +157,7 @@ impl Parts {
         ensures live { spent_after result ≡ None → IsLive self.new.routing self.new.labels self.new.streams }
     {
         M::feed(&mut self.streams, peer, bytes)?;
-        let messages = M::drain(&mut self.streams, peer)?;
-        match self.take_all(peer, messages, now, core) {
+        match self.take_all::<M>(peer, now, core) {
             Ok(()) => self.sound(M::kind(), peer),
             Err(fault) => Err(fault),
         }

@@ -1,10 +1,13 @@
 //! The parts of an edge that goes on, and what each call ends with: the label steps.
 ghost use Rattle.std.specs.Prelude.{◌≡◌, ◌<◌, ◌^◌, [], OnOk};
+ghost use Rattle.std.specs.FinMap.{FinMap};
 ghost use Rattle.edge_defs.specs.Steps.{Call};
+ghost use Rattle.network_defs.specs.session_defs.Octets.{Stream};
+ghost use Rattle.network_defs.specs.session_defs.PeerSession.{peer_cmp};
 ghost use Rattle.mldp_node.specs.NodeData.{WaitsTowardRootsOf};
 ghost use Rattle.edge_routing.specs.edge_labels.declared.own_call.OwnCall.TheVariants as owns;
 ghost use Rattle.edge_core.specs.Answers.{IsOneOf};
-ghost use Rattle.edge_core.specs.Called.{IsCalled, IsMidway, SettlesCall};
+ghost use Rattle.edge_core.specs.Called.{IsCalled, IsMidway, SettlesCall, with_streams};
 ghost use Rattle.edge_core.specs.View.{EdgeView};
 
 use crate::clocks::RaiseClocks;
@@ -39,6 +42,11 @@ impl Parts {
         requires now { now < 2 ^ 63 }
         ensures answers { (call : Call) (old : EdgeView) → IsMidway core.now now own.now call old told self.old →
             SettlesCall core.now now call old self.new result }
+        // It goes by no stream, and changes none.
+        ensures beside { (streams : FinMap peer_cmp Stream) (call : Call) (old : EdgeView) →
+            IsMidway core.now now own.now call old told (with_streams streams self.old) →
+            SettlesCall core.now now call old (with_streams streams self.new) result }
+        ensures same { self.new.streams ≡ self.old.streams }
         ensures toward { own.now ≡ owns.Reroute → OnOk result (WaitsTowardRootsOf core.now self.new.labels) }
         ensures only { IsOneOf [] result }
     {

@@ -1,4 +1,4 @@
-use Rattle.std.proofs.Common.{◌+◌, ◌++◌, ◌∷◌, [], List, refl, sym, subst, ap, ◌∙◌, take}
+use Rattle.std.proofs.Common.{◌++◌, ◌∷◌, [], List, refl, sym, subst, ap, ◌∙◌, take}
 use Rattle.std.proofs.lemmas.List.{take_more}
 use Rattle.edge_routes.specs.edge_home.Home.{Home}
 use Rattle.edge_core.specs.State.{home_of}

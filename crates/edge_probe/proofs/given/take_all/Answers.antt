@@ -1,7 +1,6 @@
-use Rattle.std.proofs.Common.{rules, ◌≡◌, ◌++◌, ◌∷◌, [], List, ℕ, length, take, drop, refl, sym, ap, subst, ◌∙◌, append_assoc}
+use Rattle.std.proofs.Common.{◌≡◌, ◌++◌, ◌∷◌, [], List, ℕ, take, refl, sym, ap, subst, ◌∙◌, append_assoc}
 use Rattle.std.proofs.lemmas.List.{append-nil, take-append-drop}
 use Rattle.edge_probe.specs.Behind.{IsTold}
-use Rattle.probe_defs.specs.declared.probe.ProbeLine.{ProbeLine}
 use Rattle.probe_defs.specs.declared.probe.ProbeLine.TheVariants.{Piece}
 use Rattle.edge_probe.proofs.GivenLemmas.{both_given, none_given_yet, none_left}
 use Rattle.edge_probe.proofs.given.take_all.Goals as goal

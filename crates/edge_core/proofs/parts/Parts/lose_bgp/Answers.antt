@@ -13,7 +13,8 @@ settle-requires-clause-called c =
     record {
       call = Noticed kinds.Bgp c.args.peer;
       old = going old;
-      is = midway_raised c.args.core.now c.args.now owns.None (Noticed kinds.Bgp c.args.peer) old c.lose-told.new.self (streams_after (Noticed kinds.Bgp c.args.peer) old.streams)
+      is = midway_raised c.args.core.now c.args.now owns.None (Noticed kinds.Bgp c.args.peer) old c.lose-told.new.self
+          (streams_after (Noticed kinds.Bgp c.args.peer) old.streams)
           c.lose-2.new.self c.lose-told.result c.lose-2.ensures c.requires.ready.live c.requires.ready.nodes refl tt refl c.lose-told.ensures.home
           c.lose-told.ensures.stepped;
     }

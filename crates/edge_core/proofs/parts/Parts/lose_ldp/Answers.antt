@@ -13,7 +13,8 @@ settle-requires-clause-called c =
     record {
       call = Noticed kinds.Ldp c.args.peer;
       old = going old;
-      is = midway c.args.core.now c.args.now (owns.Notice c.args.peer) (Noticed kinds.Ldp c.args.peer) old c.step-told.new.self (streams_after (Noticed kinds.Ldp c.args.peer) old.streams)
+      is = midway c.args.core.now c.args.now (owns.Notice c.args.peer) (Noticed kinds.Ldp c.args.peer) old c.step-told.new.self
+          (streams_after (Noticed kinds.Ldp c.args.peer) old.streams)
           c.step-told.result refl c.requires.ready.live c.requires.ready.nodes refl tt refl c.step-told.ensures.home
           (step_as c.args.core.now c.args.now old.routing c.step-told.new.self (Noticed kinds.Ldp c.args.peer) c.step-told.result
           (λ place control. refl) (λ peer octets. refl) c.step-told.ensures.stepped);

@@ -13,7 +13,8 @@ settle-requires-clause-called c =
     record {
       call = Raised kinds.Bgp c.args.peer;
       old = going old;
-      is = midway_raised c.args.core.now c.args.now owns.None (Raised kinds.Bgp c.args.peer) old c.raise-told.new.self (streams_after (Raised kinds.Bgp c.args.peer) old.streams)
+      is = midway_raised c.args.core.now c.args.now owns.None (Raised kinds.Bgp c.args.peer) old c.raise-told.new.self
+          (streams_after (Raised kinds.Bgp c.args.peer) old.streams)
           c.raise-2.new.self c.raise-told.result c.in_ok-raise-2.ensures c.requires.ready.live c.requires.ready.nodes refl tt refl
           c.raise-told.ensures.home
           c.raise-told.ensures.stepped;

@@ -14,7 +14,8 @@ settle-requires-clause-called c =
     record {
       call = Raised kinds.Ldp c.args.peer;
       old = going old;
-      is = midway c.args.core.now c.args.now (owns.Raise c.args.peer) (Raised kinds.Ldp c.args.peer) old c.step-told.new.self (streams_after (Raised kinds.Ldp c.args.peer) old.streams)
+      is = midway c.args.core.now c.args.now (owns.Raise c.args.peer) (Raised kinds.Ldp c.args.peer) old c.step-told.new.self
+          (streams_after (Raised kinds.Ldp c.args.peer) old.streams)
           c.step-told.result refl c.requires.ready.live c.requires.ready.nodes refl
           (λ unspent. is_down (maps.get c.args.self.now.labels.node.part.ends c.args.peer) c.requires.down) refl
           c.step-told.ensures.home

@@ -23,10 +23,6 @@ fn active() -> Key
     Key::Mcast(Afi::Ipv4, ACTIVE)
 }
 
-fn key(alloc: Global) -> Result<TakenKey, NoMemory> {
-    TakenKey::of(alloc, active())
-}
-
 /// A value with one community.
 fn value(alloc: Global, hop: u8) -> Result<RouteValue, NoMemory> {
     let mut comms = Seq::new(alloc);
@@ -47,7 +43,8 @@ fn since(tables: &TakenTables, key: &TakenKey) -> Option<u64> {
 fn takes(rt: HostRuntime) -> Result<(), Fail> {
     let mut tables = TakenTables::of(rt.alloc());
     let peer = NodeId(1);
-    let key = key(rt.alloc())?;
+    let active = active();
+    let key = TakenKey::of(rt.alloc(), &active)?;
     assert!(rt; tables.enter(peer, &key, &value(rt.alloc(), 2)?, 4)?);
     assert_eq!(rt; since(&tables, &key), None);
     tables.raise(peer)?;

@@ -8,31 +8,31 @@ use mv_base::NoMemory;
 use std::alloc::Global;
 use std::marker::Model;
 
-/// A key that has a spelling, and the same as a table keeps it.
+/// A key that has a spelling, lent, and the same as a table keeps it.
 #[derive(Drop)]
-pub struct TakenKey {
-    key: Key,
+pub struct TakenKey<'a> {
+    key: &'a Key,
     kept: KeptKey,
 }
 
-impl Model for TakenKey {
+impl<'a> Model for TakenKey<'a> {
     ghost use Rattle.std.specs.Prelude.{◌≡◌};
     ghost use Rattle.edge_defs.specs.bgp_messages.declared.bgp_attributes.key.Key.{Key};
 
     ghost Value = { Key };
 
-    ghost view = { λ k. k.key };
+    ghost view = { λ k. k.key.now };
 
-    ghost invariant = { λ k. k.kept ≡ k.key };
+    ghost invariant = { λ k. k.kept ≡ k.key.now };
 }
 
-impl TakenKey {
+impl<'a> TakenKey<'a> {
     /// The key, which has a spelling.
-    pub fn of(alloc: Global, key: Key) -> Result<TakenKey, NoMemory>
-        requires { IsWritableKey key }
-        ensures { IfOk result (λ taken. taken ≡ key) }
+    pub fn of(alloc: Global, key: &'a Key) -> Result<TakenKey<'a>, NoMemory>
+        requires { IsWritableKey key.now }
+        ensures { IfOk result (λ taken. taken ≡ key.now) }
     {
-        let kept = KeptKey::of(alloc, &key)?;
+        let kept = KeptKey::of(alloc, key)?;
         Ok(TakenKey { key, kept })
     }
 
@@ -45,18 +45,18 @@ impl TakenKey {
 
     /// The same, where the key itself is not used any more.
     pub fn into_kept(self) -> KeptKey
-        ensures { result ≡ self }
+        ensures { result ≡ self.entry }
     {
         let TakenKey { key: _, kept } = self;
         kept
     }
 
     /// The key.
-    pub fn key(&self) -> &Key
+    pub fn key(&self) -> &'a Key
         ensures key { result.now ≡ self.now }
         ensures writable { IsWritableKey self.now }
     {
         self.kept.show_spelled();
-        &self.key
+        self.key
     }
 }

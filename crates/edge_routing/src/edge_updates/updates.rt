@@ -45,7 +45,7 @@ fn withdraw(
     ensures home { control.new.home ≡ control.old.home }
     ensures wants { wants_of control.new.trees ≡ wants_of control.old.trees }
 {
-    let own = TakenKey::of(*fecs.allocator(), *key)?;
+    let own = TakenKey::of(*fecs.allocator(), key)?;
     append_at(fecs, control, peer, &own)?;
     control.withdraw(peer, &own);
     Ok(())
@@ -113,7 +113,7 @@ fn announce(
         pmsi,
     } = advert;
     let alloc = *fecs.allocator();
-    let own = TakenKey::of(alloc, key)?;
+    let own = TakenKey::of(alloc, &key)?;
     let value = RouteValue::of(alloc, next_hop, comms, &pmsi)?;
     if enter(control, fecs, peer, &own, &value, now)? {
         return Ok(own.into_kept());

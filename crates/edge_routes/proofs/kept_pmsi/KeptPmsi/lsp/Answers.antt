@@ -1,4 +1,4 @@
-use Rattle.std.proofs.Common.{◌≡◌, Bool, true, Option, Some, ap, sym, ◌∙◌}
+use Rattle.std.proofs.Common.{◌≡◌, Bool, true, Some, ap, sym, ◌∙◌}
 use Rattle.mv_base.specs.Number.{only_if}
 use Rattle.bgp_values.specs.mldp.declared.mldp_fec.fec.Fec.{Fec}
 use Rattle.edge_defs.specs.Imported.{lsp_of}

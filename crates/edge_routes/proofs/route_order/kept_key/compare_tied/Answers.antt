@@ -1,8 +1,6 @@
 use Rattle.std.proofs.Common.{sym, ◌∙◌}
 use Rattle.std.specs.Cmp.{tied_itself}
-use Rattle.std.specs.Prelude.{None, Option}
 use Rattle.edge_defs.proofs.KeyLemmas.{key_total}
-use Rattle.edge_defs.specs.bgp_messages.declared.bgp_attributes.key.Key.{Key}
 use Rattle.edge_defs.specs.Keys.{key_cmp}
 use Rattle.edge_routes.specs.route_order.Kept.{kept_key, key_by}
 use Rattle.edge_routes.proofs.route_order.kept_key.compare_tied.Goals as goal

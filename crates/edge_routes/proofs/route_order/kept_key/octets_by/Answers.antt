@@ -1,4 +1,4 @@
-use Rattle.std.proofs.Common.{◌≡◌, ◌++◌, ◌∙◌}
+use Rattle.std.proofs.Common.{◌++◌, ◌∙◌}
 use Rattle.edge_routes.proofs.route_order.kept_key.octets_by.Goals as goal
 
 pub returns : goal.returns

@@ -3,7 +3,6 @@ use Rattle.std.specs.FinMap.{FinMap}
 use Rattle.label_defs.specs.Keys.{node_cmp}
 use Rattle.edge_defs.specs.Edge.{Control, Taken, TakenRoute}
 use Rattle.edge_defs.specs.Steps.{taken_change}
-use Rattle.edge_tables.specs.declared.taken_tables.entry.RouteValue.{RouteValue}
 use Rattle.edge_tables.specs.taken_tables.Routes.{handed}
 use Rattle.edge_tables.specs.taken_tables.Tables.{changed_at, is_news, reach, route_at}
 use Rattle.control_laws.specs.Control.{Kept, control_of}

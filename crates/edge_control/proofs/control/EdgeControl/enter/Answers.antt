@@ -1,17 +1,16 @@
-use Rattle.std.proofs.Common.{◌≡◌, Some, None, true, false, sym, ap, subst, ◌∙◌}
+use Rattle.std.proofs.Common.{◌≡◌, Some, None, true, sym, ap, subst, ◌∙◌}
 use Rattle.std.specs.FinMap as maps
 use Rattle.std.specs.FinMap.{FinMap}
 use Rattle.bgp_messages.specs.declared.bgp_attributes.update.Change.TheVariants.{Unreach}
 use Rattle.label_defs.specs.Keys.{node_cmp}
 use Rattle.edge_defs.specs.Edge.{Taken, TakenRoute}
 use Rattle.edge_defs.specs.Steps.{taken_change}
-use Rattle.edge_tables.specs.declared.taken_tables.entry.RouteValue.{RouteValue}
 use Rattle.edge_tables.specs.taken_tables.Routes.{handed}
 use Rattle.edge_tables.specs.taken_tables.Tables.{changed_at, reach, route_at}
 use Rattle.control_laws.specs.Control.{Kept, control_of}
 use Rattle.edge_control.specs.Sound.{IsSound, kept_of, wants_of}
 use Rattle.edge_control.specs.Places.{vrfs_of}
-use Rattle.edge_control.specs.Taking.{coming, dropping, learning, route_of, turned_all}
+use Rattle.edge_control.specs.Taking.{coming, dropping, route_of}
 use Rattle.edge_control.proofs.PeerSound.{as_many}
 use Rattle.edge_control.proofs.PeerAnnounced.{as_coming, came, none_there, taken_back, went}
 use Rattle.control_laws.proofs.Parts.{no_core}

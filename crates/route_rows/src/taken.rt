@@ -7,7 +7,7 @@ use bgp_values::mvpn_nlri::{Afi, Route};
 use edge_routes::route_order::TakenKey;
 use edge_tables::taken_tables::{RouteValue, TakenTables};
 use mv_base::route_targets::ExtComm;
-use mv_base::{Addr, NoMemory, NodeId, Rd, Seq};
+use mv_base::{Addr, NoMemory, NodeId, Rd};
 use std::alloc::Global;
 use std::test::*;
 
@@ -25,9 +25,8 @@ fn active() -> Key
 
 /// A value with one community.
 fn value(alloc: Global, hop: u8) -> Result<RouteValue, NoMemory> {
-    let mut comms = Seq::new(alloc);
-    comms.push(ExtComm([1, 2, 0xc0, 0, 2, 1, 0, 1]))?;
-    RouteValue::of(alloc, Addr::V4([192, 0, 2, hop]), comms, &None)
+    let comms = [ExtComm([1, 2, 0xc0, 0, 2, 1, 0, 1])];
+    RouteValue::of(alloc, Addr::V4([192, 0, 2, hop]), &comms, &None)
 }
 
 /// The clock at which the route was learned.

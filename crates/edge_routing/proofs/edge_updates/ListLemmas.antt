@@ -6,8 +6,9 @@ use Rattle.mv_base.specs.declared.addr.Addr.{Addr}
 use Rattle.mv_base.specs.declared.ids.NodeId.{NodeId}
 use Rattle.mldp.specs.declared.mldp_fec.fec.Fec.{Fec}
 use Rattle.bgp_messages.specs.declared.bgp_attributes.key.Key.{Key}
+use Rattle.bgp_messages.specs.declared.bgp_attributes.update.Advert.{Advert}
 use Rattle.bgp_messages.specs.declared.bgp_attributes.update.Change.TheVariants as updates
-use Rattle.bgp_messages.specs.bgp_update.Table.{unannounced}
+use Rattle.bgp_messages.specs.bgp_update.Table.{announced, unannounced}
 use Rattle.edge_defs.specs.Edge.{Taken, TakenRoute}
 use Rattle.edge_defs.specs.Imported.{found_in, imported_inclusive, inclusive_of, is_admitted, tunnel_by}
 use Rattle.mv_base.specs.Number.{◌>>?◌, only_if}
@@ -22,7 +23,7 @@ use Rattle.edge_routes.specs.route_order.Kept.{is_of_type}
 use Rattle.edge_routes.specs.edge_home.Home.{AreOwn, Home, as_own}
 use Rattle.edge_routes.specs.declared.edge_home.own_vrf.OwnVrf as homes
 use Rattle.control_laws.proofs.Parts.{no_core}
-use Rattle.edge_routing.specs.edge_updates.Tunnels.{listed, route_of, tunnels_by, tunnels_from, tunnels_to}
+use Rattle.edge_routing.specs.edge_updates.Tunnels.{listed, route_of, tunnels_at, tunnels_by, tunnels_from, tunnels_to}
 
 abbrev found_or : {B : Type 0} → Option B → List B → List B
 found_or o rest = elim o [ None ↦ rest | Some found ↦ found ∷ rest ]
@@ -79,6 +80,16 @@ tunnels_of_others home peer key value other =
     tunnel_by (addr_of home.scenario peer) originator own_value) (not_inclusive key other))
     (vrfs_of home)
 
+pub at_others : (home : Home) (peer : NodeId) (key : Key) (o : Option TakenRoute) → is_of_type types.Intra key ≡ false
+    → tunnels_at home peer key o ≡ []
+at_others home peer key None other = refl
+at_others home peer key (Some taken) other = tunnels_of_others home peer key taken.value other
+
+pub from_others : (home : Home) (o : Option Taken) (peer : NodeId) (key : Key) (value : Value) → is_of_type types.Intra key ≡ false
+    → tunnels_from home o peer key value ≡ []
+from_others home None peer key value other = refl
+from_others home (Some taken) peer key value other = tunnels_of_others home peer key value other
+
 -- one more of the VRFs
 pub tunnels_more : (peer : Addr) (key : Key) (value : Value) (vrfs : List homes.OwnVrf) (n : ℕ) (own : homes.OwnVrf) → n < length vrfs
     → own ≡ get_or vrfs n own
@@ -103,6 +114,13 @@ pub unannounced_more : (keys : List Key) (n : ℕ) (key : Key) → n < length ke
 unannounced_more keys n key lt is =
     ap (λ (k : Key). unannounced (take n keys) ++ (updates.Unreach k ∷ [])) is
     ∙ sym (ap unannounced (take_more keys n key lt) ∙ map-append (λ (k : Key). updates.Unreach k) (take n keys) (get_or keys n key ∷ []))
+
+-- one more of the adverts
+pub announced_more : (adverts : List Advert) (n : ℕ) (advert : Advert) → n < length adverts → advert ≡ get_or adverts n advert
+    → announced (take n adverts) ++ (updates.Reach advert ∷ []) ≡ announced (take (n + 1) adverts)
+announced_more adverts n advert lt is =
+    ap (λ (a : Advert). announced (take n adverts) ++ (updates.Reach a ∷ [])) is
+    ∙ sym (ap announced (take_more adverts n advert lt) ∙ map-append (λ (a : Advert). updates.Reach a) (take n adverts) (get_or adverts n advert ∷ []))
 
 -- ---- whether routes are taken from the peer
 

@@ -68,7 +68,7 @@ fn append_of_route(
 }
 
 /// Appends the tunnels that VRFs of the edge import by the route of the key that was taken from the peer, where there is one.
-pub(crate) fn append_at(
+fn append_taken(
     fecs: &mut Vec<Fec>,
     control: &EdgeControl,
     peer: NodeId,
@@ -84,8 +84,25 @@ pub(crate) fn append_at(
     }
 }
 
+/// The same. A key that is not that of an Intra-AS I-PMSI A-D route is not looked up.
+pub(crate) fn append_at(
+    fecs: &mut Vec<Fec>,
+    control: &EdgeControl,
+    peer: NodeId,
+    key: &TakenKey,
+) -> Result<(), NoMemory>
+    ensures { OnOk result (fecs.new.items
+        ≡ fecs.old.items ++ tunnels_at control.now.home peer key.now (route_at control.now.peers peer key.now)) }
+{
+    if key.kept().is_of_type(RouteType::Intra) {
+        append_taken(fecs, control, peer, key)
+    } else {
+        Ok(())
+    }
+}
+
 /// Appends those of a route of that key and value, where routes are taken from the peer.
-pub(crate) fn append_by(
+fn append_from(
     fecs: &mut Vec<Fec>,
     control: &EdgeControl,
     peer: NodeId,
@@ -99,6 +116,24 @@ pub(crate) fn append_by(
     match control.taken().entries(peer) {
         None => Ok(()),
         Some(_) => append_of_route(fecs, home, peer, key, value),
+    }
+}
+
+/// The same. By most routes, which are no Intra-AS I-PMSI A-D routes, there is none.
+pub(crate) fn append_by(
+    fecs: &mut Vec<Fec>,
+    control: &EdgeControl,
+    peer: NodeId,
+    key: &TakenKey,
+    value: &TakenValue,
+) -> Result<(), NoMemory>
+    ensures { OnOk result (fecs.new.items ≡ fecs.old.items
+        ++ tunnels_from control.now.home (maps.get control.now.peers peer) peer key.now (value_of value.now)) }
+{
+    if key.kept().is_of_type(RouteType::Intra) {
+        append_from(fecs, control, peer, key.key(), value)
+    } else {
+        Ok(())
     }
 }
 

@@ -70,7 +70,7 @@ fn enter(
     if !control.enter(peer, key, value, now)? {
         return Ok(false);
     }
-    append_by(fecs, control, peer, key.key(), &value.lent())?;
+    append_by(fecs, control, peer, key, &value.lent())?;
     Ok(true)
 }
 
@@ -98,23 +98,22 @@ fn announce(
     control: &mut EdgeControl,
     fecs: &mut Vec<Fec>,
     peer: NodeId,
-    advert: Advert,
+    advert: &Advert,
     now: u64,
 ) -> Result<KeptKey, NoMemory>
-    requires { IsWritableKey advert.key }
-    ensures taken { OnOk result (AreTaken now peer (Reach advert ∷ []) control.old control.new fecs.old.items fecs.new.items) }
+    requires { IsWritableKey advert.now.key }
+    ensures taken { OnOk result (AreTaken now peer (Reach advert.now ∷ []) control.old control.new fecs.old.items fecs.new.items) }
     ensures home { control.new.home ≡ control.old.home }
     ensures wants { wants_of control.new.trees ≡ wants_of control.old.trees }
 {
-    let Advert {
-        key,
-        next_hop,
-        comms,
-        pmsi,
-    } = advert;
     let alloc = *fecs.allocator();
-    let own = TakenKey::of(alloc, &key)?;
-    let value = RouteValue::of(alloc, next_hop, comms, &pmsi)?;
+    let own = TakenKey::of(alloc, &advert.key)?;
+    let value = RouteValue::of(
+        alloc,
+        advert.next_hop,
+        advert.comms.as_slice(),
+        &advert.pmsi,
+    )?;
     if enter(control, fecs, peer, &own, &value, now)? {
         return Ok(own.into_kept());
     }
@@ -146,12 +145,12 @@ fn announce_all(
     control: &mut EdgeControl,
     fecs: &mut Vec<Fec>,
     peer: NodeId,
-    adverts: Vec<Advert>,
+    adverts: &[Advert],
     now: u64,
 ) -> Result<Option<KeptKey>, NoMemory>
-    requires { AllByRecursion IsWritableAdvert adverts.items }
+    requires { AllByRecursion IsWritableAdvert adverts.now }
     ensures taken { OnOk result (
-        AreTaken now peer (announced adverts.items) control.old control.new fecs.old.items fecs.new.items) }
+        AreTaken now peer (announced adverts.now) control.old control.new fecs.old.items fecs.new.items) }
     ensures home { control.new.home ≡ control.old.home }
     ensures wants { wants_of control.new.trees ≡ wants_of control.old.trees }
 {
@@ -180,7 +179,7 @@ fn take_parts(
     let Update { reach, unreach } = update;
     let mut tunnels = Vec::new(alloc);
     withdraw_all(control, &mut tunnels, peer, unreach.as_slice())?;
-    let near = announce_all(control, &mut tunnels, peer, reach.into_vec(), now)?;
+    let near = announce_all(control, &mut tunnels, peer, reach.as_slice(), now)?;
     Ok(TunnelChanges { tunnels, near })
 }
 

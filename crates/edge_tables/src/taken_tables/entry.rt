@@ -8,11 +8,11 @@ ghost use Rattle.edge_routes.specs.route_order.Values.{as_value};
 ghost use Rattle.edge_tables.specs.taken_tables.Routes.{handed};
 
 use crate::taken_tables::kept_comms::KeptComms;
-use bgp_messages::bgp_attributes::Comms;
 use bgp_values::pmsi_attr::Pmsi;
 use edge_routes::route_order::{same_attribute, same_comms, same_hop};
 use edge_routes::{KeptPmsi, TakenValue, mark_of};
 use mldp::mldp_fec::Fec;
+use mv_base::route_targets::ExtComm;
 use mv_base::{Addr, NoMemory};
 use std::alloc::Global;
 use std::marker::Model;
@@ -30,10 +30,10 @@ impl RouteValue {
     pub fn of(
         alloc: Global,
         next_hop: Addr,
-        comms: Comms,
+        comms: &[ExtComm],
         pmsi: &Option<Pmsi>,
     ) -> Result<RouteValue, NoMemory>
-        ensures { IfOk result (λ value. handed value ≡ as_value next_hop comms pmsi.now) }
+        ensures { IfOk result (λ value. handed value ≡ as_value next_hop comms.now pmsi.now) }
     {
         Ok(RouteValue {
             next_hop,

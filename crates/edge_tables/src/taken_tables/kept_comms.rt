@@ -33,6 +33,13 @@ pub(crate) enum KeptComms {
     Any(Shared<Whole>),
 }
 
+fn whole_of(alloc: Global, comms: &[ExtComm]) -> Result<Whole, NoMemory>
+    ensures { IfOk result (λ whole. whole ≡ comms.now) }
+{
+    let comms = Comms::from_vec(Vec::from_slice(alloc, comms)?);
+    Ok(Whole { comms })
+}
+
 /// What is kept of one community or of two.
 fn few_of(comms: &[ExtComm]) -> Option<KeptComms>
     ensures { IfSome result (λ kept. comms_of kept ≡ comms.now) }
@@ -46,12 +53,12 @@ fn few_of(comms: &[ExtComm]) -> Option<KeptComms>
 
 impl KeptComms {
     /// These communities, as a table keeps them.
-    pub fn of(alloc: Global, comms: Comms) -> Result<KeptComms, NoMemory>
-        ensures { IfOk result (λ kept. comms_of kept ≡ comms) }
+    pub fn of(alloc: Global, comms: &[ExtComm]) -> Result<KeptComms, NoMemory>
+        ensures { IfOk result (λ kept. comms_of kept ≡ comms.now) }
     {
-        match few_of(comms.as_slice()) {
+        match few_of(comms) {
             Some(kept) => Ok(kept),
-            None => Ok(KeptComms::Any(Shared::of(alloc, Whole { comms })?)),
+            None => Ok(KeptComms::Any(Shared::of(alloc, whole_of(alloc, comms)?)?)),
         }
     }
 

@@ -1,4 +1,4 @@
-use Rattle.std.proofs.Common.{sym, ap, ◌∙◌}
+use Rattle.std.proofs.Common.{sym, ◌∙◌}
 use Rattle.std.proofs.lemmas.Bool.{or_right}
 use Rattle.vrf_words.proofs.tree_laws.Leaving.{imports_are}
 use Rattle.vrf_words.specs.tree_laws.Imports.{has_learned, imports_inclusive}

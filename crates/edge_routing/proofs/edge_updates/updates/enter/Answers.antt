@@ -3,7 +3,6 @@ use Rattle.std.specs.FinMap as maps
 use Rattle.mldp.specs.declared.mldp_fec.fec.Fec.{Fec}
 use Rattle.bgp_messages.specs.declared.bgp_attributes.key.Key.{Key}
 use Rattle.edge_defs.specs.Keys.{Value}
-use Rattle.edge_routes.specs.Judged.{value_of}
 use Rattle.edge_control.specs.edge_tables.taken_tables.Routes.{handed}
 use Rattle.edge_control.specs.edge_tables.taken_tables.Tables.{route_at}
 use Rattle.edge_routing.specs.edge_updates.Tunnels.{tunnels_from}
@@ -24,5 +23,4 @@ returns-clause-taken c = λ yes.
     none_there (route_at c.args.control.now.peers c.args.peer c.args.key.now) (sym c.in_ok-enter.ensures.fresh ∙ c.if-not-branch.false) in
     entered_taken c.args.now c.args.peer c.args.key.now (handed c.args.value.now) c.args.control.now c.enter.new.self before
     c.append_by.new.fecs.items c.enter.ensures.home c.enter.ensures.wants (c.in_ok-enter.ensures.entered c.if-not-branch.false) none
-    (c.in_ok-append_by.ensures ∙ ap (λ (key : Key). before ++ next key (value_of c.lent.result)) c.key.ensures.key
-    ∙ ap (λ (value : Value). before ++ next c.args.key.now value) c.lent.ensures)
+    (c.in_ok-append_by.ensures ∙ ap (λ (value : Value). before ++ next c.args.key.now value) c.lent.ensures)

@@ -16,5 +16,5 @@ returns-clause-taken c =
     taken_then c.args.now c.args.peer (unannounced c.args.update.unreach) (announced c.args.update.reach) old middle new _ listed
     c.announce_all.new.fecs.items
     (subst (λ keys. AreTaken c.args.now c.args.peer (unannounced keys) old middle _ listed) c.as_slice.ensures gone)
-    (subst (λ adverts. AreTaken c.args.now c.args.peer (announced adverts) middle new listed c.announce_all.new.fecs.items) c.into_vec.ensures
+    (subst (λ adverts. AreTaken c.args.now c.args.peer (announced adverts) middle new listed c.announce_all.new.fecs.items) c.as_slice-2.ensures
     c.in_ok-near.ensures.taken)

@@ -1,6 +1,6 @@
 use Rattle.std.proofs.Common.{rules, ◌≡◌, ap, sym, ◌∙◌}
 use Rattle.edge_defs.specs.Edge.{TakenRoute}
-use Rattle.edge_routes.specs.KeptPmsi.{mark_in, mark_of}
+use Rattle.edge_routes.specs.KeptPmsi.{mark_in}
 use Rattle.edge_tables.proofs.taken_tables.TunnelLemmas.{other_mark}
 use Rattle.edge_tables.proofs.taken_tables.entry.TakenEntry.has_tunnel.Goals as goal
 

@@ -1,3 +1,4 @@
 pub mod RootLemmas
 pub mod OrderLemmas
 pub mod LeafLemmas
+pub mod WaitLemmas

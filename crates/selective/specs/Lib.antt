@@ -3,3 +3,4 @@ pub mod Patterns
 pub mod Order
 pub mod Roots
 pub mod Leaves
+pub mod Waiting

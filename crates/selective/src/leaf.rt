@@ -1,10 +1,13 @@
 //! The tunnels of an egress.
-ghost use Rattle.std.specs.Prelude.{◌≡◌, ◌≤◌, ◌==◌, ◌++◌, true, false, map, count_by, not, IfOk, OnOk, OnErr};
+ghost use Rattle.std.specs.Prelude.{◌≡◌, ◌≤◌, ◌==◌, ◌++◌, None, Some, true, false, map, count_by, not, IfOk, OnOk, OnErr};
 ghost use Rattle.std.specs.BTreeMap as tree;
-ghost use Rattle.std.specs.FinMap.{empty, entries, insert, remove, values};
-ghost use Rattle.std.specs.List.{list_any};
+ghost use Rattle.std.specs.FinMap.{empty, entries, get, insert, remove, values};
+ghost use Rattle.std.specs.List.{fold, list_any};
 ghost use Rattle.selective_defs.specs.Selective.{wanted};
 ghost use Rattle.selective.specs.Leaves.{fecs_of, is_waiting, key_of, learned_now, patterns_of, peer_routes};
+ghost use Rattle.selective.specs.Waiting.{earlier, earliest_with, is_any_due};
+ghost use Rattle.selective.specs.declared.route_key.Learned.{Learned};
+ghost use Rattle.selective.specs.declared.route_key.RouteKey.{RouteKey};
 ghost use Rattle.selective.specs.Leaves.{routes_at, routes_run, run_due, until_run, without_peer};
 
 use crate::delay::is_due;
@@ -28,6 +31,40 @@ fn is_waiting(learned: &Learned, delay: u64, now: u64) -> bool
     !learned.run && is_due(delay, now, learned.since)
 }
 
+/// The earliest clock at which a route was learned whose delay was not run, with this route among the others.
+fn earliest_with(earliest: Option<u64>, learned: &Learned) -> Option<u64>
+    ensures { result ≡ earlier (not learned.now.run) earliest learned.now.since }
+{
+    if learned.run {
+        return earliest;
+    }
+    match earliest {
+        None => Some(learned.since),
+        Some(first) => Some(first.min(learned.since)),
+    }
+}
+
+/// That clock, of all these routes.
+fn earliest_of(routes: &LearnedRoutes) -> Option<u64>
+    ensures { result ≡ fold earliest_with None routes.now.entries }
+{
+    let mut earliest = None;
+    for (_key, learned) in routes.iter() {
+        earliest = earliest_with(earliest, learned);
+    }
+    earliest
+}
+
+/// Whether the delay may be over of a route that was learned then or later.
+fn is_any_due(delay: u64, now: u64, earliest: Option<u64>) -> bool
+    ensures { result ≡ is_any_due delay now earliest }
+{
+    match earliest {
+        None => false,
+        Some(since) => is_due(delay, now, since),
+    }
+}
+
 /// How many routes are due and not run.
 fn count_waiting(routes: &LearnedRoutes, delay: u64, now: u64) -> u64
     ensures { result ≡ count_by (is_waiting delay now) (tree.values routes.now) }
@@ -38,11 +75,13 @@ fn count_waiting(routes: &LearnedRoutes, delay: u64, now: u64) -> u64
         .count() as u64
 }
 
-/// The routes for selective tunnels that an egress has learned, each one of its peer, route distinguisher and pattern.
+/// The routes for selective tunnels that an egress has learned, each one of its peer, route distinguisher and pattern. Beside them is the
+/// clock before which none was learned whose delay was not run: a step at which no delay can be over looks at no route.
 #[derive(Drop)]
 pub struct LeafTunnels {
     delay: u64,
     routes: LearnedRoutes,
+    earliest: Option<u64>,
 }
 
 impl Model for LeafTunnels {
@@ -57,7 +96,9 @@ impl Model for LeafTunnels {
 
     ghost view = { λ t. record { delay = t.delay; routes = from_sorted t.routes.entries } };
 
-    ghost invariant = { λ t. IsOrdered route_cmp t.routes };
+    ghost use Rattle.selective.specs.Waiting.{IsNoted};
+
+    ghost invariant = { λ t. IsOrdered route_cmp t.routes × IsNoted t.earliest (from_sorted t.routes.entries) };
 }
 
 impl LeafTunnels {
@@ -70,6 +111,7 @@ impl LeafTunnels {
         LeafTunnels {
             delay,
             routes: BTreeMap::new(alloc),
+            earliest: None,
         }
     }
 
@@ -91,14 +133,14 @@ impl LeafTunnels {
             pattern,
             place: Place::Of(rd),
         };
-        self.routes.insert(
-            key,
-            Learned {
-                fec,
-                since: now,
-                run: false,
-            },
-        )?;
+        let learned = Learned {
+            fec,
+            since: now,
+            run: false,
+        };
+        let earliest = earliest_with(self.earliest, &learned);
+        self.routes.insert(key, learned)?;
+        self.earliest = earliest;
         Ok(())
     }
 
@@ -122,6 +164,7 @@ impl LeafTunnels {
                 ensures { (result ≡ not (key.now.peer.0 == peer.0)) × (learned.new ≡ learned.old) }
             { key.peer.0 != peer.0 },
         );
+        self.earliest = earliest_of(&self.routes);
     }
 
     /// Runs the delay of each route that is due.
@@ -137,6 +180,15 @@ impl LeafTunnels {
                 true
             },
         );
+        self.earliest = earliest_of(&self.routes);
+    }
+
+    /// Whether the delay of a route may be due that was not run. It looks at no route.
+    pub fn is_any_due(&self, now: u64) -> bool
+        ensures { result ≡ false → (key : RouteKey) (learned : Learned) → get self.now.routes key ≡ Some learned →
+            is_waiting self.now.delay now learned ≡ false }
+    {
+        is_any_due(self.delay, now, self.earliest)
     }
 
     /// The routes that were learned, by key.

@@ -98,13 +98,17 @@ fn mark_waiting(wants: &mut WantTable, leaf: &LeafTunnels, now: u64)
     }
 }
 
-/// Runs the delay of each route that is due. The flows that are looked at are those of the patterns of such routes.
+/// Runs the delay of each route that is due. The flows that are looked at are those of the patterns of such routes. Where none can be due,
+/// no route is looked at.
 pub(crate) fn run_routes(leaf: &mut LeafTunnels, wants: &mut WantTable, now: u64)
     requires unique { IsUnique same_flow wants.old }
     ensures run { leaf.new ≡ record leaf.old { routes = routes_run leaf.old.delay now leaf.old.routes } }
     ensures sound { (flows : FinMap flow_cmp Choice) → IsSound leaf.old flows wants.old → IsSound leaf.new flows wants.new }
     ensures tunnels { tunnels_in wants.new.entries ≡ tunnels_in wants.old.entries }
 {
+    if !leaf.is_any_due(now) {
+        return;
+    }
     mark_waiting(wants, leaf, now);
     leaf.timers(now);
 }

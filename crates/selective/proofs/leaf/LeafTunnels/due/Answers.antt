@@ -11,5 +11,5 @@ pub returns : goal.returns
 returns c =
     c.count_waiting.ensures
     ∙ (ap (λ (es : List (RouteKey × Learned)). count_by (is_waiting c.self.inside.delay c.args.now) (map (λ (e : RouteKey × Learned). e.1) es))
-    (sym (entries_of route_cmp c.self.inside.routes.entries c.self.invariant))
+    (sym (entries_of route_cmp c.self.inside.routes.entries c.self.invariant.0))
     ∙ ap (λ (l : Leaf). count_by (is_waiting l.delay c.args.now) (values l.routes)) c.self.view_is)

@@ -26,7 +26,7 @@ returns-clause-pushed c =
     gives ∙ (c.range-key-items.ensures.between c.new.ensures.exhausted
     ∙ ((λ i. entries_between route_cmp (Included (c.new.ensures.start i)) (Included (c.new.ensures.end i)) es)
     ∙ (range_at c.args.peer c.args.pattern es
-    ∙ (ap (routes_at c.args.peer c.args.pattern) (sym (entries_of route_cmp es c.self.invariant))
+    ∙ (ap (routes_at c.args.peer c.args.pattern) (sym (entries_of route_cmp es c.self.invariant.0))
     ∙ ap (λ (l : Leaf). routes_at c.args.peer c.args.pattern (entries l.routes)) c.self.view_is)))) in
     let done : c.loop-key._key-iterator ≡ [] = rest_all deref_pair _ _ c.next.result c.in-None.is c.next.ensures.steps in
     sym (append-nil c.loop-key.fecs) ∙ (ap (λ (l : List (RouteKey × Learned)). c.loop-key.fecs ++ map (λ (e : RouteKey × Learned). e.1.fec) l)
@@ -41,7 +41,7 @@ returns-clause-run c =
     gives ∙ (c.range-key-items.ensures.between c.new.ensures.exhausted
     ∙ ((λ i. entries_between route_cmp (Included (c.new.ensures.start i)) (Included (c.new.ensures.end i)) es)
     ∙ (range_at c.args.peer c.args.pattern es
-    ∙ (ap (routes_at c.args.peer c.args.pattern) (sym (entries_of route_cmp es c.self.invariant))
+    ∙ (ap (routes_at c.args.peer c.args.pattern) (sym (entries_of route_cmp es c.self.invariant.0))
     ∙ ap (λ (l : Leaf). routes_at c.args.peer c.args.pattern (entries l.routes)) c.self.view_is)))) in
     let done : c.loop-key._key-iterator ≡ [] = rest_all deref_pair _ _ c.next.result c.in-None.is c.next.ensures.steps in
     sym (or_false c.loop-key.run) ∙ (ap (λ (l : List (RouteKey × Learned)). c.loop-key.run || list_any (λ (e : RouteKey × Learned). e.1.run) l)

@@ -6,4 +6,4 @@ use Rattle.selective.specs.Order.{route_cmp}
 use Rattle.selective.proofs.leaf.LeafTunnels.routes.Goals as goal
 
 pub returns : goal.returns
-returns c = sym (entries_of route_cmp c.self.inside.routes.entries c.self.invariant) ∙ ap (λ (l : Leaf). entries l.routes) c.self.view_is
+returns c = sym (entries_of route_cmp c.self.inside.routes.entries c.self.invariant.0) ∙ ap (λ (l : Leaf). entries l.routes) c.self.view_is

@@ -1,10 +1,10 @@
 -- Which tunnels of an edge a flow wants does not depend on routes of other edges, nor on those that do not match the flow.
-use Rattle.std.proofs.Common.{◌≡◌, ℕ, ◌+◌, ◌==◌, ◌&&◌, ◌||◌, Bool, true, false, not, cond, T, List, [], ◌∷◌, ◌++◌, map, Option, None, Some, refl, sym, ap, subst, ◌∙◌, arith}
+use Rattle.std.proofs.Common.{◌≡◌, ℕ, ◌==◌, ◌&&◌, ◌||◌, Bool, true, false, not, cond, T, List, [], ◌∷◌, ◌++◌, map, Option, None, Some, refl, sym, ap, subst, ◌∙◌, arith}
 use Rattle.std.specs.List.{AllByRecursion, filter, list_any}
-use Rattle.std.specs.Option.{option_eq}
+use Rattle.std.specs.Option.{option_eq, option_map}
 use Rattle.std.specs.Ordering.{eq_by_cmp, is_lt}
 use Rattle.std.specs.Cmp.{Equal-is}
-use Rattle.std.specs.FinMap.{entries, entries-from_sorted, entries-insert, entries_sorted, insert, is_sorted, remove}
+use Rattle.std.specs.FinMap.{entries, entries-from_sorted, entries-insert, entries_sorted, find, get, get-entries, insert, is_sorted, remove, same_map}
 use Rattle.std.specs.FinMap.Entries.{below_all, is_sorted-where_key}
 use Rattle.std.proofs.lemmas.Bool.{and_from, and_parts, or_parts}
 use Rattle.std.proofs.lemmas.Bool.Decides.{nat_tests}
@@ -17,6 +17,7 @@ use Rattle.mv_base.proofs.SortedMaps.{map_sorted}
 use Rattle.selective_defs.specs.Selective.{allows, matches}
 use Rattle.selective.specs.declared.route_key.Learned.{Learned}
 use Rattle.selective.specs.declared.route_key.RouteKey.{RouteKey}
+use Rattle.selective.specs.Delays.{is_due}
 use Rattle.selective.specs.Order.{route_cmp, route_total}
 use Rattle.selective.specs.Patterns.{same_pattern}
 use Rattle.selective.specs.Leaves.{Leaf, Routes, fecs_of, is_of_peer, is_waiting, key_of, patterns_of, routes_at, routes_run, run_due, until_run, without_peer}
@@ -228,3 +229,36 @@ tunnels-run leaf now q edge none =
     (all-more _ _ (λ p out. run-at leaf.delay now q edge p out (entries leaf.routes) none
     ∙ sym (ap (routes_at edge p) (entries-run leaf.delay now leaf.routes)))
     (patterns_of q.source q.group) (apart-each q edge))
+
+-- ---- delays of which none is due
+
+find-run : (delay now : ℕ) (q : RouteKey) (es : List (RouteKey × Learned))
+    → find route_cmp q (all_run delay now es) ≡ option_map (run_due delay now) (find route_cmp q es)
+find-run delay now q [] = refl
+find-run delay now q (e ∷ es) = by (eq_by_cmp route_cmp q e.0) (find-run delay now q es)
+  where
+    by : (b : Bool) → find route_cmp q (all_run delay now es) ≡ option_map (run_due delay now) (find route_cmp q es)
+        → cond b (Some (run_due delay now e.1)) (find route_cmp q (all_run delay now es))
+        ≡ option_map (run_due delay now) (cond b (Some e.1) (find route_cmp q es))
+    by true rest = refl
+    by false rest = rest
+
+was-run : (run due : Bool) → (not run && due) ≡ false → (run || due) ≡ run
+was-run true due h = refl
+was-run false due h = h
+
+-- Where no route waits, all stay as they are.
+pub none-run : (delay now : ℕ) (routes : Routes) →
+    ((key : RouteKey) (learned : Learned) → get routes key ≡ Some learned → is_waiting delay now learned ≡ false) → routes ≡ routes_run delay now routes
+none-run delay now routes none =
+    same_map route_total route_exact routes (routes_run delay now routes) (λ q.
+    sym (get-entries (routes_run delay now routes) q
+    ∙ (ap (find route_cmp q) (entries-run delay now routes)
+    ∙ (find-run delay now q (entries routes)
+    ∙ (ap (option_map (run_due delay now)) (sym (get-entries routes q)) ∙ by q (get routes q) refl)))))
+  where
+    by : (q : RouteKey) (o : Option Learned) → get routes q ≡ o → option_map (run_due delay now) o ≡ o
+    by q None e = refl
+    by q (Some learned) e =
+        let same = was-run learned.run (is_due delay now learned.since) (none q learned e) in
+        λ i. Some (record learned { run = same i })

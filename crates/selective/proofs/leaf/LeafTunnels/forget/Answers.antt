@@ -17,8 +17,10 @@ returns c =
     ∙ ap (λ (l : Leaf). record { delay = l.delay; routes = remove l.routes key }) c.self.view_is
 
 pub invariant_of-self : goal.invariant_of-self
-invariant_of-self c =
-    (c.remove.ensures.ordered, rest_noted c.self.inside.earliest (from_sorted c.self.inside.routes.entries) (from_sorted c.remove.new.self.entries)
-    (key_of c.args.peer c.args.rd c.args.pattern) c.self.invariant.1
-    (removed route_cmp route_total route_exact c.self.inside.routes.entries c.remove.new.self.entries
-    (key_of c.args.peer c.args.rd c.args.pattern) c.self.invariant.0 c.remove.ensures.ordered c.remove.ensures.updates.0))
+invariant_of-self c = (
+  c.remove.ensures.ordered,
+  rest_noted c.self.inside.earliest (from_sorted c.self.inside.routes.entries) (from_sorted c.remove.new.self.entries)
+      (key_of c.args.peer c.args.rd c.args.pattern) c.self.invariant.1
+      (removed route_cmp route_total route_exact c.self.inside.routes.entries c.remove.new.self.entries
+      (key_of c.args.peer c.args.rd c.args.pattern) c.self.invariant.0 c.remove.ensures.ordered c.remove.ensures.updates.0),
+)

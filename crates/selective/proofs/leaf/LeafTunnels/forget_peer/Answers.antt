@@ -21,7 +21,9 @@ returns c =
     ∙ ap (λ (l : Leaf). record { delay = l.delay; routes = without_peer c.args.peer l.routes }) c.self.view_is
 
 pub invariant_of-self : goal.invariant_of-self
-invariant_of-self c =
-    (c.retain.ensures.ordered, seen_noted c.earliest_of-self-inside.result (from_sorted c.retain.new.self.entries)
-    (c.earliest_of-self-inside.ensures ∙ ap (λ (es : List (RouteKey × Learned)). fold earliest_with None es)
-    (sym (entries_of route_cmp c.retain.new.self.entries c.retain.ensures.ordered))))
+invariant_of-self c = (
+  c.retain.ensures.ordered,
+  seen_noted c.earliest_of-self-inside.result (from_sorted c.retain.new.self.entries)
+      (c.earliest_of-self-inside.ensures ∙ ap (λ (es : List (RouteKey × Learned)). fold earliest_with None es)
+      (sym (entries_of route_cmp c.retain.new.self.entries c.retain.ensures.ordered))),
+)

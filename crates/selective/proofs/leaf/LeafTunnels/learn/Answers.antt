@@ -21,8 +21,10 @@ returns-clause-learned c =
 pub invariant_of-self-2 : goal.invariant_of-self-2
 invariant_of-self-2 c =
     let learned : Learned = record { fec = c.args.fec; since = c.args.now; run = false } in
-    let key = key_of c.args.peer c.args.rd c.args.pattern in
-    (c.insert.ensures.ordered, put_noted c.self.inside.earliest c.earliest_with-earliest.result (from_sorted c.self.inside.routes.entries) (from_sorted c.insert.new.self.entries)
-    key learned c.self.invariant.1 c.earliest_with-earliest.ensures
-    (inserted route_cmp route_total route_exact c.self.inside.routes.entries c.insert.new.self.entries key learned c.self.invariant.0
-    c.insert.ensures.ordered c.in_ok-insert.ensures.updates.0))
+    let key = key_of c.args.peer c.args.rd c.args.pattern in (
+      c.insert.ensures.ordered,
+      put_noted c.self.inside.earliest c.earliest_with-earliest.result (from_sorted c.self.inside.routes.entries) (from_sorted c.insert.new.self.entries)
+          key learned c.self.invariant.1 c.earliest_with-earliest.ensures
+          (inserted route_cmp route_total route_exact c.self.inside.routes.entries c.insert.new.self.entries key learned c.self.invariant.0
+          c.insert.ensures.ordered c.in_ok-insert.ensures.updates.0),
+    )

@@ -14,6 +14,8 @@ returns c =
     (ap (λ (es : List (RouteKey × Learned)). from_sorted es) c.new.ensures.empty ∙ empty_map route_cmp)
 
 pub invariant_of-result : goal.invariant_of-result
-invariant_of-result c =
-    (c.new.ensures.ordered, none_noted None (from_sorted c.new.result.entries)
-    (ap (λ (es : List (RouteKey × Learned)). from_sorted es) c.new.ensures.empty ∙ empty_map route_cmp))
+invariant_of-result c = (
+  c.new.ensures.ordered,
+  none_noted None (from_sorted c.new.result.entries)
+      (ap (λ (es : List (RouteKey × Learned)). from_sorted es) c.new.ensures.empty ∙ empty_map route_cmp),
+)

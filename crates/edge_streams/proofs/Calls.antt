@@ -1,5 +1,5 @@
 -- What calls on the streams of one protocol make of the streams of all sessions.
-use Rattle.std.proofs.Common.{◌≡◌, ℕ, Bool, true, false, cond, List, [], map, Option, Some, None, option_map, is_some, inl, inr, refl, sym, ap, subst, ◌∙◌}
+use Rattle.std.proofs.Common.{◌≡◌, ℕ, Bool, false, cond, List, map, Option, Some, None, option_map, inl, inr, refl, sym, ap, subst, ◌∙◌}
 use Rattle.std.specs.FinMap as maps
 use Rattle.std.specs.FinMap.{FinMap}
 use Rattle.mv_base.specs.declared.ids.NodeId.{NodeId}
@@ -12,7 +12,7 @@ use Rattle.scenario_defs.specs.declared.event.Kind.{Kind}
 use Rattle.network_defs.specs.session_defs.Message.{SessionMessage, SessionFault, as_front, front_of}
 use Rattle.network_defs.specs.session_defs.Octets.{Stream}
 use Rattle.network_defs.specs.session_defs.PeerSession.{PeerSession, peer_cmp, stream_at, fault_at}
-use Rattle.edge_streams.specs.Kept.{NodeMap, is_node, PutAt, ChangedAt, NextAt, session, fault_as, fault_in, waiting_in}
+use Rattle.edge_streams.specs.Kept.{NodeMap, is_node, PutAt, ChangedAt, NextAt, session, fault_as, fault_in}
 use Rattle.edge_streams.specs.Streams.{with_octets, TakesFirst}
 use Rattle.edge_streams.proofs.FedAs.{fed_same}
 use Rattle.edge_streams.proofs.SessionMaps.{Protocol, stream_of, Has, Changes, Sets, inserted, stays, sets}
@@ -21,21 +21,12 @@ use Rattle.edge_streams.proofs.DrainLemmas.{stream_or}
 -- ---- what a session had
 
 module _ {M E : Type 0} (p : Protocol M E) (streams : FinMap peer_cmp Stream) (peer : NodeId) where
-  waits_here : (here : Option (Fed M E)) → maps.get streams (session p.kind peer) ≡ option_map (stream_of p) here
-      → map p.message (waiting_in here) ≡ (stream_at streams (session p.kind peer)).waiting
-  waits_here None e = sym (ap (λ (o : Option Stream). (stream_or o).waiting) e)
-  waits_here (Some d) e = sym (ap (λ (o : Option Stream). (stream_or o).waiting) e)
-
   fault_here : (here : Option (Fed M E)) → maps.get streams (session p.kind peer) ≡ option_map (stream_of p) here
       → fault_as p.fault (fault_in here) ≡ fault_at streams (session p.kind peer)
   fault_here None e = sym (ap (λ (o : Option Stream). (stream_or o).fault) e)
   fault_here (Some d) e = sym (ap (λ (o : Option Stream). (stream_or o).fault) e)
 
-  -- the messages that wait in the stream of one protocol wait in the session's stream, and its fault is the session's
-  pub waits : (own : NodeMap (Fed M E)) → Has p own streams
-      → map p.message (waiting_in (get is_node own peer)) ≡ (stream_at streams (session p.kind peer)).waiting
-  waits own has = waits_here (get is_node own peer) (has peer)
-
+  -- the fault of the stream of one protocol is the session's
   pub failed : (own : NodeMap (Fed M E)) → Has p own streams
       → fault_as p.fault (fault_in (get is_node own peer)) ≡ fault_at streams (session p.kind peer)
   failed own has = fault_here (get is_node own peer) (has peer)
@@ -103,14 +94,6 @@ module _ {M E : Type 0} (p : Protocol M E) (peer : NodeId) (old new : FinMap pee
   takes (Some d) there result next e sets =
       takes_one d next.0 result e (subst (λ (o : Option (Fed M E)). Sets p.kind peer (option_map (stream_of p) o) old new) next.1 sets) next.2
 
-  empties : (here : Option (Fed M E)) → maps.get old own ≡ option_map (stream_of p) here → is_some (maps.get old own) ≡ true
-      → Sets p.kind peer (option_map (stream_of p) (option_map {T = Fed M E} (λ d. record d { waiting = [] }) here)) old new
-      → new ≡ maps.insert old own (record (stream_at old own) { waiting = [] })
-  empties None e up sets = absurd (let no : false ≡ true = sym (ap (λ (o : Option Stream). is_some o) e) ∙ up in cc)
-  empties (Some d) e up sets =
-      inserted p.kind peer (record (stream_of p d) { waiting = [] }) old new sets
-      ∙ ap (λ (s : Stream). maps.insert old own (record s { waiting = [] })) (sym (at_here (Some (stream_of p d)) e (stream_of p d) refl))
-
 -- ---- one node and every other
 
 -- what the node has now, and every other node what it had
@@ -146,9 +129,3 @@ module _ {M E : Type 0} (p : Protocol M E) (before after : NodeMap (Fed M E)) (o
   takes_first result next others =
       takes p peer old new (get is_node before peer) (get is_node after peer) result next (is.had peer)
       (sets p before after old new is peer (get is_node after peer) (one_changes before after peer others))
-
-  pub drained : is_some (maps.get old (session p.kind peer)) ≡ true → ChangedAt peer (λ d. record d { waiting = [] }) before after
-      → new ≡ maps.insert old (session p.kind peer) (record (stream_at old (session p.kind peer)) { waiting = [] })
-  drained up each =
-      empties p peer old new (get is_node before peer) (is.had peer) up (sets p before after old new is peer
-      (option_map {T = Fed M E} (λ d. record d { waiting = [] }) (get is_node before peer)) (one_changed (λ d. record d { waiting = [] }) before after peer each))

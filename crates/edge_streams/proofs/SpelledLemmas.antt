@@ -1,5 +1,5 @@
 -- Each message that comes to wait in a stream is one that octets spell.
-use Rattle.std.proofs.Common.{◌≡◌, ℕ, List, [], ◌∷◌, ◌++◌, Result, Ok, Err, sym, subst}
+use Rattle.std.proofs.Common.{ℕ, List, [], ◌∷◌, ◌++◌, Result, Ok, Err, sym, subst}
 use Rattle.std.specs.List.{flat_map, AllByRecursion}
 use Rattle.mv_base.specs.framing.Units.{Spelled, Begins}
 use Rattle.mv_base.specs.framing.Cut.{Fails}

@@ -1,5 +1,5 @@
 -- What a message says that octets spell has a spelling of its own.
-use Rattle.std.proofs.Common.{◌≡◌, ℕ, List, [], ◌∷◌, ◌++◌, map, All, Option, Some, None, refl, sym, ap, subst, ◌∙◌}
+use Rattle.std.proofs.Common.{◌≡◌, ℕ, List, [], ◌∷◌, ◌++◌, map, Option, Some, None, refl, sym, ap, subst, ◌∙◌}
 use Rattle.std.specs.List.{Contains, AllByRecursion}
 use Rattle.std.proofs.lemmas.List.Elements.{All-from_recursion}
 use Rattle.mv_base.specs.declared.addr.Addr.{Addr}
@@ -173,13 +173,3 @@ label_message_writable (labels.Withdraw f l) s =
     carried_writable f l s.1.body (label_means_own (labels.Withdraw f l) s.1.message s.1.kind s.1.body s.1.one s.1.means).1
 label_message_writable (labels.Release f l) s =
     carried_writable f l s.1.body (label_means_own (labels.Release f l) s.1.message s.1.kind s.1.body s.1.one s.1.means).1
-
--- ---- lists of messages
-
-by_each : {M : Type 0} (P Q : M → Type 0) → ((m : M) → P m → Q m) → (ms : List M) → AllByRecursion P ms → AllByRecursion Q ms
-by_each P Q each [] are = tt
-by_each P Q each (m ∷ ms) are = (each m are.0, by_each P Q each ms are.1)
-
--- what follows for each message follows for all
-pub all_meet : {M : Type 0} (P Q : M → Type 0) → ((m : M) → P m → Q m) → (ms : List M) → AllByRecursion P ms → All Q ms
-all_meet P Q each ms are = All-from_recursion Q ms (by_each P Q each ms are)

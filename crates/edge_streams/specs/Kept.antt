@@ -1,5 +1,5 @@
 -- Streams by node, as they are kept, and the streams of sessions that they are.
-use Rattle.std.specs.Prelude.{◌≡◌, ℕ, Bool, List, [], ◌++◌, map, Option, None, Some, option_map, if◌then◌else◌}
+use Rattle.std.specs.Prelude.{◌≡◌, ℕ, Bool, List, ◌++◌, map, Option, None, Some, option_map, if◌then◌else◌}
 use Rattle.std.specs.FinMap as maps
 use Rattle.std.specs.FinMap.{FinMap}
 use Rattle.std.specs.declared.hash.FoldHasher.{FoldHasher}
@@ -44,12 +44,7 @@ abbrev pub NextAt : {M E : Type 0} → Option (Fed M E) → Option M → Option 
 NextAt None result new = (result ≡ None) × (new ≡ None)
 NextAt {M} {E} (Some old) result new = (left : Fed M E) × (new ≡ Some left) × NextIs old result left
 
--- the messages that wait in a stream that may be there
-abbrev pub waiting_in : {M E : Type 0} → Option (Fed M E) → List M
-waiting_in None = []
-waiting_in (Some d) = d.waiting
-
--- its first fault, with its place
+-- the first fault of a stream that may be there, with its place
 abbrev pub fault_in : {M E : Type 0} → Option (Fed M E) → Option (ℕ × E)
 fault_in None = None
 fault_in (Some d) = d.fault

@@ -38,6 +38,10 @@ TakesFirst session old (Some message) new =
     (more : List SessionMessage) × ((stream_at old session).waiting ≡ message ∷ more)
     × (new ≡ maps.insert old session (record (stream_at old session) { waiting = more }))
 
+-- the streams once no message waits for the session
+abbrev pub drained : PeerSession → FinMap peer_cmp Stream → FinMap peer_cmp Stream
+drained session streams = maps.insert streams session (record (stream_at streams session) { waiting = [] })
+
 -- a fault as it is told
 abbrev pub reason_of : SessionFault → SessionReason
 reason_of (BgpFault fault) = reasons.Bgp fault

@@ -1,10 +1,9 @@
 //! The streams of one protocol's sessions, by peer.
-ghost use Rattle.std.specs.Prelude.{◌≡◌, [], false, Some, None, IfOk, IfSome, OnOk, OnErr};
-ghost use Rattle.std.specs.List.{AllByRecursion};
+ghost use Rattle.std.specs.Prelude.{◌≡◌, false, Some, None, IfSome, OnOk, OnErr};
 ghost use Rattle.mv_base.specs.framing.Feed.{fed, unfed};
 ghost use Rattle.indexmap.specs.IndexMap.{get, IsUnique};
 ghost use Rattle.mv_base.specs.declared.ids.NodeId.{NodeId};
-ghost use Rattle.edge_streams.specs.Kept.{is_node, NextAt, PutAt, ChangedAt, IsSame, fault_as, fault_in, waiting_in};
+ghost use Rattle.edge_streams.specs.Kept.{is_node, NextAt, PutAt, ChangedAt, IsSame, fault_as, fault_in};
 ghost use Rattle.edge_streams.specs.Streams.{told_fault};
 
 use crate::message_stream::MessageStream;
@@ -72,24 +71,6 @@ pub(crate) fn next<S: MessageStream>(
     match streams.get_mut(&peer) {
         None => None,
         Some(stream) => stream.next(),
-    }
-}
-
-/// Takes all messages that wait in the stream of the peer, in order.
-pub(crate) fn drain<S: MessageStream>(
-    streams: &mut PeerStreams<S>,
-    alloc: Global,
-    peer: NodeId,
-) -> Result<Vec<S::Message>, NoMemory>
-    requires { IsUnique is_node streams.old }
-    ensures messages { IfOk result (λ messages. messages.items ≡ waiting_in (get is_node streams.old peer)) }
-    ensures spelled { IfOk result (λ messages. AllByRecursion S.is_spelled messages.items) }
-    ensures rest { OnOk result (ChangedAt peer (λ d. record d { waiting = [] }) streams.old streams.new) }
-    ensures unique { IsUnique is_node streams.new }
-{
-    match streams.get_mut(&peer) {
-        None => Ok(Vec::new(alloc)),
-        Some(stream) => stream.drain(alloc),
     }
 }
 

@@ -1,6 +1,5 @@
 //! The stream of one session, whichever its protocol.
-ghost use Rattle.std.specs.Prelude.{◌≡◌, [], IfOk, IfSome, OnOk, OnErr};
-ghost use Rattle.std.specs.List.{AllByRecursion};
+ghost use Rattle.std.specs.Prelude.{◌≡◌, IfSome, OnOk, OnErr};
 ghost use Rattle.mv_base.specs.framing.Feed.{fed, unfed};
 ghost use Rattle.mv_base.specs.framing.Feeding.{NextIs};
 
@@ -62,19 +61,6 @@ impl<S: MessageStream> SessionStream<S> {
         ensures spelled { IfSome result (λ message. S.is_spelled message) }
     {
         self.stream.next()
-    }
-
-    /// Takes all messages that wait, in order.
-    pub(crate) fn drain(&mut self, alloc: Global) -> Result<Vec<S::Message>, NoMemory>
-        ensures messages { IfOk result (λ messages. messages.items ≡ self.old.waiting) }
-        ensures spelled { IfOk result (λ messages. AllByRecursion S.is_spelled messages.items) }
-        ensures rest { OnOk result (self.new ≡ record self.old { waiting = [] }) }
-    {
-        let mut messages = Vec::new(alloc);
-        while let Some(message) = self.next() {
-            messages.push(message)?;
-        }
-        Ok(messages)
     }
 
     /// The first fault, and its place.

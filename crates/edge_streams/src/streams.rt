@@ -1,10 +1,10 @@
 //! The streams of a node's sessions.
-ghost use Rattle.std.specs.Prelude.{◌≡◌, [], map, true, is_some, option_map, All, IfOk, IfSome, OnOk, OnErr};
+ghost use Rattle.std.specs.Prelude.{◌≡◌, option_map, IfSome, OnOk, OnErr};
 ghost use Rattle.std.specs.FinMap as maps;
 ghost use Rattle.mv_base.specs.framing.Feed.{unfed};
 ghost use Rattle.scenario_defs.specs.declared.event.Kind.TheVariants as kinds;
 ghost use Rattle.network_defs.specs.session_defs.Message.{Bgp, Label};
-ghost use Rattle.network_defs.specs.session_defs.PeerSession.{fault_at, stream_at};
+ghost use Rattle.network_defs.specs.session_defs.PeerSession.{fault_at};
 ghost use Rattle.edge_streams.specs.Kept.{session};
 ghost use Rattle.edge_streams.specs.Spelled.{IsSpelled, IsSpelledLabel, SaysWritable, SaysWritableLabel};
 ghost use Rattle.edge_streams.specs.Streams.{with_octets, TakesFirst, told_fault};
@@ -112,30 +112,6 @@ impl EdgeStreams {
         ensures writable { IfSome result (λ message. SaysWritableLabel message) }
     {
         peer_streams::next(&mut self.ldp, peer)
-    }
-
-    /// Takes all messages of the BGP peer that wait, in order. The session has a stream.
-    pub fn drain_bgp(&mut self, peer: NodeId) -> Result<Vec<Message>, NoMemory>
-        requires stream { is_some (maps.get self.old (session kinds.Bgp peer)) ≡ true }
-        ensures messages { IfOk result (λ messages. map (λ message. Bgp message) messages.items
-            ≡ (stream_at self.old (session kinds.Bgp peer)).waiting) }
-        ensures writable { IfOk result (λ messages. All SaysWritable messages.items) }
-        ensures rest { OnOk result (self.new ≡ maps.insert self.old (session kinds.Bgp peer)
-            (record (stream_at self.old (session kinds.Bgp peer)) { waiting = [] })) }
-    {
-        peer_streams::drain(&mut self.bgp, self.alloc, peer)
-    }
-
-    /// Takes all messages of the LDP neighbour that wait, in order. The session has a stream.
-    pub fn drain_ldp(&mut self, peer: NodeId) -> Result<Vec<LabelMessage>, NoMemory>
-        requires stream { is_some (maps.get self.old (session kinds.Ldp peer)) ≡ true }
-        ensures messages { IfOk result (λ messages. map (λ message. Label message) messages.items
-            ≡ (stream_at self.old (session kinds.Ldp peer)).waiting) }
-        ensures writable { IfOk result (λ messages. All SaysWritableLabel messages.items) }
-        ensures rest { OnOk result (self.new ≡ maps.insert self.old (session kinds.Ldp peer)
-            (record (stream_at self.old (session kinds.Ldp peer)) { waiting = [] })) }
-    {
-        peer_streams::drain(&mut self.ldp, self.alloc, peer)
     }
 
     /// The first fault of the session's stream, and its place, counted from the stream's first octet. A place past the greatest

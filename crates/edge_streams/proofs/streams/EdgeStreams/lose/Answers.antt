@@ -1,9 +1,6 @@
 use Rattle.std.proofs.Common.{◌≡◌, sym, subst}
 use Rattle.std.specs.FinMap as maps
-use Rattle.std.specs.FinMap.{FinMap}
 use Rattle.scenario_defs.specs.declared.event.Kind.{Kind}
-use Rattle.network_defs.specs.session_defs.Octets.{Stream}
-use Rattle.network_defs.specs.session_defs.PeerSession.{peer_cmp}
 use Rattle.edge_streams.specs.Kept.{session, streams_of}
 use Rattle.edge_streams.proofs.SessionMaps.{over_bgp, over_ldp, bgp_changes, ldp_changes, lost}
 use Rattle.edge_streams.proofs.streams.EdgeStreams.lose.Goals as goal

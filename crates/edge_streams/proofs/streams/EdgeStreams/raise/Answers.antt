@@ -1,12 +1,9 @@
-use Rattle.std.proofs.Common.{◌≡◌, refl, sym, subst}
+use Rattle.std.proofs.Common.{◌≡◌, sym, subst}
 use Rattle.std.specs.FinMap as maps
-use Rattle.std.specs.FinMap.{FinMap}
-use Rattle.std.specs.Prelude.{OnOk, OnErr}
+use Rattle.std.specs.Prelude.{OnOk}
 use Rattle.std.proofs.lemmas.Result.{on_ok_weaker, on_err_weaker}
 use Rattle.mv_base.specs.framing.Feed.{unfed}
 use Rattle.scenario_defs.specs.declared.event.Kind.{Kind}
-use Rattle.network_defs.specs.session_defs.Octets.{Stream}
-use Rattle.network_defs.specs.session_defs.PeerSession.{peer_cmp}
 use Rattle.edge_streams.specs.Kept.{session, streams_of}
 use Rattle.edge_streams.proofs.SessionMaps.{over_bgp, over_ldp, bgp_changes, ldp_changes, raised, same}
 use Rattle.edge_streams.proofs.streams.EdgeStreams.raise.Goals as goal

@@ -1,5 +1,5 @@
 -- Messages of a session are taken one after another, and octets that spell them.
-use Rattle.std.proofs.Common.{◌≡◌, ◌∙◌, refl, sym, ap, subst, arith, ℕ, ◌<◌, inl, inr, true, List, [], ◌∷◌, length, Option, None, Some, Result, Ok, Err, OnOk, is_some}
+use Rattle.std.proofs.Common.{◌≡◌, ◌∙◌, refl, sym, ap, subst, ℕ, ◌<◌, inl, inr, true, List, [], ◌∷◌, length, Option, None, Some, Result, Ok, Err, OnOk, is_some}
 use Rattle.std.specs.FinMap as maps
 use Rattle.std.specs.FinMap.{FinMap}
 use Rattle.std.proofs.lemmas.Option.{none-some}
@@ -18,15 +18,15 @@ use Rattle.edge_routes.specs.edge_home.Home.{Home, place_of}
 use Rattle.network_defs.specs.node_defs.EdgeState.{EdgeState, all_taken, call_of, called, took, took_unless}
 use Rattle.node_laws.proofs.TakenLemmas.{message_called, spent_takes}
 use Rattle.edge_routing.specs.edge_streams.Kept.{session}
-use Rattle.edge_routing.specs.edge_streams.Streams.{TakesFirst, with_octets}
+use Rattle.edge_routing.specs.edge_streams.Streams.{TakesFirst, drained, with_octets}
 use Rattle.edge_core.specs.declared.fault.EdgeFault.{EdgeFault}
 use Rattle.edge_core.specs.declared.fault.EdgeFault.TheVariants as faults
 use Rattle.edge_core.specs.declared.parts.Parts.{Parts}
 use Rattle.edge_core.specs.Answers.{Makes, spent_by}
 use Rattle.edge_core.specs.Called.{IsReady, Settles, SettlesCall, thereafter, going, spent_after, with_streams}
 use Rattle.edge_core.specs.State.{IsIn, IsLive, is_up}
-use Rattle.edge_core.specs.Taking.{AnswersOctets, IsSessionFault, drained, taken_by, took_by}
-use Rattle.edge_routing.proofs.edge_streams.DrainLemmas.{put_again, put_same, put_there, stream_put}
+use Rattle.edge_core.specs.Taking.{AnswersOctets, IsSessionFault, taken_by, took_by}
+use Rattle.edge_routing.proofs.edge_streams.DrainLemmas.{none_drained, put_same, took_drained, took_fewer, took_rest, took_there}
 use Rattle.edge_routing.proofs.edge_streams.FedLemmas.{drained_is, now_fed, put_quiet, put_up, stream_fed}
 use Rattle.edge_core.specs.View.{EdgeView}
 use Rattle.edge_core.proofs.StepLemmas.{one_fault}
@@ -207,33 +207,25 @@ module _ (core : Topology) (now : ℕ) (own : PeerSession) (first parts : Parts)
     abbrev more : List SessionMessage
     more = took_so.0
 
-    abbrev rest : Stream
-    rest = record (stream_at parts.streams own) { waiting = more }
-
     still_left : AreLeft core now own.peer all_first (message ∷ more) (calm first) (calm parts)
     still_left = subst (λ (ms : List SessionMessage). AreLeft core now own.peer all_first ms (calm first) (calm parts)) took_so.1 are.left
 
-    rest_at : (new : Parts) → new.streams ≡ streams → stream_at new.streams own ≡ rest
-    rest_at new same = ap (λ (s : FinMap peer_cmp Stream). stream_at s own) (same ∙ took_so.2) ∙ stream_put parts.streams own rest
+    took_to : (new : Parts) → new.streams ≡ streams → TakesFirst own parts.streams (Some message) new.streams
+    took_to new same = subst (TakesFirst own parts.streams (Some message)) (sym same) took_so
 
     pub one_fewer : (new : Parts) → new.streams ≡ streams
         → length (stream_at new.streams own).waiting < length (stream_at parts.streams own).waiting
-    one_fewer new same =
-        let before : length (stream_at parts.streams own).waiting ≡ length (message ∷ more) = ap (λ (ms : List SessionMessage). length ms) took_so.1 in
-        let after : length (stream_at new.streams own).waiting ≡ length more = ap (λ (s : Stream). length s.waiting) (rest_at new same) in
-        omega (arith, before, after)
+    one_fewer new same = took_fewer own parts.streams new.streams message (took_to new same)
 
     pub one_taken : (new : Parts) → new.streams ≡ streams
         → SettlesCall core now (call_of own.peer message) (going (calm parts)) (calm new) (Ok tt) → AreWaiting core now own first new
     one_taken new same h =
-        let is : new.streams ≡ maps.insert parts.streams own rest = same ∙ took_so.2 in
-        let at = rest_at new same in
+        let took = took_to new same in
         record {
-          there = put_there parts.streams new.streams own rest is;
-          same = (λ i. maps.insert (is i) own (record (at i) { waiting = [] }))
-              ∙ (put_again parts.streams own rest (record rest { waiting = [] }) ∙ are.same);
+          there = took_there own parts.streams new.streams message took;
+          same = took_drained own parts.streams new.streams message took ∙ are.same;
           left = subst (λ (ms : List SessionMessage). AreLeft core now own.peer all_first ms (calm first) (calm new))
-              (sym (ap (λ (s : Stream). s.waiting) at))
+              (sym (ap (λ (s : FinMap peer_cmp Stream). (stream_at s own).waiting) same ∙ took_rest own parts.streams streams message took_so))
               (one_less core now own.peer message more (calm parts) all_first (calm first) still_left (calm new) h);
         }
 
@@ -247,9 +239,7 @@ module _ (core : Topology) (now : ℕ) (own : PeerSession) (first parts : Parts)
   pub none_waiting : TakesFirst own parts.streams None streams
       → Settles core (taken_by (going first) now own.peer all_first) (going (calm first)) (with_streams streams parts) (Ok tt)
   none_waiting took_so =
-      let is : drained own first.streams ≡ streams =
-      sym are.same ∙ ((λ i. maps.insert parts.streams own (record (stream_at parts.streams own) { waiting = sym took_so.0 i }))
-      ∙ (put_same parts.streams own are.there ∙ sym took_so.1)) in
+      let is : drained own first.streams ≡ streams = sym are.same ∙ none_drained own parts.streams streams are.there took_so in
       subst (λ (s : FinMap peer_cmp Stream). Settles core (taken_by (going first) now own.peer all_first) (going (calm first)) (with_streams s parts)
       (Ok tt)) is
       (none_left core now own.peer all_first (stream_at parts.streams own).waiting (calm first) (calm parts) took_so.0 are.left)

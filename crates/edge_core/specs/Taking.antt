@@ -1,14 +1,11 @@
 -- What is answered where octets of a session are taken, and the messages that they spell.
 use Rattle.std.specs.Prelude.{◌≡◌, ◌⊎◌, ℕ, List, [], ◌∷◌, None, Some, Result, Err, OnOk}
-use Rattle.std.specs.FinMap as maps
-use Rattle.std.specs.FinMap.{FinMap}
 use Rattle.mv_base.specs.Lists.{Among}
 use Rattle.mv_base.specs.declared.ids.NodeId.{NodeId}
 use Rattle.mv_base.specs.core_walks.Core.{Core}
 use Rattle.mv_base.specs.core_walks.Topology.{Topology}
 use Rattle.network_defs.specs.session_defs.Message.{SessionMessage}
-use Rattle.network_defs.specs.session_defs.Octets.{Stream}
-use Rattle.network_defs.specs.session_defs.PeerSession.{PeerSession, fault_at, peer_cmp, stream_at}
+use Rattle.network_defs.specs.session_defs.PeerSession.{PeerSession, fault_at}
 use Rattle.edge_routes.specs.edge_home.Home.{place_of}
 use Rattle.network_defs.specs.node_defs.EdgeState.{EdgeState, all_taken, took}
 use Rattle.edge_routing.specs.edge_streams.Streams.{told_fault}
@@ -22,10 +19,6 @@ use Rattle.edge_core.specs.View.{EdgeView}
 -- the messages from the peer are taken, one after another
 abbrev pub taken_by : EdgeView → ℕ → NodeId → List SessionMessage → Core → EdgeState → EdgeState
 taken_by edge now peer messages own state = all_taken (place_of (home_of edge) own) now peer messages state
-
--- the streams once no message waits for the session
-abbrev pub drained : PeerSession → FinMap peer_cmp Stream → FinMap peer_cmp Stream
-drained session streams = maps.insert streams session (record (stream_at streams session) { waiting = [] })
 
 -- the octets of the session are taken
 abbrev pub took_by : EdgeView → ℕ → PeerSession → List ℕ → Core → EdgeState → EdgeState

@@ -10,11 +10,11 @@ ghost use Rattle.network_defs.specs.session_defs.Octets.{Stream};
 ghost use Rattle.network_defs.specs.session_defs.PeerSession.{fault_at, peer_cmp, stream_at};
 ghost use Rattle.edge_routing.specs.edge_streams.Kept.{session};
 ghost use Rattle.edge_routing.specs.edge_streams.Spelled.{SaysWritable, SaysWritableLabel};
-ghost use Rattle.edge_routing.specs.edge_streams.Streams.{with_octets, TakesFirst};
+ghost use Rattle.edge_routing.specs.edge_streams.Streams.{drained, with_octets, TakesFirst};
 ghost use Rattle.edge_core.specs.Answers.{IsOneOf};
 ghost use Rattle.edge_core.specs.Called.{IsReady, Settles, SettlesCall, thereafter, going, spent_after, with_streams};
 ghost use Rattle.edge_core.specs.State.{IsLive, is_up};
-ghost use Rattle.edge_core.specs.Taking.{AnswersOctets, IsSessionFault, drained, taken_by};
+ghost use Rattle.edge_core.specs.Taking.{AnswersOctets, IsSessionFault, taken_by};
 ghost use Rattle.edge_core.specs.declared.fault.EdgeFault.{EdgeFault as EdgeFaults};
 
 use crate::fault::{EdgeAnswer, EdgeFault};

@@ -1,6 +1,6 @@
 use Rattle.std.proofs.Common.{refl}
 use Rattle.edge_routing.specs.edge_streams.Kept.{session}
-use Rattle.edge_core.specs.Taking.{drained}
+use Rattle.edge_routing.specs.edge_streams.Streams.{drained}
 use Rattle.edge_core.proofs.TakingLemmas.{all_waiting, none_waiting, one_fewer, one_stopped, one_taken, still_ready}
 use Rattle.edge_core.proofs.parts.Parts.take_all.Goals as goal
 

@@ -2,9 +2,10 @@ use Rattle.std.proofs.Common.{◌≡◌, OnOk, None, Err, refl, subst}
 use Rattle.scenario_defs.specs.declared.event.Kind.{Kind}
 use Rattle.network_defs.specs.session_defs.PeerSession.{fault_at, stream_at}
 use Rattle.edge_routing.specs.edge_streams.Kept.{session}
+use Rattle.edge_routing.specs.edge_streams.Streams.{drained}
 use Rattle.edge_routing.proofs.edge_streams.FedLemmas.{fed_there}
 use Rattle.edge_core.specs.Called.{going}
-use Rattle.edge_core.specs.Taking.{IsSessionFault, drained}
+use Rattle.edge_core.specs.Taking.{IsSessionFault}
 use Rattle.edge_core.specs.declared.fault.EdgeFault.{EdgeFault}
 use Rattle.edge_core.proofs.TakingLemmas.{mid_live, octets_stopped, octets_taken, up_there}
 use Rattle.edge_core.proofs.parts.Parts.take_octets.Goals as goal

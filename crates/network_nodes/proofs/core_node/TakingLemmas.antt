@@ -1,11 +1,11 @@
 -- Messages of a session are taken one after another, and octets that spell them.
-use Rattle.std.proofs.Common.{◌≡◌, ◌∙◌, refl, sym, ap, subst, arith, ℕ, inl, inr, true, List, [], ◌∷◌, map, length, Option, None, Some, Result, Ok, Err, OnOk, is_some}
+use Rattle.std.proofs.Common.{◌≡◌, ◌∙◌, refl, sym, ap, subst, ℕ, inl, inr, true, List, [], ◌∷◌, Option, None, Some, Result, Ok, Err, OnOk, is_some}
 use Rattle.std.specs.FinMap as maps
 use Rattle.std.specs.FinMap.{FinMap}
 use Rattle.std.proofs.lemmas.Option.{none-some}
 use Rattle.mv_base.specs.Lists.{Among}
 use Rattle.mv_base.specs.declared.ids.NodeId.{NodeId}
-use Rattle.mv_base.specs.core_walks.Core.{Core}
+use Rattle.mv_base.specs.core_walks.Core.{Core, IsCoreOf}
 use Rattle.mv_base.specs.core_walks.Topology.{Topology}
 use Rattle.mv_base.specs.framing.Feed.{fed_unless}
 use Rattle.label_defs.specs.Node.{LacksLabel, NodePlace}
@@ -15,19 +15,22 @@ use Rattle.scenario_defs.specs.declared.event.Kind.TheVariants as kinds
 use Rattle.network_defs.specs.session_defs.Message.{SessionFault, SessionMessage, Label, front_of}
 use Rattle.network_defs.specs.session_defs.Octets.{Stream}
 use Rattle.network_defs.specs.session_defs.PeerSession.{PeerSession, fault_at, peer_cmp, stream_at}
-use Rattle.edge_streams.specs.Streams.{with_octets}
-use Rattle.edge_streams.proofs.DrainLemmas.{put_same}
+use Rattle.edge_streams.specs.Streams.{TakesFirst, drained, with_octets}
+use Rattle.edge_streams.proofs.DrainLemmas.{none_drained, put_same, took_drained, took_rest, took_there}
 use Rattle.edge_streams.proofs.FedLemmas.{drained_is, now_fed, put_quiet, put_up, stream_fed}
+use Rattle.mldp_node.specs.NodeData as labels
+use Rattle.mldp_node.specs.NodeData.{NodeData}
+use Rattle.mldp_node.specs.declared.fault.NodeFault.{NodeFault}
 use Rattle.wire_laws.specs.CoreNodes.{CoreState, core_all_taken, core_called, core_took, core_took_unless, ldp_with}
 use Rattle.wire_laws.proofs.CoreCalls.{spent_takes}
 use Rattle.network_nodes.specs.declared.core_node.fault.CoreFault.{CoreFault}
 use Rattle.network_nodes.specs.declared.core_node.fault.CoreFault.TheVariants as faults
 use Rattle.network_nodes.specs.declared.core_node.parts.Parts.{Parts}
 use Rattle.network_nodes.specs.core_node.Answers.{Makes, spent_by}
-use Rattle.network_nodes.specs.core_node.Called.{Settles, SettlesCall, thereafter, going, spent_after}
+use Rattle.network_nodes.specs.core_node.Called.{Settles, SettlesCall, thereafter, going, spent_after, told_as, with_streams}
 use Rattle.network_nodes.specs.core_node.Taking.{AnswersOctets, IsSessionFault, taken_by, took_by}
 use Rattle.network_nodes.specs.core_node.View.{CoreView, IsLive, is_up, state_of}
-use Rattle.network_nodes.proofs.core_node.StepLemmas.{one_fault}
+use Rattle.network_nodes.proofs.core_node.StepLemmas.{one_fault, settled}
 
 -- ---- messages
 
@@ -125,9 +128,100 @@ none_left core now peer all left first parts e are =
       live = λ none. are.live;
     }))
 
-pub map_none : {X Y : Type 0} (f : X → Y) (xs : List X) → length xs ≡ 0 → map f xs ≡ []
-map_none f [] e = refl
-map_none f (x ∷ xs) e = absurd (omega (arith, e))
+spends_some : (fault : CoreFault) → Among fault (faults.NoLabel ∷ faults.NoMemory ∷ []) → spent_after (Err fault) ≡ None → ⊥
+spends_some fault (inl e) none = absurd (let k = sym (ap spent_by e) ∙ none in cc)
+spends_some fault (inr (inl e)) none = absurd (let k = sym (ap spent_by e) ∙ none in cc)
+spends_some fault (inr (inr a)) none = a
+
+-- The node is spent, so nothing is said of its streams.
+spent_anyhow : (core : Topology) (step : Core → CoreState → CoreState) (old : CoreView) (new : Parts) (streams : FinMap peer_cmp Stream)
+    (fault : CoreFault) → old.labels.node.spent ≡ None → Among fault (faults.NoLabel ∷ faults.NoMemory ∷ [])
+    → Settles core step old (with_streams streams new) (Err fault) → Settles core step old new (Err fault)
+spent_anyhow core step old new streams fault unspent one k = record {
+  answers = record {
+    place = k.answers.place;
+    before = λ spent e. absurd (none-some spent (sym unspent ∙ e));
+    unspent = tt;
+    made = tt;
+    goes_on = tt;
+    toward = k.answers.toward;
+    lacks = k.answers.lacks;
+    spends = k.answers.spends;
+  };
+  live = λ none. absurd (spends_some fault one none);
+}
+
+-- ---- messages that wait
+
+-- Some first ones of the messages that waited in the first parts were taken, and the others wait still, in parts that are the first ones but
+-- for them.
+pub record AreWaiting (core : Topology) (now : ℕ) (peer : NodeId) (first parts : Parts) : Type 0 where
+  pub there : is_some (maps.get parts.streams (ldp_with peer)) ≡ true
+  pub same : drained (ldp_with peer) parts.streams ≡ drained (ldp_with peer) first.streams
+  pub left : AreLeft core now peer (stream_at first.streams (ldp_with peer)).waiting (stream_at parts.streams (ldp_with peer)).waiting
+      (with_streams (drained (ldp_with peer) first.streams) first) (with_streams (drained (ldp_with peer) first.streams) parts)
+
+pub all_waiting : (core : Topology) (now : ℕ) (peer : NodeId) (first : Parts) → is_some (maps.get first.streams (ldp_with peer)) ≡ true
+    → IsLive first.node (drained (ldp_with peer) first.streams) → AreWaiting core now peer first first
+all_waiting core now peer first there live = record {
+  there = there;
+  same = refl;
+  left = all_left core now peer (stream_at first.streams (ldp_with peer)).waiting (with_streams (drained (ldp_with peer) first.streams) first) live;
+}
+
+module _ (core : Topology) (now : ℕ) (peer : NodeId) (first parts : Parts) (are : AreWaiting core now peer first parts)
+    (streams : FinMap peer_cmp Stream) where
+  abbrev with_peer : PeerSession
+  with_peer = ldp_with peer
+
+  abbrev all_first : List SessionMessage
+  all_first = (stream_at first.streams with_peer).waiting
+
+  abbrev calm : Parts → Parts
+  calm any = with_streams (drained with_peer first.streams) any
+
+  module _ (message : LabelMessage) (took : TakesFirst with_peer parts.streams (Some (Label message)) streams) (node : NodeData) where
+    still_left : AreLeft core now peer all_first (Label message ∷ took.0) (calm first) (calm parts)
+    still_left = subst (λ (ms : List SessionMessage). AreLeft core now peer all_first ms (calm first) (calm parts)) took.1 are.left
+
+    abbrev next_parts : Parts
+    next_parts = record parts { node = node; streams = streams }
+
+    abbrev answered : Result (Unit {0}) NodeFault → Type 0
+    answered result = labels.Answers core now (Taken peer message) parts.node node result
+
+    calm_settled : (result : Result (Unit {0}) NodeFault) (answer : Result (Unit {0}) CoreFault) → answer ≡ told_as result
+        → (own : Core) × IsCoreOf core.nodes core.links own → answered result
+        → SettlesCall core now (Taken peer message) (going (calm parts)) (calm next_parts) answer
+    calm_settled result answer is some row =
+        settled core now (Taken peer message) (calm parts) node (drained with_peer first.streams) are.left.live refl result answer is some row
+
+    pub one_taken : (result : Result (Unit {0}) NodeFault) → Ok tt ≡ told_as result → (own : Core) × IsCoreOf core.nodes core.links own
+        → answered result → AreWaiting core now peer first next_parts
+    one_taken result is some row = record {
+      there = took_there with_peer parts.streams streams (Label message) took;
+      same = took_drained with_peer parts.streams streams (Label message) took ∙ are.same;
+      left = subst (λ (ms : List SessionMessage). AreLeft core now peer all_first ms (calm first) (calm next_parts))
+          (sym (took_rest with_peer parts.streams streams (Label message) took))
+          (one_less core now peer message took.0 (calm parts) all_first (calm first) still_left (calm next_parts)
+          (calm_settled result (Ok tt) is some row));
+    }
+
+    pub one_stopped : (fault : CoreFault) → Among fault (faults.NoLabel ∷ faults.NoMemory ∷ [])
+        → (result : Result (Unit {0}) NodeFault) → Err fault ≡ told_as result → (own : Core) × IsCoreOf core.nodes core.links own
+        → answered result → Settles core (taken_by (going first) now peer all_first) (going (calm first)) next_parts (Err fault)
+    one_stopped fault one result is some row =
+        spent_anyhow core (taken_by (going first) now peer all_first) (going (calm first)) next_parts (drained with_peer first.streams) fault refl
+        one (stopped_at core now peer message took.0 (calm parts) all_first (calm first) still_left (calm next_parts) fault
+        (calm_settled result (Err fault) is some row))
+
+  pub none_waiting : TakesFirst with_peer parts.streams None streams
+      → Settles core (taken_by (going first) now peer all_first) (going (calm first)) (with_streams streams parts) (Ok tt)
+  none_waiting took =
+      let is : drained with_peer first.streams ≡ streams = sym are.same ∙ none_drained with_peer parts.streams streams are.there took in
+      subst (λ (s : FinMap peer_cmp Stream). Settles core (taken_by (going first) now peer all_first) (going (calm first)) (with_streams s parts)
+      (Ok tt)) is
+      (none_left core now peer all_first (stream_at parts.streams with_peer).waiting (calm first) (calm parts) took.0 are.left)
 
 -- ---- octets
 
@@ -197,11 +291,6 @@ module _ (core : Topology) (now : ℕ) (peer : NodeId) (octets : List ℕ) (old 
     octets_made : (view : CoreView) → Makes core (taken_by (going mid) now peer messages) (going mid) view
         → Makes core (took_by (going old) now peer octets) (going old) view
     octets_made view made is told_so = made is told_so ∙ took_so is
-
-    spends_some : (fault : CoreFault) → Among fault (faults.NoLabel ∷ faults.NoMemory ∷ []) → spent_after (Err fault) ≡ None → ⊥
-    spends_some fault (inl e) none = absurd (let k = sym (ap spent_by e) ∙ none in cc)
-    spends_some fault (inr (inl e)) none = absurd (let k = sym (ap spent_by e) ∙ none in cc)
-    spends_some fault (inr (inr a)) none = a
 
     -- a message made the node spent
     pub octets_stopped : (fault : CoreFault) → Among fault (faults.NoLabel ∷ faults.NoMemory ∷ [])

@@ -1,9 +1,12 @@
 -- A core node by its parts, and what a call that they make answers.
 use Rattle.std.specs.Prelude.{◌≡◌, ℕ, Option, None, option_map, Result, Ok, Err}
+use Rattle.std.specs.FinMap.{FinMap}
 use Rattle.mv_base.specs.core_walks.Core.{Core}
 use Rattle.mv_base.specs.core_walks.Topology.{Topology}
 use Rattle.label_defs.specs.Node.{Spent}
 use Rattle.label_defs.specs.Steps.{Call}
+use Rattle.network_defs.specs.session_defs.Octets.{Stream}
+use Rattle.network_defs.specs.session_defs.PeerSession.{peer_cmp}
 use Rattle.mldp_node.specs.NodeData.{cause}
 use Rattle.mldp_node.specs.declared.fault.NodeFault.{NodeFault}
 use Rattle.wire_laws.specs.CoreNodes.{CoreState}
@@ -11,6 +14,10 @@ use Rattle.network_nodes.specs.declared.core_node.fault.CoreFault.{CoreFault}
 use Rattle.network_nodes.specs.declared.core_node.parts.Parts.{Parts}
 use Rattle.network_nodes.specs.core_node.Answers.{Answers, fault_of, spent_by, step_of}
 use Rattle.network_nodes.specs.core_node.View.{CoreView, IsLive}
+
+-- the parts with other streams
+abbrev pub with_streams : FinMap peer_cmp Stream → Parts → Parts
+with_streams streams parts = record parts { streams = streams }
 
 -- a node of these parts, which is spent for that reason: its label part may not be, where a stream lacked memory
 abbrev pub with_spent : Parts → Option Spent → CoreView

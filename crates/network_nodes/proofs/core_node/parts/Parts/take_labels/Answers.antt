@@ -1,48 +1,33 @@
-use Rattle.std.proofs.Common.{refl, sym, ap, subst, map, List, length, Ok, Err, ◌∙◌}
-use Rattle.mldp.specs.declared.mldp_msgs.message.LabelMessage.{LabelMessage}
+use Rattle.std.proofs.Common.{refl, ap, sym, length, ◌∙◌}
 use Rattle.label_defs.specs.Node.{NodePlace}
-use Rattle.label_defs.specs.Steps.{Taken}
 use Rattle.network_defs.specs.session_defs.Message.{Label}
-use Rattle.network_nodes.proofs.core_node.StepLemmas.{settled}
-use Rattle.network_nodes.proofs.core_node.TakingLemmas.{AreLeft, all_left, map_none, none_left, one_less, stopped_at}
+use Rattle.wire_laws.specs.CoreNodes.{ldp_with}
+use Rattle.edge_streams.proofs.DrainLemmas.{took_fewer}
+use Rattle.network_nodes.proofs.core_node.TakingLemmas.{all_waiting, none_waiting, one_stopped, one_taken}
 use Rattle.network_nodes.proofs.core_node.parts.Parts.take_labels.Goals as goal
 
 pub loop-message-init : goal.loop-message-init
-loop-message-init c =
-    subst (λ (ms : List LabelMessage). AreLeft c.args.core.now c.args.now c.args.peer (map (λ message. Label message) c.args.messages.items)
-    (map (λ message. Label message) ms) c.args.self.now c.args.self.now)
-    (sym c.into_iter-message-iterator.ensures.into_iter_gives.0)
-    (all_left c.args.core.now c.args.now c.args.peer (map (λ message. Label message) c.args.messages.items) c.args.self.now c.requires.live)
+loop-message-init c = all_waiting c.args.core.now c.args.now c.args.peer c.args.self.now c.requires.there c.requires.live
 
 pub take-requires-clause-nodes : goal.take-requires-clause-nodes
-take-requires-clause-nodes c = c.requires.nodes ∙ ap (λ (place : NodePlace). length place.addrs) (sym c.loop-message.invariant.place)
+take-requires-clause-nodes c = c.requires.nodes ∙ ap (λ (place : NodePlace). length place.addrs) (sym c.loop-message.invariant.left.place)
 
 pub loop-message-preserved : goal.loop-message-preserved
 loop-message-preserved c =
-    one_less c.args.core.now c.args.now c.args.peer c.in-Some.message (map (λ message. Label message) c.next.new.self.rest.items) c.loop-message.self
-    (map (λ message. Label message) c.args.messages.items) c.args.self.now
-    (subst (λ (ms : List LabelMessage). AreLeft c.args.core.now c.args.now c.args.peer (map (λ message. Label message) c.args.messages.items)
-    (map (λ message. Label message) ms) c.args.self.now c.loop-message.self)
-    c.in-Some.ensures.steps.0 c.loop-message.invariant)
-    (record c.loop-message.self { node = c.take.new.self })
-    (settled c.args.core.now c.args.now (Taken c.args.peer c.in-Some.message) c.loop-message.self c.take.new.self c.loop-message.self.streams
-    c.loop-message.invariant.live refl c.take.result (Ok tt) c.in_default.ensures.value c.nodes.ensures.told c.take.ensures)
+    one_taken c.args.core.now c.args.now c.args.peer c.args.self.now c.loop-message.self c.loop-message.invariant c.next_ldp.new.self
+    c.in-Some.message c.in-Some.ensures.first c.take.new.self c.take.result c.in_default-told.ensures.value c.nodes.ensures.told c.take.ensures
+
+pub loop-message-smaller : goal.loop-message-smaller
+loop-message-smaller c =
+    took_fewer (ldp_with c.args.peer) c.loop-message.self.streams c.next_ldp.new.self (Label c.in-Some.message) c.in-Some.ensures.first
 
 pub returns-in-Err-clause-settles : goal.returns-in-Err-clause-settles
 returns-in-Err-clause-settles c =
-    stopped_at c.args.core.now c.args.now c.args.peer c.in-Some.message (map (λ message. Label message) c.next.new.self.rest.items)
-    c.loop-message.self
-    (map (λ message. Label message) c.args.messages.items) c.args.self.now
-    (subst (λ (ms : List LabelMessage). AreLeft c.args.core.now c.args.now c.args.peer (map (λ message. Label message) c.args.messages.items)
-    (map (λ message. Label message) ms) c.args.self.now c.loop-message.self)
-    c.in-Some.ensures.steps.0 c.loop-message.invariant)
-    (record c.loop-message.self { node = c.take.new.self }) c.in-Err.fault
-    (settled c.args.core.now c.args.now (Taken c.args.peer c.in-Some.message) c.loop-message.self c.take.new.self c.loop-message.self.streams
-    c.loop-message.invariant.live refl c.take.result (Err c.in-Err.fault) c.in-Err.ensures.value c.nodes.ensures.told c.take.ensures)
+    one_stopped c.args.core.now c.args.now c.args.peer c.args.self.now c.loop-message.self c.loop-message.invariant c.next_ldp.new.self
+    c.in-Some.message c.in-Some.ensures.first c.take.new.self c.in-Err.fault (c.in-Err.ensures.only c.in-Err.fault refl) c.take.result
+    c.in-Err.ensures.value c.nodes.ensures.told c.take.ensures
 
 pub returns-clause-settles : goal.returns-clause-settles
 returns-clause-settles c =
-    let rest = c.loop-message.message-iterator.rest in
-    none_left c.args.core.now c.args.now c.args.peer (map (λ message. Label message) c.args.messages.items)
-    (map (λ message. Label message) rest.items) c.args.self.now c.loop-message.self
-    (map_none (λ message. Label message) rest.items (sym rest.ok.0 ∙ c.in-None.ensures.steps.0)) c.loop-message.invariant
+    none_waiting c.args.core.now c.args.now c.args.peer c.args.self.now c.loop-message.self c.loop-message.invariant c.next_ldp.new.self
+    c.in_default.ensures.first

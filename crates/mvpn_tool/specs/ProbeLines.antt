@@ -3,6 +3,7 @@ use Rattle.std.specs.Prelude.{◌≡◌, ℕ, ◌++◌, Bool, List, [], codes, i
 use Rattle.std.specs.List.{flat_map}
 use Rattle.mv_base.specs.declared.ids.VrfId.{VrfId}
 use Rattle.bgp_messages.specs.declared.bgp_attributes.fault.StreamFault.{StreamFault}
+use Rattle.bgp_messages.specs.declared.bgp_attributes.key.Key.{Key}
 use Rattle.bgp_messages.specs.declared.bgp_attributes.update.Message.{Message}
 use Rattle.mldp.specs.declared.mldp_fec.fec.Fec.{Fec}
 use Rattle.scenario_defs.specs.declared.scenario.Scenario.{Scenario}
@@ -19,9 +20,12 @@ use Rattle.probe_text.specs.declared.input.ProbeText.{ProbeText}
 abbrev pub vrf_name : Scenario → VrfId → List ℕ
 vrf_name scenario vrf = elim (slice_get scenario.vrfs vrf.0) [ None ↦ [] | Some found ↦ found.name ]
 
--- a route that a VRF takes
+-- a route that the VRF of that name takes
+abbrev pub named_import : List ℕ → Key → List ℕ
+named_import name key = codes "import " ++ name ++ codes " " ++ nlri_text key ++ codes "\n"
+
 abbrev pub import_line : Scenario → Import → List ℕ
-import_line scenario import = codes "import " ++ vrf_name scenario import.vrf ++ codes " " ++ nlri_text import.key ++ codes "\n"
+import_line scenario import = named_import (vrf_name scenario import.vrf) import.key
 
 -- a tunnel that the edge wants
 abbrev pub want_line : Fec → List ℕ

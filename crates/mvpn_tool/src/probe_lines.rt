@@ -2,7 +2,7 @@
 ghost use Rattle.std.specs.Prelude.{◌≡◌, ◌++◌, OnOk};
 ghost use Rattle.std.specs.List.{flat_map};
 ghost use Rattle.probe_text.specs.probe_defs.Imports.{imports_by};
-ghost use Rattle.mvpn_tool.specs.ProbeLines.{import_line, refused_text, report_text, vrf_name, want_line};
+ghost use Rattle.mvpn_tool.specs.ProbeLines.{import_line, named_import, refused_text, report_text, vrf_name, want_line};
 
 use bgp_messages::bgp_attributes::{Key, StreamFault};
 use mldp::mldp_fec::Fec;
@@ -12,22 +12,22 @@ use report_text::put_number;
 use scenario_defs::Scenario;
 use value_text::{Worded, put_fec_line, put_key};
 
-/// Appends the name of a VRF.
-fn put_vrf(out: &mut Bytes, scenario: &Scenario, vrf: VrfId) -> Result<(), NoMemory>
-    ensures { OnOk result (out.new ≡ out.old ++ vrf_name scenario.now vrf) }
+/// The name of a VRF.
+fn name_of(scenario: &Scenario, vrf: VrfId) -> &[u8]
+    ensures { result.now ≡ vrf_name scenario.now vrf }
 {
     match scenario.vrfs.as_slice().get(usize::from(vrf.0)) {
-        Some(found) => out.extend(found.name.octets()),
-        None => Ok(()),
+        Some(found) => found.name.octets(),
+        None => b"",
     }
 }
 
-/// Appends the line of a route that a VRF takes.
-fn put_import(out: &mut Bytes, scenario: &Scenario, vrf: VrfId, key: &Key) -> Result<(), NoMemory>
-    ensures { OnOk result (out.new ≡ out.old ++ import_line scenario.now (record { vrf = vrf; key = key.now })) }
+/// Appends the line of a route that the VRF of that name takes.
+fn put_import(out: &mut Bytes, name: &[u8], key: &Key) -> Result<(), NoMemory>
+    ensures { OnOk result (out.new ≡ out.old ++ named_import name.now key.now) }
 {
     out.extend(b"import ")?;
-    put_vrf(out, scenario, vrf)?;
+    out.extend(name)?;
     out.extend(b" ")?;
     put_key(out, key)?;
     out.extend(b"\n")
@@ -37,9 +37,10 @@ fn put_import(out: &mut Bytes, scenario: &Scenario, vrf: VrfId, key: &Key) -> Re
 fn put_vrf_imports(out: &mut Bytes, scenario: &Scenario, own: &VrfImports) -> Result<(), NoMemory>
     ensures { OnOk result (out.new ≡ out.old ++ flat_map (import_line scenario.now) (imports_by own.now)) }
 {
+    let name = name_of(scenario, own.vrf);
     let keys = own.keys.as_slice();
     for key in keys {
-        put_import(out, scenario, own.vrf, &key.key())?;
+        put_import(out, name, &key.key())?;
     }
     Ok(())
 }
